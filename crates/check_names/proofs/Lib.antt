@@ -1,0 +1,3 @@
+pub mod AnswersRows
+pub mod LineLemmas
+pub mod AnswerLemmas

@@ -1,0 +1,58 @@
+-- What the program answers: one line for each line of its input.
+use Rattle.std.specs.Prelude.{ℕ, if◌then◌else◌, List, [], ◌∷◌, ◌++◌, codes, flat_map, Option, Some, None}
+use Rattle.std.specs.Str.{bytes_eq}
+use Rattle.gix_validate.specs.Tag
+use Rattle.gix_validate.specs.Reference
+use Rattle.gix_validate.specs.Submodule
+use Rattle.gix_validate.specs.declared.path.ComponentMode.TheVariants.{Symlink}
+use Rattle.gix_validate.specs.Component.{all_protections, component_fault_of, component_text_of}
+use Rattle.gix_validate.specs.Windows.{is_device}
+use Rattle.gix_validate.specs.Sanitized.{sanitized}
+use Rattle.check_names.specs.Lines.{line_end, lines, request_of}
+
+-- the answer where a rule of faults is asked: `ok` where it finds none, and else the text of the fault
+abbrev pub verdict : {E : Type 0} → Option E → (E → List ℕ) → List ℕ
+verdict None text_of = codes "ok"
+verdict (Some fault) text_of = codes "error: " ++ text_of fault
+
+-- the answer where it is asked whether a name means a device
+abbrev pub device_answer : List ℕ → List ℕ
+device_answer name = if is_device name then codes "yes" else codes "no"
+
+-- the kinds, a line each, and what each answers for a name
+unfoldable pub kinds : List (List ℕ × (List ℕ → List ℕ))
+kinds =
+    (codes "tag", λ name. verdict (Tag.fault_of name) Tag.text_of)
+    ∷ (codes "partial", λ name. verdict (Reference.partial_fault_of name) Reference.text_of)
+    ∷ (codes "ref", λ name. verdict (Reference.full_fault_of name) Reference.text_of)
+    ∷ (codes "branch", λ name. verdict (Reference.branch_fault_of name) Reference.text_of)
+    ∷ (codes "submodule", λ name. verdict (Submodule.fault_of name) Submodule.text_of)
+    ∷ (codes "path", λ name. verdict (component_fault_of all_protections None name) component_text_of)
+    ∷ (codes "symlink", λ name. verdict (component_fault_of all_protections (Some Symlink) name) component_text_of)
+    ∷ (codes "device", λ name. device_answer name)
+    ∷ (codes "sanitize", λ name. sanitized name)
+    ∷ []
+
+abbrev pub unknown_kind : List ℕ
+unknown_kind = codes "unknown kind"
+
+-- what the first of these kinds that is the one asked for answers
+abbrev pub answer_by : List (List ℕ × (List ℕ → List ℕ)) → List ℕ → List ℕ → List ℕ
+answer_by [] kind name = unknown_kind
+answer_by (row ∷ rows) kind name = if bytes_eq kind row.0 then row.1 name else answer_by rows kind name
+
+abbrev pub answer_to : Option (List ℕ × List ℕ) → List ℕ
+answer_to None = unknown_kind
+answer_to (Some request) = answer_by kinds request.0 request.1
+
+-- the answer of a line
+unfoldable pub answer_of : List ℕ → List ℕ
+answer_of line = answer_to (request_of line)
+
+-- the answers of these lines, each followed by a line end
+abbrev pub answers_of : List (List ℕ) → List ℕ
+answers_of asked = flat_map (λ line. answer_of line ++ line_end ∷ []) asked
+
+-- the answers of the lines of a text
+unfoldable pub answers : List ℕ → List ℕ
+answers text = answers_of (lines text)

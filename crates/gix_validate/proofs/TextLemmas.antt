@@ -1,0 +1,149 @@
+-- How a text that grows by one byte at its end begins, ends, holds a part and falls into pieces.
+use Rattle.std.proofs.Common.{◌≡◌, ℕ, suc, ◌+◌, ◌-◌, ◌≤◌, Bool, true, false, not, ◌&&◌, ◌||◌, cond, eqb, List, [], ◌∷◌, ◌++◌, length, take, drop, refl, sym, ap, subst, ◌∙◌, inl, inr, ◌⊎◌, arith}
+use Rattle.std.proofs.lemmas.List.{length-append, length_push, drop-append-le, append_assoc, append-nil, reverse-append, reverse-reverse, drop_all, nil_from_length, length-reverse}
+use Rattle.std.proofs.lemmas.Bool.{cases_Bool, and_right, and_parts, not-true, ne_eqb, both_ways}
+use Rattle.std.proofs.lemmas.List.Sums.{suffix_len-le-length}
+use Rattle.std.proofs.Math.Seq.{drop-length}
+use Rattle.std.specs.Prelude.{reverse, codes}
+use Rattle.std.specs.List.{prefix_len, suffix_len, slice_split, onto_first, list_all}
+use Rattle.std.specs.Str.{byte, bytes_eq}
+use mathlib.Core.Bool.{and-true, and-false, and_assoc}
+use mathlib.Core.List.{reverse-cons}
+use Rattle.gix_validate.specs.Bytes.{is_empty, begins, ends, holds}
+use Rattle.gix_validate.specs.Pieces.{is_slash, pieces, last_piece, has_no_slash}
+
+reverse_nothing : reverse {A = ℕ} [] ≡ []
+reverse_nothing = nil_from_length (reverse {A = ℕ} []) (length-reverse {A = ℕ} [])
+
+reverse_one : (b : ℕ) → reverse (b ∷ []) ≡ b ∷ []
+reverse_one b = reverse-cons b [] ∙ ap (λ r. r ++ b ∷ []) reverse_nothing
+
+pub reverse_push : (y : List ℕ) (b : ℕ) → reverse (y ++ b ∷ []) ≡ b ∷ reverse y
+reverse_push y b = reverse-append y (b ∷ []) ∙ ap (λ r. r ++ reverse y) (reverse_one b)
+
+-- What holds of the empty text, and of each text with a byte at its end if of the text, holds of all texts.
+pub by_last : (P : List ℕ → Type 0) → P [] → ((y : List ℕ) (b : ℕ) → P y → P (y ++ b ∷ [])) → (x : List ℕ) → P x
+by_last P none more x = subst P (reverse-reverse x) (turned (reverse x))
+  where
+    turned : (r : List ℕ) → P (reverse r)
+    turned [] = subst P (sym reverse_nothing) none
+    turned (b ∷ r) = subst P (sym (reverse-cons b r)) (more (reverse r) b (turned r))
+
+-- A text is empty, or one with a byte at its end.
+pub record EndsIn (x : List ℕ) : Type 0 where
+  pub front : List ℕ
+  pub last : ℕ
+  pub whole : x ≡ front ++ last ∷ []
+
+pub last_cases : (x : List ℕ) → (x ≡ []) ⊎ EndsIn x
+last_cases x = by_last (λ x. (x ≡ []) ⊎ EndsIn x) (inl refl) (λ y b _. inr (record { front = y; last = b; whole = refl })) x
+
+pub is_empty_push : (y : List ℕ) (b : ℕ) → is_empty (y ++ b ∷ []) ≡ false
+is_empty_push [] b = refl
+is_empty_push (c ∷ y) b = refl
+
+-- equal lists of equal lengths, with one more element each
+bytes_eq_push : (f z : List ℕ) (c b : ℕ) → bytes_eq (f ++ c ∷ []) (z ++ b ∷ []) ≡ (bytes_eq f z && eqb c b)
+bytes_eq_push [] [] c b = and-true (eqb c b)
+bytes_eq_push [] (y ∷ []) c b = and-false (eqb c y)
+bytes_eq_push [] (y ∷ z ∷ zs) c b = and-false (eqb c y)
+bytes_eq_push (y ∷ []) [] c b = and-false (eqb y b)
+bytes_eq_push (y ∷ z ∷ zs) [] c b = and-false (eqb y b)
+bytes_eq_push (x ∷ f) (y ∷ z) c b = ap (λ t. eqb x y && t) (bytes_eq_push f z c b) ∙ sym (and_assoc (eqb x y) (bytes_eq f z) (eqb c b))
+
+pub ends_push : (y f : List ℕ) (b c : ℕ) → ends (y ++ b ∷ []) (f ++ c ∷ []) ≡ (ends y f && eqb c b)
+ends_push y f b c =
+    ap (λ n. bytes_eq (f ++ c ∷ []) (drop n (y ++ b ∷ []))) (omega (arith, length_push y b, length_push f c))
+    ∙ ap (λ t. bytes_eq (f ++ c ∷ []) t) (drop-append-le (length y - length f) y (b ∷ []) (omega arith))
+    ∙ bytes_eq_push f (drop (length y - length f) y) c b
+
+pub ends_nothing : (y : List ℕ) → ends y [] ≡ true
+ends_nothing y = ap (bytes_eq []) (drop_all (length y - 0) y (omega arith))
+
+pub ends_push_one : (y : List ℕ) (b c : ℕ) → ends (y ++ b ∷ []) (c ∷ []) ≡ eqb c b
+ends_push_one y b c = ends_push y [] b c ∙ ap (λ t. t && eqb c b) (ends_nothing y)
+
+pub empty_ends : (f : List ℕ) (c : ℕ) → ends [] (f ++ c ∷ []) ≡ false
+empty_ends f c = ap (bytes_eq (f ++ c ∷ [])) (drop_all (0 - length (f ++ c ∷ [])) [] (omega arith)) ∙ by f
+  where
+    by : (f : List ℕ) → bytes_eq (f ++ c ∷ []) [] ≡ false
+    by [] = refl
+    by (d ∷ f) = refl
+
+-- the last byte of a text of two or more
+ends_one_more : (x y : ℕ) (p : List ℕ) (a : ℕ) → ends (x ∷ y ∷ p) (a ∷ []) ≡ ends (y ∷ p) (a ∷ [])
+ends_one_more x y p a =
+    let e : length (x ∷ y ∷ p) - 1 ≡ suc (length (y ∷ p) - 1) = omega arith in
+    ap (λ n. bytes_eq (a ∷ []) (drop n (x ∷ y ∷ p))) e
+
+-- a part of two bytes stands in the text already, or comes with the new byte
+pub holds_push : (p : List ℕ) (b a c : ℕ) → holds (p ++ b ∷ []) (a ∷ c ∷ []) ≡ (holds p (a ∷ c ∷ []) || (ends p (a ∷ []) && eqb c b))
+holds_push [] b a c = ap (λ t. t || false) (and-false (eqb a b))
+holds_push (x ∷ []) b a c = two (eqb a x) (eqb c b) (eqb a b)
+  where
+    two : (m n o : Bool) → (m && (n && true) || (o && false || false)) ≡ ((m && false || false) || ((m && true) && n))
+    two true true o = refl
+    two true false true = refl
+    two true false false = refl
+    two false n true = refl
+    two false n false = refl
+holds_push (x ∷ y ∷ p) b a c =
+    ap (λ t. begins (x ∷ y ∷ p) (a ∷ c ∷ []) || t) (holds_push (y ∷ p) b a c)
+    ∙ regroup (begins (x ∷ y ∷ p) (a ∷ c ∷ [])) (holds (y ∷ p) (a ∷ c ∷ [])) (ends (y ∷ p) (a ∷ []) && eqb c b)
+    ∙ ap (λ t. holds (x ∷ y ∷ p) (a ∷ c ∷ []) || (t && eqb c b)) (sym (ends_one_more x y p a))
+  where
+    regroup : (m n o : Bool) → (m || (n || o)) ≡ ((m || n) || o)
+    regroup true n o = refl
+    regroup false n o = refl
+
+-- the last piece goes on, or a new one begins
+pub last_piece_push : (y : List ℕ) (b : ℕ) → last_piece (y ++ b ∷ []) ≡ cond (is_slash b) [] (last_piece y ++ b ∷ [])
+last_piece_push y b = ap (λ n. drop (length (y ++ b ∷ []) - n) (y ++ b ∷ [])) counted ∙ by (is_slash b)
+  where
+    keeps : ℕ → Bool
+    keeps c = not (is_slash c)
+
+    counted : suffix_len keeps (y ++ b ∷ []) ≡ cond (is_slash b) 0 (1 + suffix_len keeps y)
+    counted = ap (prefix_len keeps) (reverse_push y b) ∙ one (is_slash b) (prefix_len keeps (reverse y))
+      where
+        one : (t : Bool) (n : ℕ) → cond (not t) (1 + n) 0 ≡ cond t 0 (1 + n)
+        one true n = refl
+        one false n = refl
+
+    by : (t : Bool) → drop (length (y ++ b ∷ []) - cond t 0 (1 + suffix_len keeps y)) (y ++ b ∷ []) ≡ cond t [] (last_piece y ++ b ∷ [])
+    by true = drop_all (length (y ++ b ∷ []) - 0) (y ++ b ∷ []) (omega arith)
+    by false =
+        ap (λ n. drop n (y ++ b ∷ [])) (omega (arith, length_push y b, suffix_len-le-length keeps y))
+        ∙ drop-append-le (length y - suffix_len keeps y) y (b ∷ []) (omega arith)
+
+pub last_piece_nothing : last_piece [] ≡ []
+last_piece_nothing = drop_all (0 - suffix_len (λ b. not (is_slash b)) []) [] (omega arith)
+
+-- A back without a slash is the end of a text where it is the end of its last piece.
+pub ends_last_piece : (g : List ℕ) → has_no_slash g ≡ true → (y : List ℕ) → ends (last_piece y) (reverse g) ≡ ends y (reverse g)
+ends_last_piece [] apart y = subst (λ f. ends (last_piece y) f ≡ ends y f) (sym reverse_nothing) (ends_nothing (last_piece y) ∙ sym (ends_nothing y))
+ends_last_piece (c ∷ g) apart y =
+    subst (λ f. ends (last_piece y) f ≡ ends y f) (sym (reverse-cons c g))
+    (by_cases (λ z. ends_last_piece g (and_parts (not (is_slash c)) (has_no_slash g) apart).1 z) (last_cases y))
+  where
+    no : is_slash c ≡ false
+    no = not-true _ (and_parts (not (is_slash c)) (has_no_slash g) apart).0
+
+    other : (b : ℕ) → is_slash b ≡ true → eqb c b ≡ false
+    other b e = ne_eqb c b (λ same. both_ways (is_slash c) no (ap is_slash same ∙ e))
+
+    one : ((z : List ℕ) → ends (last_piece z) (reverse g) ≡ ends z (reverse g)) → (z : List ℕ) (b : ℕ) (t : Bool) → is_slash b ≡ t
+        → ends (cond t [] (last_piece z ++ b ∷ [])) (reverse g ++ c ∷ []) ≡ (ends z (reverse g) && eqb c b)
+    one before z b true e = empty_ends (reverse g) c ∙ sym (and_right (ends z (reverse g)) (eqb c b) (other b e))
+    one before z b false e = ends_push (last_piece z) (reverse g) b c ∙ ap (λ t. t && eqb c b) (before z)
+
+    by_cases : ((z : List ℕ) → ends (last_piece z) (reverse g) ≡ ends z (reverse g)) → (y ≡ []) ⊎ EndsIn y
+        → ends (last_piece y) (reverse g ++ c ∷ []) ≡ ends y (reverse g ++ c ∷ [])
+    by_cases before (inl e) =
+        subst (λ y. ends (last_piece y) (reverse g ++ c ∷ []) ≡ ends y (reverse g ++ c ∷ [])) (sym e)
+        (ap (λ t. ends t (reverse g ++ c ∷ [])) last_piece_nothing)
+    by_cases before (inr v) =
+        subst (λ y. ends (last_piece y) (reverse g ++ c ∷ []) ≡ ends y (reverse g ++ c ∷ [])) (sym v.whole)
+        (ap (λ t. ends t (reverse g ++ c ∷ [])) (last_piece_push v.front v.last)
+        ∙ one before v.front v.last (is_slash v.last) refl
+        ∙ sym (ends_push v.front (reverse g) v.last c))

@@ -1,0 +1,5 @@
+use Rattle.gix_validate.proofs.Buffer.{WalksOn}
+use Rattle.gix_validate.proofs.reference.sanitize.mend_pieces.Given as goal
+
+abbrev pub invariant-loop-read : goal.invariant-loop-read
+invariant-loop-read l = WalksOn l.fn.text l.text l.start l.end l.read l.previous

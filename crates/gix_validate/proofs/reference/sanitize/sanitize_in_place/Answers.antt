@@ -1,0 +1,20 @@
+use Rattle.std.proofs.Common.{take, drop, arith, length-take}
+use Rattle.gix_validate.proofs.InPlace.{sanitized-in_place, rest-in_place}
+use Rattle.gix_validate.proofs.SanitizedLaws.{sanitized-partial, sanitized-unchanged, sanitized-sanitized, sanitized-piecewise}
+use Rattle.gix_validate.proofs.reference.sanitize.sanitize_in_place.Goals as goal
+
+pub returns : goal.returns
+returns c =
+    let whole = take c.args.len c.args.buf.now in
+    let front = c.mend_pieces-end.new.text in
+    let mended = c.mend_pieces-end.result in
+    let text = sanitized-in_place whole front (drop c.args.len c.args.buf.now) c.repair_end.new.buf mended c.repair_end.result (omega arith) c.mend_pieces-end.ensures.text c.repair_end.ensures.text in
+    record {
+      bounds = (omega (arith, length-take c.args.len c.args.buf.now), omega (arith, length-take c.args.len c.args.buf.now));
+      text = text;
+      partial = rw text (sanitized-partial whole);
+      unchanged = rw text (sanitized-unchanged whole);
+      again = rw text (sanitized-sanitized whole);
+      piecewise = rw text (sanitized-piecewise whole);
+      rest = rest-in_place c.args.buf.now front c.repair_end.new.buf mended c.args.len (omega (arith, length-take c.args.len c.args.buf.now)) (omega (arith, length-take c.args.len c.args.buf.now)) c.repair_end.ensures.rest;
+    }

@@ -1,0 +1,49 @@
+-- The laws of path components: what acceptance of a name says beside the conditions, and what never changes an answer.
+use Rattle.std.specs.Prelude.{◌≡◌, ◌≢◌, ℕ, false, not, IsTrue, List, [], codes, Option, None}
+use Rattle.std.specs.List.{concat, filter}
+use Rattle.gix_validate.specs.declared.path.ComponentOptions.{ComponentOptions}
+use Rattle.gix_validate.specs.declared.path.ComponentMode.{ComponentMode}
+use Rattle.gix_validate.specs.Bytes.{lower}
+use Rattle.gix_validate.specs.Pieces.{has_no_slash}
+use Rattle.gix_validate.specs.Units.{units}
+use Rattle.gix_validate.specs.Hfs.{hfs_form, is_ignored_unit}
+use Rattle.gix_validate.specs.Windows.{device_form, is_device}
+use Rattle.gix_validate.specs.Component.{component_fault_of}
+
+-- every switch off
+abbrev pub no_protections : ComponentOptions
+no_protections = record { protect_windows = false; protect_hfs = false; protect_ntfs = false }
+
+-- every switch that is on in the first options is on in the second
+pub record HasOnlySwitchesOf (fewer options : ComponentOptions) : Type 0 where
+  pub windows : IsTrue fewer.protect_windows → IsTrue options.protect_windows
+  pub hfs : IsTrue fewer.protect_hfs → IsTrue options.protect_hfs
+  pub ntfs : IsTrue fewer.protect_ntfs → IsTrue options.protect_ntfs
+
+-- the name has no fault under any part of the switches, neither with the mode nor without one
+abbrev pub PassesFewer : ComponentOptions → Option ComponentMode → List ℕ → Type 0
+PassesFewer options mode x = (fewer : ComponentOptions) → HasOnlySwitchesOf fewer options → (component_fault_of fewer mode x ≡ None) × (component_fault_of fewer None x ≡ None)
+
+-- the name and its lower case have the same fault, or both have none
+abbrev pub FaultIgnoresCase : ComponentOptions → Option ComponentMode → List ℕ → Type 0
+FaultIgnoresCase options mode x = component_fault_of options mode x ≡ component_fault_of options mode (lower x)
+
+-- the HFS form is the units without the ignored characters, put one after the other
+abbrev pub FormIsKeptUnits : List ℕ → Type 0
+FormIsKeptUnits x = hfs_form x ≡ concat (filter (λ unit. not (is_ignored_unit unit)) (units x))
+
+-- the name is one step down in a directory, and not into `.git` in any case
+pub record IsSafe (x : List ℕ) : Type 0 where
+  pub not_empty : x ≢ []
+  pub not_here : x ≢ codes "."
+  pub not_above : x ≢ codes ".."
+  pub no_slash : IsTrue (has_no_slash x)
+  pub not_git : lower x ≢ codes ".git"
+
+-- the name and its lower case are both devices, or both are not
+abbrev pub DeviceIgnoresCase : List ℕ → Type 0
+DeviceIgnoresCase x = is_device x ≡ is_device (lower x)
+
+-- names with the same device form are all devices, or all are not
+abbrev pub DeviceGoesByForm : List ℕ → Type 0
+DeviceGoesByForm x = (y : List ℕ) → device_form y ≡ device_form x → is_device y ≡ is_device x

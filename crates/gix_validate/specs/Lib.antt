@@ -1,0 +1,14 @@
+pub mod Bytes
+pub mod Pieces
+pub mod Faults
+pub mod Quoted
+pub mod Tag
+pub mod Reference
+pub mod Submodule
+pub mod Sanitized
+pub mod Units
+pub mod Hfs
+pub mod Ntfs
+pub mod Windows
+pub mod Component
+pub mod ComponentLaws

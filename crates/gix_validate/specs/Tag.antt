@@ -1,0 +1,71 @@
+-- Tag names: which texts are one, and the fault of those that aren't.
+use Rattle.std.specs.Prelude.{◌≡◌, ℕ, suc, ◌+◌, ◌≤◌, ◌<◌, Bool, ◌==◌, ◌&&◌, ◌||◌, not, is_some, List, [], ◌∷◌, ◌++◌, length, take, drop, slice_index, codes, Option, Some, None, count_by}
+use Rattle.std.specs.List.{list_all, list_any}
+use Rattle.std.specs.Str.{byte, bytes_eq}
+use Rattle.gix_validate.specs.declared.tag.NameError.{NameError}
+use Rattle.gix_validate.specs.declared.tag.NameError.TheVariants.{InvalidByte, StartsWithSlash, RepeatedSlash, RepeatedDot, LockFileSuffix, ReflogPortion, Asterisk, StartsWithDot, EndsWithDot, EndsWithSlash, Empty}
+use Rattle.gix_validate.specs.Bytes.{is_bad, is_empty, begins, ends, holds}
+use Rattle.gix_validate.specs.Pieces.{pieces, last_piece}
+use Rattle.gix_validate.specs.Faults.{when, first_of, at_least_place}
+use Rattle.gix_validate.specs.Quoted.{quoted}
+
+-- A piece may stand in a tag name.
+unfoldable pub is_good_piece : List ℕ → Bool
+is_good_piece p =
+    not (is_empty p)
+    && not (list_any (λ b. is_bad b || b == byte "*") p)
+    && not (begins p (codes "."))
+    && not (holds p (codes ".."))
+    && not (holds p (codes "@{"))
+    && not (ends p (codes ".lock"))
+
+-- The text is a tag name.
+unfoldable pub is_tag_name : List ℕ → Bool
+is_tag_name x = list_all is_good_piece (pieces x) && not (ends x (codes "."))
+
+-- The table of the faults at one place of a text, a line each: what stands before the place, the byte at
+-- it, and what stands after it.
+unfoldable pub faults_between : List ℕ → ℕ → List ℕ → List (Option NameError)
+faults_between before b after =
+    when (is_bad b) (InvalidByte b)
+    ∷ when (b == byte "*") Asterisk
+    ∷ when (b == byte "." && ends before (codes ".")) RepeatedDot
+    ∷ when (b == byte "." && ends before (codes "/")) StartsWithDot
+    ∷ when (b == byte "{" && ends before (codes "@")) ReflogPortion
+    ∷ when (b == byte "/" && ends before (codes "/")) RepeatedSlash
+    ∷ when (b == byte "/" && not (ends before (codes "/")) && ends (last_piece before) (codes ".lock")) LockFileSuffix
+    ∷ when (is_empty after && ends (last_piece (before ++ b ∷ [])) (codes ".lock") && not (bytes_eq (before ++ b ∷ []) (codes ".lock"))) LockFileSuffix
+    ∷ []
+
+-- the lines of the table at place i of x
+unfoldable pub faults_at : List ℕ → ℕ → List (Option NameError)
+faults_at x i = faults_between (take i x) (slice_index x i) (drop (i + 1) x)
+
+-- At each place of the text at most one line of the table applies, so their order says nothing.
+abbrev pub HasOneFaultAPlace : List ℕ → Type 0
+HasOneFaultAPlace x = (i : ℕ) → i < length x → count_by is_some (faults_at x i) ≤ 1
+
+-- The fault of a text: the first of these that applies.
+unfoldable pub fault_of : List ℕ → Option NameError
+fault_of x = first_of (
+    when (is_empty x) Empty
+    ∷ when (ends x (codes "/")) EndsWithSlash
+    ∷ when (begins x (codes "/")) StartsWithSlash
+    ∷ at_least_place (λ i. first_of (faults_at x i)) (length x)
+    ∷ when (begins x (codes ".")) StartsWithDot
+    ∷ when (ends x (codes ".")) EndsWithDot
+    ∷ [])
+
+-- What an error prints.
+abbrev pub text_of : NameError → List ℕ
+text_of (InvalidByte b) = codes "A ref must not contain invalid bytes or ascii control characters: " ++ quoted (b ∷ [])
+text_of StartsWithSlash = codes "A reference name must not start with a slash '/'"
+text_of RepeatedSlash = codes "Multiple slashes in a row are not allowed as they may change the reference's meaning"
+text_of RepeatedDot = codes "A ref must not contain '..' as it may be mistaken for a range"
+text_of LockFileSuffix = codes "A ref must not end with '.lock'"
+text_of ReflogPortion = codes "A ref must not contain '@{' which is a part of a ref-log"
+text_of Asterisk = codes "A ref must not contain '*' character"
+text_of StartsWithDot = codes "A ref must not start with a '.'"
+text_of EndsWithDot = codes "A ref must not end with a '.'"
+text_of EndsWithSlash = codes "A ref must not end with a '/'"
+text_of Empty = codes "A ref must not be empty"

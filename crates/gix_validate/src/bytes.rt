@@ -1,0 +1,48 @@
+//! What single bytes may do in reference names (docs/RULES.md, "Bytes").
+
+ghost use Rattle.std.specs.Prelude.{◌≡◌, ◌||◌, codes};
+ghost use Rattle.gix_validate.specs.Bytes.{is_bad, is_among};
+
+/// Whether no reference name has the byte.
+#[tactic(auto, unfolding(crate::specs::Bytes::is_bad))]
+pub(crate) fn is_bad_byte(byte: u8) -> bool
+    ensures { result ≡ is_bad byte }
+{
+    matches!(
+        byte,
+        0..=b' ' | b':' | b'?' | b'[' | b'\\' | b'^' | b'~' | 0x7f
+    )
+}
+
+/// Whether a byte may have a fault, by what stands before it. All others have none, whatever does.
+#[inline]
+pub(crate) fn may_be_faulty(byte: u8) -> bool
+    ensures { result ≡ (is_bad byte || is_among (codes "*./{") byte) }
+{
+    MAY_BE_FAULTY[usize::from(byte)]
+}
+
+const T: bool = true;
+
+const F: bool = false;
+
+/// What `may_be_faulty` answers, a row for each sixteen bytes.
+#[rattlefmt::skip]
+const MAY_BE_FAULTY: [bool; 256] = [
+    T, T, T, T, T, T, T, T, T, T, T, T, T, T, T, T, // 00
+    T, T, T, T, T, T, T, T, T, T, T, T, T, T, T, T, // 10
+    T, F, F, F, F, F, F, F, F, F, T, F, F, F, T, T, // 20
+    F, F, F, F, F, F, F, F, F, F, T, F, F, F, F, T, // 30
+    F, F, F, F, F, F, F, F, F, F, F, F, F, F, F, F, // 40
+    F, F, F, F, F, F, F, F, F, F, F, T, T, F, T, F, // 50
+    F, F, F, F, F, F, F, F, F, F, F, F, F, F, F, F, // 60
+    F, F, F, F, F, F, F, F, F, F, F, T, F, F, T, T, // 70
+    F, F, F, F, F, F, F, F, F, F, F, F, F, F, F, F, // 80
+    F, F, F, F, F, F, F, F, F, F, F, F, F, F, F, F, // 90
+    F, F, F, F, F, F, F, F, F, F, F, F, F, F, F, F, // A0
+    F, F, F, F, F, F, F, F, F, F, F, F, F, F, F, F, // B0
+    F, F, F, F, F, F, F, F, F, F, F, F, F, F, F, F, // C0
+    F, F, F, F, F, F, F, F, F, F, F, F, F, F, F, F, // D0
+    F, F, F, F, F, F, F, F, F, F, F, F, F, F, F, F, // E0
+    F, F, F, F, F, F, F, F, F, F, F, F, F, F, F, F, // F0
+];

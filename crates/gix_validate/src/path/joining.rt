@@ -1,0 +1,83 @@
+//! Joining path components.
+
+ghost use Rattle.std.specs.Prelude.{◌≡◌, ◌+◌, ◌<◌, ◌≤◌, ◌^◌, None, ◌++◌, map, length, All, IsOk, IfOk, SomeIff, vec_len, vec_capacity};
+ghost use Rattle.bstr.specs.BStr.{bstr_bytes};
+ghost use Rattle.bstr.specs.Owned.{bstring_bytes};
+ghost use Rattle.gix_validate.specs.Component.{component_fault_of};
+ghost use Rattle.gix_validate.specs.ComponentLaws.{no_protections, IsSafe};
+ghost use Rattle.gix_validate.specs.Pieces.{pieces, joined};
+
+use bstr::{BStr, BString};
+use std::alloc::{AllocError, Allocator, Global};
+
+/// Joins components by slashes into a path, whose pieces are the parts in their order
+/// (docs/RULES.md, "Joining").
+///
+/// Its caller knows that there is a part, and that each part is a component under no switch and
+/// without a mode. [`component`](super::component) tells the second: what it accepts under some
+/// switches it accepts under none.
+///
+/// ```
+/// join(alloc, &[BStr::from("src"), BStr::from("a.rs")])?; // `src/a.rs`
+/// ```
+///
+/// # Errors
+///
+/// Want of memory, and nothing else. The call asks for memory once, before it writes a byte. A
+/// length above `isize::MAX` bytes, which no memory holds, counts as refused.
+pub fn join(alloc: Global, parts: &[BStr<'_>]) -> Result<BString, AllocError>
+    requires some { 0 < length parts.now }
+    requires components { All
+        (λ part. component_fault_of no_protections None (bstr_bytes part) ≡ None) parts.now }
+    ensures bytes { IfOk result (λ path. bstring_bytes path ≡ joined (map bstr_bytes parts.now)) }
+    ensures pieces { IfOk result (λ path. pieces (bstring_bytes path) ≡ map bstr_bytes parts.now) }
+    // No piece is empty, `.`, `..`, or `.git` in any case.
+    ensures safe { IfOk result (λ path. All IsSafe (pieces (bstring_bytes path))) }
+{
+    Ok(BString::new(join_in(alloc, parts)?))
+}
+
+// `join` with any allocator. A sum of lengths that wraps counts as refused memory.
+fn join_in<A: Allocator>(alloc: A, parts: &[BStr<'_>]) -> Result<Vec<u8, A>, AllocError>
+    requires { 0 < length parts.now }
+    ensures { IfOk result (λ path. path.items ≡ joined (map bstr_bytes parts.now)) }
+{
+    let len = joined_len(parts).ok_or(AllocError)?;
+    write_joined(Vec::with_capacity(alloc, len)?, parts)
+}
+
+// How long the parts and the slashes between them are, where that fits a `usize`.
+fn joined_len(parts: &[BStr<'_>]) -> Option<usize>
+    requires { 0 < length parts.now }
+    ensures { SomeIff result
+        (length (joined (map bstr_bytes parts.now)) < 2 ^ 64)
+        (length (joined (map bstr_bytes parts.now))) }
+{
+    let mut len = parts.len() - 1;
+    for part in parts {
+        len = len.checked_add(part.as_bytes().len())?;
+    }
+    Some(len)
+}
+
+// All that follows the reservation: it succeeds where the capacity serves.
+fn write_joined<A: Allocator>(
+    mut buffer: Vec<u8, A>,
+    parts: &[BStr<'_>],
+) -> Result<Vec<u8, A>, AllocError>
+    ensures bytes { IfOk result
+        (λ path. path.items ≡ buffer.items ++ joined (map bstr_bytes parts.now)) }
+    ensures succeeds { vec_len buffer + length (joined (map bstr_bytes parts.now))
+        ≤ vec_capacity buffer → IsOk result }
+{
+    for (i, part) in parts.iter().enumerate() {
+        if i > 0 {
+            buffer.push(b'/')?;
+        }
+        buffer.extend_from_slice(part.as_bytes())?;
+    }
+    Ok(buffer)
+}
+
+#[cfg(test)]
+mod tests;

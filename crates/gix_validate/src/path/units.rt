@@ -1,0 +1,40 @@
+//! The first unit of a text, by Unicode's table of whole UTF-8 sequences.
+
+ghost use Rattle.std.specs.Prelude.{◌≡◌};
+ghost use Rattle.gix_validate.specs.Units.{first_unit_len, fitting_len};
+
+/// The second and later bytes of a whole sequence, but for some seconds.
+const TAIL: (u8, u8) = (0x80, 0xBF);
+
+/// How many bytes the first unit has: the whole sequence in front, else what begins one, else one byte.
+pub(super) fn first_unit_len(text: &[u8]) -> usize
+    ensures { result ≡ first_unit_len text.now }
+{
+    let [first, ..] = text else {
+        return 1;
+    };
+    match *first {
+        0xC2..=0xDF => fitting_len(&[(0xC2, 0xDF), TAIL], text),
+        0xE0 => fitting_len(&[(0xE0, 0xE0), (0xA0, 0xBF), TAIL], text),
+        0xE1..=0xEC => fitting_len(&[(0xE1, 0xEC), TAIL, TAIL], text),
+        0xED => fitting_len(&[(0xED, 0xED), (0x80, 0x9F), TAIL], text),
+        0xEE..=0xEF => fitting_len(&[(0xEE, 0xEF), TAIL, TAIL], text),
+        0xF0 => fitting_len(&[(0xF0, 0xF0), (0x90, 0xBF), TAIL, TAIL], text),
+        0xF1..=0xF3 => fitting_len(&[(0xF1, 0xF3), TAIL, TAIL, TAIL], text),
+        0xF4 => fitting_len(&[(0xF4, 0xF4), (0x80, 0x8F), TAIL, TAIL], text),
+        _ => 1,
+    }
+}
+
+/// How many bytes in front fit the row, one for each range.
+fn fitting_len(row: &[(u8, u8)], text: &[u8]) -> usize
+    ensures { result ≡ fitting_len row.now text.now }
+{
+    for (place, range) in row.iter().enumerate() {
+        match text.get(place) {
+            Some(byte) if range.0 <= *byte && *byte <= range.1 => {}
+            _ => return place,
+        }
+    }
+    row.len()
+}

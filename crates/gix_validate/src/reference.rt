@@ -1,0 +1,276 @@
+//! Reference names: partial ones, full ones and those of branches, each told by one call, and the
+//! join of two names.
+//!
+//! The three calls stand on one another: a full name is a partial name, and the name of a branch
+//! is a full name. None of them takes memory, and each gives back the very text that it was given.
+
+ghost use Rattle.std.specs.Prelude.{◌≡◌, ◌≢◌, ◌↔◌, ◌⊎◌, ◌+◌, ◌≤◌, [], ◌∷◌, ◌++◌, length, codes, All, Contains, IsOk, IfOk, IsTrue, MatchResult, vec_len, vec_capacity};
+ghost use Rattle.std.specs.Str.{byte};
+ghost use Rattle.bstr.specs.BStr.{bstr_bytes};
+ghost use Rattle.bstr.specs.Owned.{bstring_bytes};
+ghost use Rattle.gix_validate.specs.Faults.{Validates};
+ghost use Rattle.gix_validate.specs.Pieces.{joined};
+ghost use Rattle.gix_validate.specs.Reference.{is_standalone_byte, has_slash_or_stands_alone, is_partial_name, is_full_name, is_branch_name, reserved as reserved_fault, partial_fault_of, full_fault_of, branch_fault_of};
+ghost use Rattle.gix_validate.specs.Tag.{is_tag_name};
+
+use crate::quoted::Quoted;
+use crate::tag;
+use arrayvec::ArrayVec;
+use bstr::{BStr, BString};
+use std::alloc::{AllocError, Allocator, Global};
+use std::error::Error;
+use std::fmt;
+
+mod sanitize;
+#[cfg(test)]
+mod tests;
+
+pub use sanitize::{name_partial_or_sanitize, sanitize_in_place};
+
+/// Why a text is no reference name (docs/RULES.md, "Reference names").
+///
+/// The first eleven are the faults of [`tag::NameError`], under the same names.
+#[derive(Debug, Drop)]
+pub enum NameError {
+    /// A byte that no reference name has, the first of them.
+    InvalidByte { byte: u8 },
+    StartsWithSlash,
+    RepeatedSlash,
+    RepeatedDot,
+    LockFileSuffix,
+    ReflogPortion,
+    Asterisk,
+    StartsWithDot,
+    EndsWithDot,
+    EndsWithSlash,
+    Empty,
+    /// A name without a slash has a byte other than `A` to `Z` and `_`: a lowercase letter, but a
+    /// digit too.
+    SomeLowercase,
+    /// A name that is kept back: `@`, and as a branch `refs/heads/HEAD`.
+    Reserved { name: ArrayVec<u8, 15> },
+}
+
+/// The texts are those of docs/RULES.md, "Printed texts".
+impl fmt::Display for NameError {
+    ghost use Rattle.std.specs.Prelude.{Some};
+    ghost use Rattle.gix_validate.specs.Reference.{text_of};
+
+    ghost output = { λ e. Some (text_of e) };
+
+    fn fmt<W: fmt::Write>(&self, f: &mut fmt::Formatter<W>) -> fmt::Result {
+        match self {
+            NameError::InvalidByte { byte } => {
+                f.write_str("Reference name contains invalid byte: ")?;
+                Quoted(&[*byte]).fmt(f)
+            }
+            NameError::StartsWithSlash => f.write_str("Reference name cannot start with a slash"),
+            NameError::RepeatedSlash => {
+                f.write_str("Reference name cannot contain repeated slashes")
+            }
+            NameError::RepeatedDot => f.write_str("Reference name cannot contain repeated dots"),
+            NameError::LockFileSuffix => f.write_str("Reference name cannot end with '.lock'"),
+            NameError::ReflogPortion => f.write_str("Reference name cannot contain '@{'"),
+            NameError::Asterisk => f.write_str("Reference name cannot contain '*'"),
+            NameError::StartsWithDot => f.write_str("Reference name cannot start with a dot"),
+            NameError::EndsWithDot => f.write_str("Reference name cannot end with a dot"),
+            NameError::EndsWithSlash => f.write_str("Reference name cannot end with a slash"),
+            NameError::Empty => f.write_str("Reference name cannot be empty"),
+            NameError::SomeLowercase => {
+                f.write_str("Standalone references must be all uppercased, like 'HEAD'")
+            }
+            NameError::Reserved { name } => {
+                f.write_str("Reference name is reserved and cannot be used: ")?;
+                Quoted(name.as_slice()).fmt(f)
+            }
+        }
+    }
+}
+
+impl Error for NameError {}
+
+/// The same fault: the variant stays, and so does the byte of `InvalidByte`.
+impl From<tag::NameError> for NameError {
+    ghost use Rattle.gix_validate.specs.Reference.{carried};
+
+    ghost from_gives = { λ fault e. e ≡ carried fault };
+
+    fn from(fault: tag::NameError) -> NameError {
+        match fault {
+            tag::NameError::InvalidByte { byte } => NameError::InvalidByte { byte },
+            tag::NameError::StartsWithSlash => NameError::StartsWithSlash,
+            tag::NameError::RepeatedSlash => NameError::RepeatedSlash,
+            tag::NameError::RepeatedDot => NameError::RepeatedDot,
+            tag::NameError::LockFileSuffix => NameError::LockFileSuffix,
+            tag::NameError::ReflogPortion => NameError::ReflogPortion,
+            tag::NameError::Asterisk => NameError::Asterisk,
+            tag::NameError::StartsWithDot => NameError::StartsWithDot,
+            tag::NameError::EndsWithDot => NameError::EndsWithDot,
+            tag::NameError::EndsWithSlash => NameError::EndsWithSlash,
+            tag::NameError::Empty => NameError::Empty,
+        }
+    }
+}
+
+/// Gives back `path` where it is a partial name, as `main` is: a tag name, but not `@`
+/// (docs/RULES.md, "Reference names").
+///
+/// ```
+/// name_partial(BStr::from("main"))?; // gives back `main`
+/// name_partial(BStr::from("@")); // Reserved, with the name `@`
+/// ```
+///
+/// # Errors
+///
+/// The fault of [`tag::name`], where it has one, and else `Reserved` with `@`.
+///
+/// It takes no memory.
+#[tactic(auto, using(crate::proofs::ReferenceLemmas::partial_names))]
+pub fn name_partial<'a>(path: BStr<'a>) -> Result<BStr<'a>, NameError>
+    ensures answer { Validates partial_fault_of (bstr_bytes path.entry) result }
+    ensures grammar { IsOk result ↔ IsTrue (is_partial_name (bstr_bytes path.entry)) }
+    ensures same { IfOk result (λ name. name ≡ path.entry) }
+    // A tag name, but not `@`.
+    ensures tag_name { let x = bstr_bytes path.entry in IsOk result
+        ↔ (IsTrue (is_tag_name x) × (x ≢ codes "@")) }
+{
+    unless_reserved(tag::name(path)?, b"@")
+}
+
+/// Gives back `path` where it is a full name, as `HEAD` and `refs/heads/main` are: a partial name
+/// that has a slash, or else only the letters `A` to `Z` and `_` (docs/RULES.md,
+/// "Reference names").
+///
+/// ```
+/// name(BStr::from("refs/heads/main"))?; // gives back `refs/heads/main`
+/// name(BStr::from("main")); // SomeLowercase
+/// ```
+///
+/// # Errors
+///
+/// The fault of [`name_partial`], where it has one, and else `SomeLowercase`.
+///
+/// It takes no memory.
+#[tactic(auto, using(crate::proofs::ReferenceLemmas::full_names))]
+pub fn name<'a>(path: BStr<'a>) -> Result<BStr<'a>, NameError>
+    ensures answer { Validates full_fault_of (bstr_bytes path.entry) result }
+    ensures grammar { IsOk result ↔ IsTrue (is_full_name (bstr_bytes path.entry)) }
+    ensures same { IfOk result (λ name. name ≡ path.entry) }
+    // A partial name that has a slash, or whose bytes may each stand alone.
+    ensures partial_name { let x = bstr_bytes path.entry in IsOk result
+        ↔ (IsTrue (is_partial_name x)
+        × (Contains x (byte "/") ⊎ All (λ b. IsTrue (is_standalone_byte b)) x)) }
+{
+    let name = name_partial(path)?;
+    if has_slash_or_stands_alone(name.as_bytes()) {
+        Ok(name)
+    } else {
+        Err(NameError::SomeLowercase)
+    }
+}
+
+/// Gives back `path` where it may be the full name of a branch: a full name, but not
+/// `refs/heads/HEAD` (docs/RULES.md, "Reference names").
+///
+/// ```
+/// branch_name(BStr::from("refs/heads/main"))?; // gives back `refs/heads/main`
+/// branch_name(BStr::from("refs/heads/HEAD")); // Reserved, with the name `refs/heads/HEAD`
+/// ```
+///
+/// # Errors
+///
+/// The fault of [`name`], where it has one, and else `Reserved` with all fifteen bytes of
+/// `refs/heads/HEAD`.
+///
+/// It takes no memory.
+#[tactic(auto, using(crate::proofs::ReferenceLemmas::branch_names))]
+pub fn branch_name<'a>(path: BStr<'a>) -> Result<BStr<'a>, NameError>
+    ensures answer { Validates branch_fault_of (bstr_bytes path.entry) result }
+    ensures grammar { IsOk result ↔ IsTrue (is_branch_name (bstr_bytes path.entry)) }
+    ensures same { IfOk result (λ name. name ≡ path.entry) }
+    // A full name, but not `refs/heads/HEAD`.
+    ensures full_name { let x = bstr_bytes path.entry in IsOk result
+        ↔ (IsTrue (is_full_name x) × (x ≢ codes "refs/heads/HEAD")) }
+{
+    unless_reserved(name(path)?, b"refs/heads/HEAD")
+}
+
+/// Joins two tag names by a slash, which gives a full name (docs/RULES.md, "Joining").
+///
+/// Its caller knows that both are tag names, as [`tag::name`] tells.
+///
+/// ```
+/// join(alloc, tag::name(BStr::from("refs"))?, tag::name(BStr::from("v1.0"))?)?; // `refs/v1.0`
+/// ```
+///
+/// # Errors
+///
+/// Want of memory, and nothing else. The call asks for memory once, before it writes a byte. A
+/// length above `isize::MAX` bytes, which no memory holds, counts as refused.
+#[tactic(auto, using(crate::proofs::JoinLemmas::joined_is_full))]
+pub fn join(alloc: Global, a: BStr<'_>, b: BStr<'_>) -> Result<BString, AllocError>
+    requires first { IsTrue (is_tag_name (bstr_bytes a)) }
+    requires second { IsTrue (is_tag_name (bstr_bytes b)) }
+    ensures bytes { IfOk result (λ name. bstring_bytes name
+        ≡ joined (bstr_bytes a.entry ∷ bstr_bytes b.entry ∷ [])) }
+    ensures full_name { IfOk result (λ name. IsTrue (is_full_name (bstring_bytes name))) }
+{
+    let name = join_in(alloc, a.as_bytes(), b.as_bytes())?;
+    Ok(BString::new(name))
+}
+
+// Gives back any name but the reserved one, for which the error has room.
+fn unless_reserved<'a>(name: BStr<'a>, reserved: &[u8]) -> Result<BStr<'a>, NameError>
+    requires { length reserved.now ≤ 15 }
+    ensures { MatchResult result
+        (λ given. (given ≡ name.entry) × (bstr_bytes name.entry ≢ reserved.now))
+        (λ fault. (fault ≡ reserved_fault reserved.now) × (bstr_bytes name.entry ≡ reserved.now)) }
+{
+    if name.as_bytes() != reserved {
+        return Ok(name);
+    }
+    Err(NameError::Reserved {
+        name: ArrayVec::try_from(reserved).unwrap(),
+    })
+}
+
+// One search, which ends at the first slash.
+#[tactic(auto, using(crate::proofs::ReferenceLemmas::search_steps))]
+fn has_slash_or_stands_alone(bytes: &[u8]) -> bool
+    ensures { result ≡ has_slash_or_stands_alone bytes.now }
+{
+    let mut stands_alone = true;
+    for byte in bytes {
+        match *byte {
+            b'/' => return true,
+            b'A'..=b'Z' | b'_' => {}
+            _ => stands_alone = false,
+        }
+    }
+    stands_alone
+}
+
+// `join` with any allocator. A sum of lengths that wraps counts as refused memory.
+fn join_in<A: Allocator>(alloc: A, a: &[u8], b: &[u8]) -> Result<Vec<u8, A>, AllocError>
+    ensures { IfOk result (λ name. name.items ≡ joined (a.now ∷ b.now ∷ [])) }
+{
+    let with_slash = a.len().checked_add(1).ok_or(AllocError)?;
+    let len = with_slash.checked_add(b.len()).ok_or(AllocError)?;
+    write_joined(Vec::with_capacity(alloc, len)?, a, b)
+}
+
+// All that follows the reservation: it succeeds where the capacity serves.
+fn write_joined<A: Allocator>(
+    mut buffer: Vec<u8, A>,
+    a: &[u8],
+    b: &[u8],
+) -> Result<Vec<u8, A>, AllocError>
+    ensures bytes { IfOk result (λ name. name.items ≡ buffer.items ++ joined (a.now ∷ b.now ∷ [])) }
+    ensures succeeds { vec_len buffer + length (joined (a.now ∷ b.now ∷ [])) ≤ vec_capacity buffer
+        → IsOk result }
+{
+    buffer.extend_from_slice(a)?;
+    buffer.push(b'/')?;
+    buffer.extend_from_slice(b)?;
+    Ok(buffer)
+}

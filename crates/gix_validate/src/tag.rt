@@ -1,0 +1,173 @@
+//! Tag names: the rule that all reference names build on.
+
+ghost use Rattle.std.specs.Prelude.{◌≡◌, ◌↔◌, ◌<◌, ℕ, List, ◌∷◌, length, Some, IsOk, IfOk, IsTrue};
+ghost use Rattle.bstr.specs.BStr.{bstr_bytes};
+ghost use Rattle.gix_validate.specs.Faults.{Validates, first_of, at_least_place};
+ghost use Rattle.gix_validate.specs.Pieces.{HasOnlyPieces};
+ghost use Rattle.gix_validate.specs.Tag.{fault_of, faults_at, faults_between, is_tag_name, HasOneFaultAPlace};
+
+use crate::bytes::{is_bad_byte, may_be_faulty};
+use crate::quoted::Quoted;
+use bstr::BStr;
+use std::error::Error;
+use std::fmt;
+
+/// Why a text is no tag name. What each prints is in docs/RULES.md, "Printed texts".
+#[derive(Debug, Drop)]
+pub enum NameError {
+    /// It has a control byte, a space, DEL, or one of `:` `?` `[` `\` `^` `~`; the first of them is given.
+    InvalidByte { byte: u8 },
+    /// It starts with a slash.
+    StartsWithSlash,
+    /// It has two slashes in a row.
+    RepeatedSlash,
+    /// It has two dots in a row.
+    RepeatedDot,
+    /// A piece of it ends in `.lock`.
+    LockFileSuffix,
+    /// It has `@{`.
+    ReflogPortion,
+    /// It has a `*`.
+    Asterisk,
+    /// A piece of it starts with a dot.
+    StartsWithDot,
+    /// It ends in a dot.
+    EndsWithDot,
+    /// It ends in a slash.
+    EndsWithSlash,
+    /// It is empty.
+    Empty,
+}
+
+impl fmt::Display for NameError {
+    ghost use Rattle.gix_validate.specs.Tag.{text_of};
+
+    ghost output = { λ e. Some (text_of e) };
+
+    fn fmt<W: fmt::Write>(&self, f: &mut fmt::Formatter<W>) -> fmt::Result {
+        match self {
+            NameError::InvalidByte { byte } => {
+                f.write_str("A ref must not contain invalid bytes or ascii control characters: ")?;
+                Quoted(&[*byte]).fmt(f)
+            }
+            NameError::StartsWithSlash => {
+                f.write_str("A reference name must not start with a slash '/'")
+            }
+            NameError::RepeatedSlash => f.write_str(
+                "Multiple slashes in a row are not allowed as they may change the reference's meaning",
+            ),
+            NameError::RepeatedDot => {
+                f.write_str("A ref must not contain '..' as it may be mistaken for a range")
+            }
+            NameError::LockFileSuffix => f.write_str("A ref must not end with '.lock'"),
+            NameError::ReflogPortion => {
+                f.write_str("A ref must not contain '@{' which is a part of a ref-log")
+            }
+            NameError::Asterisk => f.write_str("A ref must not contain '*' character"),
+            NameError::StartsWithDot => f.write_str("A ref must not start with a '.'"),
+            NameError::EndsWithDot => f.write_str("A ref must not end with a '.'"),
+            NameError::EndsWithSlash => f.write_str("A ref must not end with a '/'"),
+            NameError::Empty => f.write_str("A ref must not be empty"),
+        }
+    }
+}
+
+impl Error for NameError {}
+
+/// Gives back `input` if it is a tag name, and else says its first fault.
+///
+/// A tag name is made of pieces with a slash between each two. No piece is empty, has an invalid byte
+/// or a `*`, starts with a dot, ends in `.lock`, or holds `..` or `@{`; and the whole name doesn't end
+/// in a dot. The input needn't be UTF-8.
+///
+/// ```rust
+/// assert!(rt; tag::name(BStr::new(b"v1.2.3")).is_ok());
+/// assert!(rt; matches!(tag::name(BStr::new(b"v1..2")), Err(tag::NameError::RepeatedDot)));
+/// ```
+///
+/// # Errors
+///
+/// The first fault in the order of docs/RULES.md, "Tag names", which is the source of this rule.
+///
+/// # Memory
+///
+/// It takes none, and reads the bytes once. On `Ok` it gives the very value that it was given.
+pub fn name<'a>(input: BStr<'a>) -> Result<BStr<'a>, NameError>
+    ensures answer { Validates fault_of (bstr_bytes input.entry) result }
+    ensures grammar { IsOk result ↔ IsTrue (is_tag_name (bstr_bytes input.entry)) }
+    ensures same { IfOk result (λ name. name ≡ input.entry) }
+    ensures one_fault { HasOneFaultAPlace (bstr_bytes input.entry) }
+    ensures pieces { HasOnlyPieces (bstr_bytes input.entry) }
+{
+    match first_fault(input.as_bytes()) {
+        None => Ok(input),
+        Some(fault) => Err(fault),
+    }
+}
+
+/// The first fault of a text, in the order of docs/RULES.md, "Tag names".
+fn first_fault(bytes: &[u8]) -> Option<NameError>
+    ensures { result ≡ fault_of bytes.now }
+{
+    if bytes.is_empty() {
+        return Some(NameError::Empty);
+    }
+    let first = bytes[0];
+    let last = bytes[bytes.len() - 1];
+    if last == b'/' {
+        return Some(NameError::EndsWithSlash);
+    }
+    if first == b'/' {
+        return Some(NameError::StartsWithSlash);
+    }
+    if let Some(fault) = fault_at_least_place(bytes) {
+        return Some(fault);
+    }
+    if first == b'.' {
+        return Some(NameError::StartsWithDot);
+    }
+    if last == b'.' {
+        return Some(NameError::EndsWithDot);
+    }
+    None
+}
+
+/// The fault at the least place that has one: one pass, and most bytes cost a look into a table.
+fn fault_at_least_place(bytes: &[u8]) -> Option<NameError>
+    requires { 0 < length bytes.now }
+    ensures { result ≡ at_least_place (λ i. first_of (faults_at bytes.now i)) (length bytes.now) }
+{
+    for (i, &byte) in bytes.iter().enumerate() {
+        if may_be_faulty(byte) {
+            if let Some(fault) = fault_after(&bytes[..i], byte) {
+                return Some(fault);
+            }
+        }
+    }
+    if bytes.ends_with(b".lock") && bytes.len() != 5 {
+        return Some(NameError::LockFileSuffix);
+    }
+    None
+}
+
+/// The fault of a byte behind which something follows, by what stands before it.
+fn fault_after(before: &[u8], byte: u8) -> Option<NameError>
+    ensures { (next : ℕ) (rest : List ℕ) → result ≡ first_of (faults_between before.now byte (next ∷ rest)) }
+{
+    match byte {
+        b'*' => Some(NameError::Asterisk),
+        b'.' if before.ends_with(b".") => Some(NameError::RepeatedDot),
+        b'.' if before.ends_with(b"/") => Some(NameError::StartsWithDot),
+        b'.' => None,
+        b'{' if before.ends_with(b"@") => Some(NameError::ReflogPortion),
+        b'{' => None,
+        b'/' if before.ends_with(b"/") => Some(NameError::RepeatedSlash),
+        b'/' if before.ends_with(b".lock") => Some(NameError::LockFileSuffix),
+        b'/' => None,
+        _ if is_bad_byte(byte) => Some(NameError::InvalidByte { byte }),
+        _ => None,
+    }
+}
+
+#[cfg(test)]
+mod tests;

@@ -11,6 +11,8 @@ use Rattle.gix_validate.specs.declared.path.ComponentMode.TheVariants.{Symlink}
 use Rattle.gix_validate.specs.Component.{all_protections, component_fault_of, component_text_of}
 use Rattle.gix_validate.specs.Sanitized.{sanitized}
 use Rattle.bstr.specs.declared.bstr.BStr.{BStr}
+use Rattle.bstr.specs.BStr.{bstr_bytes}
+use Rattle.typed_names.specs.Names.{Keeps}
 use Rattle.check_names.specs.Lines.{line_end, lines, split_once}
 use Rattle.check_names.specs.Answers.{answer_of, answers, answer_by, answer_to, device_answer, kinds, unknown_kind, verdict}
 
@@ -78,6 +80,16 @@ pub verdict-of_validator : {E : Type 0} (fault : List ℕ → Option E) (text_of
 verdict-of_validator fault text_of name (Ok passed) old new says printed =
     printed ∙ ap (λ found. old ++ verdict found text_of) (sym says.0)
 verdict-of_validator fault text_of name (Err e) old new says printed =
+    printed ∙ append_assoc old (codes "error: ") (text_of e) ∙ ap (λ found. old ++ verdict found text_of) (sym says)
+
+-- the same of a validator whose answer is kept as a typed name
+pub verdict-of_kept : {Name E : Type 0} (kept : Name → BStr) (fault : List ℕ → Option E) (text_of : E → List ℕ) (text : BStr) (result : Result Name E) (old new : List ℕ)
+    → Keeps kept fault text result
+    → MatchResult result (λ _. new ≡ old ++ codes "ok") (λ e. new ≡ old ++ codes "error: " ++ text_of e)
+    → new ≡ old ++ verdict (fault (bstr_bytes text)) text_of
+verdict-of_kept kept fault text_of text (Ok passed) old new says printed =
+    printed ∙ ap (λ found. old ++ verdict found text_of) (sym says.0)
+verdict-of_kept kept fault text_of text (Err e) old new says printed =
     printed ∙ append_assoc old (codes "error: ") (text_of e) ∙ ap (λ found. old ++ verdict found text_of) (sym says)
 
 -- ---- all lines

@@ -10,13 +10,14 @@ ghost use Rattle.check_names.specs.Lines.{lines, request_of, split_once};
 
 use bstr::BStr;
 use gix_validate::path::{ComponentMode, ComponentOptions};
-use gix_validate::{path, reference, submodule, tag};
+use gix_validate::{path, reference, submodule};
 use memchr::memchr;
 use std::alloc::{AllocError, Allocator, Global};
 use std::error::Error;
 use std::fmt::Display;
 use std::io::{Read, Write};
 use std::{fmt, io};
+use typed_names::{Component, FullName, PartialName, TagName};
 
 const UNKNOWN_KIND: &[u8] = b"unknown kind";
 
@@ -178,24 +179,24 @@ fn push_answer_by<A: Allocator>(
         ≡ answers.old.items ++ answer_by kinds kind.now (bstr_bytes name.entry)) }
 {
     if kind == b"tag".as_slice() {
-        push_verdict(tag::name(name), answers)
+        push_verdict(TagName::new(name), answers)
     } else if kind == b"partial".as_slice() {
-        push_verdict(reference::name_partial(name), answers)
+        push_verdict(PartialName::new(name), answers)
     } else if kind == b"ref".as_slice() {
-        push_verdict(reference::name(name), answers)
+        push_verdict(FullName::new(name), answers)
     } else if kind == b"branch".as_slice() {
         push_verdict(reference::branch_name(name), answers)
     } else if kind == b"submodule".as_slice() {
         push_verdict(submodule::name(name), answers)
     } else if kind == b"path".as_slice() {
         push_verdict(
-            path::component(name, None, ComponentOptions::default()),
+            Component::new(name, None, ComponentOptions::default()),
             answers,
         )
     } else if kind == b"symlink".as_slice() {
         let mode = Some(ComponentMode::Symlink);
         push_verdict(
-            path::component(name, mode, ComponentOptions::default()),
+            Component::new(name, mode, ComponentOptions::default()),
             answers,
         )
     } else if kind == b"device".as_slice() {

@@ -22,6 +22,17 @@ lock_ends y = ends_last_piece (codes "kcol.") refl y
 pub lock_push : (y : List ℕ) (b : ℕ) → ends (y ++ b ∷ []) (codes ".lock") ≡ (ends y (codes ".loc") && eqb 107 b)
 lock_push y b = ends_push y (codes ".loc") b 107
 
+-- a text that doesn't end in `k` doesn't end in `.lock`
+pub lock_ends_in_k : (y : List ℕ) → ends y (codes "k") ≡ false → ends y (codes ".lock") ≡ false
+lock_ends_in_k y other = by (last_cases y)
+  where
+    by : (y ≡ []) ⊎ EndsIn y → ends y (codes ".lock") ≡ false
+    by (inl none) = subst (λ y. ends y (codes ".lock") ≡ false) (sym none) (empty_ends (codes ".loc") 107)
+    by (inr v) =
+        subst (λ y. ends y (codes ".lock") ≡ false) (sym v.whole)
+        (lock_push v.front v.last
+        ∙ and_right (ends v.front (codes ".loc")) (eqb 107 v.last) (sym (ends_push_one v.front v.last 107) ∙ ap (λ y. ends y (codes "k")) (sym v.whole) ∙ other))
+
 -- a text that ends in one byte doesn't end in another
 pub one_end : (y : List ℕ) (a c : ℕ) → eqb c a ≡ false → (ends y (a ∷ []) && ends y (c ∷ [])) ≡ false
 one_end y a c other = by (last_cases y)

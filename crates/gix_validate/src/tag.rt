@@ -1,7 +1,8 @@
 //! Tag names: the rule that all reference names build on.
 
-ghost use Rattle.std.specs.Prelude.{◌≡◌, ◌↔◌, ◌<◌, ℕ, List, ◌∷◌, length, Some, IsOk, IfOk, IsTrue};
+ghost use Rattle.std.specs.Prelude.{◌≡◌, ◌↔◌, ◌<◌, ℕ, List, ◌∷◌, length, codes, Some, IsOk, IfOk, IsTrue};
 ghost use Rattle.bstr.specs.BStr.{bstr_bytes};
+ghost use Rattle.gix_validate.specs.Bytes.{ends};
 ghost use Rattle.gix_validate.specs.Faults.{Validates, first_of, at_least_place};
 ghost use Rattle.gix_validate.specs.Pieces.{HasOnlyPieces};
 ghost use Rattle.gix_validate.specs.Tag.{fault_of, faults_at, faults_between, is_tag_name, HasOneFaultAPlace};
@@ -162,11 +163,19 @@ fn fault_after(before: &[u8], byte: u8) -> Option<NameError>
         b'{' if before.ends_with(b"@") => Some(NameError::ReflogPortion),
         b'{' => None,
         b'/' if before.ends_with(b"/") => Some(NameError::RepeatedSlash),
-        b'/' if before.ends_with(b".lock") => Some(NameError::LockFileSuffix),
+        b'/' if ends_in_lock(before) => Some(NameError::LockFileSuffix),
         b'/' => None,
         _ if is_bad_byte(byte) => Some(NameError::InvalidByte { byte }),
         _ => None,
     }
+}
+
+/// Whether the text ends in `.lock`, of which few texts have the last letter.
+#[inline]
+fn ends_in_lock(text: &[u8]) -> bool
+    ensures { result ≡ ends text.now (codes ".lock") }
+{
+    text.ends_with(b"k") && text.ends_with(b".lock")
 }
 
 #[cfg(test)]

@@ -60,12 +60,12 @@ returns-in-47 c next rest =
 pub returns-in-47-2 : goal.returns-in-47-2
 returns-in-47-2 c next rest =
     at_byte c.args.before.now c.args.byte 47 next rest (Some LockFileSuffix) c.in-47.is
-    (after_slash c.args.before.now next rest ∙ second_line _ _ RepeatedSlash LockFileSuffix c.if-ends_with-4.ensures.value c.if-ends_with-5.ensures.value)
+    (after_slash c.args.before.now next rest ∙ second_line _ _ RepeatedSlash LockFileSuffix c.if-ends_with-4.ensures.value c.if-ends_in_lock.ensures)
 
 pub returns-in-47-3 : goal.returns-in-47-3
 returns-in-47-3 c next rest =
     at_byte c.args.before.now c.args.byte 47 next rest None c.in-47.is
-    (after_slash c.args.before.now next rest ∙ no_line _ _ RepeatedSlash LockFileSuffix c.if-ends_with-4.ensures.value c.if-ends_with-5.ensures.value)
+    (after_slash c.args.before.now next rest ∙ no_line _ _ RepeatedSlash LockFileSuffix c.if-ends_with-4.ensures.value c.if-ends_in_lock.ensures)
 
 pub returns-in_default : goal.returns-in_default
 returns-in_default c next rest =

@@ -1,0 +1,3 @@
+pub mod SlashLemmas
+pub mod TagLemmas
+pub mod NamesRows

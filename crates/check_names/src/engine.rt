@@ -252,4 +252,8 @@ fn push_verdict<T: Drop, E: Display + Drop, A: Allocator>(
 }
 
 #[cfg(test)]
+mod refused_memory;
+#[cfg(test)]
 mod tests;
+#[cfg(test)]
+mod vectors;

@@ -1,0 +1,26 @@
+//! Submodule names (docs/RULES.md, "Submodule names").
+
+use crate::fault::Fault;
+use crate::text::stands_at;
+
+/// The fault of the text as the name of a submodule.
+pub fn fault(text: &[u8]) -> Option<Fault<'static>> {
+    if text.is_empty() {
+        Some(Fault::Empty)
+    } else if (0..text.len()).any(|place| is_parent_at(text, place)) {
+        Some(Fault::ParentComponent)
+    } else {
+        None
+    }
+}
+
+/// Whether `..` stands at the place, between two separators or ends of the text.
+fn is_parent_at(text: &[u8], place: usize) -> bool {
+    let before = place.checked_sub(1).and_then(|last| text.get(last));
+    let after = text.get(place.saturating_add(2));
+    stands_at(text, place, b"..") && separates(before) && separates(after)
+}
+
+fn separates(byte: Option<&u8>) -> bool {
+    matches!(byte, None | Some(b'/' | b'\\'))
+}

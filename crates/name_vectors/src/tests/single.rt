@@ -1,0 +1,93 @@
+//! Long texts and such as are no UTF-8, with answers that are written out.
+
+use super::ask;
+use crate::fault::Fault;
+use bstr::BStr;
+use gix_validate::path::{ComponentOptions, component};
+use gix_validate::reference::name_partial_or_sanitize;
+use gix_validate::tag;
+use std::alloc::{AllocError, Global};
+use std::test::Fail;
+
+/// The front, a thousand times the word, and the end.
+fn long(alloc: Global, front: &[u8], word: &[u8], end: &[u8]) -> Result<Vec<u8>, AllocError> {
+    let mut text = front.to_vec(alloc)?;
+    text.extend_from_slice(&word.repeat(alloc, 1000)?)?;
+    text.extend_from_slice(end)?;
+    Ok(text)
+}
+
+#[test]
+fn sanitizes_long_texts(rt: HostRuntime) -> Result<(), Fail> {
+    let alloc = rt.alloc();
+    let rows: [(&[u8], &[u8], &[u8], &[u8]); 4] = [
+        (b"a", b".lock", b"", b"a"),
+        (b"", b".", b"", b"-"),
+        (b"a", b".", b"b", b"a.b"),
+        (b"", b"/", b"", b"-"),
+    ];
+    for (front, word, end, want) in rows {
+        let text = long(alloc, front, word, end)?;
+        let name = name_partial_or_sanitize(alloc, BStr::new(&text))?;
+        assert_eq!(rt; name.as_bytes(), want);
+        ask(&rt, alloc, &text)?;
+    }
+    Ok(())
+}
+
+#[test]
+fn finds_the_fault_of_a_long_text(rt: HostRuntime) -> Result<(), Fail> {
+    let text = long(rt.alloc(), b"a", b".lock", b"")?;
+    let answer = tag::name(BStr::new(&text));
+    assert!(rt; matches!(answer, Err(tag::NameError::LockFileSuffix)));
+    Ok(())
+}
+
+#[test]
+fn sees_through_ignored_characters(rt: HostRuntime) -> Result<(), Fail> {
+    let alloc = rt.alloc();
+    let ignored = "\u{200C}".as_bytes().repeat(alloc, 1000)?;
+    let mut text = ignored.to_vec(alloc)?;
+    text.extend_from_slice(b".git")?;
+    text.extend_from_slice(&ignored)?;
+    let hfs_alone = ComponentOptions {
+        protect_windows: false,
+        protect_hfs: true,
+        protect_ntfs: false,
+    };
+    let answer = component(BStr::new(&text), None, hfs_alone);
+    let told = answer.as_ref().map_err(|fault| Fault::from(fault));
+    assert!(rt; matches!(told, Err(Fault::DotGitDir)));
+    ask(&rt, alloc, &text)?;
+    Ok(())
+}
+
+/// The 128 bytes that are no ASCII, in order.
+#[test]
+fn accepts_bytes_past_ascii(rt: HostRuntime) -> Result<(), Fail> {
+    let alloc = rt.alloc();
+    let text: Vec<u8> = (0x80..=0xFF).collect(alloc)?;
+    assert_eq!(rt; text.len(), 128);
+    let name = name_partial_or_sanitize(alloc, BStr::new(&text))?;
+    assert_eq!(rt; name.as_bytes(), text.as_slice());
+    let answer = component(BStr::new(&text), None, ComponentOptions::default());
+    assert!(rt; answer.is_ok());
+    ask(&rt, alloc, &text)?;
+    Ok(())
+}
+
+/// Each byte behind the two bytes with which an ignored character begins.
+#[test]
+fn tells_ignored_characters_from_others(rt: HostRuntime) -> Result<(), Fail> {
+    let mut asked: u32 = 0;
+    for front in [b".g\xE2\x80", b".g\xE2\x81", b".g\xEF\xBB"] {
+        for last in 0..=u8::MAX {
+            let mut text = front.to_vec(rt.alloc())?;
+            text.extend_from_slice(&[last, b'i', b't'])?;
+            ask(&rt, rt.alloc(), &text)?;
+            asked = asked.saturating_add(1);
+        }
+    }
+    assert_eq!(rt; asked, 768);
+    Ok(())
+}

@@ -1,0 +1,41 @@
+//! Units of a text, by the table of whole sequences (docs/RULES.md, "Path components").
+
+/// The rows of Unicode's table of whole UTF-8 sequences: the least and the greatest of each byte.
+const ROWS: [&[(u8, u8)]; 9] = [
+    &[(0x00, 0x7F)],
+    &[(0xC2, 0xDF), (0x80, 0xBF)],
+    &[(0xE0, 0xE0), (0xA0, 0xBF), (0x80, 0xBF)],
+    &[(0xE1, 0xEC), (0x80, 0xBF), (0x80, 0xBF)],
+    &[(0xED, 0xED), (0x80, 0x9F), (0x80, 0xBF)],
+    &[(0xEE, 0xEF), (0x80, 0xBF), (0x80, 0xBF)],
+    &[(0xF0, 0xF0), (0x90, 0xBF), (0x80, 0xBF), (0x80, 0xBF)],
+    &[(0xF1, 0xF3), (0x80, 0xBF), (0x80, 0xBF), (0x80, 0xBF)],
+    &[(0xF4, 0xF4), (0x80, 0x8F), (0x80, 0xBF), (0x80, 0xBF)],
+];
+
+/// The first unit: the front that is a whole sequence, else the longest front that begins one, else
+/// one byte.
+pub fn first_unit(text: &[u8]) -> &[u8] {
+    let fronts = [text.get(..4), text.get(..3), text.get(..2), text.get(..1)];
+    for front in fronts.into_iter().flatten() {
+        if ROWS
+            .iter()
+            .any(|row| row.len() == front.len() && begins(front, row))
+        {
+            return front;
+        }
+    }
+    for front in fronts.into_iter().flatten() {
+        if ROWS.iter().any(|row| begins(front, row)) {
+            return front;
+        }
+    }
+    text.get(..1).unwrap_or(text)
+}
+
+/// Whether the front begins a sequence of the row.
+fn begins(front: &[u8], row: &[(u8, u8)]) -> bool {
+    front.len() <= row.len()
+        && front.iter().zip(row).all(|(byte, (least, greatest))| *least <= *byte
+            && *byte <= *greatest)
+}

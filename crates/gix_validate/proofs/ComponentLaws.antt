@@ -128,8 +128,7 @@ lower-hfs_form x = rw (hfs_form-lower x) (lower-lower (hfs_form x))
 ntfs_form-lower : (x : List ℕ) → ntfs_form (lower x) ≡ lower (ntfs_form x)
 unfolding ntfs_form
 ntfs_form-lower x =
-    let colon = λ (b : ℕ). b == byte ":" in
-    rw (before_first-lower (λ b. b == byte ":") refl x) (without_end-lower (is_among (codes " .")) refl _)
+    rw (before_first-lower (is_among (codes ":\\")) refl x) (without_end-lower (is_among (codes " .")) refl _)
 
 lower-ntfs_form : (x : List ℕ) → lower (ntfs_form (lower x)) ≡ lower (ntfs_form x)
 lower-ntfs_form x = rw (ntfs_form-lower x) (lower-lower (ntfs_form x))

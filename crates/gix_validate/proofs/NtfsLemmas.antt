@@ -1,6 +1,6 @@
 -- NTFS forms: which text ends one, and which names have a given form.
 use Rattle.std.proofs.Common.{◌≡◌, ℕ, zero, suc, ◌+◌, ◌-◌, ◌<◌, ◌≤◌, Bool, true, false, not, ◌&&◌, ◌||◌, cond, eqb, List, [], ◌∷◌, ◌++◌, length, take, drop, get_or, map, refl, sym, ap, ◌∙◌, arith, codes, drop-cons, add-one}
-use Rattle.std.specs.Prelude.{IsTrue, ◌==◌}
+use Rattle.std.specs.Prelude.{IsTrue}
 use Rattle.std.specs.List.{list_all, list_any}
 use Rattle.std.specs.Str.{byte, bytes_eq}
 use Rattle.std.proofs.lemmas.List.{at_drop_more, at_drop_all}
@@ -15,7 +15,7 @@ use Rattle.gix_validate.proofs.FormLemmas.{form, form_at}
 use Rattle.gix_validate.proofs.WordLemmas.{KeepsPlain, ntfs_keeps, plain_head, word_front, word_head, other_head, none_left}
 
 abbrev pub is_cut : ℕ → Bool
-is_cut b = b == byte ":"
+is_cut b = is_among (codes ":\\") b
 
 abbrev pub is_trimmed : ℕ → Bool
 is_trimmed b = is_among (codes " .") b

@@ -64,7 +64,7 @@ word_front cut trim keeps (w ∷ word) (b ∷ x) ws plain =
     ∙ ap (λ v. eqb (lower_byte b) (lower_byte w) && v) (word_front cut trim keeps word x ws parts.1)
     ∙ and_apart _ _ _ _ (eqb_turned (lower_byte b) (lower_byte w))
 
-pub ntfs_keeps : KeepsPlain (λ b. b == byte ":") (is_among (codes " ."))
+pub ntfs_keeps : KeepsPlain (is_among (codes ":\\")) (is_among (codes " ."))
 ntfs_keeps b plain = grind (arith, nat_tests)
 
 pub device_keeps : KeepsPlain (is_among (codes ".:")) (λ b. b == byte " ")

@@ -28,9 +28,9 @@ is_device_form form = list_any (λ name. bytes_eq (lower form) (lower name)) dev
 unfoldable pub is_device : List ℕ → Bool
 is_device x = is_device_form (device_form x)
 
--- no space, dot or colon, as in each of those names
+-- no space, dot, colon or backslash, as in each of those names
 abbrev pub is_plain : ℕ → Bool
-is_plain b = not (is_among (codes " .:") b)
+is_plain b = not (is_among (codes " .:\\") b)
 
 -- a byte that stands in no name on Windows
 unfoldable pub is_illegal_byte : ℕ → Bool

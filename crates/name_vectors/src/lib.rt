@@ -3,7 +3,8 @@
 //!
 //! Each rule is written from its words, as plainly as they are, and by other means than the library
 //! has: a search where that walks, a list of all words where that compares fronts. Nothing here is
-//! taken from the library but the types of its faults.
+//! taken from the library but the types of its faults. The module `versions` says what has changed from
+//! one version of the rules to the next.
 #![tactic(auto)]
 
 pub mod component;
@@ -17,3 +18,4 @@ pub mod tag;
 mod tests;
 pub mod text;
 pub mod units;
+pub mod versions;

@@ -72,25 +72,29 @@ asked_otherwise kind name e1 e2 e3 e4 e5 e6 e7 e8 e9 =
     cond-false _ _ _ e1 ∙ cond-false _ _ _ e2 ∙ cond-false _ _ _ e3 ∙ cond-false _ _ _ e4 ∙ cond-false _ _ _ e5
     ∙ cond-false _ _ _ e6 ∙ cond-false _ _ _ e7 ∙ cond-false _ _ _ e8 ∙ cond-false _ _ _ e9
 
+-- what was answered by a rule of faults, whatever else it says of a name that passed, printed as a verdict
+verdict-of : {Name E : Type 0} (Also : Name → Type 0) (fault : List ℕ → Option E) (text_of : E → List ℕ) (name : List ℕ) (result : Result Name E) (old new : List ℕ)
+    → MatchResult result (λ passed. (fault name ≡ None) × Also passed) (λ e. fault name ≡ Some e)
+    → MatchResult result (λ _. new ≡ old ++ codes "ok") (λ e. new ≡ old ++ codes "error: " ++ text_of e)
+    → new ≡ old ++ verdict (fault name) text_of
+verdict-of Also fault text_of name (Ok passed) old new says printed =
+    printed ∙ ap (λ found. old ++ verdict found text_of) (sym says.0)
+verdict-of Also fault text_of name (Err e) old new says printed =
+    printed ∙ append_assoc old (codes "error: ") (text_of e) ∙ ap (λ found. old ++ verdict found text_of) (sym says)
+
 -- what a validator answered, printed as a verdict, is the answer where its rule is asked
 pub verdict-of_validator : {E : Type 0} (fault : List ℕ → Option E) (text_of : E → List ℕ) (name : List ℕ) (result : Result BStr E) (old new : List ℕ)
     → Validates fault name result
     → MatchResult result (λ _. new ≡ old ++ codes "ok") (λ e. new ≡ old ++ codes "error: " ++ text_of e)
     → new ≡ old ++ verdict (fault name) text_of
-verdict-of_validator fault text_of name (Ok passed) old new says printed =
-    printed ∙ ap (λ found. old ++ verdict found text_of) (sym says.0)
-verdict-of_validator fault text_of name (Err e) old new says printed =
-    printed ∙ append_assoc old (codes "error: ") (text_of e) ∙ ap (λ found. old ++ verdict found text_of) (sym says)
+verdict-of_validator fault text_of name = verdict-of (λ passed. bstr_bytes passed ≡ name) fault text_of name
 
 -- the same of a validator whose answer is kept as a typed name
 pub verdict-of_kept : {Name E : Type 0} (kept : Name → BStr) (fault : List ℕ → Option E) (text_of : E → List ℕ) (text : BStr) (result : Result Name E) (old new : List ℕ)
     → Keeps kept fault text result
     → MatchResult result (λ _. new ≡ old ++ codes "ok") (λ e. new ≡ old ++ codes "error: " ++ text_of e)
     → new ≡ old ++ verdict (fault (bstr_bytes text)) text_of
-verdict-of_kept kept fault text_of text (Ok passed) old new says printed =
-    printed ∙ ap (λ found. old ++ verdict found text_of) (sym says.0)
-verdict-of_kept kept fault text_of text (Err e) old new says printed =
-    printed ∙ append_assoc old (codes "error: ") (text_of e) ∙ ap (λ found. old ++ verdict found text_of) (sym says)
+verdict-of_kept kept fault text_of text = verdict-of (λ passed. kept passed ≡ text) fault text_of (bstr_bytes text)
 
 -- ---- all lines
 

@@ -1,5 +1,5 @@
 -- The lines of a text and their answers, computed on literals.
-use Rattle.std.proofs.Common.{◌≡◌, refl, List, [], ◌∷◌, ◌++◌, Some, None}
+use Rattle.std.proofs.Common.{◌≡◌, refl, [], ◌∷◌, Some, None}
 use Rattle.std.specs.Prelude.{codes}
 use Rattle.gix_validate.specs.Bytes.{is_bad, lower_byte}
 use Rattle.gix_validate.specs.Reference.{partial_fault_of, full_fault_of, branch_fault_of}

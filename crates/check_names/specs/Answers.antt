@@ -33,6 +33,7 @@ kinds =
     ∷ (codes "sanitize", λ name. sanitized name)
     ∷ []
 
+-- the answer where a line asks for none of the kinds
 abbrev pub unknown_kind : List ℕ
 unknown_kind = codes "unknown kind"
 
@@ -41,6 +42,7 @@ abbrev pub answer_by : List (List ℕ × (List ℕ → List ℕ)) → List ℕ �
 answer_by [] kind name = unknown_kind
 answer_by (row ∷ rows) kind name = if bytes_eq kind row.0 then row.1 name else answer_by rows kind name
 
+-- the answer to what a line asks for, if it asks for anything
 abbrev pub answer_to : Option (List ℕ × List ℕ) → List ℕ
 answer_to None = unknown_kind
 answer_to (Some request) = answer_by kinds request.0 request.1

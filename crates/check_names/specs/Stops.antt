@@ -3,6 +3,7 @@ use Rattle.std.specs.Prelude.{ℕ, List, codes}
 use Rattle.check_names.specs.declared.engine.RunError.{RunError}
 use Rattle.check_names.specs.declared.engine.RunError.TheVariants.{Read, Memory, Write}
 
+-- what a stopped run prints
 abbrev pub text_of : RunError → List ℕ
 text_of Read = codes "read failed"
 text_of Memory = codes "out of memory"

@@ -41,3 +41,7 @@ pub mod PiecesRows
 pub mod DecodedLemmas
 pub mod ComponentLawRows
 pub mod PathJoinLemmas
+pub mod LaneLemmas
+pub mod ClearLemmas
+pub mod ClearFaults
+pub mod ClearParts

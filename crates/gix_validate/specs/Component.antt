@@ -1,5 +1,5 @@
 -- Path components: the twelve conditions under which a name is refused, in their order.
-use Rattle.std.specs.Prelude.{◌≡◌, ℕ, Bool, true, false, ◌==◌, ◌&&◌, ◌||◌, not, is_none, is_some, IsTrue, List, [], ◌∷◌, slice_index, codes, Option, Some, None, ◌⊎◌}
+use Rattle.std.specs.Prelude.{ℕ, Bool, true, ◌==◌, ◌&&◌, ◌||◌, not, is_none, is_some, List, [], ◌∷◌, slice_index, codes, Option}
 use Rattle.std.specs.List.{list_all, list_any}
 use Rattle.std.specs.Str.{byte, bytes_eq}
 use Rattle.gix_validate.specs.declared.path.ComponentError.{ComponentError}
@@ -17,10 +17,12 @@ use Rattle.gix_validate.specs.Windows.{is_device, is_illegal}
 abbrev pub all_protections : ComponentOptions
 all_protections = record { protect_windows = true; protect_hfs = true; protect_ntfs = true }
 
+-- the byte stands in the name
 abbrev pub has_byte : ℕ → List ℕ → Bool
 has_byte b x = list_any (λ c. c == b) x
 
 -- The conditions, a line each, under the switches for Windows, HFS and NTFS, and for a name that is to be a symlink.
+-- (Behind the last byte `slice_index` finds 0, which is no colon.)
 unfoldable pub conditions : Bool → Bool → Bool → Bool → List ℕ → List (Option ComponentError)
 conditions windows hfs ntfs symlink x =
     when (is_empty x) Empty

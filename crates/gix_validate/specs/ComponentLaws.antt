@@ -22,7 +22,9 @@ pub record HasOnlySwitchesOf (fewer options : ComponentOptions) : Type 0 where
 
 -- the name has no fault under any part of the switches, neither with the mode nor without one
 abbrev pub PassesFewer : ComponentOptions → Option ComponentMode → List ℕ → Type 0
-PassesFewer options mode x = (fewer : ComponentOptions) → HasOnlySwitchesOf fewer options → (component_fault_of fewer mode x ≡ None) × (component_fault_of fewer None x ≡ None)
+PassesFewer options mode x =
+    (fewer : ComponentOptions) → HasOnlySwitchesOf fewer options
+    → (component_fault_of fewer mode x ≡ None) × (component_fault_of fewer None x ≡ None)
 
 -- the name and its lower case have the same fault, or both have none
 abbrev pub FaultIgnoresCase : ComponentOptions → Option ComponentMode → List ℕ → Type 0

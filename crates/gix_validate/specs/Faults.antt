@@ -25,4 +25,5 @@ at_least_place f (suc n) = at_least_place f n orelse f n
 
 -- A validator that goes by a rule of faults: it gives back the text that has none, and else the fault.
 abbrev pub Validates : {E : Type 0} → (List ℕ → Option E) → List ℕ → Result BStr E → Type 0
-Validates fault x result = MatchResult result (λ name. (fault x ≡ None) × (bstr_bytes name ≡ x)) (λ e. fault x ≡ Some e)
+Validates fault x result =
+    MatchResult result (λ name. (fault x ≡ None) × (bstr_bytes name ≡ x)) (λ e. fault x ≡ Some e)

@@ -1,5 +1,5 @@
 -- The HFS form of a name: what is left of it on a file system that ignores sixteen characters.
-use Rattle.std.specs.Prelude.{ℕ, Bool, true, false, ◌==◌, ◌&&◌, ◌||◌, if◌then◌else◌, List, [], ◌∷◌}
+use Rattle.std.specs.Prelude.{ℕ, Bool, false, ◌==◌, ◌&&◌, ◌||◌, if◌then◌else◌, List, [], ◌∷◌}
 use Rattle.gix_validate.specs.Units.{is_within}
 
 -- The three bytes are one of the sixteen ignored characters in UTF-8: U+200C to U+200F, U+202A to U+202E,

@@ -1,5 +1,6 @@
 pub mod Bytes
 pub mod Pieces
+pub mod Clear
 pub mod Faults
 pub mod Quoted
 pub mod Tag

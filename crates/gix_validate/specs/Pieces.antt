@@ -1,5 +1,5 @@
 -- The pieces of a text, which are the texts between its slashes.
-use Rattle.std.specs.Prelude.{◌≡◌, ◌≢◌, ℕ, Bool, ◌==◌, not, IsTrue, List, [], ◌∷◌}
+use Rattle.std.specs.Prelude.{◌≡◌, ◌≢◌, ℕ, Bool, ◌==◌, not, IsTrue, List, []}
 use Rattle.std.specs.List.{slice_split, after_last, join_with_byte, list_all}
 use Rattle.std.specs.Str.{byte}
 

@@ -41,7 +41,7 @@ abbrev pub bytes_of : Option ℕ → List Run → List ℕ
 bytes_of before [] = []
 bytes_of before (run ∷ after) = byte_of before run ∷ bytes_of (Some (last_of run)) after
 
--- the piece cleaned
+-- the piece cleaned: a byte for each of its runs
 unfoldable pub cleaned : List ℕ → List ℕ
 cleaned p = bytes_of None (runs p)
 
@@ -80,7 +80,7 @@ repaired_at t = if bytes_eq t (codes "@") then codes "-" else t
 abbrev pub repaired_nothing : List ℕ → List ℕ
 repaired_nothing t = if is_empty t then codes "-" else t
 
--- The sanitised text.
+-- The sanitised text: the pieces mended and joined, and then the three repairs in their order.
 unfoldable pub sanitized : List ℕ → List ℕ
 sanitized x = repaired_nothing (repaired_at (repaired_dot (joined (mended_pieces x))))
 

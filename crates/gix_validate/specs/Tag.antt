@@ -1,5 +1,5 @@
 -- Tag names: which texts are one, and the fault of those that aren't.
-use Rattle.std.specs.Prelude.{◌≡◌, ℕ, suc, ◌+◌, ◌≤◌, ◌<◌, Bool, ◌==◌, ◌&&◌, ◌||◌, not, is_some, List, [], ◌∷◌, ◌++◌, length, take, drop, slice_index, codes, Option, Some, None, count_by}
+use Rattle.std.specs.Prelude.{ℕ, ◌+◌, ◌≤◌, ◌<◌, Bool, ◌==◌, ◌&&◌, ◌||◌, not, is_some, List, [], ◌∷◌, ◌++◌, length, take, drop, slice_index, codes, Option, count_by}
 use Rattle.std.specs.List.{list_all, list_any}
 use Rattle.std.specs.Str.{byte, bytes_eq}
 use Rattle.gix_validate.specs.declared.tag.NameError.{NameError}
@@ -9,7 +9,7 @@ use Rattle.gix_validate.specs.Pieces.{pieces, last_piece}
 use Rattle.gix_validate.specs.Faults.{when, first_of, at_least_place}
 use Rattle.gix_validate.specs.Quoted.{quoted}
 
--- A piece may stand in a tag name.
+-- The piece may stand in a tag name.
 unfoldable pub is_good_piece : List ℕ → Bool
 is_good_piece p =
     not (is_empty p)
@@ -19,7 +19,7 @@ is_good_piece p =
     && not (holds p (codes "@{"))
     && not (ends p (codes ".lock"))
 
--- The text is a tag name.
+-- The text is a tag name: each of its pieces may stand in one, and it doesn't end in a dot.
 unfoldable pub is_tag_name : List ℕ → Bool
 is_tag_name x = list_all is_good_piece (pieces x) && not (ends x (codes "."))
 
@@ -37,7 +37,7 @@ faults_between before b after =
     ∷ when (is_empty after && ends (last_piece (before ++ b ∷ [])) (codes ".lock") && not (bytes_eq (before ++ b ∷ []) (codes ".lock"))) LockFileSuffix
     ∷ []
 
--- the lines of the table at place i of x
+-- the lines of the table at place i of x, where x has that place
 unfoldable pub faults_at : List ℕ → ℕ → List (Option NameError)
 faults_at x i = faults_between (take i x) (slice_index x i) (drop (i + 1) x)
 

@@ -1,6 +1,5 @@
 -- How bytes read as UTF-8: Unicode's Table 3-7 of the whole sequences, and the units of a text by it.
-use Rattle.std.specs.Prelude.{ℕ, zero, suc, ◌+◌, Bool, true, false, ◌==◌, ◌&&◌, nat_le, if◌then◌else◌, max, List, [], ◌∷◌, length, take, drop, Option, Some, None, unwrap_or}
-use Rattle.gix_validate.specs.Faults.{when, first_of}
+use Rattle.std.specs.Prelude.{ℕ, zero, suc, ◌+◌, Bool, ◌==◌, ◌&&◌, nat_le, if◌then◌else◌, max, List, [], ◌∷◌, length, take, drop, Option, Some, None, unwrap_or}
 
 -- the byte is at least the first of the two and at most the second
 abbrev pub is_within : ℕ × ℕ → ℕ → Bool

@@ -28,11 +28,11 @@ is_device_form form = list_any (λ name. bytes_eq (lower form) (lower name)) dev
 unfoldable pub is_device : List ℕ → Bool
 is_device x = is_device_form (device_form x)
 
--- no space, dot, colon or backslash, as in each of those names
+-- a byte that neither ends a device or NTFS form nor is cut from its end: no space, dot, colon or backslash
 abbrev pub is_plain : ℕ → Bool
 is_plain b = not (is_among (codes " .:\\") b)
 
--- a byte that stands in no name on Windows
+-- a byte that makes a name illegal on Windows wherever it stands
 unfoldable pub is_illegal_byte : ℕ → Bool
 is_illegal_byte b = nat_lt b 0x20 || is_among (codes "<>:\"|?*") b
 

@@ -1,10 +1,20 @@
 //! Git names: which byte strings may serve as one, the one fault of those that may not, and the
 //! repair of a reference name.
 //!
-//! The rules are in docs/RULES.md, and the definitions that the contracts cite in `specs/`.
+//! | Module | What it has |
+//! |---|---|
+//! | [`tag`] | tag names, the rule that all reference names build on |
+//! | [`reference`] | partial names, full names and names of branches; the repair and the join of names |
+//! | [`submodule`] | submodule names |
+//! | [`path`] | path components, and their join to a path |
+//!
+//! Only the joins and `reference::name_partial_or_sanitize` take memory. The rules are in docs/RULES.md, and
+//! the definitions that the contracts cite in `specs/`.
 #![tactic(auto)]
 
 mod bytes;
+mod clear;
+mod lanes;
 pub mod path;
 mod quoted;
 pub mod reference;

@@ -5,14 +5,16 @@
 //! is a full name. None of them takes memory, and each gives back the very text that it was given.
 
 ghost use Rattle.std.specs.Prelude.{◌≡◌, ◌≢◌, ◌↔◌, ◌⊎◌, ◌+◌, ◌≤◌, [], ◌∷◌, ◌++◌, length, codes, All, Contains, IsOk, IfOk, IsTrue, MatchResult, vec_len, vec_capacity};
+ghost use Rattle.std.specs.List.{list_all, list_any};
 ghost use Rattle.std.specs.Str.{byte};
 ghost use Rattle.bstr.specs.BStr.{bstr_bytes};
 ghost use Rattle.bstr.specs.Owned.{bstring_bytes};
 ghost use Rattle.gix_validate.specs.Faults.{Validates};
-ghost use Rattle.gix_validate.specs.Pieces.{joined};
+ghost use Rattle.gix_validate.specs.Pieces.{is_slash, joined};
 ghost use Rattle.gix_validate.specs.Reference.{is_standalone_byte, has_slash_or_stands_alone, is_partial_name, is_full_name, is_branch_name, reserved as reserved_fault, partial_fault_of, full_fault_of, branch_fault_of};
 ghost use Rattle.gix_validate.specs.Tag.{is_tag_name};
 
+use crate::lanes::{LANES, block_holds};
 use crate::quoted::Quoted;
 use crate::tag;
 use arrayvec::ArrayVec;
@@ -124,8 +126,11 @@ impl From<tag::NameError> for NameError {
 ///
 /// The fault of [`tag::name`], where it has one, and else `Reserved` with `@`.
 ///
-/// It takes no memory.
+/// # Memory
+///
+/// It takes none. On `Ok` it gives the very value that it was given.
 #[tactic(auto, using(crate::proofs::ReferenceLemmas::partial_names))]
+#[inline]
 pub fn name_partial<'a>(path: BStr<'a>) -> Result<BStr<'a>, NameError>
     ensures answer { Validates partial_fault_of (bstr_bytes path.entry) result }
     ensures grammar { IsOk result ↔ IsTrue (is_partial_name (bstr_bytes path.entry)) }
@@ -150,8 +155,11 @@ pub fn name_partial<'a>(path: BStr<'a>) -> Result<BStr<'a>, NameError>
 ///
 /// The fault of [`name_partial`], where it has one, and else `SomeLowercase`.
 ///
-/// It takes no memory.
+/// # Memory
+///
+/// It takes none. On `Ok` it gives the very value that it was given.
 #[tactic(auto, using(crate::proofs::ReferenceLemmas::full_names))]
+#[inline]
 pub fn name<'a>(path: BStr<'a>) -> Result<BStr<'a>, NameError>
     ensures answer { Validates full_fault_of (bstr_bytes path.entry) result }
     ensures grammar { IsOk result ↔ IsTrue (is_full_name (bstr_bytes path.entry)) }
@@ -182,8 +190,11 @@ pub fn name<'a>(path: BStr<'a>) -> Result<BStr<'a>, NameError>
 /// The fault of [`name`], where it has one, and else `Reserved` with all fifteen bytes of
 /// `refs/heads/HEAD`.
 ///
-/// It takes no memory.
+/// # Memory
+///
+/// It takes none. On `Ok` it gives the very value that it was given.
 #[tactic(auto, using(crate::proofs::ReferenceLemmas::branch_names))]
+#[inline]
 pub fn branch_name<'a>(path: BStr<'a>) -> Result<BStr<'a>, NameError>
     ensures answer { Validates branch_fault_of (bstr_bytes path.entry) result }
     ensures grammar { IsOk result ↔ IsTrue (is_branch_name (bstr_bytes path.entry)) }
@@ -205,8 +216,12 @@ pub fn branch_name<'a>(path: BStr<'a>) -> Result<BStr<'a>, NameError>
 ///
 /// # Errors
 ///
-/// Want of memory, and nothing else. The call asks for memory once, before it writes a byte. A
-/// length above `isize::MAX` bytes, which no memory holds, counts as refused.
+/// Want of memory, and nothing else.
+///
+/// # Memory
+///
+/// The call asks for it once, before it writes a byte. A length above `isize::MAX` bytes, which no
+/// memory holds, counts as refused.
 #[tactic(auto, using(crate::proofs::JoinLemmas::joined_is_full))]
 pub fn join(alloc: Global, a: BStr<'_>, b: BStr<'_>) -> Result<BString, AllocError>
     requires first { IsTrue (is_tag_name (bstr_bytes a)) }
@@ -220,6 +235,7 @@ pub fn join(alloc: Global, a: BStr<'_>, b: BStr<'_>) -> Result<BString, AllocErr
 }
 
 // Gives back any name but the reserved one, for which the error has room.
+#[inline]
 fn unless_reserved<'a>(name: BStr<'a>, reserved: &[u8]) -> Result<BStr<'a>, NameError>
     requires { length reserved.now ≤ 15 }
     ensures { MatchResult result
@@ -234,20 +250,28 @@ fn unless_reserved<'a>(name: BStr<'a>, reserved: &[u8]) -> Result<BStr<'a>, Name
     })
 }
 
-// One search, which ends at the first slash.
-#[tactic(auto, using(crate::proofs::ReferenceLemmas::search_steps))]
+// Whether the name has a slash, or else may stand alone.
+#[inline]
 fn has_slash_or_stands_alone(bytes: &[u8]) -> bool
     ensures { result ≡ has_slash_or_stands_alone bytes.now }
 {
-    let mut stands_alone = true;
-    for byte in bytes {
-        match *byte {
-            b'/' => return true,
-            b'A'..=b'Z' | b'_' => {}
-            _ => stands_alone = false,
-        }
-    }
-    stands_alone
+    has_slash(bytes) || stands_alone(bytes)
+}
+
+// Most names that have a slash have one in the first sixteen bytes.
+#[inline]
+fn has_slash(bytes: &[u8]) -> bool
+    ensures { result ≡ list_any is_slash bytes.now }
+{
+    bytes.len() >= LANES && block_holds(bytes, b'/') || bytes.contains(&b'/')
+}
+
+// Whether each byte may stand alone. Most names end the search at the first byte.
+#[inline]
+fn stands_alone(bytes: &[u8]) -> bool
+    ensures { result ≡ list_all is_standalone_byte bytes.now }
+{
+    bytes.iter().all(|byte| matches!(*byte, b'A'..=b'Z' | b'_'))
 }
 
 // `join` with any allocator. A sum of lengths that wraps counts as refused memory.

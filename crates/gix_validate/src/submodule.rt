@@ -5,6 +5,7 @@ ghost use Rattle.bstr.specs.BStr.{bstr_bytes};
 ghost use Rattle.gix_validate.specs.Faults.{Validates};
 ghost use Rattle.gix_validate.specs.Submodule.{fault_of, has_parent_part, is_submodule_name};
 
+use crate::clear::is_clear;
 use bstr::BStr;
 use std::error::Error;
 use std::fmt;
@@ -15,6 +16,7 @@ mod tests;
 /// Why a text is no submodule name (docs/RULES.md, "Submodule names").
 #[derive(Debug, Drop)]
 pub enum NameError {
+    /// It is empty.
     Empty,
     /// A part between two separators, `/` or `\`, is `..`.
     ParentComponent,
@@ -49,7 +51,9 @@ impl Error for NameError {}
 ///
 /// `Empty` for the empty name, and else `ParentComponent`.
 ///
-/// It takes no memory.
+/// # Memory
+///
+/// It takes none. On `Ok` it gives the very value that it was given.
 #[tactic(auto, using(crate::proofs::SubmoduleLemmas::submodule_names))]
 pub fn name<'a>(name: BStr<'a>) -> Result<BStr<'a>, NameError>
     ensures answer { Validates fault_of (bstr_bytes name.entry) result }
@@ -66,9 +70,13 @@ pub fn name<'a>(name: BStr<'a>) -> Result<BStr<'a>, NameError>
     Ok(name)
 }
 
+/// Whether some part is `..`. Most names are clear, and have none.
 fn has_parent_part(bytes: &[u8]) -> bool
     ensures { result ≡ has_parent_part bytes.now }
 {
+    if is_clear(bytes) {
+        return false;
+    }
     bytes
         .split(|byte| matches!(*byte, b'/' | b'\\'))
         .any(|part| part == b"..".as_slice())

@@ -8,6 +8,7 @@ ghost use Rattle.gix_validate.specs.Pieces.{HasOnlyPieces};
 ghost use Rattle.gix_validate.specs.Tag.{fault_of, faults_at, faults_between, is_tag_name, HasOneFaultAPlace};
 
 use crate::bytes::{is_bad_byte, may_be_faulty};
+use crate::clear::is_clear;
 use crate::quoted::Quoted;
 use bstr::BStr;
 use std::error::Error;
@@ -81,9 +82,9 @@ impl Error for NameError {}
 /// or a `*`, starts with a dot, ends in `.lock`, or holds `..` or `@{`; and the whole name doesn't end
 /// in a dot. The input needn't be UTF-8.
 ///
-/// ```rust
-/// assert!(rt; tag::name(BStr::new(b"v1.2.3")).is_ok());
-/// assert!(rt; matches!(tag::name(BStr::new(b"v1..2")), Err(tag::NameError::RepeatedDot)));
+/// ```
+/// tag::name(BStr::from("v1.2.3"))?; // gives back `v1.2.3`
+/// tag::name(BStr::from("v1..2")); // RepeatedDot
 /// ```
 ///
 /// # Errors
@@ -92,7 +93,8 @@ impl Error for NameError {}
 ///
 /// # Memory
 ///
-/// It takes none, and reads the bytes once. On `Ok` it gives the very value that it was given.
+/// It takes none. On `Ok` it gives the very value that it was given.
+#[inline]
 pub fn name<'a>(input: BStr<'a>) -> Result<BStr<'a>, NameError>
     ensures answer { Validates fault_of (bstr_bytes input.entry) result }
     ensures grammar { IsOk result ↔ IsTrue (is_tag_name (bstr_bytes input.entry)) }
@@ -106,8 +108,21 @@ pub fn name<'a>(input: BStr<'a>) -> Result<BStr<'a>, NameError>
     }
 }
 
-/// The first fault of a text, in the order of docs/RULES.md, "Tag names".
+/// The first fault of a text. Most names that have none are clear, and so aren't walked.
+#[inline]
 fn first_fault(bytes: &[u8]) -> Option<NameError>
+    ensures { result ≡ fault_of bytes.now }
+{
+    if is_clear(bytes) {
+        None
+    } else {
+        first_fault_on_walk(bytes)
+    }
+}
+
+/// The first fault of a text, in the order of docs/RULES.md, "Tag names".
+#[inline(never)]
+fn first_fault_on_walk(bytes: &[u8]) -> Option<NameError>
     ensures { result ≡ fault_of bytes.now }
 {
     if bytes.is_empty() {

@@ -5,7 +5,7 @@ use Rattle.std.specs.List.{before_first, list_all, list_any, range_with_len}
 use Rattle.std.specs.Str.{byte, bytes_eq}
 use Rattle.std.proofs.lemmas.List.Folds.{list_any-append}
 use Rattle.std.proofs.lemmas.Slice.Eq.{bytes_eq-Decides}
-use Rattle.std.proofs.lemmas.Bool.{eqb-true, or_cases, or_parts, or_from, and_parts, both_ways, false_from_ne_true, false≢true}
+use Rattle.std.proofs.lemmas.Bool.{eqb-true, or_cases, or_parts, or_from, or_right, and_parts, both_ways, false_from_ne_true, false≢true}
 use Rattle.std.proofs.lemmas.Bool.Decides.{nat_tests}
 use Rattle.std.proofs.lemmas.Grind.{common_steps}
 use Rattle.gix_validate.specs.declared.path.ComponentError.{ComponentError}
@@ -103,10 +103,6 @@ lower_backslash (b ∷ x) any =
       | inl here ↦ ap (λ v. v || list_any is_backslash (lower x)) (small_backslash b here)
       | inr later ↦ or_right (is_backslash (lower_byte b)) _ (lower_backslash x later)
     ]
-  where
-    or_right : (s t : Bool) → t ≡ true → (s || t) ≡ true
-    or_right true t e = refl
-    or_right false t e = e
 
 pub form_of_front : ReadsTheFront
 unfolding ntfs_form old_ntfs_form

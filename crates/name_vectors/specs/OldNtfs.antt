@@ -60,15 +60,21 @@ ReadsTheFront = (x : List ℕ) → ntfs_form x ≡ old_ntfs_form (front x)
 
 -- the fault is that of version 1, and where that had none the added one
 abbrev pub OldFaultsComeFirst : Type 0
-OldFaultsComeFirst = (options : ComponentOptions) (mode : Option ComponentMode) (x : List ℕ) → component_fault_of options mode x ≡ (old_component_fault_of options mode x orelse added_fault_of options mode x)
+OldFaultsComeFirst =
+    (options : ComponentOptions) (mode : Option ComponentMode) (x : List ℕ)
+    → component_fault_of options mode x ≡ (old_component_fault_of options mode x orelse added_fault_of options mode x)
 
 -- what version 1 refused is refused, for the same fault
 abbrev pub OldFaultsStay : Type 0
-OldFaultsStay = (options : ComponentOptions) (mode : Option ComponentMode) (x : List ℕ) (fault : ComponentError) → old_component_fault_of options mode x ≡ Some fault → component_fault_of options mode x ≡ Some fault
+OldFaultsStay =
+    (options : ComponentOptions) (mode : Option ComponentMode) (x : List ℕ) (fault : ComponentError)
+    → old_component_fault_of options mode x ≡ Some fault → component_fault_of options mode x ≡ Some fault
 
 -- with Windows on, with NTFS off, or without a backslash the answer is that of version 1
 abbrev pub StaysElsewhere : Type 0
-StaysElsewhere = (options : ComponentOptions) (mode : Option ComponentMode) (x : List ℕ) → has_open_backslash options x ≡ false → component_fault_of options mode x ≡ old_component_fault_of options mode x
+StaysElsewhere =
+    (options : ComponentOptions) (mode : Option ComponentMode) (x : List ℕ)
+    → has_open_backslash options x ≡ false → component_fault_of options mode x ≡ old_component_fault_of options mode x
 
 -- the NTFS switch alone
 abbrev pub ntfs_alone : ComponentOptions
@@ -76,4 +82,6 @@ ntfs_alone = record { protect_windows = false; protect_hfs = false; protect_ntfs
 
 -- a name that version 1 accepted and version 2 refuses
 abbrev pub ShowsTheChange : Type 0
-ShowsTheChange = (old_component_fault_of ntfs_alone None (codes ".git\\x") ≡ None) × (component_fault_of ntfs_alone None (codes ".git\\x") ≡ Some DotGitDir)
+ShowsTheChange =
+    (old_component_fault_of ntfs_alone None (codes ".git\\x") ≡ None)
+    × (component_fault_of ntfs_alone None (codes ".git\\x") ≡ Some DotGitDir)

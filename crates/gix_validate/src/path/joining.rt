@@ -23,8 +23,12 @@ use std::alloc::{AllocError, Allocator, Global};
 ///
 /// # Errors
 ///
-/// Want of memory, and nothing else. The call asks for memory once, before it writes a byte. A
-/// length above `isize::MAX` bytes, which no memory holds, counts as refused.
+/// Want of memory, and nothing else.
+///
+/// # Memory
+///
+/// The call asks for it once, before it writes a byte. A length above `isize::MAX` bytes, which no
+/// memory holds, counts as refused.
 pub fn join(alloc: Global, parts: &[BStr<'_>]) -> Result<BString, AllocError>
     requires some { 0 < length parts.now }
     requires components { All

@@ -10,6 +10,7 @@ ghost use Rattle.gix_validate.specs.Reference.{is_partial_name};
 ghost use Rattle.gix_validate.specs.Sanitized.{Dots, Other, byte_of, cut, mended_pieces, repaired_dot, repaired_at, repaired_nothing, sanitized, IsPiecewise};
 
 use crate::bytes::may_be_faulty;
+use crate::clear::is_clear;
 use bstr::{BStr, BString};
 use std::alloc::{AllocError, Allocator, Global};
 
@@ -70,8 +71,9 @@ fn fill_sanitized<A: Allocator>(name: &mut Vec<u8, A>, path: &[u8]) -> Result<()
 ///
 /// The buffer has to have a byte, since even an empty name becomes `-`. From place `len` on, or from place 1 on where
 /// `len` is 0, its bytes stay as they were. What stands between the repaired name and that place is open. Places and
-/// lengths are bytes. The call never fails and takes no memory: it is one walk over the name, within the buffer. The
-/// rule is docs/RULES.md, "Sanitised names".
+/// lengths are bytes. The call never fails and takes no memory: it is one walk over the name, within the buffer, and
+/// most names that are partial names are only looked at, sixteen bytes at a time. The rule is docs/RULES.md,
+/// "Sanitised names".
 pub fn sanitize_in_place(buf: &mut [u8], len: usize) -> usize
     requires some { 1 ≤ length buf.old }
     requires within { len ≤ length buf.old }
@@ -84,6 +86,9 @@ pub fn sanitize_in_place(buf: &mut [u8], len: usize) -> usize
     ensures piecewise { IsPiecewise (take len buf.old) (take result buf.new) }
     ensures rest { drop (max 1 len) buf.new ≡ drop (max 1 len) buf.old }
 {
+    if is_clear(&buf[..len]) {
+        return len;
+    }
     let end = mend_pieces(&mut buf[..len]);
     repair_end(buf, end)
 }

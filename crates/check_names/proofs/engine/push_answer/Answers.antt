@@ -1,5 +1,5 @@
 -- What the line asks for has the answer.
-use Rattle.std.proofs.Common.{◌≡◌, Some, None, rules}
+use Rattle.std.proofs.Common.{Some, None, rules}
 use Rattle.check_names.proofs.AnswerLemmas.{answer-of_request}
 use Rattle.check_names.proofs.engine.push_answer.Goals as goal
 

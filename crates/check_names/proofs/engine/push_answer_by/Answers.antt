@@ -1,5 +1,5 @@
 -- Each kind is a row of the table, and its validator answers what the row asks.
-use Rattle.std.proofs.Common.{◌≡◌, rules, codes, ◌∙◌, Some, None, subst}
+use Rattle.std.proofs.Common.{rules, codes, ◌∙◌, Some, None, subst}
 use Rattle.std.proofs.lemmas.Result.{on_ok_weaker}
 use Rattle.bstr.specs.BStr.{bstr_bytes}
 use Rattle.typed_names.specs.Names.{Keeps, tag_text, partial_text, full_text, component_text}

@@ -1,7 +1,26 @@
-use Rattle.std.proofs.Common.{take, drop, arith, length-take}
+use Rattle.std.proofs.Common.{◌≡◌, true, take, drop, refl, sym, subst, arith, length-take}
+use Rattle.gix_validate.specs.Reference.{is_partial_name}
+use Rattle.gix_validate.specs.Sanitized.{sanitized, IsPiecewise}
+use Rattle.gix_validate.proofs.ClearFaults.{clear_is_partial}
 use Rattle.gix_validate.proofs.InPlace.{sanitized-in_place, rest-in_place}
-use Rattle.gix_validate.proofs.SanitizedLaws.{sanitized-partial, sanitized-unchanged, sanitized-sanitized, sanitized-piecewise}
+use Rattle.gix_validate.proofs.SanitizedLaws.{sanitized-own, sanitized-partial, sanitized-unchanged, sanitized-sanitized, sanitized-piecewise}
 use Rattle.gix_validate.proofs.reference.sanitize.sanitize_in_place.Goals as goal
+
+pub returns-then-is_clear : goal.returns-then-is_clear
+returns-then-is_clear c =
+    let whole = take c.args.len c.args.buf.now in
+    let sure = c.is_clear.ensures.0 c.if-is_clear.true in
+    let partial : is_partial_name whole ≡ true = clear_is_partial whole (omega (arith, sure.0)) sure.1 in
+    let own : whole ≡ sanitized whole = sym (sanitized-own whole partial) in
+    record {
+      bounds = (omega (arith, sure.0, length-take c.args.len c.args.buf.now), omega arith);
+      text = own;
+      partial = partial;
+      unchanged = (λ _. partial, λ _. refl);
+      again = sym own;
+      piecewise = subst (λ y. IsPiecewise whole y) (sym own) (sanitized-piecewise whole);
+      rest = refl;
+    }
 
 pub returns : goal.returns
 returns c =

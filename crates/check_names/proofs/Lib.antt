@@ -1,3 +1,5 @@
+pub mod TailLemmas
+pub mod WriteLemmas
 pub mod AnswersRows
 pub mod LineLemmas
 pub mod AnswerLemmas

@@ -1,11 +1,13 @@
 //! The answers to the lines of a text.
 
-ghost use Rattle.std.specs.Prelude.{◌≡◌, ◌≢◌, ◌+◌, ◌<◌, [], ◌∷◌, ◌++◌, codes, length, vec_len, vec_capacity, Some, None, Err, IsOk, IsOkUnless, IfOk, OnOk, OnErr, IfSome, MatchOption, MatchResult};
+ghost use Rattle.std.specs.Prelude.{◌≡◌, ◌≢◌, ◌+◌, ◌<◌, [], ◌∷◌, ◌++◌, codes, length, max, vec_len, vec_capacity, Some, None, Err, IsOk, IsOkUnless, IfOk, OnOk, OnErr, IfSome, MatchOption, MatchResult};
 ghost use Rattle.std.specs.Io.KnownBytes.{Appends, IsAtEnd};
 ghost use Rattle.std.specs.Option.{option_map};
+ghost use Rattle.std.specs.Str.{bytes_eq};
 ghost use Rattle.bstr.specs.BStr.{bstr_bytes};
+ghost use Rattle.gix_validate.specs.Component.{all_protections, component_fault_of, component_text_of};
 ghost use Rattle.gix_validate.specs.Sanitized.{sanitized};
-ghost use Rattle.check_names.specs.Answers.{answer_of, answer_by, answers, device_answer, kinds, unknown_kind};
+ghost use Rattle.check_names.specs.Answers.{answer_of, answer_by, answers, device_answer, kinds, unknown_kind, verdict};
 ghost use Rattle.check_names.specs.Lines.{lines, request_of, split_once};
 
 use bstr::BStr;
@@ -14,7 +16,7 @@ use gix_validate::{path, reference, submodule};
 use memchr::memchr;
 use std::alloc::{AllocError, Allocator, Global};
 use std::error::Error;
-use std::fmt::Display;
+use std::fmt::{Display, Write as _};
 use std::io::{Read, Write};
 use std::{fmt, io};
 use typed_names::{Component, FullName, PartialName, TagName};
@@ -68,14 +70,12 @@ pub fn run<R: Read, W: Write>(alloc: Global, input: &mut R, output: &mut W) -> R
     ensures empty { R.remaining input.old ≡ Some [] → IsOkUnless result RunError.Read
         × (output.new ≡ output.old) }
 {
-    run_in(&alloc, alloc, input, output)
+    run_in(&alloc, input, output)
 }
 
-// `run`, which holds the input and the answers in the memory of any allocator; the repaired names are of
-// `global`.
+// `run`, which holds the input and the answers in the memory of any allocator.
 fn run_in<A: Allocator, R: Read, W: Write>(
     alloc: &A,
-    global: Global,
     input: &mut R,
     output: &mut W,
 ) -> Result<(), RunError>
@@ -88,7 +88,7 @@ fn run_in<A: Allocator, R: Read, W: Write>(
         × (output.new ≡ output.old) }
 {
     let text = read_all(alloc, input).map_err(|_| RunError::Read)?;
-    let answers = answer_all(alloc, global, &text).map_err(|_| RunError::Memory)?;
+    let answers = answer_all(alloc, &text).map_err(|_| RunError::Memory)?;
     write_once(&answers, output).map_err(|_| RunError::Write)
 }
 
@@ -115,14 +115,14 @@ fn write_once<W: Write>(bytes: &[u8], output: &mut W) -> io::Result<()>
 }
 
 // The answers to the lines of a text. No memory is asked for where there is no line.
-fn answer_all<A: Allocator>(alloc: A, global: Global, text: &[u8]) -> Result<Vec<u8, A>, AllocError>
+fn answer_all<A: Allocator>(alloc: A, text: &[u8]) -> Result<Vec<u8, A>, AllocError>
     ensures ok { IfOk result (λ written. written.items ≡ answers text.now) }
     ensures err { OnErr result (text.now ≢ []) }
 {
     let mut answers = Vec::new(alloc);
     let mut rest = text;
     while let Some((line, after)) = first_line(rest) {
-        push_answer(global, line, &mut answers)?;
+        push_answer(line, &mut answers)?;
         answers.push(b'\n')?;
         rest = after;
     }
@@ -153,24 +153,19 @@ fn split_once(separator: u8, text: &[u8]) -> Option<(&[u8], &[u8])>
 }
 
 // Appends the answer to one line.
-fn push_answer<A: Allocator>(
-    global: Global,
-    line: &[u8],
-    answers: &mut Vec<u8, A>,
-) -> Result<(), AllocError>
+fn push_answer<A: Allocator>(line: &[u8], answers: &mut Vec<u8, A>) -> Result<(), AllocError>
     ensures ok { OnOk result (answers.new.items ≡ answers.old.items ++ answer_of line.now) }
     ensures full { request_of line.now ≡ None → OnErr result
         (vec_capacity answers.old < vec_len answers.old + length unknown_kind) }
 {
     match split_once(b' ', line) {
-        Some((kind, name)) => push_answer_by(global, kind, BStr::new(name), answers),
+        Some((kind, name)) => push_answer_by(kind, BStr::new(name), answers),
         None => answers.extend_from_slice(UNKNOWN_KIND),
     }
 }
 
 // Appends what a kind answers for a name.
 fn push_answer_by<A: Allocator>(
-    global: Global,
     kind: &[u8],
     name: BStr<'_>,
     answers: &mut Vec<u8, A>,
@@ -178,34 +173,54 @@ fn push_answer_by<A: Allocator>(
     ensures { OnOk result (answers.new.items
         ≡ answers.old.items ++ answer_by kinds kind.now (bstr_bytes name.entry)) }
 {
-    if kind == b"tag".as_slice() {
+    if is_word(kind, b"tag") {
         push_verdict(TagName::new(name), answers)
-    } else if kind == b"partial".as_slice() {
+    } else if is_word(kind, b"partial") {
         push_verdict(PartialName::new(name), answers)
-    } else if kind == b"ref".as_slice() {
+    } else if is_word(kind, b"ref") {
         push_verdict(FullName::new(name), answers)
-    } else if kind == b"branch".as_slice() {
+    } else if is_word(kind, b"branch") {
         push_verdict(reference::branch_name(name), answers)
-    } else if kind == b"submodule".as_slice() {
+    } else if is_word(kind, b"submodule") {
         push_verdict(submodule::name(name), answers)
-    } else if kind == b"path".as_slice() {
-        push_verdict(
-            Component::new(name, None, ComponentOptions::default()),
-            answers,
-        )
-    } else if kind == b"symlink".as_slice() {
-        let mode = Some(ComponentMode::Symlink);
-        push_verdict(
-            Component::new(name, mode, ComponentOptions::default()),
-            answers,
-        )
-    } else if kind == b"device".as_slice() {
+    } else if is_word(kind, b"path") {
+        push_component(name, None, answers)
+    } else if is_word(kind, b"symlink") {
+        push_component(name, Some(ComponentMode::Symlink), answers)
+    } else if is_word(kind, b"device") {
         push_device(name, answers)
-    } else if kind == b"sanitize".as_slice() {
-        push_sanitized(global, name, answers)
+    } else if is_word(kind, b"sanitize") {
+        push_sanitized(name, answers)
     } else {
         answers.extend_from_slice(UNKNOWN_KIND)
     }
+}
+
+// Whether the text is the word. Its constant length makes this a comparison or two.
+fn is_word<const N: usize>(text: &[u8], word: &[u8; N]) -> bool
+    ensures { result ≡ bytes_eq text.now word.now }
+{
+    match <&[u8; N]>::try_from(text) {
+        Ok(text) => text == word,
+        Err(_) => false,
+    }
+}
+
+// Appends whether the name may be a path component of this mode, under the default options.
+fn push_component<A: Allocator>(
+    name: BStr<'_>,
+    mode: Option<ComponentMode>,
+    answers: &mut Vec<u8, A>,
+) -> Result<(), AllocError>
+    ensures ok { OnOk result (answers.new.items ≡ answers.old.items
+        ++ verdict (component_fault_of all_protections mode (bstr_bytes name.entry)) component_text_of) }
+    ensures full { component_fault_of all_protections mode (bstr_bytes name.entry) ≡ None → OnErr result
+        (vec_capacity answers.old < vec_len answers.old + length (codes "ok")) }
+{
+    push_verdict(
+        Component::new(name, mode, ComponentOptions::default()),
+        answers,
+    )
 }
 
 // Appends whether the name means a device on Windows.
@@ -221,16 +236,24 @@ fn push_device<A: Allocator>(name: BStr<'_>, answers: &mut Vec<u8, A>) -> Result
 }
 
 // Appends the name, repaired to a partial name.
-fn push_sanitized<A: Allocator>(
-    global: Global,
-    name: BStr<'_>,
-    answers: &mut Vec<u8, A>,
-) -> Result<(), AllocError>
-    ensures { OnOk result (answers.new.items
+fn push_sanitized<A: Allocator>(name: BStr<'_>, answers: &mut Vec<u8, A>) -> Result<(), AllocError>
+    ensures ok { OnOk result (answers.new.items
         ≡ answers.old.items ++ sanitized (bstr_bytes name.entry)) }
+    ensures full { OnErr result (vec_capacity answers.old
+        < vec_len answers.old + max 1 (length (bstr_bytes name.entry))) }
 {
-    let text = reference::name_partial_or_sanitize(global, name)?;
-    answers.extend_from_slice(text.as_slice())
+    let name = name.as_bytes();
+    // An empty name is repaired to one byte, which needs its room.
+    let copy = if name.is_empty() {
+        b"-".as_slice()
+    } else {
+        name
+    };
+    let start = answers.len();
+    answers.extend_from_slice(copy)?;
+    let len = reference::sanitize_in_place(&mut answers[start..], name.len());
+    answers.truncate(start + len);
+    Ok(())
 }
 
 // Appends what a validator says: that the name may serve, or its fault.
@@ -247,7 +270,35 @@ fn push_verdict<T: Drop, E: Display + Drop, A: Allocator>(
 {
     match verdict {
         Ok(_) => answers.extend_from_slice(b"ok"),
-        Err(fault) => write!(answers, "error: {fault}").map_err(|_| AllocError),
+        Err(fault) => push_fault(fault, answers),
+    }
+}
+
+// Appends a fault: that there is one, and its text.
+fn push_fault<E: Display + Drop, A: Allocator>(
+    fault: E,
+    answers: &mut Vec<u8, A>,
+) -> Result<(), AllocError>
+    ensures { OnOk result (IfSome (E.output fault)
+        (λ text. answers.new.items ≡ answers.old.items ++ codes "error: " ++ text)) }
+{
+    write!(Appender { answers }, "error: {fault}").map_err(|_| AllocError)
+}
+
+// The answers as what text is written to. A write fails where they find no memory for its text.
+#[derive(Drop)]
+struct Appender<'a, A: Allocator> {
+    answers: &'a mut Vec<u8, A>,
+}
+
+impl<A: Allocator> fmt::Write for Appender<'_, A> {
+    ghost write_str_gives = { λ before text after. (after.answers.ghost_name ≡ before.answers.ghost_name)
+        × (after.answers.now.items ≡ before.answers.now.items ++ text) };
+
+    fn write_str(&mut self, text: &str) -> fmt::Result {
+        self.answers
+            .extend_from_slice(text.as_bytes())
+            .map_err(|_| fmt::Error)
     }
 }
 

@@ -1,16 +1,19 @@
 -- The walk within one buffer: what is written stands before the place that is read next.
-use Rattle.std.proofs.Common.{◌≡◌, inl, inr, ℕ, zero, suc, ◌+◌, ◌-◌, ◌≤◌, ◌<◌, true, false, List, [], ◌∷◌, ◌++◌, length, take, drop, set, get_or, refl, sym, ap, ◌∙◌, arith, length-take, length-drop, append_assoc, append-nil, zero-add}
-use Rattle.std.specs.Prelude.{codes, ◌||◌, ◌&&◌, not, ◌==◌, Option, Some, None, slice_range, if◌then◌else◌}
-use Rattle.std.specs.Option.{option_to_list}
+use Rattle.std.proofs.Common.{◌≡◌, inl, inr, ℕ, zero, suc, ◌+◌, ◌-◌, ◌≤◌, ◌<◌, Bool, true, false, List, [], ◌∷◌, ◌++◌, length, take, drop, set, get_or, refl, sym, subst, ap, ◌∙◌, arith, eqb, length-take, length-drop, length-append, length-set, append_assoc, zero-add}
+use Rattle.std.specs.Prelude.{codes, ◌||◌, not, ◌==◌, slice_range, if◌then◌else◌}
+use Rattle.std.specs.List.{starts_with}
 use Rattle.std.specs.Str.{byte}
 use Rattle.std.proofs.Math.Nat.{suc-add}
-use Rattle.std.proofs.lemmas.Bool.{cases_Bool, cond-true, cond-false, or_parts, not-true, eq-eqb, ne_eqb, eqb-true, and_right, cases_eq, or_from}
-use Rattle.std.proofs.lemmas.List.{take-take, take-set-le, take_more_set, drop-set-lt, drop-set-add, drop-drop, drop_more, drop_all}
-use Rattle.gix_validate.specs.Bytes.{is_bad, is_empty, is_among}
+use Rattle.std.proofs.lemmas.Bool.{cond-true, cond-false, eqb-true, eq-eqb, ne_eqb, cases_eq, false_from_ne_true, false≢true}
+use Rattle.std.proofs.lemmas.Bool.Decides.{Decides-eqb}
+use Rattle.std.proofs.lemmas.List.{ext_get_or, get_or-take, get_or-drop, get_or-set_same, get_or-set_other, take-append-drop, take-take, take-set-le, take_more_set, drop-set-add, drop-drop, drop_more, drop_all, get_or_push}
+use Rattle.std.proofs.lemmas.Slice.Eq.{starts_is}
+use Rattle.gix_validate.specs.Bytes.{is_bad, is_empty, is_among, begins, ends}
 use Rattle.gix_validate.specs.Pieces.{is_slash, joined}
-use Rattle.gix_validate.specs.Sanitized.{Dots, Other, byte_of, allowed, cut, mended_pieces}
-use Rattle.gix_validate.proofs.Cleaned.{given, is_after_dot}
-use Rattle.gix_validate.proofs.Walk.{walk, before_next, closed, finished, walk-slash, walk-other, walk-end, walk-joined}
+use Rattle.gix_validate.specs.Sanitized.{cut, mended_pieces}
+use Rattle.gix_validate.proofs.Cuts.{cut-own}
+use Rattle.gix_validate.proofs.Walk.{closed, finished}
+use Rattle.gix_validate.proofs.Walked.{Walked, Walked-start, Walked-slash, Walked-dots, Walked-lock, Walked-byte, Walked-end, Walked-last_slash, added, plain-apart}
 
 take-add : (m n : ℕ) (xs : List ℕ) → take (m + n) xs ≡ take m xs ++ take n (drop m xs)
 take-add zero n xs = rw zero-add refl
@@ -25,22 +28,18 @@ take-front text start end n h =
     let within : n ≤ end - start = omega (arith, length-take (end - start) (drop start text)) in
     take-add start n text ∙ ap (λ v. take start text ++ v) (sym (take-take n (end - start) (drop start text) within))
 
--- The same with a slash written behind it.
-pub take-front_slash : (text : List ℕ) (start end n : ℕ) → n ≤ length (slice_range text start end) → end < length text → start ≤ end
-    → take (start + n + 1) (set text (start + n) (byte "/")) ≡ take start text ++ (take n (slice_range text start end) ++ codes "/")
-take-front_slash text start end n h room order =
-    let below : start + n < length text = omega (arith, length-take (end - start) (drop start text)) in
-    take_more_set text (start + n) (byte "/") below
-    ∙ (ap (λ v. v ++ codes "/") (take-front text start end n h) ∙ append_assoc (take start text) (take n (slice_range text start end)) (codes "/"))
-
--- The walk over the text has come to a place: what is written and the unread rest still give what the whole gives.
-pub record WalksOn (whole text : List ℕ) (start end read last : ℕ) : Type 0 where
-  pub in_order : start ≤ end
-  pub behind : end ≤ read
-  pub result : walk (take start text) (slice_range text start end) last (drop read text) ≡ joined (mended_pieces whole)
-
-pub WalksOn-start : (text : List ℕ) → WalksOn text text 0 0 0 (byte "/")
-WalksOn-start text = record { in_order = omega arith; behind = omega arith; result = walk-joined text }
+-- A part whose last byte is no `k` does not end in `.lock`, so nothing of it is cut.
+pub take-uncut : (text : List ℕ) (start end : ℕ) → start < end → end ≤ length text → (get_or text (end - 1) 0 ≡ byte "k" → ⊥)
+    → take end text ≡ take start text ++ cut (slice_range text start end)
+take-uncut text start end some within other =
+    let whole : start + (end - start) ≡ end = omega arith in
+    let last : start + (end - start - 1) ≡ end - 1 = omega arith in
+    let letter : get_or (slice_range text start end) (end - start - 1) 0 ≡ get_or text (end - 1) 0 = get_or-take (end - start) (drop start text) (end - start - 1) 0 (omega arith)
+    ∙ (get_or-drop start text (end - start - 1) 0 ∙ ap (λ v. get_or text v 0) last) in
+    let uncut : cut (slice_range text start end) ≡ slice_range text start end = cut-own (slice_range text start end) (λ f e.
+    let size : length (f ++ codes ".loc") ≡ end - start - 1 = omega (arith, ap length e, length-append f (codes ".lock"), length-append f (codes ".loc"), length-take (end - start) (drop start text), length-drop start text) in
+    other (sym letter ∙ (ap (λ v. get_or v (end - start - 1) 0) (e ∙ sym (append_assoc f (codes ".loc") (codes "k"))) ∙ get_or_push (f ++ codes ".loc") (byte "k") 0 (end - start - 1) size))) in
+    ap (λ v. take v text) (sym whole) ∙ (take-add start (end - start) text ∙ ap (λ v. take start text ++ v) (sym uncut))
 
 range_more : (text : List ℕ) (start end w : ℕ) → start ≤ end → end < length text
     → slice_range (set text end w) start (end + 1) ≡ slice_range text start end ++ w ∷ []
@@ -53,48 +52,10 @@ range_more text start end w order room =
     ∙ (ap (λ v. take (k + 1) (drop start (set text v w))) (sym at)
     ∙ (ap (take (k + 1)) (drop-set-add start text k w) ∙ take_more_set (drop start text) k w inside))
 
--- A byte that adds one byte to its piece.
-pub WalksOn-written : (whole text : List ℕ) (start end read last b w : ℕ) → WalksOn whole text start end read last → read < length text
-    → b ≡ get_or text read 0 → is_slash b ≡ false → given (before_next last) b ≡ w ∷ [] → WalksOn whole (set text end w) start (end + 1) (read + 1) b
-WalksOn-written whole text start end read last b w so_far room is_b other adds =
-    let order = so_far.in_order in
-    let behind = so_far.behind in
-    record {
-      in_order = omega arith;
-      behind = omega arith;
-      result =
-          ap (λ v. walk v (slice_range (set text end w) start (end + 1)) b (drop (read + 1) (set text end w))) (take-set-le start text end w order)
-          ∙ (ap (λ v. walk (take start text) v b (drop (read + 1) (set text end w))) (range_more text start end w order (omega arith))
-          ∙ (ap (λ v. walk (take start text) (slice_range text start end ++ w ∷ []) b v) (drop-set-lt (read + 1) text end w (omega arith))
-          ∙ (ap (λ v. walk (take start text) (slice_range text start end ++ v) b (drop (read + 1) text)) (sym adds)
-          ∙ (sym (walk-other (take start text) (slice_range text start end) last b (drop (read + 1) text) other)
-          ∙ (ap (λ v. walk (take start text) (slice_range text start end) last v) (ap (λ v. v ∷ drop (read + 1) text) is_b
-          ∙ sym (drop_more text read 0 room))
-          ∙ so_far.result)))));
-    }
-
--- A byte that adds none.
-pub WalksOn-skipped : (whole text : List ℕ) (start end read last b : ℕ) → WalksOn whole text start end read last → read < length text
-    → b ≡ get_or text read 0 → is_slash b ≡ false → given (before_next last) b ≡ [] → WalksOn whole text start end (read + 1) b
-WalksOn-skipped whole text start end read last b so_far room is_b other adds =
-    let order = so_far.in_order in
-    let behind = so_far.behind in
-    record {
-      in_order = order;
-      behind = omega arith;
-      result =
-          ap (λ v. walk (take start text) v b (drop (read + 1) text)) (sym (ap (λ v. slice_range text start end ++ v) adds
-          ∙ append-nil (slice_range text start end)))
-          ∙ (sym (walk-other (take start text) (slice_range text start end) last b (drop (read + 1) text) other)
-          ∙ (ap (λ v. walk (take start text) (slice_range text start end) last v) (ap (λ v. v ∷ drop (read + 1) text) is_b
-          ∙ sym (drop_more text read 0 room))
-          ∙ so_far.result));
-    }
-
 no_part : (text : List ℕ) (n : ℕ) → slice_range text n n ≡ []
 no_part text n = let none : n - n ≡ 0 = omega arith in ap (λ v. take v (drop n text)) none
 
-is_empty-false : (p : List ℕ) → 0 < length p → is_empty p ≡ false
+pub is_empty-false : (p : List ℕ) → 0 < length p → is_empty p ≡ false
 is_empty-false [] h = absurd (omega (arith, h))
 is_empty-false (b ∷ p) h = refl
 
@@ -107,31 +68,6 @@ closed-part text start end order room =
           ∙ sym (cond-true (is_empty (slice_range text start end)) (take start text) (take start text ++ (cut (slice_range text start end) ++ codes "/")) (ap is_empty (ap (λ v. slice_range text start v) (sym same) ∙ no_part text start))))
       | inr ne ↦ rw (ne_eqb start end ne) (sym (cond-false (is_empty (slice_range text start end)) (take start text) (take start text ++ (cut (slice_range text start end) ++ codes "/")) (is_empty-false (slice_range text start end) (omega (arith, length-take (end - start) (drop start text), length-drop start text)))))
     ]
-
--- A slash ends the piece.
-pub WalksOn-slash : (whole text new : List ℕ) (start end read last b n : ℕ) → WalksOn whole text start end read last → read < length text
-    → b ≡ get_or text read 0 → is_slash b ≡ true → n ≤ end + 1
-    → take n new ≡ (if start == end then take end text else take start text ++ (cut (slice_range text start end) ++ codes "/"))
-    → drop (end + 1) new ≡ drop (end + 1) text → WalksOn whole new n n (read + 1) b
-WalksOn-slash whole text new start end read last b n so_far room is_b slash within written rest =
-    let order = so_far.in_order in
-    let behind = so_far.behind in
-    let further : end + 1 + (read - end) ≡ read + 1 = omega arith in
-    let unread : drop (read + 1) new ≡ drop (read + 1) text =
-    ap (λ v. drop v new) (sym further) ∙ (sym (drop-drop (read - end) (end + 1) new) ∙ (ap (drop (read - end)) rest
-    ∙ (drop-drop (read - end) (end + 1) text ∙ ap (λ v. drop v text) further))) in
-    record {
-      in_order = omega arith;
-      behind = omega arith;
-      result =
-          ap (λ v. walk v (slice_range new n n) b (drop (read + 1) new)) (written ∙ closed-part text start end order (omega arith))
-          ∙ (ap (λ v. walk (closed (take start text) (slice_range text start end)) v b (drop (read + 1) new)) (no_part new n)
-          ∙ (ap (λ v. walk (closed (take start text) (slice_range text start end)) [] b v) unread
-          ∙ (sym (walk-slash (take start text) (slice_range text start end) last b (drop (read + 1) text) slash)
-          ∙ (ap (λ v. walk (take start text) (slice_range text start end) last v) (ap (λ v. v ∷ drop (read + 1) text) is_b
-          ∙ sym (drop_more text read 0 room))
-          ∙ so_far.result))));
-    }
 
 -- What `end_of_text` gives is the written text with the last piece ended.
 finished-part : (text : List ℕ) (start end : ℕ) → start ≤ end → end ≤ length text
@@ -146,40 +82,268 @@ finished-part text start end order within =
       | inr ne ↦ rw (ne_eqb start end ne) (sym (cond-false (is_empty (slice_range text start end)) (take (length (take start text) - 1) (take start text)) (take start text ++ cut (slice_range text start end)) (is_empty-false (slice_range text start end) (omega (arith, length-take (end - start) (drop start text), length-drop start text)))))
     ]
 
--- At the end of the text.
-pub WalksOn-end : (whole text : List ℕ) (start end read last n : ℕ) → WalksOn whole text start end read last → length text ≤ read → end ≤ length text
+-- Behind the place that is read next the text is as it was up to the place `stop` of its last byte, where another than a
+-- plain byte stands.
+pub record IsUnread (whole text : List ℕ) (read stop : ℕ) : Type 0 where
+  pub long : length text ≡ stop + 1
+  pub same : length text ≡ length whole
+  pub ahead : (k : ℕ) → read ≤ k → k < stop → get_or text k 0 ≡ get_or whole k 0
+  pub last_dot : (get_or text stop 0 == byte ".") ≡ (get_or whole stop 0 == byte ".")
+  pub special : (is_bad (get_or text stop 0) || is_among (codes "*./{") (get_or text stop 0)) ≡ true
+
+IsUnread-later : (whole text new : List ℕ) (read later stop : ℕ) → IsUnread whole text read stop → length new ≡ length text → read ≤ later → later ≤ stop
+    → ((k : ℕ) → later ≤ k → get_or new k 0 ≡ get_or text k 0) → IsUnread whole new later stop
+IsUnread-later whole text new read later stop so_far same further within agree = record {
+  long = same ∙ so_far.long;
+  same = same ∙ so_far.same;
+  ahead = λ k h below. agree k h ∙ so_far.ahead k (omega arith) below;
+  last_dot = ap (λ v. v == byte ".") (agree stop within) ∙ so_far.last_dot;
+  special = ap (λ v. is_bad v || is_among (codes "*./{") v) (agree stop within) ∙ so_far.special;
+}
+
+-- The walk over a text has come to a place: what is written before it, and the rest of the text as it was.
+pub record WalksOn (whole text : List ℕ) (start end read stop : ℕ) : Type 0 where
+  pub in_order : start ≤ end
+  pub behind : end ≤ read
+  pub within : read ≤ stop
+  pub unread : IsUnread whole text read stop
+  pub walked : Walked whole (take start text) (slice_range text start end) (drop read whole)
+
+slash_special : (is_bad (byte "/") || is_among (codes "*./{") (byte "/")) ≡ true
+unfolding is_bad
+slash_special = refl
+
+-- It begins with a slash for a plain last byte.
+pub WalksOn-guarded : (text : List ℕ) (stop : ℕ) → length text ≡ stop + 1 → not (is_bad (get_or text stop 0) || is_among (codes "*./{") (get_or text stop 0)) ≡ true
+    → WalksOn text (set text stop (byte "/")) 0 0 0 stop
+WalksOn-guarded text stop long plain =
+    let there : get_or (set text stop (byte "/")) stop 0 ≡ byte "/" = get_or-set_same text stop (byte "/") 0 (omega arith) in
+    record {
+      in_order = omega arith;
+      behind = omega arith;
+      within = omega arith;
+      unread = record {
+        long = length-set text stop (byte "/") ∙ long;
+        same = length-set text stop (byte "/");
+        ahead = λ k _ below. get_or-set_other text stop k (byte "/") 0 (λ e. omega arith);
+        last_dot = ap (λ v. v == byte ".") there ∙ sym (plain-apart (get_or text stop 0) plain).1;
+        special = ap (λ v. is_bad v || is_among (codes "*./{") v) there ∙ slash_special;
+      };
+      walked = Walked-start text;
+    }
+
+-- Any other last byte stays.
+pub WalksOn-start : (text : List ℕ) (stop : ℕ) → length text ≡ stop + 1 → (is_bad (get_or text stop 0) || is_among (codes "*./{") (get_or text stop 0)) ≡ true
+    → WalksOn text text 0 0 0 stop
+WalksOn-start text stop long special = record {
+  in_order = omega arith;
+  behind = omega arith;
+  within = omega arith;
+  unread = record { long = long; same = refl; ahead = λ k _ _. refl; last_dot = refl; special = special };
+  walked = Walked-start text;
+}
+
+-- the byte read, before those behind it
+next_read : (whole text : List ℕ) (read stop : ℕ) → IsUnread whole text read stop → read < stop → drop read whole ≡ get_or text read 0 ∷ drop (read + 1) whole
+next_read whole text read stop unread room =
+    let long = unread.long in
+    let same = unread.same in
+    drop_more whole read 0 (omega arith) ∙ ap (λ v. v ∷ drop (read + 1) whole) (sym (unread.ahead read (omega arith) room))
+
+-- The last byte is not plain, so a plain one stands before it.
+pub run_goes : (whole text : List ℕ) (read stop : ℕ) → IsUnread whole text read stop → read ≤ stop
+    → not (is_bad (get_or text read 0) || is_among (codes "*./{") (get_or text read 0)) ≡ true → read < stop
+run_goes whole text read stop unread within plain =
+    elim (cases_eq read stop) [
+      | inl last ↦ absurd (false≢true (sym (ap (λ v. not (is_bad (get_or text v 0) || is_among (codes "*./{") (get_or text v 0))) last ∙ ap not unread.special) ∙ plain))
+      | inr other ↦ omega arith
+    ]
+
+-- one byte written behind the piece
+one_written : (whole text rest : List ℕ) (start end w : ℕ) → start ≤ end → end < length text
+    → Walked whole (take start text) (slice_range text start end ++ w ∷ []) rest
+    → Walked whole (take start (set text end w)) (slice_range (set text end w) start (end + 1)) rest
+one_written whole text rest start end w order room walked =
+    subst (λ v. Walked whole v (slice_range (set text end w) start (end + 1)) rest) (sym (take-set-le start text end w order))
+    (subst (λ v. Walked whole (take start text) v rest) (sym (range_more text start end w order room)) walked)
+
+is_empty-range : (text : List ℕ) (start end : ℕ) → start ≤ end → end ≤ length text → is_empty (slice_range text start end) ≡ (start == end)
+is_empty-range text start end order within =
+    elim (cases_eq start end) [
+      | inl same ↦ ap is_empty (ap (λ v. slice_range text start v) (sym same) ∙ no_part text start) ∙ sym (eq-eqb start end same)
+      | inr ne ↦ is_empty-false (slice_range text start end) (omega (arith, length-take (end - start) (drop start text), length-drop start text)) ∙ sym (ne_eqb start end ne)
+    ]
+
+-- A byte that adds one byte to its piece.
+pub WalksOn-byte : (whole text : List ℕ) (start end read stop w : ℕ) → WalksOn whole text start end read stop → read < stop
+    → is_slash (get_or text read 0) ≡ false → ((get_or text read 0 == byte ".") ≡ true → begins (drop (read + 1) whole) (codes ".") ≡ false)
+    → w ≡ added (is_empty (slice_range text start end)) (ends (slice_range text start end) (codes "@")) (get_or text read 0)
+    → WalksOn whole (set text end w) start (end + 1) (read + 1) stop
+WalksOn-byte whole text start end read stop w so_far room slash single e =
+    let order = so_far.in_order in
+    let behind = so_far.behind in
+    let long = so_far.unread.long in
+    record {
+      in_order = omega arith;
+      behind = omega arith;
+      within = omega arith;
+      unread = IsUnread-later whole text (set text end w) read (read + 1) stop so_far.unread (length-set text end w) (omega arith) (omega arith)
+          (λ k h. get_or-set_other text end k w 0 (λ same. omega arith));
+      walked = one_written whole text (drop (read + 1) whole) start end w order (omega arith)
+          (subst (λ v. Walked whole (take start text) (slice_range text start end ++ v ∷ []) (drop (read + 1) whole)) (sym e)
+          (Walked-byte whole (take start text) (slice_range text start end) (drop (read + 1) whole) (get_or text read 0)
+          (subst (λ v. Walked whole (take start text) (slice_range text start end) v) (next_read whole text read stop so_far.unread room) so_far.walked) slash single));
+    }
+
+-- A plain byte is written as it is.
+pub WalksOn-plain : (whole text : List ℕ) (start end read stop : ℕ) → WalksOn whole text start end read stop → read < stop
+    → not (is_bad (get_or text read 0) || is_among (codes "*./{") (get_or text read 0)) ≡ true
+    → WalksOn whole (set text end (get_or text read 0)) start (end + 1) (read + 1) stop
+WalksOn-plain whole text start end read stop so_far room plain =
+    let apart = plain-apart (get_or text read 0) plain in
+    WalksOn-byte whole text start end read stop (get_or text read 0) so_far room apart.0 (λ dot. absurd (false≢true (sym apart.1 ∙ dot)))
+    (sym (rw (apart.1, apart.2) apart.3))
+
+next_dot : (whole text : List ℕ) (read stop : ℕ) → IsUnread whole text read stop → read < stop
+    → (get_or text (read + 1) 0 == byte ".") ≡ (get_or whole (read + 1) 0 == byte ".")
+next_dot whole text read stop unread room =
+    elim (cases_eq (read + 1) stop) [
+      | inl last ↦ ap (λ v. get_or text v 0 == byte ".") last ∙ (unread.last_dot ∙ ap (λ v. get_or whole v 0 == byte ".") (sym last))
+      | inr other ↦ ap (λ v. v == byte ".") (unread.ahead (read + 1) (omega arith) (omega arith))
+    ]
+
+-- A dot that no other dot follows.
+pub single_dot : (whole text : List ℕ) (read stop : ℕ) → IsUnread whole text read stop → read < stop → (get_or text (read + 1) 0 == byte ".") ≡ false
+    → begins (drop (read + 1) whole) (codes ".") ≡ false
+single_dot whole text read stop unread room single =
+    let long = unread.long in
+    let same = unread.same in
+    false_from_ne_true (begins (drop (read + 1) whole) (codes ".")) (λ h.
+    let after : drop (read + 1) whole ≡ codes "." ++ drop 1 (drop (read + 1) whole) = (starts_is Decides-eqb (drop (read + 1) whole) (codes ".") true (sym h)).0 refl in
+    let next : get_or whole (read + 1) 0 ≡ byte "." = ap (λ v. get_or v 0 0) (sym (drop_more whole (read + 1) 0 (omega arith)) ∙ after) in
+    false≢true (sym single ∙ (next_dot whole text read stop unread room ∙ eq-eqb (get_or whole (read + 1) 0) (byte ".") next)))
+
+-- A dot before another one is left out.
+pub WalksOn-dots : (whole text : List ℕ) (start end read stop : ℕ) → WalksOn whole text start end read stop → read < stop
+    → get_or text read 0 ≡ byte "." → get_or text (read + 1) 0 ≡ byte "." → WalksOn whole text start end (read + 1) stop
+WalksOn-dots whole text start end read stop so_far room first second =
+    let order = so_far.in_order in
+    let behind = so_far.behind in
+    let long = so_far.unread.long in
+    let same = so_far.unread.same in
+    let next : get_or whole (read + 1) 0 ≡ byte "." = eqb-true (get_or whole (read + 1) 0) (byte ".") (sym (next_dot whole text read stop so_far.unread room) ∙ eq-eqb (get_or text (read + 1) 0) (byte ".") second) in
+    let rest : drop (read + 1) whole ≡ codes "." ++ drop (read + 1 + 1) whole = drop_more whole (read + 1) 0 (omega arith) ∙ ap (λ v. v ∷ drop (read + 1 + 1) whole) next in
+    let both : drop read whole ≡ codes ".." ++ drop (read + 1 + 1) whole = next_read whole text read stop so_far.unread room
+    ∙ (ap (λ v. v ∷ drop (read + 1) whole) first ∙ ap (λ v. byte "." ∷ v) rest) in
+    record {
+      in_order = order;
+      behind = omega arith;
+      within = omega arith;
+      unread = IsUnread-later whole text text read (read + 1) stop so_far.unread refl (omega arith) (omega arith) (λ k h. refl);
+      walked = subst (λ v. Walked whole (take start text) (slice_range text start end) v) (sym rest)
+          (Walked-dots whole (take start text) (slice_range text start end) (drop (read + 1 + 1) whole)
+          (subst (λ v. Walked whole (take start text) (slice_range text start end) v) both so_far.walked));
+    }
+
+same_behind : (m k : ℕ) (xs ys : List ℕ) → drop m xs ≡ drop m ys → m ≤ k → get_or xs k 0 ≡ get_or ys k 0
+same_behind m k xs ys e h =
+    let at : m + (k - m) ≡ k = omega arith in
+    ap (λ v. get_or xs v 0) (sym at) ∙ (sym (get_or-drop m xs (k - m) 0) ∙ (ap (λ v. get_or v (k - m) 0) e ∙ (get_or-drop m ys (k - m) 0 ∙ ap (λ v. get_or ys v 0) at)))
+
+-- The piece is closed, and the walk goes on behind a later place.
+closed_on : (whole text new : List ℕ) (start end read later stop n : ℕ) → WalksOn whole text start end read stop → read < later → later ≤ stop
+    → Walked whole (closed (take start text) (slice_range text start end)) [] (drop later whole)
+    → length new ≡ length text → n ≤ end + 1
+    → take n new ≡ (if start == end then take end text else take start text ++ (cut (slice_range text start end) ++ codes "/"))
+    → drop (end + 1) new ≡ drop (end + 1) text → WalksOn whole new n n later stop
+closed_on whole text new start end read later stop n so_far past room walked same within written rest =
+    let order = so_far.in_order in
+    let behind = so_far.behind in
+    let long = so_far.unread.long in
+    record {
+      in_order = omega arith;
+      behind = omega arith;
+      within = room;
+      unread = IsUnread-later whole text new read later stop so_far.unread same (omega arith) room (λ k h. same_behind (end + 1) k new text rest (omega arith));
+      walked =
+          subst (λ v. Walked whole (take n new) v (drop later whole)) (sym (no_part new n))
+          (subst (λ v. Walked whole v [] (drop later whole)) (sym (written ∙ closed-part text start end order (omega arith))) walked);
+    }
+
+-- A slash closes the piece.
+pub WalksOn-slash : (whole text new : List ℕ) (start end read stop n : ℕ) → WalksOn whole text start end read stop → read < stop
+    → is_slash (get_or text read 0) ≡ true → length new ≡ length text → n ≤ end + 1
+    → take n new ≡ (if start == end then take end text else take start text ++ (cut (slice_range text start end) ++ codes "/"))
+    → drop (end + 1) new ≡ drop (end + 1) text → WalksOn whole new n n (read + 1) stop
+WalksOn-slash whole text new start end read stop n so_far room slash same within written rest =
+    closed_on whole text new start end read (read + 1) stop n so_far (omega arith) (omega arith)
+    (Walked-slash whole (take start text) (slice_range text start end) (drop (read + 1) whole) (get_or text read 0)
+    (subst (λ v. Walked whole (take start text) (slice_range text start end) v) (next_read whole text read stop so_far.unread room) so_far.walked) slash)
+    same within written rest
+
+-- what is read of the text up to its last byte is that of the whole
+same_slice : (whole text : List ℕ) (read stop : ℕ) → IsUnread whole text read stop → slice_range text read stop ≡ slice_range whole read stop
+same_slice whole text read stop unread =
+    let long = unread.long in
+    let same = unread.same in
+    ext_get_or 0 (slice_range text read stop) (slice_range whole read stop)
+    (omega (arith, length-take (stop - read) (drop read text), length-drop read text, length-take (stop - read) (drop read whole), length-drop read whole))
+    (λ i h.
+    let below : i < stop - read = omega (arith, length-take (stop - read) (drop read text)) in
+    get_or-take (stop - read) (drop read text) i 0 below ∙ (get_or-drop read text i 0 ∙ (unread.ahead (read + i) (omega arith) (omega arith)
+    ∙ (sym (get_or-drop read whole i 0) ∙ sym (get_or-take (stop - read) (drop read whole) i 0 below)))))
+
+-- So does a `.lock` in front of one, where something of the piece is written.
+pub WalksOn-lock : (whole text new : List ℕ) (start end read later stop n : ℕ) (r : Bool) → WalksOn whole text start end read stop → later ≡ read + 6 → later ≤ stop → start < end
+    → r ≡ starts_with eqb (slice_range text read stop) (codes ".lock/") → r ≡ true → length new ≡ length text → n ≤ end + 1
+    → take n new ≡ (if start == end then take end text else take start text ++ (cut (slice_range text start end) ++ codes "/"))
+    → drop (end + 1) new ≡ drop (end + 1) text → WalksOn whole new n n later stop
+WalksOn-lock whole text new start end read later stop n r so_far at room begun value lock same within written rest =
+    let order = so_far.in_order in
+    let behind = so_far.behind in
+    let long = so_far.unread.long in
+    let left = drop 6 (slice_range whole read stop) ++ drop (stop - read) (drop read whole) in
+    let part : slice_range whole read stop ≡ codes ".lock/" ++ drop 6 (slice_range whole read stop) =
+    (starts_is Decides-eqb (slice_range whole read stop) (codes ".lock/") r (value ∙ ap (λ v. starts_with eqb v (codes ".lock/")) (same_slice whole text read stop so_far.unread))).0 lock in
+    let front : drop read whole ≡ codes ".lock/" ++ left = sym (take-append-drop (stop - read) (drop read whole)) ∙ ap (λ v. v ++ drop (stop - read) (drop read whole)) part in
+    let further : left ≡ drop later whole = sym (ap (drop 6) front) ∙ (drop-drop 6 read whole ∙ ap (λ v. drop v whole) (sym at)) in
+    closed_on whole text new start end read later stop n so_far (omega arith) room
+    (subst (λ v. Walked whole (closed (take start text) (slice_range text start end)) [] v) further
+    (Walked-lock whole (take start text) (slice_range text start end) left
+    (subst (λ v. Walked whole (take start text) (slice_range text start end) v) front so_far.walked)
+    (is_empty-range text start end order (omega arith) ∙ ne_eqb start end (λ e. omega arith))))
+    same within written rest
+
+last_read : (whole text : List ℕ) (start end stop : ℕ) → WalksOn whole text start end stop stop
+    → Walked whole (take start text) (slice_range text start end) (get_or whole stop 0 ∷ [])
+last_read whole text start end stop so_far =
+    let long = so_far.unread.long in
+    let same = so_far.unread.same in
+    subst (λ v. Walked whole (take start text) (slice_range text start end) v)
+    (drop_more whole stop 0 (omega arith) ∙ ap (λ v. get_or whole stop 0 ∷ v) (drop_all (stop + 1) whole (omega arith))) so_far.walked
+
+-- At the end, where the last byte is a slash.
+pub WalksOn-last_slash : (whole text : List ℕ) (start end stop n : ℕ) → WalksOn whole text start end stop stop → is_slash (get_or whole stop 0) ≡ true
     → take n text ≡ (if start == end then take (end - 1) text else take start text ++ cut (slice_range text start end))
     → take n text ≡ joined (mended_pieces whole)
-WalksOn-end whole text start end read last n so_far past within written =
-    written
-    ∙ (finished-part text start end so_far.in_order within
-    ∙ (sym (walk-end (take start text) (slice_range text start end) last)
-    ∙ (ap (walk (take start text) (slice_range text start end) last) (sym (drop_all read text past))
-    ∙ so_far.result)))
+WalksOn-last_slash whole text start end stop n so_far slash written =
+    let order = so_far.in_order in
+    let behind = so_far.behind in
+    let long = so_far.unread.long in
+    written ∙ (finished-part text start end order (omega arith)
+    ∙ Walked-last_slash whole (take start text) (slice_range text start end) (get_or whole stop 0) (last_read whole text start end stop so_far) slash)
 
--- A plain byte gives itself.
-pub given-plain : (last b : ℕ) → not (is_bad b || is_among (codes "*./{") b) ≡ true → (given (before_next last) b ≡ b ∷ []) × (is_slash b ≡ false)
-given-plain last b h =
-    let parts = or_parts (is_bad b) (is_among (codes "*./{") b) (not-true _ h) in
-    let star = or_parts (b == byte "*") _ parts.1 in
-    let dot = or_parts (b == byte ".") _ star.1 in
-    let slash = or_parts (b == byte "/") _ dot.1 in
-    let brace = or_parts (b == byte "{") false slash.1 in
-    let itself : allowed b ≡ b = cond-false (is_bad b || b == byte "*") (byte "-") b (or_from (is_bad b) (b == byte "*") parts.0 star.0) in
-    (rw dot.0 (ap (λ v. v ∷ []) (other (before_next last) b brace.0 ∙ itself)), slash.0) where
-      other : (before : Option ℕ) (b : ℕ) → (b == byte "{") ≡ false → byte_of before (Other b) ≡ allowed b
-      other None b h = refl
-      other (Some a) b h = cond-false (a == byte "@" && b == byte "{") (byte "-") (allowed b) (and_right (a == byte "@") (b == byte "{") h)
-
-after_dot-next : (last : ℕ) → is_after_dot (before_next last) ≡ (last == byte ".")
-after_dot-next last = elim (cases_Bool (is_slash last)) [ inl slash ↦ rw slash (ap (λ v. v == byte ".") (sym (eqb-true last (byte "/") slash))) | inr other ↦ rw other refl ]
-
--- Any other byte gives what `cleaned_byte` says.
-pub given-special : (last b : ℕ) (r : Option ℕ)
-    → r ≡ (if b == byte "." then (if last == byte "." then None else Some (byte_of (before_next last) (Dots 1))) else Some (byte_of (before_next last) (Other b)))
-    → given (before_next last) b ≡ option_to_list r
-given-special last b r e = sym (ap option_to_list e ∙ (
-    elim (cases_Bool (b == byte ".")) [
-      | inl dot ↦ rw (dot, after_dot-next last) (elim (cases_Bool (last == byte ".")) [ inl again ↦ rw again refl | inr first ↦ rw first refl ])
-      | inr other ↦ rw other refl
-    ]))
+-- At the end, where it is another byte, which was written.
+pub WalksOn-last : (whole text : List ℕ) (start end stop w n : ℕ) → WalksOn whole text start end stop stop → is_slash (get_or whole stop 0) ≡ false
+    → w ≡ added (is_empty (slice_range text start end)) (ends (slice_range text start end) (codes "@")) (get_or whole stop 0)
+    → take n (set text end w) ≡ (if start == end + 1 then take (end + 1 - 1) (set text end w) else take start (set text end w) ++ cut (slice_range (set text end w) start (end + 1)))
+    → take n (set text end w) ≡ joined (mended_pieces whole)
+WalksOn-last whole text start end stop w n so_far slash e written =
+    let order = so_far.in_order in
+    let behind = so_far.behind in
+    let long = so_far.unread.long in
+    written ∙ (finished-part (set text end w) start (end + 1) (omega arith) (omega (arith, length-set text end w))
+    ∙ Walked-end whole (take start (set text end w)) (slice_range (set text end w) start (end + 1))
+    (one_written whole text [] start end w order (omega arith)
+    (subst (λ v. Walked whole (take start text) (slice_range text start end ++ v ∷ []) []) (sym e)
+    (Walked-byte whole (take start text) (slice_range text start end) [] (get_or whole stop 0) (last_read whole text start end stop so_far) slash (λ _. refl)))))

@@ -22,6 +22,7 @@ pub mod Mended
 pub mod Joins
 pub mod SanitizedLaws
 pub mod Walk
+pub mod Walked
 pub mod Buffer
 pub mod InPlace
 pub mod ComponentRows

@@ -60,7 +60,7 @@ slashed-joined : (p : List ℕ) (ps : List (List ℕ)) → slashed (p ∷ ps) �
 slashed-joined p [] = refl
 slashed-joined p (q ∷ ps) = ap (λ v. p ++ (byte "/" ∷ v)) (slashed-joined q ps) ∙ sym (append_assoc p (byte "/" ∷ joined (q ∷ ps)) (codes "/"))
 
-last_taken : (t : List ℕ) → take (length (t ++ codes "/") - 1) (t ++ codes "/") ≡ t
+pub last_taken : (t : List ℕ) → take (length (t ++ codes "/") - 1) (t ++ codes "/") ≡ t
 last_taken t = take_at t (codes "/") (length (t ++ codes "/") - 1) (omega (arith, length-append t (codes "/")))
 
 finished-slashed : (ps : List (List ℕ)) (piece : List ℕ) → finished (slashed ps) piece ≡ joined (ps ++ kept piece)

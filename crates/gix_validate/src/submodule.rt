@@ -30,10 +30,10 @@ impl fmt::Display for NameError {
     ghost output = { λ e. Some (text_of e) };
 
     fn fmt<W: fmt::Write>(&self, f: &mut fmt::Formatter<W>) -> fmt::Result {
-        f.write_str(match self {
-            NameError::Empty => "Submodule names cannot be empty",
-            NameError::ParentComponent => "Submodules names must not contains '..'",
-        })
+        match self {
+            NameError::Empty => f.write_str("Submodule names cannot be empty"),
+            NameError::ParentComponent => f.write_str("Submodules names must not contains '..'"),
+        }
     }
 }
 

@@ -3,19 +3,29 @@
 //!
 //! Each rule is written from its words, as plainly as they are, and by other means than the library
 //! has: a search where that walks, a list of all words where that compares fronts. Nothing here is
-//! taken from the library but the types of its faults. The module `versions` says what has changed from
-//! one version of the rules to the next.
+//! taken from the library but the types of its faults. All that is built for the tests alone; what the
+//! crate offers is the module `versions`, which says what has changed from one version of the rules to
+//! the next.
 #![tactic(auto)]
 
-pub mod component;
-pub mod fault;
-pub mod forms;
-pub mod reference;
-pub mod sanitized;
-pub mod submodule;
-pub mod tag;
+#[cfg(test)]
+mod component;
+#[cfg(test)]
+mod fault;
+#[cfg(test)]
+mod forms;
+#[cfg(test)]
+mod reference;
+#[cfg(test)]
+mod sanitized;
+#[cfg(test)]
+mod submodule;
+#[cfg(test)]
+mod tag;
 #[cfg(test)]
 mod tests;
-pub mod text;
-pub mod units;
+#[cfg(test)]
+mod text;
+#[cfg(test)]
+mod units;
 pub mod versions;

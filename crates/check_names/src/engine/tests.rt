@@ -111,11 +111,12 @@ impl Read for BrokenReader<'_> {
     }
 }
 
-// Takes bytes while it has room, and then fails. It counts its bytes and its flushes.
+// Takes bytes while it has room, and then fails. It counts its bytes, its flushes, and the bytes of the last flush.
 #[derive(Drop)]
 struct Device<'a> {
     room: &'a mut [u8],
     taken: usize,
+    flushed: usize,
     flushes: usize,
     can_flush: bool,
 }
@@ -125,6 +126,7 @@ impl<'a> Device<'a> {
         Device {
             room,
             taken: 0,
+            flushed: 0,
             flushes: 0,
             can_flush: true,
         }
@@ -142,6 +144,7 @@ impl Write for Device<'_> {
     }
 
     fn flush(&mut self) -> io::Result<()> {
+        self.flushed = self.taken;
         self.flushes = self.flushes.saturating_add(1);
         if self.can_flush {
             Ok(())
@@ -205,6 +208,7 @@ fn flushes_once_where_it_answers(rt: HostRuntime) -> Result<(), Fail> {
         let mut output = Device::new(&mut room);
         run(rt.alloc(), &mut &*text, &mut output)?;
         assert_eq!(rt; output.flushes, flushes);
+        assert_eq!(rt; output.flushed, output.taken);
         assert_eq!(rt; output.taken == 0, text.is_empty());
     }
     Ok(())
@@ -261,7 +265,7 @@ fn reports_refused_memory(rt: HostRuntime) -> Result<(), Fail> {
         let heap = LocalHeap::new(rt.alloc(), 16 * units)?;
         let mut room = [0; 2048];
         let mut output = Device::new(&mut room);
-        let result = run_in(&heap, rt.alloc(), &mut text.as_slice(), &mut output);
+        let result = run_in(&heap, &mut text.as_slice(), &mut output);
         let taken = output.taken;
         assert_eq!(rt; heap.used(), 0);
         match result {

@@ -1,30 +1,36 @@
 //! The repair of names that are no partial names.
 
-ghost use Rattle.std.specs.Prelude.{◌≡◌, ◌≢◌, ◌↔◌, ◌+◌, ◌-◌, ◌≤◌, ◌<◌, ◌==◌, ◌||◌, ◌++◌, [], ◌∷◌, max, not, if◌then◌else◌, length, take, drop, codes, IsTrue, IsOk, IfOk, Some, None, slice_range, vec_capacity};
+ghost use Rattle.std.specs.Prelude.{◌≡◌, ◌≢◌, ◌↔◌, ◌+◌, ◌-◌, ◌≤◌, ◌<◌, ◌==◌, ◌||◌, ◌&&◌, ◌++◌, [], ◌∷◌, max, not, if◌then◌else◌, length, take, drop, get_or, set, codes, IsTrue, IsOk, IfOk, Some, None, slice_range, vec_capacity};
 ghost use Rattle.bstr.specs.BStr.{bstr_bytes};
 ghost use Rattle.bstr.specs.Owned.{bstring_bytes};
 ghost use Rattle.std.specs.Str.{byte};
-ghost use Rattle.gix_validate.specs.Bytes.{is_bad, is_among};
-ghost use Rattle.gix_validate.specs.Pieces.{joined, is_slash};
+ghost use Rattle.gix_validate.specs.Bytes.{is_bad, is_among, is_empty, ends};
+ghost use Rattle.gix_validate.specs.Pieces.{joined};
 ghost use Rattle.gix_validate.specs.Reference.{is_partial_name};
-ghost use Rattle.gix_validate.specs.Sanitized.{Dots, Other, byte_of, cut, mended_pieces, repaired_dot, repaired_at, repaired_nothing, sanitized, IsPiecewise};
+ghost use Rattle.gix_validate.specs.Sanitized.{allowed, cut, mended_pieces, repaired_dot, repaired_at, repaired_nothing, sanitized, IsPiecewise};
 
 use crate::bytes::may_be_faulty;
 use crate::clear::is_clear;
 use bstr::{BStr, BString};
 use std::alloc::{AllocError, Allocator, Global};
 
-/// Copies a name, and repairs the copy if the name is no partial name.
+/// Copies a name, and repairs the copy if the name is no partial name (docs/RULES.md, "Sanitised names").
 ///
 /// The copy is always a partial name, and it is the name itself if that is one. Each nonempty piece of `path` gives one
-/// piece of the copy, so `refs//heads/../x.lock` becomes `refs/heads/-/x`. Where nothing is left the copy is `-`. It has
-/// at least one byte, and no more than `path`, or than one where `path` is empty. Lengths are bytes. The rule is
-/// docs/RULES.md, "Sanitised names".
+/// piece of the copy, and where nothing is left the copy is `-`. It has at least one byte, and no more than `path`, or
+/// than one where `path` is empty. Lengths are bytes.
+///
+/// ```
+/// name_partial_or_sanitize(alloc, BStr::from("refs//heads/../x.lock"))?; // `refs/heads/-/x`
+/// ```
 ///
 /// # Errors
 ///
-/// The memory for the copy is asked for once, before a byte is written: the length of `path`, or one byte where that is
-/// empty. The one error is that it was not found, and then nothing is left behind.
+/// Want of memory, and nothing else. Then nothing is left behind.
+///
+/// # Memory
+///
+/// The call asks for it once, before it writes a byte: the length of `path`, or one byte where that is empty.
 pub fn name_partial_or_sanitize(alloc: Global, path: BStr<'_>) -> Result<BString, AllocError>
     ensures text { IfOk result (λ name. bstring_bytes name ≡ sanitized (bstr_bytes path.entry)) }
     ensures partial { IfOk result (λ name. IsTrue (is_partial_name (bstring_bytes name))) }
@@ -63,21 +69,26 @@ fn fill_sanitized<A: Allocator>(name: &mut Vec<u8, A>, path: &[u8]) -> Result<()
     Ok(())
 }
 
-/// Repairs the name in the first `len` bytes of `buf`, and gives the repaired name's length.
+/// Repairs the name in the first `len` bytes of `buf`, and gives the repaired name's length (docs/RULES.md,
+/// "Sanitised names").
 ///
 /// The repaired name, a partial name, takes the place of the given one from the first byte of `buf` on. It is what
-/// `name_partial_or_sanitize` gives for these `len` bytes. With `..azz` in `buf` and a `len` of 3 the answer is 2, and
-/// `buf` then begins with `-a` and ends in `zz`.
+/// `name_partial_or_sanitize` gives for these `len` bytes.
 ///
 /// The buffer has to have a byte, since even an empty name becomes `-`. From place `len` on, or from place 1 on where
 /// `len` is 0, its bytes stay as they were. What stands between the repaired name and that place is open. Places and
-/// lengths are bytes. The call never fails and takes no memory: it is one walk over the name, within the buffer, and
-/// most names that are partial names are only looked at, sixteen bytes at a time. The rule is docs/RULES.md,
-/// "Sanitised names".
+/// lengths are bytes.
+///
+/// ```
+/// let mut buffer = *b"..azz";
+/// sanitize_in_place(&mut buffer, 3); // 2, and the buffer begins with `-a` and ends in `zz`
+/// ```
+///
+/// The call never fails and takes no memory. It is one walk over the name, within the buffer; most names that are
+/// partial names are only looked at.
 pub fn sanitize_in_place(buf: &mut [u8], len: usize) -> usize
     requires some { 1 ≤ length buf.old }
     requires within { len ≤ length buf.old }
-
     ensures bounds { (1 ≤ result) × (result ≤ max 1 len) }
     ensures text { take result buf.new ≡ sanitized (take len buf.old) }
     ensures partial { IsTrue (is_partial_name (take result buf.new)) }
@@ -95,28 +106,59 @@ pub fn sanitize_in_place(buf: &mut [u8], len: usize) -> usize
 
 /// Writes the nonempty pieces of the text over it, each cleaned and cut, and gives the length of what it wrote. A byte
 /// is written at the place of the one just read, or before it.
+///
+/// The last byte comes at the end. If it is plain, a slash stands in its place until then, so that each run of plain
+/// bytes ends before the text does. A `.lock` right before a slash is passed over, where something stands before it in
+/// its piece: it would be cut.
 fn mend_pieces(text: &mut [u8]) -> usize
     ensures within { result ≤ length text.old }
     ensures text { take result text.new ≡ joined (mended_pieces text.old) }
 {
-    let mut start = 0;
-    let mut end = 0;
-    let mut previous = b'/';
-    for read in 0..text.len() {
-        let byte = text[read];
-        if is_plain(byte) {
-            text[end] = byte;
+    let Some(stop) = text.len().checked_sub(1) else {
+        return 0;
+    };
+    let last = text[stop];
+    guard_end(text, stop);
+    let (mut start, mut end, mut read) = (0, 0, 0);
+    loop {
+        while is_plain(text[read]) {
+            text[end] = text[read];
             end += 1;
-        } else if byte == b'/' {
+            read += 1;
+        }
+        if read == stop {
+            break;
+        }
+        let (byte, next) = (text[read], text[read + 1]);
+        if byte == b'/' {
             end = close_piece(text, start, end);
             start = end;
-        } else if let Some(written) = cleaned_byte(previous, byte) {
-            text[end] = written;
+        } else if byte == b'.' && start < end && text[read..stop].starts_with(b".lock/") {
+            end = close_piece(text, start, end);
+            start = end;
+            read += 5;
+        } else if byte != b'.' || next != b'.' {
+            text[end] = cleaned_byte(&text[start..end], byte);
             end += 1;
         }
-        previous = byte;
+        read += 1;
+    }
+    if last != b'/' {
+        text[end] = cleaned_byte(&text[start..end], last);
+        end += 1;
     }
     end_of_text(text, start, end)
+}
+
+/// Puts a slash in the place `stop`, if the byte there is plain.
+fn guard_end(text: &mut [u8], stop: usize)
+    requires { stop < length text.old }
+    ensures { let last = get_or text.old stop 0 in
+        text.new ≡ (if is_bad last || is_among (codes "*./{") last then text.old else set text.old stop (byte "/")) }
+{
+    if is_plain(text[stop]) {
+        text[stop] = b'/';
+    }
 }
 
 /// Whether the byte stays itself wherever it stands.
@@ -126,21 +168,19 @@ fn is_plain(next: u8) -> bool
     !may_be_faulty(next)
 }
 
-/// What a byte of a piece adds to the cleaned piece, by the byte before it. A slash stands before the first one.
-fn cleaned_byte(previous: u8, next: u8) -> Option<u8>
-    requires special { IsTrue (is_bad next || is_among (codes "*./{") next) }
+/// What a byte adds to the piece that was written so far: any byte but a slash, and of the dots in a row the last.
+fn cleaned_byte(piece: &[u8], next: u8) -> u8
     requires no_slash { next ≢ byte "/" }
-    ensures { let before = if is_slash previous then None else Some previous in
-        result ≡ (if next == byte "."
-        then (if previous == byte "." then None else Some (byte_of before (Dots 1)))
-        else Some (byte_of before (Other next))) }
+    ensures { result ≡ (if (next == byte "." && is_empty piece.now) || (next == byte "{" && ends piece.now (codes "@"))
+        then byte "-" else allowed next) }
 {
     match next {
-        b'.' if previous == b'.' => None,
-        b'.' if previous == b'/' => Some(b'-'),
-        b'.' => Some(b'.'),
-        b'{' if previous != b'@' => Some(b'{'),
-        _ => Some(b'-'),
+        b'.' if piece.is_empty() => b'-',
+        b'.' => b'.',
+        b'{' if piece.ends_with(b"@") => b'-',
+        b'{' => b'{',
+        _ if is_plain(next) => next,
+        _ => b'-',
     }
 }
 
@@ -158,7 +198,7 @@ fn close_piece(text: &mut [u8], start: usize, end: usize) -> usize
     if start == end {
         return end;
     }
-    let end = start + length_of_cut(&text[start..end]);
+    let end = end_of_cut(text, start, end);
     text[end] = b'/';
     end + 1
 }
@@ -176,7 +216,22 @@ fn end_of_text(text: &[u8], start: usize, end: usize) -> usize
     if start == end {
         end.saturating_sub(1)
     } else {
+        end_of_cut(text, start, end)
+    }
+}
+
+/// Where the piece that was written from `start` to `end` ends once the `.lock`s at its end are cut. Few pieces have the
+/// last letter.
+fn end_of_cut(text: &[u8], start: usize, end: usize) -> usize
+    requires some { start < end }
+    requires within { end ≤ length text.now }
+    ensures within { result ≤ end }
+    ensures text { take result text.now ≡ take start text.now ++ cut (slice_range text.now start end) }
+{
+    if text[end - 1] == b'k' {
         start + length_of_cut(&text[start..end])
+    } else {
+        end
     }
 }
 

@@ -1,0 +1,28 @@
+-- What stands in a writer of text after some writes, where each appends its text.
+use Rattle.std.proofs.Common.{◌≡◌, ℕ, List, [], ◌∷◌, ◌++◌, sym, ap, ◌∙◌, append_assoc, append-nil, subst, Option, Some, None, IfSome}
+use Rattle.std.specs.List.{FoldsTo, concat}
+use Rattle.std.specs.Fmt.{WritesInCalls, WritesText, option_append}
+
+module _ {W N : Type 0} (name : W → N) (contents : W → List ℕ) where
+  -- the writer keeps its name, and the text stands behind what it held
+  abbrev Took : W → List ℕ → W → Type 0
+  Took before text after = (name after ≡ name before) × (contents after ≡ contents before ++ text)
+
+  took_calls : (before : W) (texts : List (List ℕ)) (after : W) → FoldsTo Took before texts after → Took before (concat texts) after
+  took_calls before [] after same = (ap name (sym same), ap contents (sym same) ∙ sym (append-nil (contents before)))
+  took_calls before (text ∷ texts) after (next, one, more) =
+      let rest = took_calls next texts after more in
+      (rest.0 ∙ one.0, rest.1 ∙ ap (λ front. front ++ concat texts) one.1 ∙ append_assoc (contents before) text (concat texts))
+
+  pub took_writes : (before : W) (text : List ℕ) (after : W) → WritesInCalls (λ s xs t. (name t ≡ name s) × (contents t ≡ contents s ++ xs)) before text after
+      → (name after ≡ name before) × (contents after ≡ contents before ++ text)
+  took_writes before text after written = subst (λ all. Took before all after) written.whole (took_calls before written.parts after written.calls)
+
+  -- the same of a format with some text in front of a value that may not say what it prints
+  pub took_format : (before : W) (front : List ℕ) (text : Option (List ℕ)) (after : W)
+      → WritesText (λ s xs t. (name t ≡ name s) × (contents t ≡ contents s ++ xs)) before (option_append (Some front) text) after
+      → IfSome text (λ printed. (name after ≡ name before) × (contents after ≡ contents before ++ front ++ printed))
+  took_format before front None after written = tt
+  took_format before front (Some printed) after written =
+      let taken = took_writes before (front ++ printed) after written in
+      (taken.0, taken.1 ∙ sym (append_assoc (contents before) front printed))

@@ -28,8 +28,8 @@ at_letter P letter b large within =
     let second : b - 65 + 97 ≡ b + 32 = omega arith in
     rw (lower_letter b large within) (rw first at (rw second at at))
 
-small_stays : (b : ℕ) → lower_byte (lower_byte b) ≡ lower_byte b
-small_stays b =
+pub lower_byte-lower_byte : (b : ℕ) → lower_byte (lower_byte b) ≡ lower_byte b
+lower_byte-lower_byte b =
     elim (cases_lt b 65) [
       | inl small ↦ rw (lower_below b small) (lower_below b small)
       | inr large ↦ elim (cases_lt 90 b) [
@@ -56,9 +56,6 @@ SkipsCase p = agree_below (λ k. p (k + 97)) (λ k. p (k + 65)) 26 ≡ true
 pub test-lower_byte : (p : ℕ → Bool) → SkipsCase p → (b : ℕ) → p (lower_byte b) ≡ p b
 test-lower_byte p skips b = by_letter (λ a c. p c ≡ p a) (λ a. refl) (λ k h. agree_below_at (λ i. p (i + 97)) (λ i. p (i + 65)) 26 k skips h) b
 
-pub lower_byte-lower_byte : (b : ℕ) → lower_byte (lower_byte b) ≡ lower_byte b
-lower_byte-lower_byte b = small_stays b
-
 pub lower-lower : (x : List ℕ) → lower (lower x) ≡ lower x
 lower-lower [] = refl
 lower-lower (b ∷ x) = rw (lower_byte-lower_byte b) (ap (λ y. lower_byte b ∷ y) (lower-lower x))
@@ -66,10 +63,6 @@ lower-lower (b ∷ x) = rw (lower_byte-lower_byte b) (ap (λ y. lower_byte b ∷
 pub list_any-lower : (p : ℕ → Bool) → SkipsCase p → (x : List ℕ) → list_any p (lower x) ≡ list_any p x
 list_any-lower p skips [] = refl
 list_any-lower p skips (b ∷ x) = rw (test-lower_byte p skips b, list_any-lower p skips x)
-
-pub list_all-lower : (p : ℕ → Bool) → SkipsCase p → (x : List ℕ) → list_all p (lower x) ≡ list_all p x
-list_all-lower p skips [] = refl
-list_all-lower p skips (b ∷ x) = rw (test-lower_byte p skips b, list_all-lower p skips x)
 
 pub prefix_len-lower : (p : ℕ → Bool) → SkipsCase p → (x : List ℕ) → prefix_len p (lower x) ≡ prefix_len p x
 prefix_len-lower p skips [] = refl

@@ -1,21 +1,20 @@
 -- A clear text has no fault.
-use Rattle.std.proofs.Common.{◌≡◌, ℕ, ◌+◌, ◌-◌, ◌<◌, Bool, true, false, not, ◌&&◌, ◌||◌, cond, eqb, List, [], ◌∷◌, ◌++◌, length, get_or, refl, sym, ap, ap₂, ◌∙◌, inl, inr, arith, Option, Some, None}
-use Rattle.std.proofs.lemmas.Bool.{cases_eq, cases_Bool, eq-eqb, ne_eqb, and_parts, not-true, or_parts, and_from, true≢false, false_from_ne_true, eqb-false, eqb-true}
+use Rattle.std.proofs.Common.{◌≡◌, ℕ, ◌<◌, Bool, true, false, not, ◌&&◌, ◌||◌, eqb, List, [], ◌∷◌, ◌++◌, length, refl, sym, ap, ap₂, ◌∙◌, inl, inr, arith, None}
+use Rattle.std.proofs.lemmas.Bool.{cases_eq, ne_eqb, and_parts, not-true, or_parts, and_from, true≢false, false_from_ne_true, eqb-false}
 use Rattle.std.proofs.lemmas.Slice.Eq.{bytes_eq-Decides}
-use Rattle.std.specs.Prelude.{codes, is_none, ◌==◌}
+use Rattle.std.specs.Prelude.{codes, is_none}
 use Rattle.std.specs.Str.{bytes_eq}
-use Rattle.gix_validate.specs.declared.tag.NameError.{NameError}
 use Rattle.gix_validate.specs.declared.tag.NameError.TheVariants.{InvalidByte, RepeatedSlash, RepeatedDot, LockFileSuffix, StartsWithDot}
-use Rattle.gix_validate.specs.Bytes.{is_bad, is_among, is_empty, begins, ends}
+use Rattle.gix_validate.specs.Bytes.{is_bad, is_among, ends}
 use Rattle.gix_validate.specs.Faults.{when, first_of, ◌orelse◌, at_least_place}
 use Rattle.gix_validate.specs.Tag.{fault_of, faults_at, is_tag_name}
 use Rattle.gix_validate.specs.Reference.{is_partial_name}
 use Rattle.gix_validate.specs.Clear.{is_suspect, has_no_suspect, is_clear}
 use Rattle.gix_validate.proofs.TextLemmas.{ends_push_one}
 use Rattle.gix_validate.proofs.TagFaults.{lock_ends_in_k, after_dot, after_slash, after_other}
-use Rattle.gix_validate.proofs.TagWalk.{fault_after, fault_before_place, walked, at_least_place_walked, at_least_place_split, ends_in_lock}
+use Rattle.gix_validate.proofs.TagWalk.{fault_after, walked, at_least_place_walked, at_least_place_split}
 use Rattle.gix_validate.proofs.TagGrammar.{grammar_law}
-use Rattle.gix_validate.proofs.TagEnds.{fault_of_read, at_none, ends_read, begins_read}
+use Rattle.gix_validate.proofs.TagEnds.{fault_of_read, at_none, ends_read}
 
 -- what a byte that isn't suspect is not
 record Follows (a b : ℕ) : Type 0 where

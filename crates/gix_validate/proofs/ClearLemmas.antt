@@ -1,11 +1,11 @@
 -- Lanes of suspect bytes: what one look at sixteen pairs says, and what looks at all pairs of a text say together.
-use Rattle.std.proofs.Common.{◌≡◌, ℕ, zero, suc, ◌+◌, ◌-◌, ◌/◌, ◌%◌, ◌<◌, ◌≤◌, ◌↔◌, Bool, true, false, not, ◌&&◌, ◌||◌, cond, eqb, List, [], ◌∷◌, ◌++◌, map, length, get_or, replicate, bit_and, bit_or, refl, sym, ap, ap₂, subst, ◌∙◌, inl, inr, arith, w8, Fits, eqb-true, eq-eqb, length-append}
-use Rattle.std.proofs.lemmas.Bool.{agree_below, agree_below_at, cases_lt, cases_Bool, and_parts, and_from, ne_eqb, eqb-false, not-true, true≢false}
+use Rattle.std.proofs.Common.{◌≡◌, ℕ, zero, suc, ◌+◌, ◌-◌, ◌/◌, ◌%◌, ◌<◌, ◌≤◌, ◌↔◌, Bool, true, false, not, ◌&&◌, ◌||◌, cond, eqb, List, [], ◌∷◌, ◌++◌, map, length, get_or, replicate, bit_and, bit_or, refl, sym, ap, ap₂, subst, ◌∙◌, inl, inr, arith, eqb-true, eq-eqb, length-append}
+use Rattle.std.proofs.lemmas.Bool.{agree_below, agree_below_at, cases_lt, and_parts, and_from, ne_eqb, not-true}
 use Rattle.std.proofs.lemmas.List.{get_or-map, length-map, ext_get_or, get_or_append_left, get_or-append_right}
-use Rattle.std.proofs.lemmas.Simd.{zip2_splat, zip2_of_maps, map-map, get_or-zip2, length-chunk, get_or-chunk, pick_l_whole}
+use Rattle.std.proofs.lemmas.Simd.{zip2_splat, zip2_of_maps, map-map, get_or-zip2, length-chunk, get_or-chunk}
 use Rattle.std.specs.Prelude.{codes, ◌==◌, if◌then◌else◌}
 use Rattle.std.specs.Str.{byte}
-use lib.Lanes.{zip2, sel_l, chunk, top, Each1}
+use lib.Lanes.{zip2, sel_l, chunk, top}
 use Rattle.gix_validate.specs.declared.clear.TheConstants.{KINDS_BY_LOW_HALF, KINDS_BY_HIGH_HALF}
 use Rattle.gix_validate.specs.Bytes.{is_bad, is_among, ends}
 use Rattle.gix_validate.specs.Clear.{is_suspect, has_no_suspect, is_clear, NoSuspectBetween}
@@ -204,13 +204,6 @@ clear_by_looks (b ∷ x) some =
           (and_from (not (is_suspect 47 b)) (has_no_suspect b x) (ap not (sym (first_behind_slash b) ∙ h.0)) (law.1 h.2))
           (ap not h.1),
     )
-
--- a walk by blocks that has come to this place, or past it
-pub further : (x : List ℕ) (i j : ℕ) → NoSuspectBetween x 0 (i + 1) → NoSuspectBetween x i (i + 17) → j ≤ i + 17 → NoSuspectBetween x 0 j
-further x i j before here within k from to = elim (cases_lt k i) [
-  | inl early ↦ before k from (omega arith)
-  | inr late ↦ here k (omega arith) (omega arith)
-]
 
 -- the last byte of a text that ends so
 pub ends_quietly : (x : List ℕ) → 0 < length x → (get_or x (length x - 1) 0 ≡ 47 → ⊥) → (get_or x (length x - 1) 0 ≡ 46 → ⊥) → (get_or x (length x - 1) 0 ≡ 107 → ⊥)

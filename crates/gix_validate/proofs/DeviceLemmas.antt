@@ -1,18 +1,15 @@
 -- Device forms: which text ends one, and which names have a given form.
-use Rattle.std.proofs.Common.{◌≡◌, ℕ, zero, suc, ◌+◌, ◌-◌, ◌<◌, ◌≤◌, Bool, true, false, not, ◌&&◌, ◌||◌, cond, eqb, List, [], ◌∷◌, ◌++◌, length, take, drop, get_or, map, refl, sym, ap, ◌∙◌, arith, codes, drop-cons, add-one}
+use Rattle.std.proofs.Common.{◌≡◌, ◌≢◌, ℕ, ◌+◌, ◌-◌, ◌<◌, ◌≤◌, Bool, true, false, ◌&&◌, ◌||◌, cond, eqb, List, [], ◌∷◌, ◌++◌, length, drop, get_or, refl, sym, ap, ap₂, ◌∙◌, arith, codes}
+use Rattle.std.proofs.Math.Bool.{or-false}
 use Rattle.std.specs.Prelude.{IsTrue, ◌==◌}
 use Rattle.std.specs.List.{list_all, list_any}
 use Rattle.std.specs.Str.{byte, bytes_eq}
-use Rattle.std.proofs.lemmas.List.{at_drop_more, at_drop_all}
-use Rattle.std.proofs.lemmas.Bool.{eq-eqb, ne_eqb, and_parts}
+use Rattle.std.proofs.lemmas.Bool.{and_parts}
 use Rattle.std.proofs.lemmas.Bool.Decides.{nat_tests}
-use Rattle.std.proofs.lemmas.Grind.{common_steps}
 use Rattle.gix_validate.specs.Bytes.{is_empty, is_among, lower, lower_byte, begins}
 use Rattle.gix_validate.specs.Ntfs.{is_digit}
-use Rattle.gix_validate.specs.Windows.{device_form, devices, is_device, is_device_form, numbered, is_plain}
-use Rattle.gix_validate.proofs.CaseLemmas.{test-lower_byte}
-use Rattle.gix_validate.proofs.FormLemmas.{form, form_at}
-use Rattle.gix_validate.proofs.WordLemmas.{KeepsPlain, device_keeps, plain_head, word_front, word_head, other_head, none_left}
+use Rattle.gix_validate.specs.Windows.{device_form, devices, is_device, is_device_form, is_plain}
+use Rattle.gix_validate.proofs.WordLemmas.{device_keeps, word_front, word_head, none_left, form_left, form_all_left, form_word_then, form_word_not}
 
 abbrev pub is_cut : ℕ → Bool
 is_cut b = is_among (codes ".:") b
@@ -20,136 +17,21 @@ is_cut b = is_among (codes ".:") b
 abbrev pub is_trimmed : ℕ → Bool
 is_trimmed b = b == byte " "
 
-pub device_form-none : is_empty (device_form []) ≡ true
-unfolding device_form
-device_form-none = refl
-
-device_form-at : (b : ℕ) (x : List ℕ) → device_form (b ∷ x) ≡ cond (is_cut b) [] (cond (is_trimmed b && is_empty (device_form x)) [] (b ∷ device_form x))
-unfolding device_form
-device_form-at b x = form_at is_cut is_trimmed b x
-
--- whether nothing is left of the form, by the byte in front
-left_at : (b : ℕ) (x : List ℕ) → is_empty (device_form (b ∷ x)) ≡ cond (is_cut b) true (cond (is_trimmed b) (is_empty (device_form x)) false)
-left_at b x =
-    ap is_empty (device_form-at b x)
-    ∙ elim (is_cut b) as (λ v. is_empty (cond v [] (cond (is_trimmed b && is_empty (device_form x)) [] (b ∷ device_form x))) ≡ cond v true (cond (is_trimmed b) (is_empty (device_form x)) false)) [
-      | true ↦ refl
-      | false ↦ elim (is_trimmed b) as (λ v. is_empty (cond (v && is_empty (device_form x)) [] (b ∷ device_form x)) ≡ cond v (is_empty (device_form x)) false) [
-        | true ↦ elim (is_empty (device_form x)) as (λ v. is_empty (cond v [] (b ∷ device_form x)) ≡ v) [ true ↦ refl | false ↦ refl ]
-        | false ↦ refl
-      ]
-    ]
-
 pub device_left : (x : List ℕ) (i : ℕ) → i < length x → is_empty (device_form (drop i x)) ≡ cond (is_cut (get_or x i 0)) true (cond (is_trimmed (get_or x i 0)) (is_empty (device_form (drop (i + 1) x))) false)
-device_left x i h = at_drop_more (λ t. is_empty (device_form t)) x i 0 h ∙ left_at (get_or x i 0) (drop (i + 1) x)
+unfolding device_form
+device_left = form_left is_cut is_trimmed
 
 pub device_all_left : (x : List ℕ) (i : ℕ) → length x ≤ i → is_empty (device_form (drop i x)) ≡ true
-device_all_left x i h = at_drop_all (λ t. is_empty (device_form t)) x i h ∙ device_form-none
-
-pub device_word : (word x : List ℕ) → list_all is_plain word ≡ true → bytes_eq (lower (device_form x)) (lower word) ≡ (begins (lower x) (lower word) && is_empty (device_form (drop (length word) x)))
 unfolding device_form
-device_word word x plain =
-    ap (bytes_eq (lower (device_form x))) (sym (append_none (lower word)))
-    ∙ word_front is_cut is_trimmed device_keeps word x [] plain
-    ∙ ap (λ v. begins (lower x) (lower word) && v) (none_left (device_form (drop (length word) x)))
-  where
-    append_none : (t : List ℕ) → t ++ [] ≡ t
-    append_none [] = refl
-    append_none (c ∷ t) = ap (λ s. c ∷ s) (append_none t)
+device_all_left = form_all_left is_cut is_trimmed
 
 pub device_word_then : (word x rest : List ℕ) (r : Bool) → IsTrue (list_all is_plain word) → (begins (lower x) (lower word) ≡ true) × (rest ≡ drop (length word) x) → r ≡ is_empty (device_form rest) → r ≡ bytes_eq (lower (device_form x)) (lower word)
-device_word_then word x rest r plain front back =
-    back
-    ∙ ap (λ t. is_empty (device_form t)) front.1
-    ∙ sym (device_word word x plain ∙ ap (λ v. v && is_empty (device_form (drop (length word) x))) front.0)
+unfolding device_form
+device_word_then = form_word_then is_cut is_trimmed device_keeps
 
 pub device_word_not : (word x : List ℕ) → IsTrue (list_all is_plain word) → begins (lower x) (lower word) ≡ false → false ≡ bytes_eq (lower (device_form x)) (lower word)
-device_word_not word x plain front = sym (device_word word x plain ∙ ap (λ v. v && is_empty (device_form (drop (length word) x))) front)
-
-or_none : (t : Bool) → (t || false) ≡ t
-or_none true = refl
-or_none false = refl
-
--- the form of a name that begins with a plain byte
-plain_first : (b : ℕ) (x : List ℕ) → is_plain b ≡ true → device_form (b ∷ x) ≡ b ∷ device_form x
 unfolding device_form
-plain_first b x plain = plain_head is_cut is_trimmed device_keeps b x plain
-
-letter_is_plain : (b c : ℕ) → lower_byte b ≡ c → is_plain c ≡ true → is_plain b ≡ true
-letter_is_plain b c e plain = sym (test-lower_byte is_plain refl b) ∙ ap is_plain e ∙ plain
-
--- what the device forms come to by their first letter
-forms_at_a : (b : ℕ) (f : List ℕ) → lower_byte b ≡ byte "a" → is_device_form (b ∷ f) ≡ bytes_eq (lower (b ∷ f)) (codes "aux")
-unfolding is_device_form devices lower_byte
-forms_at_a b f e = rw e (or_none (bytes_eq (lower f) (codes "ux")))
-
-forms_at_c : (b : ℕ) (f : List ℕ) → lower_byte b ≡ byte "c" → is_device_form (b ∷ f) ≡ ((bytes_eq (lower (b ∷ f)) (codes "con") || (bytes_eq (lower (b ∷ f)) (codes "conin$") || bytes_eq (lower (b ∷ f)) (codes "conout$"))) || list_any (λ digit. bytes_eq (lower (b ∷ f)) (codes "com" ++ digit ∷ [])) (codes "123456789"))
-unfolding is_device_form devices lower_byte
-forms_at_c b f e = rw e (or_apart (bytes_eq (lower f) (codes "on")) (bytes_eq (lower f) (codes "onin$")) (bytes_eq (lower f) (codes "onout$")) _)
-  where
-    or_apart : (s t u v : Bool) → (s || (t || (u || v))) ≡ ((s || (t || u)) || v)
-    or_apart true t u v = refl
-    or_apart false true u v = refl
-    or_apart false false u v = refl
-
-forms_at_l : (b : ℕ) (f : List ℕ) → lower_byte b ≡ byte "l" → is_device_form (b ∷ f) ≡ list_any (λ digit. bytes_eq (lower (b ∷ f)) (codes "lpt" ++ digit ∷ [])) (codes "0123456789")
-unfolding is_device_form devices lower_byte
-forms_at_l b f e = rw e refl
-
-forms_at_n : (b : ℕ) (f : List ℕ) → lower_byte b ≡ byte "n" → is_device_form (b ∷ f) ≡ bytes_eq (lower (b ∷ f)) (codes "nul")
-unfolding is_device_form devices lower_byte
-forms_at_n b f e = rw e (or_none (bytes_eq (lower f) (codes "ul")))
-
-forms_at_p : (b : ℕ) (f : List ℕ) → lower_byte b ≡ byte "p" → is_device_form (b ∷ f) ≡ bytes_eq (lower (b ∷ f)) (codes "prn")
-unfolding is_device_form devices lower_byte
-forms_at_p b f e = rw e (or_none (bytes_eq (lower f) (codes "rn")))
-
-other_forms : (b : ℕ) (f : List ℕ) → eqb (lower_byte b) (byte "a") ≡ false → eqb (lower_byte b) (byte "c") ≡ false → eqb (lower_byte b) (byte "l") ≡ false → eqb (lower_byte b) (byte "n") ≡ false → eqb (lower_byte b) (byte "p") ≡ false → is_device_form (b ∷ f) ≡ false
-unfolding is_device_form devices lower_byte
-other_forms b f not_a not_c not_l not_n not_p = rw (not_a, not_c, not_l, not_n, not_p) refl
-
--- A name by its first letter: what it comes to be a device.
-pub device_at_a : (x : List ℕ) → 1 ≤ length x → lower_byte (get_or x 0 0) ≡ byte "a" → is_device x ≡ bytes_eq (lower (device_form x)) (codes "aux")
-unfolding is_device
-device_at_a [] some first = absurd (omega arith)
-device_at_a (b ∷ x) some first = rw (plain_first b x (letter_is_plain b (byte "a") first refl)) (forms_at_a b (device_form x) first)
-
-pub device_at_c : (x : List ℕ) → 1 ≤ length x → lower_byte (get_or x 0 0) ≡ byte "c" → is_device x ≡ ((bytes_eq (lower (device_form x)) (codes "con") || (bytes_eq (lower (device_form x)) (codes "conin$") || bytes_eq (lower (device_form x)) (codes "conout$"))) || list_any (λ digit. bytes_eq (lower (device_form x)) (codes "com" ++ digit ∷ [])) (codes "123456789"))
-unfolding is_device
-device_at_c [] some first = absurd (omega arith)
-device_at_c (b ∷ x) some first = rw (plain_first b x (letter_is_plain b (byte "c") first refl)) (forms_at_c b (device_form x) first)
-
-pub device_at_l : (x : List ℕ) → 1 ≤ length x → lower_byte (get_or x 0 0) ≡ byte "l" → is_device x ≡ list_any (λ digit. bytes_eq (lower (device_form x)) (codes "lpt" ++ digit ∷ [])) (codes "0123456789")
-unfolding is_device
-device_at_l [] some first = absurd (omega arith)
-device_at_l (b ∷ x) some first = rw (plain_first b x (letter_is_plain b (byte "l") first refl)) (forms_at_l b (device_form x) first)
-
-pub device_at_n : (x : List ℕ) → 1 ≤ length x → lower_byte (get_or x 0 0) ≡ byte "n" → is_device x ≡ bytes_eq (lower (device_form x)) (codes "nul")
-unfolding is_device
-device_at_n [] some first = absurd (omega arith)
-device_at_n (b ∷ x) some first = rw (plain_first b x (letter_is_plain b (byte "n") first refl)) (forms_at_n b (device_form x) first)
-
-pub device_at_p : (x : List ℕ) → 1 ≤ length x → lower_byte (get_or x 0 0) ≡ byte "p" → is_device x ≡ bytes_eq (lower (device_form x)) (codes "prn")
-unfolding is_device
-device_at_p [] some first = absurd (omega arith)
-device_at_p (b ∷ x) some first = rw (plain_first b x (letter_is_plain b (byte "p") first refl)) (forms_at_p b (device_form x) first)
-
-empty_is_none : is_device_form [] ≡ false
-unfolding is_device_form devices lower_byte
-empty_is_none = refl
-
-pub device_elsewhere : (x : List ℕ) → eqb (lower_byte (get_or x 0 0)) (byte "a") ≡ false → eqb (lower_byte (get_or x 0 0)) (byte "c") ≡ false → eqb (lower_byte (get_or x 0 0)) (byte "l") ≡ false → eqb (lower_byte (get_or x 0 0)) (byte "n") ≡ false → eqb (lower_byte (get_or x 0 0)) (byte "p") ≡ false → is_device x ≡ false
-unfolding is_device device_form
-device_elsewhere [] not_a not_c not_l not_n not_p = empty_is_none
-device_elsewhere (b ∷ x) not_a not_c not_l not_n not_p =
-    ap is_device_form (device_form-at b x)
-    ∙ elim (is_cut b) as (λ v. is_device_form (cond v [] (cond (is_trimmed b && is_empty (device_form x)) [] (b ∷ device_form x))) ≡ false) [
-      | true ↦ empty_is_none
-      | false ↦ elim (is_trimmed b && is_empty (device_form x)) as (λ v. is_device_form (cond v [] (b ∷ device_form x)) ≡ false) [
-        | true ↦ empty_is_none
-        | false ↦ other_forms b (device_form x) not_a not_c not_l not_n not_p
-      ]
-    ]
+device_word_not = form_word_not is_cut is_trimmed device_keeps
 
 digit_small : (d : ℕ) → is_digit d ≡ true → lower_byte d ≡ d
 unfolding lower_byte
@@ -190,12 +72,6 @@ or_of_ands true false true = refl
 or_of_ands true false false = refl
 or_of_ands false q e = refl
 
-pub numbered_none : (x word digits : List ℕ) → IsTrue (list_all is_plain word) → begins (lower x) (lower word) ≡ false → list_any (numbered_by x word) digits ≡ false
-numbered_none x word [] plain front = refl
-numbered_none x word (d ∷ digits) plain front =
-    ap (λ v. v || list_any (numbered_by x word) digits) (numbered_front x word d plain ∙ ap (λ v. v && bytes_eq (lower (device_form (drop (length word) x))) (d ∷ [])) front)
-    ∙ numbered_none x word digits plain front
-
 pub numbered_empty : (x word digits rest : List ℕ) → IsTrue (list_all is_plain word) → (begins (lower x) (lower word) ≡ true) × (rest ≡ drop (length word) x) → length rest < 1 → list_any (numbered_by x word) digits ≡ false
 numbered_empty x word [] rest plain front none = refl
 numbered_empty x word (d ∷ digits) [] plain front none =
@@ -214,7 +90,236 @@ numbered_some x word (d ∷ digits) (c ∷ t) plain digits_are front some =
     ∙ ap (λ v. (eqb d c && is_empty (device_form t)) || v) (numbered_some x word digits (c ∷ t) plain parts.1 front some)
     ∙ or_of_ands (eqb d c) (list_any (λ b. eqb b c) digits) (is_empty (device_form t))
 
-pub device_of_none : (x : List ℕ) → length x < 1 → is_device x ≡ false
-unfolding is_device device_form
-device_of_none [] none = empty_is_none
-device_of_none (b ∷ x) none = absurd (omega arith)
+-- ---- a name by its first three letters
+
+small_word_head : (b : ℕ) (x : List ℕ) (w : ℕ) (ws : List ℕ) → lower_byte w ≡ w → is_plain w ≡ true → bytes_eq (lower (device_form (b ∷ x))) (w ∷ ws) ≡ (eqb (lower_byte b) w && bytes_eq (lower (device_form x)) ws)
+unfolding device_form
+small_word_head b x w ws small plain =
+    ap (λ v. bytes_eq (lower (device_form (b ∷ x))) (v ∷ ws)) (sym small)
+    ∙ word_head is_cut is_trimmed device_keeps b x w ws plain
+    ∙ ap (λ v. eqb (lower_byte b) v && bytes_eq (lower (device_form x)) ws) small
+
+-- the byte is the small letter or its capital
+abbrev pub is_letter : ℕ → ℕ → Bool
+is_letter b l = eqb b l || eqb b (l - 32)
+
+letter_by : (b l : ℕ) → 97 ≤ l → l ≤ 122 → eqb (lower_byte b) l ≡ is_letter b l
+unfolding lower_byte
+letter_by b l from to = grind (arith, nat_tests)
+
+letter_small : (l : ℕ) → 97 ≤ l → l ≤ 122 → lower_byte l ≡ l
+unfolding lower_byte
+letter_small l from to = grind (arith, nat_tests)
+
+letter_plain : (l : ℕ) → 97 ≤ l → l ≤ 122 → is_plain l ≡ true
+letter_plain l from to = grind (arith, nat_tests)
+
+letter_head : (b : ℕ) (x : List ℕ) (l : ℕ) (ws : List ℕ) → 97 ≤ l → l ≤ 122 → bytes_eq (lower (device_form (b ∷ x))) (l ∷ ws) ≡ (is_letter b l && bytes_eq (lower (device_form x)) ws)
+letter_head b x l ws from to =
+    small_word_head b x l ws (letter_small l from to) (letter_plain l from to)
+    ∙ ap (λ v. v && bytes_eq (lower (device_form x)) ws) (letter_by b l from to)
+
+-- the first three bytes are these letters in any case
+abbrev pub are_letters : List ℕ → ℕ → ℕ → ℕ → Bool
+are_letters x l m n = is_letter (get_or x 0 0) l && (is_letter (get_or x 1 0) m && is_letter (get_or x 2 0) n)
+
+and_three : (p q r s : Bool) → (p && (q && (r && s))) ≡ ((p && (q && r)) && s)
+and_three true true r s = refl
+and_three true false r s = refl
+and_three false q r s = refl
+
+no_letter : (l : ℕ) → 97 ≤ l → l ≤ 122 → is_letter 0 l ≡ false
+no_letter l from to = grind (arith, nat_tests)
+
+none_before : (l : ℕ) (ws : List ℕ) → bytes_eq (lower (device_form [])) (l ∷ ws) ≡ false
+unfolding device_form
+none_before l ws = refl
+
+and_no : (p q : Bool) → (p && (q && false)) ≡ false
+and_no true true = refl
+and_no true false = refl
+and_no false q = refl
+
+letters_head : (x : List ℕ) (l m n : ℕ) (ws : List ℕ) → (97 ≤ l) × (l ≤ 122) → (97 ≤ m) × (m ≤ 122) → (97 ≤ n) × (n ≤ 122) → bytes_eq (lower (device_form x)) (l ∷ m ∷ n ∷ ws) ≡ (are_letters x l m n && bytes_eq (lower (device_form (drop 3 x))) ws)
+letters_head [] l m n ws ol om on = none_before l (m ∷ n ∷ ws) ∙ sym (ap (λ v. (v && (is_letter 0 m && is_letter 0 n)) && bytes_eq (lower (device_form [])) ws) (no_letter l ol.0 ol.1))
+letters_head (a ∷ []) l m n ws ol om on =
+    letter_head a [] l (m ∷ n ∷ ws) ol.0 ol.1
+    ∙ ap (λ v. is_letter a l && v) (none_before m (n ∷ ws))
+    ∙ sym (ap (λ v. (is_letter a l && (v && is_letter 0 n)) && bytes_eq (lower (device_form [])) ws) (no_letter m om.0 om.1) ∙ spread (is_letter a l) (bytes_eq (lower (device_form [])) ws))
+  where
+    spread : (p s : Bool) → ((p && false) && s) ≡ (p && false)
+    spread true s = refl
+    spread false s = refl
+letters_head (a ∷ b ∷ []) l m n ws ol om on =
+    letter_head a (b ∷ []) l (m ∷ n ∷ ws) ol.0 ol.1
+    ∙ ap (λ v. is_letter a l && v) (letter_head b [] m (n ∷ ws) om.0 om.1 ∙ ap (λ v. is_letter b m && v) (none_before n ws))
+    ∙ sym (ap (λ v. (is_letter a l && (is_letter b m && v)) && bytes_eq (lower (device_form [])) ws) (no_letter n on.0 on.1) ∙ spread (is_letter a l) (is_letter b m) (bytes_eq (lower (device_form [])) ws))
+  where
+    spread : (p q s : Bool) → ((p && (q && false)) && s) ≡ (p && (q && false))
+    spread true true s = refl
+    spread true false s = refl
+    spread false q s = refl
+letters_head (a ∷ b ∷ c ∷ x) l m n ws ol om on =
+    letter_head a (b ∷ c ∷ x) l (m ∷ n ∷ ws) ol.0 ol.1
+    ∙ ap (λ v. is_letter a l && v) (letter_head b (c ∷ x) m (n ∷ ws) om.0 om.1 ∙ ap (λ v. is_letter b m && v) (letter_head c x n ws on.0 on.1))
+    ∙ and_three (is_letter a l) (is_letter b m) (is_letter c n) (bytes_eq (lower (device_form x)) ws)
+
+-- the form is one of the digits
+abbrev pub is_any_digit : List ℕ → List ℕ → Bool
+is_any_digit digits x = list_any (λ digit. bytes_eq (lower (device_form x)) (digit ∷ [])) digits
+
+-- the form is that of a console, of which the first three letters were taken
+abbrev pub is_console_end : List ℕ → Bool
+is_console_end x = is_empty (device_form x) || (bytes_eq (lower (device_form x)) (codes "in$") || bytes_eq (lower (device_form x)) (codes "out$"))
+
+or_each : List ℕ → (ℕ → Bool) → Bool → Bool
+or_each [] p rest = rest
+or_each (d ∷ ds) p rest = p d || or_each ds p rest
+
+or_each_and : (ds : List ℕ) (t : Bool) (p : ℕ → Bool) (rest : Bool) → or_each ds (λ d. t && p d) rest ≡ ((t && list_any p ds) || rest)
+unfolding or_each
+or_each_and [] true p rest = refl
+or_each_and [] false p rest = refl
+or_each_and (d ∷ ds) true p rest = ap (λ v. p d || v) (or_each_and ds true p rest) ∙ or_left (p d) (list_any p ds) rest
+  where
+    or_left : (s t u : Bool) → (s || (t || u)) ≡ ((s || t) || u)
+    or_left true t u = refl
+    or_left false t u = refl
+or_each_and (d ∷ ds) false p rest = or_each_and ds false p rest
+
+three_ways : (t p q r rest : Bool) → ((t && p) || ((t && q) || ((t && r) || rest))) ≡ ((t && (p || (q || r))) || rest)
+three_ways true true q r rest = refl
+three_ways true false true r rest = refl
+three_ways true false false r rest = refl
+three_ways false p q r rest = refl
+
+or_each-same : (ds : List ℕ) (p q : ℕ → Bool) (rest : Bool) → ((d : ℕ) → p d ≡ q d) → or_each ds p rest ≡ or_each ds q rest
+unfolding or_each
+or_each-same [] p q rest same = refl
+or_each-same (d ∷ ds) p q rest same = ap (λ v. v || or_each ds p rest) (same d) ∙ ap (λ v. q d || v) (or_each-same ds p q rest same)
+
+as_each : (f : List ℕ) → is_device_form f ≡ (bytes_eq (lower f) (codes "aux") || (bytes_eq (lower f) (codes "nul") || (bytes_eq (lower f) (codes "prn") || (bytes_eq (lower f) (codes "con") || (bytes_eq (lower f) (codes "conin$") || (bytes_eq (lower f) (codes "conout$") || or_each (codes "123456789") (λ d. bytes_eq (lower f) (99 ∷ 111 ∷ 109 ∷ d ∷ [])) (or_each (codes "0123456789") (λ d. bytes_eq (lower f) (108 ∷ 112 ∷ 116 ∷ d ∷ [])) false)))))))
+unfolding is_device_form devices lower_byte or_each
+as_each f = refl
+
+pub device_by_letters : (x : List ℕ) → is_device x ≡ (
+    (are_letters x 97 117 120 && is_empty (device_form (drop 3 x)))
+    || ((are_letters x 110 117 108 && is_empty (device_form (drop 3 x)))
+    || ((are_letters x 112 114 110 && is_empty (device_form (drop 3 x)))
+    || ((are_letters x 99 111 110 && is_console_end (drop 3 x))
+    || ((are_letters x 99 111 109 && is_any_digit (codes "123456789") (drop 3 x))
+    || ((are_letters x 108 112 116 && is_any_digit (codes "0123456789") (drop 3 x)) || false))))))
+unfolding is_device
+device_by_letters x =
+    let f = device_form x in
+    let rest = drop 3 x in
+    let word = λ (l m n : ℕ) (ol : (97 ≤ l) × (l ≤ 122)) (om : (97 ≤ m) × (m ≤ 122)) (on : (97 ≤ n) × (n ≤ 122)). letters_head x l m n [] ol om on ∙ ap (λ v. are_letters x l m n && v) (none_left (device_form rest)) in
+    let aux = word 97 117 120 (omega arith, omega arith) (omega arith, omega arith) (omega arith, omega arith) in
+    let nul = word 110 117 108 (omega arith, omega arith) (omega arith, omega arith) (omega arith, omega arith) in
+    let prn = word 112 114 110 (omega arith, omega arith) (omega arith, omega arith) (omega arith, omega arith) in
+    let con = word 99 111 110 (omega arith, omega arith) (omega arith, omega arith) (omega arith, omega arith) in
+    let conin = letters_head x 99 111 110 (codes "in$") (omega arith, omega arith) (omega arith, omega arith) (omega arith, omega arith) in
+    let conout = letters_head x 99 111 110 (codes "out$") (omega arith, omega arith) (omega arith, omega arith) (omega arith, omega arith) in
+    let ports = or_each-same (codes "123456789") _ _ (or_each (codes "0123456789") (λ d. bytes_eq (lower f) (108 ∷ 112 ∷ 116 ∷ d ∷ [])) false) (λ d. letters_head x 99 111 109 (d ∷ []) (omega arith, omega arith) (omega arith, omega arith) (omega arith, omega arith)) in
+    let lpt = or_each-same (codes "0123456789") _ _ false (λ d. letters_head x 108 112 116 (d ∷ []) (omega arith, omega arith) (omega arith, omega arith) (omega arith, omega arith)) in
+    as_each f
+    ∙ ap (λ v. v || (bytes_eq (lower f) (codes "nul") || (bytes_eq (lower f) (codes "prn") || (bytes_eq (lower f) (codes "con") || (bytes_eq (lower f) (codes "conin$") || (bytes_eq (lower f) (codes "conout$") || or_each (codes "123456789") (λ d. bytes_eq (lower f) (99 ∷ 111 ∷ 109 ∷ d ∷ [])) (or_each (codes "0123456789") (λ d. bytes_eq (lower f) (108 ∷ 112 ∷ 116 ∷ d ∷ [])) false))))))) aux
+    ∙ ap (λ v. (are_letters x 97 117 120 && is_empty (device_form rest)) || v)
+    (join nul (join prn (
+    join con (join conin (join conout (ports ∙ or_each_and (codes "123456789") (are_letters x 99 111 109) (λ d. bytes_eq (lower (device_form rest)) (d ∷ [])) _
+    ∙ ap (λ v. (are_letters x 99 111 109 && is_any_digit (codes "123456789") rest) || v) (lpt ∙ or_each_and (codes "0123456789") (are_letters x 108 112 116) (λ d. bytes_eq (lower (device_form rest)) (d ∷ [])) false))))
+    ∙ three_ways (are_letters x 99 111 110) (is_empty (device_form rest)) (bytes_eq (lower (device_form rest)) (codes "in$")) (bytes_eq (lower (device_form rest)) (codes "out$")) _)))
+  where
+    join : {p q r s : Bool} → p ≡ q → r ≡ s → (p || r) ≡ (q || s)
+    join e h = ap₂ (λ v w. v || w) e h
+
+letter_apart : (b l k : ℕ) → (97 ≤ l) × (l ≤ 122) → (97 ≤ k) × (k ≤ 122) → l ≢ k → is_letter b l ≡ true → is_letter b k ≡ false
+letter_apart b l k ol ok ne is = grind (arith, nat_tests)
+
+-- names that begin otherwise, by the first letter or by the third
+apart_first : (x : List ℕ) (l m n k p q : ℕ) → (97 ≤ l) × (l ≤ 122) → (97 ≤ k) × (k ≤ 122) → l ≢ k → are_letters x l m n ≡ true → are_letters x k p q ≡ false
+apart_first x l m n k p q ol ok ne are = ap (λ v. v && (is_letter (get_or x 1 0) p && is_letter (get_or x 2 0) q)) (letter_apart (get_or x 0 0) l k ol ok ne (and_parts _ _ are).0)
+
+apart_third : (x : List ℕ) (l m n k p q : ℕ) → (97 ≤ n) × (n ≤ 122) → (97 ≤ q) × (q ≤ 122) → n ≢ q → are_letters x l m n ≡ true → are_letters x k p q ≡ false
+apart_third x l m n k p q on oq ne are =
+    ap (λ v. is_letter (get_or x 0 0) k && (is_letter (get_or x 1 0) p && v)) (letter_apart (get_or x 2 0) n q on oq ne (and_parts _ _ (and_parts _ _ are).1).1)
+    ∙ and_no (is_letter (get_or x 0 0) k) (is_letter (get_or x 1 0) p)
+
+none_holds : (a b c d e f p q r s t u : Bool) → a ≡ false → b ≡ false → c ≡ false → d ≡ false → e ≡ false → f ≡ false → ((a && p) || ((b && q) || ((c && r) || ((d && s) || ((e && t) || ((f && u) || false)))))) ≡ false
+none_holds a b c d e f p q r s t u ha hb hc hd he hf = rw (ha, hb, hc, hd, he, hf) refl
+
+pub device_none : (x : List ℕ) → are_letters x 97 117 120 ≡ false → are_letters x 110 117 108 ≡ false → are_letters x 112 114 110 ≡ false → are_letters x 99 111 110 ≡ false → are_letters x 99 111 109 ≡ false → are_letters x 108 112 116 ≡ false → is_device x ≡ false
+device_none x a b c d e f = device_by_letters x ∙ none_holds _ _ _ _ _ _ _ _ _ _ _ _ a b c d e f
+
+pub device_short : (x : List ℕ) → length x < 3 → is_device x ≡ false
+device_short [] h = device_none [] refl refl refl refl refl refl
+device_short (a ∷ []) h = device_none (a ∷ []) (no_second a 97) (no_second a 110) (no_second a 112) (no_second a 99) (no_second a 99) (no_second a 108)
+  where
+    no_second : (a l : ℕ) → (is_letter a l && false) ≡ false
+    no_second a l = elim (is_letter a l) as (λ v. (v && false) ≡ false) [ true ↦ refl | false ↦ refl ]
+device_short (a ∷ b ∷ []) h = device_none (a ∷ b ∷ []) (no_third a b 97 117) (no_third a b 110 117) (no_third a b 112 114) (no_third a b 99 111) (no_third a b 99 111) (no_third a b 108 112)
+  where
+    no_third : (a b l m : ℕ) → (is_letter a l && (is_letter b m && false)) ≡ false
+    no_third a b l m = and_no (is_letter a l) (is_letter b m)
+device_short (a ∷ b ∷ c ∷ x) h = absurd (omega arith)
+
+pub device_aux : (x : List ℕ) → are_letters x 97 117 120 ≡ true → is_device x ≡ is_empty (device_form (drop 3 x))
+device_aux x are = device_by_letters x ∙ only _ _ _ _ _ _ _ _ _ _ _ _ are (apart 110 117 108 (omega arith, omega arith) (omega arith)) (apart 112 114 110 (omega arith, omega arith) (omega arith)) (apart 99 111 110 (omega arith, omega arith) (omega arith)) (apart 99 111 109 (omega arith, omega arith) (omega arith)) (apart 108 112 116 (omega arith, omega arith) (omega arith))
+  where
+    apart : (k p q : ℕ) → (97 ≤ k) × (k ≤ 122) → 97 ≢ k → are_letters x k p q ≡ false
+    apart k p q ok ne = apart_first x 97 117 120 k p q (omega arith, omega arith) ok ne are
+
+    only : (a b c d e f p q r s t u : Bool) → a ≡ true → b ≡ false → c ≡ false → d ≡ false → e ≡ false → f ≡ false → ((a && p) || ((b && q) || ((c && r) || ((d && s) || ((e && t) || ((f && u) || false)))))) ≡ p
+    only a b c d e f p q r s t u ha hb hc hd he hf = rw (ha, hb, hc, hd, he, hf) (or-false p)
+
+pub device_nul : (x : List ℕ) → are_letters x 110 117 108 ≡ true → is_device x ≡ is_empty (device_form (drop 3 x))
+device_nul x are = device_by_letters x ∙ only _ _ _ _ _ _ _ _ _ _ _ _ (apart 97 117 120 (omega arith, omega arith) (omega arith)) are (apart 112 114 110 (omega arith, omega arith) (omega arith)) (apart 99 111 110 (omega arith, omega arith) (omega arith)) (apart 99 111 109 (omega arith, omega arith) (omega arith)) (apart 108 112 116 (omega arith, omega arith) (omega arith))
+  where
+    apart : (k p q : ℕ) → (97 ≤ k) × (k ≤ 122) → 110 ≢ k → are_letters x k p q ≡ false
+    apart k p q ok ne = apart_first x 110 117 108 k p q (omega arith, omega arith) ok ne are
+
+    only : (a b c d e f p q r s t u : Bool) → a ≡ false → b ≡ true → c ≡ false → d ≡ false → e ≡ false → f ≡ false → ((a && p) || ((b && q) || ((c && r) || ((d && s) || ((e && t) || ((f && u) || false)))))) ≡ q
+    only a b c d e f p q r s t u ha hb hc hd he hf = rw (ha, hb, hc, hd, he, hf) (or-false q)
+
+pub device_prn : (x : List ℕ) → are_letters x 112 114 110 ≡ true → is_device x ≡ is_empty (device_form (drop 3 x))
+device_prn x are = device_by_letters x ∙ only _ _ _ _ _ _ _ _ _ _ _ _ (apart 97 117 120 (omega arith, omega arith) (omega arith)) (apart 110 117 108 (omega arith, omega arith) (omega arith)) are (apart 99 111 110 (omega arith, omega arith) (omega arith)) (apart 99 111 109 (omega arith, omega arith) (omega arith)) (apart 108 112 116 (omega arith, omega arith) (omega arith))
+  where
+    apart : (k p q : ℕ) → (97 ≤ k) × (k ≤ 122) → 112 ≢ k → are_letters x k p q ≡ false
+    apart k p q ok ne = apart_first x 112 114 110 k p q (omega arith, omega arith) ok ne are
+
+    only : (a b c d e f p q r s t u : Bool) → a ≡ false → b ≡ false → c ≡ true → d ≡ false → e ≡ false → f ≡ false → ((a && p) || ((b && q) || ((c && r) || ((d && s) || ((e && t) || ((f && u) || false)))))) ≡ r
+    only a b c d e f p q r s t u ha hb hc hd he hf = rw (ha, hb, hc, hd, he, hf) (or-false r)
+
+pub device_console : (x : List ℕ) → are_letters x 99 111 110 ≡ true → is_device x ≡ is_console_end (drop 3 x)
+device_console x are = device_by_letters x ∙ only _ _ _ _ _ _ _ _ _ _ _ _ (apart 97 117 120 (omega arith, omega arith) (omega arith)) (apart 110 117 108 (omega arith, omega arith) (omega arith)) (apart 112 114 110 (omega arith, omega arith) (omega arith)) are (apart_third x 99 111 110 99 111 109 (omega arith, omega arith) (omega arith, omega arith) (omega arith) are) (apart 108 112 116 (omega arith, omega arith) (omega arith))
+  where
+    apart : (k p q : ℕ) → (97 ≤ k) × (k ≤ 122) → 99 ≢ k → are_letters x k p q ≡ false
+    apart k p q ok ne = apart_first x 99 111 110 k p q (omega arith, omega arith) ok ne are
+
+    only : (a b c d e f p q r s t u : Bool) → a ≡ false → b ≡ false → c ≡ false → d ≡ true → e ≡ false → f ≡ false → ((a && p) || ((b && q) || ((c && r) || ((d && s) || ((e && t) || ((f && u) || false)))))) ≡ s
+    only a b c d e f p q r s t u ha hb hc hd he hf = rw (ha, hb, hc, hd, he, hf) (or-false s)
+
+pub device_counted : (x : List ℕ) → are_letters x 99 111 109 ≡ true → is_device x ≡ is_any_digit (codes "123456789") (drop 3 x)
+device_counted x are = device_by_letters x ∙ only _ _ _ _ _ _ _ _ _ _ _ _ (apart 97 117 120 (omega arith, omega arith) (omega arith)) (apart 110 117 108 (omega arith, omega arith) (omega arith)) (apart 112 114 110 (omega arith, omega arith) (omega arith)) (apart_third x 99 111 109 99 111 110 (omega arith, omega arith) (omega arith, omega arith) (omega arith) are) are (apart 108 112 116 (omega arith, omega arith) (omega arith))
+  where
+    apart : (k p q : ℕ) → (97 ≤ k) × (k ≤ 122) → 99 ≢ k → are_letters x k p q ≡ false
+    apart k p q ok ne = apart_first x 99 111 109 k p q (omega arith, omega arith) ok ne are
+
+    only : (a b c d e f p q r s t u : Bool) → a ≡ false → b ≡ false → c ≡ false → d ≡ false → e ≡ true → f ≡ false → ((a && p) || ((b && q) || ((c && r) || ((d && s) || ((e && t) || ((f && u) || false)))))) ≡ t
+    only a b c d e f p q r s t u ha hb hc hd he hf = rw (ha, hb, hc, hd, he, hf) (or-false t)
+
+pub device_numbered : (x : List ℕ) → are_letters x 108 112 116 ≡ true → is_device x ≡ is_any_digit (codes "0123456789") (drop 3 x)
+device_numbered x are = device_by_letters x ∙ only _ _ _ _ _ _ _ _ _ _ _ _ (apart 97 117 120 (omega arith, omega arith) (omega arith)) (apart 110 117 108 (omega arith, omega arith) (omega arith)) (apart 112 114 110 (omega arith, omega arith) (omega arith)) (apart 99 111 110 (omega arith, omega arith) (omega arith)) (apart 99 111 109 (omega arith, omega arith) (omega arith)) are
+  where
+    apart : (k p q : ℕ) → (97 ≤ k) × (k ≤ 122) → 108 ≢ k → are_letters x k p q ≡ false
+    apart k p q ok ne = apart_first x 108 112 116 k p q (omega arith, omega arith) ok ne are
+
+    only : (a b c d e f p q r s t u : Bool) → a ≡ false → b ≡ false → c ≡ false → d ≡ false → e ≡ false → f ≡ true → ((a && p) || ((b && q) || ((c && r) || ((d && s) || ((e && t) || ((f && u) || false)))))) ≡ u
+    only a b c d e f p q r s t u ha hb hc hd he hf = rw (ha, hb, hc, hd, he, hf) (or-false u)
+
+-- a form that is a digit, by the first byte and what follows it
+pub digit_first : (digits x : List ℕ) → IsTrue (list_all is_digit digits) → 1 ≤ length x → is_any_digit digits x ≡ (list_any (λ d. eqb d (get_or x 0 0)) digits && is_empty (device_form (drop 1 x)))
+digit_first digits x digits_are some = numbered_some x [] digits x refl digits_are (refl, refl) some
+
+pub digit_of_none : (digits x : List ℕ) → length x < 1 → is_any_digit digits x ≡ false
+digit_of_none digits x none = numbered_empty x [] digits x refl (refl, refl) none

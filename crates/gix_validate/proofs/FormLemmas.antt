@@ -1,12 +1,11 @@
 -- The front of a text before a cut, less what is trimmed from its end: what one byte more in front does to it.
-use Rattle.std.proofs.Common.{◌≡◌, ℕ, zero, suc, ◌+◌, ◌-◌, ◌<◌, ◌≤◌, Bool, true, false, not, ◌&&◌, cond, eqb, List, [], ◌∷◌, ◌++◌, length, take, drop, reverse, refl, sym, ap, ◌∙◌, arith, rules, inl, inr}
-use Rattle.std.specs.Prelude.{IsTrue}
-use Rattle.std.specs.List.{before_first, suffix_len, prefix_len, position_or_len, list_all}
+use Rattle.std.proofs.Common.{◌≡◌, ℕ, zero, suc, ◌+◌, ◌-◌, ◌<◌, ◌≤◌, Bool, true, false, not, ◌&&◌, cond, eqb, List, [], ◌∷◌, length, take, reverse, refl, sym, ap, ◌∙◌, arith, inl, inr}
+use Rattle.std.proofs.Math.Bool.{and-false}
+use Rattle.std.specs.List.{before_first, suffix_len, prefix_len, position_or_len}
 use Rattle.std.proofs.lemmas.List.{length-reverse}
 use Rattle.std.proofs.lemmas.List.Folds.{prefix_len-append}
-use Rattle.std.proofs.lemmas.List.Sums.{prefix_len-le-length, suffix_len-le-length}
-use Rattle.std.proofs.lemmas.Bool.{cases_eq, cases_lt, eq-eqb, ne_eqb}
-use Rattle.std.proofs.lemmas.Bool.Decides.{nat_tests}
+use Rattle.std.proofs.lemmas.List.Sums.{suffix_len-le-length}
+use Rattle.std.proofs.lemmas.Bool.{cases_eq, eq-eqb, ne_eqb}
 use Rattle.std.proofs.lemmas.Grind.{common_steps, reverse_onto}
 use Rattle.gix_validate.specs.Bytes.{is_empty}
 use Rattle.gix_validate.specs.Ntfs.{without_end}
@@ -39,10 +38,6 @@ some_taken [] n h k = absurd (omega arith)
 some_taken (b ∷ x) zero h k = absurd (omega arith)
 some_taken (b ∷ x) (suc n) h k = refl
 
-and_false : (t : Bool) → (t && false) ≡ false
-and_false true = refl
-and_false false = refl
-
 end_at : (test : Bool) (b : ℕ) (x : List ℕ) (s more : ℕ) → s ≤ length x → more ≡ cond (eqb s (length x)) (length x + cond test 1 0) s → take (suc (length x) - more) (b ∷ x) ≡ cond (test && is_empty (take (length x - s) x)) [] (b ∷ take (length x - s) x)
 end_at test b x s more le e =
     elim (cases_eq s (length x)) [
@@ -53,7 +48,7 @@ end_at test b x s more le e =
       | inr some ↦
           let now : more ≡ s = e ∙ ap (λ v. cond v (length x + cond test 1 0) s) (ne_eqb s (length x) some) in
           take_one_more b x (suc (length x) - more) (length x - s) (omega arith)
-          ∙ ap (λ v. cond v [] (b ∷ take (length x - s) x)) (sym (ap (λ v. test && v) (some_taken x (length x - s) (omega arith) (omega arith)) ∙ and_false test))
+          ∙ ap (λ v. cond v [] (b ∷ take (length x - s) x)) (sym (ap (λ v. test && v) (some_taken x (length x - s) (omega arith) (omega arith)) ∙ and-false test))
     ]
   where
     end_at_all : (test : Bool) (b : ℕ) (x : List ℕ) (more : ℕ) → more ≡ length x + cond test 1 0 → take (suc (length x) - more) (b ∷ x) ≡ cond (test && true) [] (b ∷ [])

@@ -1,7 +1,7 @@
 -- HFS forms: what the bytes in front do, read by place.
-use Rattle.std.proofs.Common.{◌≡◌, ℕ, zero, suc, ◌+◌, ◌-◌, ◌<◌, ◌≤◌, Bool, true, false, ◌&&◌, cond, eqb, List, [], ◌∷◌, length, take, drop, get_or, refl, sym, ap, ◌∙◌, arith}
+use Rattle.std.proofs.Common.{◌≡◌, ℕ, ◌+◌, ◌<◌, ◌≤◌, true, false, ◌&&◌, eqb, List, [], ◌∷◌, length, drop, get_or, refl, ap, ◌∙◌, arith}
 use Rattle.std.specs.Str.{bytes_eq}
-use Rattle.std.proofs.lemmas.Bool.{cond-true, eq-eqb, ne_eqb}
+use Rattle.std.proofs.lemmas.Bool.{cond-true}
 use Rattle.std.proofs.lemmas.List.{at_drop_more}
 use Rattle.gix_validate.specs.Bytes.{lower, lower_byte}
 use Rattle.gix_validate.specs.Hfs.{hfs_form, is_ignored}
@@ -26,8 +26,3 @@ pub both_begin : (x rest word : List ℕ) (b i : ℕ) → i < length word → hf
 both_begin x rest word b i h e =
     ap (λ f. bytes_eq (lower f) (drop i word)) e
     ∙ at_drop_more (bytes_eq (lower (b ∷ hfs_form rest))) word i 0 h
-
-pub form_ends : (x word : List ℕ) (i : ℕ) → i < length word → hfs_form x ≡ [] → bytes_eq (lower (hfs_form x)) (drop i word) ≡ false
-form_ends x word i h e =
-    ap (λ f. bytes_eq (lower f) (drop i word)) e
-    ∙ at_drop_more (bytes_eq []) word i 0 h

@@ -1,42 +1,19 @@
 -- Pieces and joined texts: each gives the other back.
-use Rattle.std.proofs.Common.{◌≡◌, inl, inr, ℕ, ◌+◌, ◌-◌, suc, true, false, List, [], ◌∷◌, ◌++◌, length, take, refl, sym, ap, ◌∙◌, arith, length-append, append_assoc, zero-add}
+use Rattle.std.proofs.Common.{◌≡◌, ℕ, ◌+◌, ◌-◌, suc, true, false, List, [], ◌∷◌, ◌++◌, length, take, refl, sym, ap, ◌∙◌, arith, length-append, append_assoc, zero-add}
 use Rattle.std.proofs.Math.Nat.{suc-add}
-use Rattle.std.specs.Prelude.{codes, ◌&&◌, not}
-use Rattle.std.specs.List.{list_all, onto_first, All}
+use Rattle.std.specs.Prelude.{codes}
+use Rattle.std.specs.List.{list_all}
 use Rattle.std.specs.Str.{byte}
-use Rattle.std.proofs.lemmas.Bool.{and_parts, and_from, false≢true, not-true, cases_Bool}
-use Rattle.std.proofs.lemmas.List.Sums.{AllPass-from_list_all}
-use Rattle.std.proofs.lemmas.List.Splits.{slice_split_at, slice_split_none, join_with_byte-slice_split}
+use Rattle.std.proofs.lemmas.Bool.{and_parts, and_from, false≢true}
+use Rattle.std.proofs.lemmas.List.Splits.{join_with_byte-slice_split}
 use Rattle.gix_validate.specs.Bytes.{is_empty}
-use Rattle.gix_validate.specs.Pieces.{pieces, joined, is_slash, has_no_slash}
+use Rattle.gix_validate.specs.Pieces.{pieces, joined, has_no_slash}
 use Rattle.gix_validate.specs.Tag.{is_good_piece}
 use Rattle.gix_validate.specs.Sanitized.{dash_last, dash_last_of}
 use Rattle.gix_validate.proofs.Mended.{dash_last-good, dash_last-apart, is_good_piece-empty}
 
 pub joined-pieces : (x : List ℕ) → joined (pieces x) ≡ x
 joined-pieces x = join_with_byte-slice_split (byte "/") x
-
-onto_first_apart : (b : ℕ) (ps : List (List ℕ)) → not (is_slash b) ≡ true → list_all has_no_slash ps ≡ true
-    → list_all has_no_slash (onto_first b ps) ≡ true
-onto_first_apart b [] h all = and_from (not (is_slash b) && true) true (and_from _ true h refl) refl
-onto_first_apart b (p ∷ ps) h all = let parts = and_parts (has_no_slash p) (list_all has_no_slash ps) all in and_from _ (list_all has_no_slash ps) (and_from _ (has_no_slash p) h parts.0) parts.1
-
--- No piece has a slash.
-pub pieces_apart : (x : List ℕ) → list_all has_no_slash (pieces x) ≡ true
-pieces_apart [] = refl
-pieces_apart (b ∷ x) =
-    let more = pieces_apart x in
-    elim (cases_Bool (is_slash b)) [ inl slash ↦ rw slash more | inr other ↦ rw other (onto_first_apart b (pieces x) (ap not other) more) ]
-
-apart_all : (p : List ℕ) → has_no_slash p ≡ true → All (λ b. is_slash b ≡ false) p
-apart_all p h = λ k d l. not-true (is_slash _) (AllPass-from_list_all (λ b. not (is_slash b)) p h k d l)
-
--- Texts without a slash are the pieces of what they join to.
-pub pieces-joined : (p : List ℕ) (ps : List (List ℕ)) → list_all has_no_slash (p ∷ ps) ≡ true → pieces (joined (p ∷ ps)) ≡ p ∷ ps
-pieces-joined p [] h = slice_split_none is_slash p (apart_all p ((and_parts (has_no_slash p) true h).0))
-pieces-joined p (q ∷ ps) h =
-    let parts = and_parts (has_no_slash p) (list_all has_no_slash (q ∷ ps)) h in
-    slice_split_at is_slash p (byte "/") (joined (q ∷ ps)) (apart_all p parts.0) refl ∙ ap (λ v. p ∷ v) (pieces-joined q ps parts.1)
 
 -- Good pieces stay good with a dash for the last byte of the last of them.
 pub dash_last_of-good : (ps : List (List ℕ)) → list_all is_good_piece ps ≡ true → list_all is_good_piece (dash_last_of ps) ≡ true

@@ -1,27 +1,17 @@
 -- Words in any letter case: std's small letters are those of the specification, and a front against a word.
-use Rattle.std.proofs.Common.{◌≡◌, ℕ, zero, suc, ◌+◌, ◌-◌, ◌<◌, ◌≤◌, Bool, true, false, ◌&&◌, cond, eqb, List, [], ◌∷◌, length, take, drop, map, refl, sym, ap, ◌∙◌, arith, ◌↔◌}
-use Rattle.std.specs.Prelude.{IsTrue}
-use Rattle.std.specs.Bool.{Decides}
+use Rattle.std.proofs.Common.{◌≡◌, ◌≢◌, get_or, ℕ, suc, ◌+◌, ◌<◌, ◌≤◌, true, false, ◌&&◌, eqb, List, [], ◌∷◌, length, take, drop, refl, ap, ◌∙◌, arith}
+use Rattle.std.proofs.Math.Bool.{and-false}
 use Rattle.std.specs.Char.{to_ascii_lowercase}
 use Rattle.std.specs.Str.{bytes_eq}
-use Rattle.std.proofs.lemmas.Bool.Decides.{nat_tests, same_from_decides}
-use Rattle.std.proofs.lemmas.List.{take-map, length-map}
-use Rattle.std.proofs.lemmas.Slice.Eq.{bytes_eq-Decides}
+use Rattle.std.proofs.lemmas.Bool.Decides.{nat_tests}
+use Rattle.std.proofs.lemmas.List.{take-map, length-map, at_drop_more, at_drop_all}
 use Rattle.gix_validate.specs.Bytes.{lower, lower_byte, begins}
 
 pub lower_byte-is : (b : ℕ) → to_ascii_lowercase b ≡ lower_byte b
 unfolding lower_byte
 lower_byte-is b = grind (arith, nat_tests)
 
-lower-is : (x : List ℕ) → map to_ascii_lowercase x ≡ lower x
-lower-is [] = refl
-lower-is (b ∷ x) = rw (lower_byte-is b, lower-is x)
-
--- what std says of two texts without ASCII case, as a test
-pub same_word : (r : Bool) (x y : List ℕ) → (IsTrue r ↔ (map to_ascii_lowercase x ≡ map to_ascii_lowercase y)) → r ≡ bytes_eq (lower x) (lower y)
-same_word r x y h = same_from_decides r (bytes_eq (lower x) (lower y)) (rw (lower-is x, lower-is y) at h) (bytes_eq-Decides (lower x) (lower y))
-
-eqb_turned : (a b : ℕ) → eqb a b ≡ eqb b a
+pub eqb_turned : (a b : ℕ) → eqb a b ≡ eqb b a
 eqb_turned a b = grind (arith, nat_tests)
 
 bytes_eq-turned : (x y : List ℕ) → bytes_eq x y ≡ bytes_eq y x
@@ -40,8 +30,21 @@ begins_word x word =
 pub begins_short : (x word : List ℕ) → length x < length word → begins (lower x) (lower word) ≡ false
 begins_short x [] h = absurd (omega arith)
 begins_short [] (w ∷ word) h = refl
-begins_short (b ∷ x) (w ∷ word) h = rw (begins_short x word (omega arith)) (and_none (eqb (lower_byte w) (lower_byte b)))
-  where
-    and_none : (t : Bool) → (t && false) ≡ false
-    and_none true = refl
-    and_none false = refl
+begins_short (b ∷ x) (w ∷ word) h = rw (begins_short x word (omega arith)) (and-false (eqb (lower_byte w) (lower_byte b)))
+
+-- two texts of one length against each other, from the place i on
+pub alike_from : (x word : List ℕ) (i : ℕ) → i < length x → i < length word → bytes_eq (lower (drop i x)) (lower (drop i word)) ≡ (eqb (lower_byte (get_or x i 0)) (lower_byte (get_or word i 0)) && bytes_eq (lower (drop (i + 1) x)) (lower (drop (i + 1) word)))
+alike_from x word i h k =
+    at_drop_more (λ t. bytes_eq (lower t) (lower (drop i word))) x i 0 h
+    ∙ at_drop_more (λ t. bytes_eq (lower (get_or x i 0 ∷ drop (i + 1) x)) (lower t)) word i 0 k
+
+pub alike_at_end : (x word : List ℕ) (i : ℕ) → length x ≤ i → length word ≤ i → bytes_eq (lower (drop i x)) (lower (drop i word)) ≡ true
+alike_at_end x word i h k =
+    at_drop_all (λ t. bytes_eq (lower t) (lower (drop i word))) x i h
+    ∙ at_drop_all (λ t. bytes_eq (lower []) (lower t)) word i k
+
+pub other_length : (x word : List ℕ) → length x ≢ length word → bytes_eq (lower x) (lower word) ≡ false
+other_length [] [] ne = absurd (ne refl)
+other_length [] (b ∷ word) ne = refl
+other_length (a ∷ x) [] ne = refl
+other_length (a ∷ x) (b ∷ word) ne = ap (λ v. eqb (lower_byte a) (lower_byte b) && v) (other_length x word (λ e. ne (ap suc e))) ∙ and-false (eqb (lower_byte a) (lower_byte b))

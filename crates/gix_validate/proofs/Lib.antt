@@ -39,10 +39,11 @@ pub mod NtfsLemmas
 pub mod ModulesLemmas
 pub mod DeviceLemmas
 pub mod PiecesRows
-pub mod DecodedLemmas
 pub mod ComponentLawRows
 pub mod PathJoinLemmas
 pub mod LaneLemmas
 pub mod ClearLemmas
 pub mod ClearFaults
 pub mod ClearParts
+pub mod BlockLemmas
+pub mod OrdinaryLemmas

@@ -1,15 +1,15 @@
 -- NTFS forms that stand for `.gitmodules`: all but `.gitmodules` itself have eight plain bytes.
-use Rattle.std.proofs.Common.{◌≡◌, ℕ, zero, suc, ◌+◌, ◌-◌, ◌<◌, ◌≤◌, Bool, true, false, not, ◌&&◌, ◌||◌, cond, eqb, List, [], ◌∷◌, ◌++◌, length, take, drop, get_or, map, refl, sym, ap, ◌∙◌, arith, codes, ◌⊎◌, inl, inr}
-use Rattle.std.specs.Prelude.{IsTrue, ◌==◌, nat_le, slice_index}
+use Rattle.std.proofs.Common.{◌≡◌, ℕ, ◌+◌, ◌<◌, ◌≤◌, Bool, true, false, ◌&&◌, ◌||◌, cond, eqb, List, [], ◌∷◌, ◌++◌, length, take, drop, get_or, refl, sym, ap, ◌∙◌, arith, codes, append-nil, ◌⊎◌, inl, inr}
+use Rattle.std.specs.Prelude.{◌==◌, nat_le, slice_index}
 use Rattle.std.specs.List.{list_all, list_any, range_with_len}
 use Rattle.std.specs.Str.{byte, bytes_eq}
 use Rattle.std.proofs.lemmas.List.{take-map, drop-map, length-map, take-append-drop, get_or-drop, drop-drop}
-use Rattle.std.proofs.lemmas.List.Folds.{list_all-append, list_all-map}
+use Rattle.std.proofs.lemmas.List.Folds.{list_all-append}
 use Rattle.std.proofs.lemmas.Slice.Eq.{bytes_eq-Decides}
 use Rattle.std.proofs.lemmas.Bool.{eqb-true, eq-eqb, or_cases, and_parts, and_from, false_from_ne_true, false≢true}
 use Rattle.std.proofs.lemmas.Bool.Decides.{nat_tests}
 use Rattle.std.proofs.lemmas.Grind.{common_steps}
-use Rattle.gix_validate.specs.Bytes.{is_empty, is_among, lower, lower_byte, begins}
+use Rattle.gix_validate.specs.Bytes.{is_empty, lower, lower_byte}
 use Rattle.gix_validate.specs.Ntfs.{ntfs_form, is_modules_form, is_short_name, is_digit}
 use Rattle.gix_validate.specs.Windows.{is_plain}
 use Rattle.gix_validate.proofs.CaseLemmas.{test-lower_byte}
@@ -20,13 +20,6 @@ bool_same : (s t : Bool) → (s ≡ true → t ≡ true) → (t ≡ true → s �
 bool_same true t h k = sym (h refl)
 bool_same false true h k = k refl
 bool_same false false h k = refl
-
-plain_taken : (k : ℕ) (x : List ℕ) → list_all is_plain x ≡ true → list_all is_plain (take k x) ≡ true
-plain_taken zero x plain = refl
-plain_taken (suc k) [] plain = refl
-plain_taken (suc k) (b ∷ x) plain =
-    let parts = and_parts (is_plain b) (list_all is_plain x) plain in
-    and_from _ _ parts.0 (plain_taken k x parts.1)
 
 digits_are_plain : (x : List ℕ) → list_all is_digit x ≡ true → list_all is_plain x ≡ true
 digits_are_plain [] digits = refl
@@ -166,10 +159,6 @@ nothing_left : (f : List ℕ) → is_empty f ≡ true → f ≡ []
 nothing_left [] e = refl
 nothing_left (b ∷ f) e = absurd (false≢true e)
 
-append_none : (t : List ℕ) → t ++ [] ≡ t
-append_none [] = refl
-append_none (c ∷ t) = ap (λ s. c ∷ s) (append_none t)
-
 head_is_no_dot : (x : List ℕ) → eqb (lower_byte (get_or x 0 0)) (byte ".") ≡ false → lower (ntfs_form x) ≡ codes ".gitmodules" → ⊥
 head_is_no_dot x other whole =
     false≢true (sym (same_start x other) ∙ (bytes_eq-Decides (lower (ntfs_form x)) (codes ".gitmodules")).1 whole)
@@ -208,7 +197,7 @@ modules_elsewhere x other long = bool_same _ _ forward back
     back both =
         let parts = and_parts (is_modules_form (lower (take 8 x))) (is_empty (ntfs_form (drop 8 x))) both in
         let plain : list_all is_plain (take 8 x) ≡ true = sym (plain_lower (take 8 x)) ∙ word_is_plain (take 8 x) (some_first x other long) parts.0 in
-        let form : ntfs_form x ≡ take 8 x = ap ntfs_form (sym (take-append-drop 8 x)) ∙ plain_run (take 8 x) (drop 8 x) plain ∙ ap (λ t. take 8 x ++ t) (nothing_left _ parts.1) ∙ append_none (take 8 x) in
+        let form : ntfs_form x ≡ take 8 x = ap ntfs_form (sym (take-append-drop 8 x)) ∙ plain_run (take 8 x) (drop 8 x) plain ∙ ap (λ t. take 8 x ++ t) (nothing_left _ parts.1) ∙ append-nil (take 8 x) in
         ap (λ f. is_modules_form (lower f)) form ∙ parts.0
 
 pub modules_too_short : (x : List ℕ) → eqb (lower_byte (get_or x 0 0)) (byte ".") ≡ false → length x < 8 → is_modules_form (lower (ntfs_form x)) ≡ false

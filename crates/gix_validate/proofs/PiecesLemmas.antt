@@ -1,9 +1,9 @@
 -- The pieces of a text are the only nonempty list of texts without a slash that joins to it.
-use Rattle.std.proofs.Common.{◌≡◌, ◌≢◌, ℕ, Bool, true, false, not, ◌&&◌, cond, List, [], ◌∷◌, ◌++◌, refl, sym, ap, ◌∙◌}
-use Rattle.std.proofs.lemmas.Bool.{and_parts, and_from, not-true, cases_Bool, cond-true, cond-false, not_from_false}
+use Rattle.std.proofs.Common.{◌≡◌, ◌≢◌, ℕ, Bool, true, false, not, cond, List, [], ◌∷◌, ◌++◌, refl, sym, ap, ◌∙◌}
+use Rattle.std.proofs.lemmas.Bool.{and_parts, and_from, not-true, cond-false, not_from_false}
 use Rattle.std.proofs.lemmas.List.Splits.{join_with_byte-slice_split}
-use Rattle.std.specs.List.{slice_split, onto_first, list_all}
-use Rattle.gix_validate.specs.Pieces.{is_slash, pieces, joined, has_no_slash, Splits, HasOnlyPieces}
+use Rattle.std.specs.List.{onto_first, list_all}
+use Rattle.gix_validate.specs.Pieces.{is_slash, pieces, joined, has_no_slash, HasOnlyPieces}
 
 onto_first_some : (b : ℕ) (texts : List (List ℕ)) → onto_first b texts ≢ []
 onto_first_some b [] = λ e. cc

@@ -1,8 +1,8 @@
 -- The first unit by the row of the table that has its first byte.
-use Rattle.std.proofs.Common.{◌≡◌, ℕ, zero, suc, ◌+◌, ◌-◌, ◌<◌, ◌≤◌, Bool, true, false, not, ◌&&◌, ◌||◌, cond, eqb, List, [], ◌∷◌, ◌++◌, length, take, drop, get_or, ◌⊎◌, refl, sym, ap, ◌∙◌, arith, inl, inr, max, Option, Some, None}
-use Rattle.std.specs.Prelude.{nat_le, unwrap_or, ◌==◌, if◌then◌else◌}
+use Rattle.std.proofs.Common.{◌≡◌, ℕ, ◌+◌, ◌<◌, ◌≤◌, Bool, true, false, not, ◌&&◌, ◌||◌, cond, List, [], ◌∷◌, ◌++◌, length, drop, get_or, ◌⊎◌, refl, sym, ap, ◌∙◌, arith, inl, inr, max, Some, None}
+use Rattle.std.specs.Prelude.{nat_le, unwrap_or, ◌==◌}
 use Rattle.std.specs.List.{list_all}
-use Rattle.std.proofs.lemmas.Bool.{agree_below, agree_below_at, and_parts, cases_Bool, cases_lt, and_from, le-leb, eqb-true, ne_eqb, not-true, cond-true, cond-false}
+use Rattle.std.proofs.lemmas.Bool.{agree_below, agree_below_at, and_parts, cases_Bool, cases_lt, and_from, le-leb, eqb-true, ne_eqb, not-true}
 use Rattle.std.proofs.lemmas.Bool.Decides.{nat_tests}
 use Rattle.gix_validate.specs.Units.{is_within, fitting_len, whole_len, begun_len, whole_sequences, first_unit_len}
 

@@ -13,7 +13,8 @@ use Rattle.gix_validate.specs.Reference.{is_partial_name}
 use Rattle.gix_validate.specs.Sanitized.{cleaned, cut, nonempty_pieces, mended_pieces, dash_last, dash_last_of, repaired_dot, repaired_at, repaired_nothing, sanitized, IsPiecewise}
 use Rattle.gix_validate.proofs.Ends.{ends-false}
 use Rattle.gix_validate.proofs.Mended.{mend_good, mend-own, mend_apart, length-mend, is_empty-dash, is_good_piece-empty}
-use Rattle.gix_validate.proofs.Joins.{joined-pieces, pieces_apart, pieces-joined, dash_last_of-good, dash_last_of-apart, length-dash_last_of, dash_last_of-cons, joined-dash_last_of, good_nonempty}
+use Rattle.gix_validate.proofs.PiecesLemmas.{pieces_apart, pieces-joined}
+use Rattle.gix_validate.proofs.Joins.{joined-pieces, dash_last_of-good, dash_last_of-apart, length-dash_last_of, dash_last_of-cons, joined-dash_last_of, good_nonempty}
 
 -- what becomes of these pieces
 abbrev pub mended_of : List (List ℕ) → List (List ℕ)
@@ -88,11 +89,11 @@ repaired : (ms : List (List ℕ)) → ms ≢ [] → list_all is_good_piece ms �
     → Repaired ms (repaired_nothing (repaired_at (repaired_dot (joined ms))))
 repaired [] some good apart = absurd (some refl)
 repaired (p ∷ ps) some good apart =
-    let split = pieces-joined p ps apart in
+    let split = pieces-joined (p ∷ ps) some apart in
     let cons = dash_last_of-cons p ps in
     let dashed : pieces (dash_last (joined (p ∷ ps))) ≡ dash_last_of (p ∷ ps) =
     ap pieces (sym (joined-dash_last_of p ps good))
-    ∙ (ap (λ v. pieces (joined v)) cons.2 ∙ (pieces-joined cons.0 cons.1 (ap (list_all has_no_slash) (sym cons.2)
+    ∙ (ap (λ v. pieces (joined v)) cons.2 ∙ (pieces-joined (cons.0 ∷ cons.1) (λ e. cc) (ap (list_all has_no_slash) (sym cons.2)
     ∙ dash_last_of-apart (p ∷ ps) apart) ∙ sym cons.2)) in
     repaired_from (p ∷ ps) (joined (p ∷ ps)) split dashed good (some_text p ps (joined (p ∷ ps)) split good)
 

@@ -1,14 +1,13 @@
 -- The fault of a text that isn't empty, by its first and its last byte.
-use Rattle.std.proofs.Common.{◌≡◌, ℕ, ◌+◌, ◌-◌, ◌<◌, Bool, true, false, ◌&&◌, eqb, List, [], ◌∷◌, ◌++◌, length, get_or, refl, sym, ap, ap₂, subst, ◌∙◌, inl, inr, ◌⊎◌, arith, Option, Some, None}
+use Rattle.std.proofs.Common.{◌≡◌, ℕ, ◌-◌, ◌<◌, Bool, true, false, eqb, List, [], ◌∷◌, ◌++◌, length, get_or, sym, ap, ap₂, subst, ◌∙◌, inl, inr, ◌⊎◌, arith, Option, Some, None}
 use Rattle.std.proofs.lemmas.List.{get_or_push, length_push}
-use Rattle.std.specs.Prelude.{codes}
 use mathlib.Core.Bool.{and-true}
 use Rattle.gix_validate.specs.declared.tag.NameError.{NameError}
 use Rattle.gix_validate.specs.declared.tag.NameError.TheVariants.{EndsWithSlash, StartsWithSlash, StartsWithDot, EndsWithDot}
 use Rattle.gix_validate.specs.Bytes.{begins, ends}
 use Rattle.gix_validate.specs.Faults.{when, first_of, ◌orelse◌, at_least_place}
 use Rattle.gix_validate.specs.Tag.{faults_at, fault_of}
-use Rattle.gix_validate.proofs.TagGrammar.{eqb_comm}
+use Rattle.gix_validate.proofs.LetterLemmas.{eqb_turned}
 use Rattle.gix_validate.proofs.TextLemmas.{ends_push_one, last_cases, EndsIn}
 
 -- the last byte, read
@@ -21,12 +20,12 @@ ends_read x c some = by (last_cases x)
         let read : get_or (v.front ++ v.last ∷ []) (length (v.front ++ v.last ∷ []) - 1) 0 ≡ v.last =
         get_or_push v.front v.last 0 (length (v.front ++ v.last ∷ []) - 1) (omega (arith, length_push v.front v.last)) in
         subst (λ x. ends x (c ∷ []) ≡ eqb (get_or x (length x - 1) 0) c) (sym v.whole)
-        (ends_push_one v.front v.last c ∙ eqb_comm c v.last ∙ ap (λ b. eqb b c) (sym read))
+        (ends_push_one v.front v.last c ∙ eqb_turned c v.last ∙ ap (λ b. eqb b c) (sym read))
 
 -- the first byte, read
 pub begins_read : (x : List ℕ) (c : ℕ) → 0 < length x → begins x (c ∷ []) ≡ eqb (get_or x 0 0) c
 begins_read [] c some = absurd (omega arith)
-begins_read (b ∷ x) c some = and-true (eqb c b) ∙ eqb_comm c b
+begins_read (b ∷ x) c some = and-true (eqb c b) ∙ eqb_turned c b
 
 -- the lines of the fault of a text that isn't empty, by their tests
 unfoldable pub lines : (slash_last slash_first dot_first dot_last : Bool) → Option NameError → Option NameError

@@ -1,14 +1,13 @@
 -- The table of the faults at a place: no two of its lines apply, and what each byte may have of them.
-use Rattle.std.proofs.Common.{◌≡◌, ℕ, suc, zero, ◌+◌, ◌-◌, ◌≤◌, ◌<◌, Bool, true, false, not, ◌&&◌, ◌||◌, cond, eqb, List, [], ◌∷◌, ◌++◌, length, take, drop, get_or, refl, sym, ap, subst, ◌∙◌, inl, inr, ◌⊎◌, arith, Option, Some, None, is_some, lit≤}
-use Rattle.std.proofs.lemmas.Bool.{cases_Bool, cases_eq, and_right, and_left, and_parts, not-true, ne_eqb, both_ways, eqb-true, true≢false}
+use Rattle.std.proofs.Common.{◌≡◌, ℕ, ◌+◌, ◌≤◌, Bool, true, false, not, ◌&&◌, eqb, List, [], ◌∷◌, ◌++◌, take, drop, get_or, refl, sym, ap, subst, ◌∙◌, inl, inr, ◌⊎◌, Option, Some, None, is_some, lit≤}
+use Rattle.std.proofs.lemmas.Bool.{cases_eq, and_right, and_left, ne_eqb, true≢false}
 use Rattle.std.specs.Prelude.{codes, count_by}
-use Rattle.std.specs.List.{list_any}
-use Rattle.std.specs.Str.{byte, bytes_eq}
+use Rattle.std.specs.Str.{bytes_eq}
 use mathlib.Core.Bool.{and-false}
 use Rattle.gix_validate.specs.declared.tag.NameError.{NameError}
-use Rattle.gix_validate.specs.declared.tag.NameError.TheVariants.{InvalidByte, StartsWithSlash, RepeatedSlash, RepeatedDot, LockFileSuffix, ReflogPortion, Asterisk, StartsWithDot, EndsWithDot, EndsWithSlash, Empty}
-use Rattle.gix_validate.specs.Bytes.{is_bad, is_empty, begins, ends, holds}
-use Rattle.gix_validate.specs.Pieces.{is_slash, pieces, last_piece}
+use Rattle.gix_validate.specs.declared.tag.NameError.TheVariants.{InvalidByte, RepeatedSlash, RepeatedDot, LockFileSuffix, ReflogPortion, Asterisk, StartsWithDot}
+use Rattle.gix_validate.specs.Bytes.{is_bad, is_empty, ends}
+use Rattle.gix_validate.specs.Pieces.{last_piece}
 use Rattle.gix_validate.specs.Faults.{when, first_of, ◌orelse◌}
 use Rattle.gix_validate.specs.Tag.{faults_between, faults_at, HasOneFaultAPlace}
 use Rattle.gix_validate.proofs.PlaceLemmas.{orelse_none}

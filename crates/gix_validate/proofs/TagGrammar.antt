@@ -1,28 +1,24 @@
 -- A text is a tag name exactly where it has no fault.
-use Rattle.std.proofs.Common.{◌≡◌, ◌≢◌, ℕ, suc, zero, ◌+◌, ◌-◌, ◌≤◌, ◌<◌, Bool, true, false, not, ◌&&◌, ◌||◌, cond, eqb, List, [], ◌∷◌, ◌++◌, length, take, drop, get_or, refl, sym, ap, ap₂, subst, ◌∙◌, inl, inr, ◌⊎◌, arith, Option, Some, None}
-use Rattle.std.proofs.lemmas.Bool.{cases_Bool, cases_eq, and_left, and_right, and_parts, and_from, not-true, not-false, ne_eqb, eqb-true, eqb-false, both_ways, true≢false, not_from_false, cond-true, cond-false}
+use Rattle.std.proofs.Common.{◌≡◌, ℕ, Bool, true, false, not, ◌&&◌, ◌||◌, cond, eqb, List, [], ◌∷◌, ◌++◌, length, refl, sym, ap, ap₂, subst, ◌∙◌, inl, inr, ◌⊎◌, Option, Some, None}
+use Rattle.std.proofs.lemmas.Bool.{cases_eq, and_left, and_parts, and_from, ne_eqb, eqb-true, true≢false, not_from_false}
 use Rattle.std.proofs.lemmas.List.{append-nil, append_assoc}
 use Rattle.std.specs.Prelude.{codes, is_none}
 use Rattle.std.specs.List.{list_all, list_any}
-use Rattle.std.specs.Str.{byte, bytes_eq}
+use Rattle.std.specs.Str.{bytes_eq}
 use mathlib.Core.Bool.{and-true, and-false, and_assoc}
 use Rattle.gix_validate.specs.declared.tag.NameError.{NameError}
-use Rattle.gix_validate.specs.declared.tag.NameError.TheVariants.{InvalidByte, StartsWithSlash, RepeatedSlash, RepeatedDot, LockFileSuffix, ReflogPortion, Asterisk, StartsWithDot, EndsWithDot, EndsWithSlash, Empty}
+use Rattle.gix_validate.specs.declared.tag.NameError.TheVariants.{InvalidByte, StartsWithSlash, RepeatedSlash, RepeatedDot, LockFileSuffix, ReflogPortion, StartsWithDot, EndsWithDot, EndsWithSlash}
 use Rattle.gix_validate.specs.Bytes.{is_bad, is_empty, begins, ends, holds}
 use Rattle.gix_validate.specs.Pieces.{is_slash, pieces, last_piece, has_no_slash}
 use Rattle.gix_validate.specs.Faults.{when, first_of, ◌orelse◌, at_least_place}
-use Rattle.gix_validate.specs.Tag.{is_good_piece, is_tag_name, faults_between, faults_at, fault_of}
-use Rattle.gix_validate.proofs.PlaceLemmas.{orelse_none, is_none-orelse}
+use Rattle.gix_validate.specs.Tag.{is_good_piece, is_tag_name, faults_at, fault_of}
+use Rattle.std.proofs.Math.Bool.{or-false, or_assoc}
+use Rattle.gix_validate.proofs.LetterLemmas.{eqb_turned}
+use Rattle.gix_validate.proofs.PlaceLemmas.{is_none-orelse}
 use Rattle.gix_validate.proofs.PiecesLemmas.{pieces_front, pieces_alone}
 use Rattle.gix_validate.proofs.TagFaults.{after_star, after_dot, after_brace, after_slash, after_other, lock_ends}
-use Rattle.gix_validate.proofs.TagWalk.{fault_after, fault_before_place, walked, ends_in_lock, at_least_place_split, at_least_place_walked}
-use Rattle.gix_validate.proofs.TextLemmas.{ends_push_one, holds_push, last_piece_push, last_piece_nothing, ends_last_piece, is_empty_push, last_cases, EndsIn, empty_ends}
-
-pub eqb_comm : (a b : ℕ) → eqb a b ≡ eqb b a
-eqb_comm a b = elim (cases_eq a b) [
-  | inl e ↦ subst (λ b. eqb a b ≡ eqb b a) e refl
-  | inr n ↦ ne_eqb a b n ∙ sym (ne_eqb b a (λ e. n (sym e)))
-]
+use Rattle.gix_validate.proofs.TagWalk.{fault_after, walked, ends_in_lock, at_least_place_split, at_least_place_walked}
+use Rattle.gix_validate.proofs.TextLemmas.{ends_push_one, holds_push, last_piece_push, last_piece_nothing, ends_last_piece, is_empty_push, last_cases, EndsIn}
 
 -- a byte that no piece has
 unfoldable is_refused : ℕ → Bool
@@ -49,16 +45,8 @@ good_piece_parts p = by (is_empty p) (list_any is_refused p) (begins p (codes ".
     by false a b c d l = refl
 
 list_any_push : (f : ℕ → Bool) (p : List ℕ) (b : ℕ) → list_any f (p ++ b ∷ []) ≡ (list_any f p || f b)
-list_any_push f [] b = or_false (f b)
-  where
-    or_false : (t : Bool) → (t || false) ≡ t
-    or_false true = refl
-    or_false false = refl
-list_any_push f (c ∷ p) b = ap (λ t. f c || t) (list_any_push f p b) ∙ regroup (f c) (list_any f p) (f b)
-  where
-    regroup : (m n o : Bool) → (m || (n || o)) ≡ ((m || n) || o)
-    regroup true n o = refl
-    regroup false n o = refl
+list_any_push f [] b = or-false (f b)
+list_any_push f (c ∷ p) b = ap (λ t. f c || t) (list_any_push f p b) ∙ sym (or_assoc (f c) (list_any f p) (f b))
 
 begins_push : (p : List ℕ) (b c : ℕ) → begins (p ++ b ∷ []) (c ∷ []) ≡ cond (is_empty p) (eqb c b) (begins p (c ∷ []))
 begins_push [] b c = and-true (eqb c b)
@@ -101,12 +89,12 @@ goes_on_push : (p : List ℕ) (b : ℕ) → goes_on (p ++ b ∷ []) ≡ (goes_on
 unfolding goes_on breaks
 goes_on_push [] b =
     ap₄ (list_any_push is_refused [] b) (begins_push [] b 46) (holds_push [] b 46 46) (holds_push [] b 64 123)
-    ∙ start (is_refused b) (eqb 46 b) (eqb b 123) ∙ ap (λ k. not (is_refused b || ((k && true) || (eqb b 123 && false)))) (eqb_comm 46 b)
+    ∙ start (is_refused b) (eqb 46 b) (eqb b 123) ∙ ap (λ k. not (is_refused b || ((k && true) || (eqb b 123 && false)))) (eqb_turned 46 b)
 goes_on_push (y ∷ p) b =
     ap₄ (list_any_push is_refused (y ∷ p) b) (begins_push (y ∷ p) b 46) (holds_push (y ∷ p) b 46 46) (holds_push (y ∷ p) b 64 123)
     ∙ table (list_any is_refused (y ∷ p)) (is_refused b) (begins (y ∷ p) (codes ".")) (holds (y ∷ p) (codes "..")) (ends (y ∷ p) (codes ".")) (eqb 46 b)
     (holds (y ∷ p) (codes "@{")) (ends (y ∷ p) (codes "@")) (eqb 123 b)
-    ∙ ap₂ (λ k m. goes_on (y ∷ p) && not (is_refused b || ((k && ends (y ∷ p) (codes ".")) || (m && ends (y ∷ p) (codes "@"))))) (eqb_comm 46 b) (eqb_comm 123 b)
+    ∙ ap₂ (λ k m. goes_on (y ∷ p) && not (is_refused b || ((k && ends (y ∷ p) (codes ".")) || (m && ends (y ∷ p) (codes "@"))))) (eqb_turned 46 b) (eqb_turned 123 b)
 
 -- Whether the pieces are good, where the first is p and what x has before a slash.
 rest_good : List ℕ → List ℕ → Bool
@@ -197,7 +185,7 @@ slash_last y some = by (last_cases y)
     by (inl none) = absurd (true≢false (ap is_empty (sym none) ∙ some))
     by (inr v) =
         subst (λ y. ends y (codes "/") ≡ is_empty (last_piece y)) (sym v.whole)
-        (ends_push_one v.front v.last 47 ∙ eqb_comm 47 v.last ∙ one (is_slash v.last) (last_piece v.front) v.last
+        (ends_push_one v.front v.last 47 ∙ eqb_turned 47 v.last ∙ one (is_slash v.last) (last_piece v.front) v.last
         ∙ ap is_empty (sym (last_piece_push v.front v.last)))
 
 is_none-when : (t : Bool) (e : NameError) → is_none (when t e) ≡ not t
@@ -390,7 +378,7 @@ grammar_law (b ∷ x) =
     dot_last = ends y (codes ".")
 
     no_lock : eqb 46 b ≡ false → bytes_eq y (codes ".lock") ≡ false
-    no_lock h = and_left (eqb b 46) (bytes_eq x (codes "lock")) (eqb_comm b 46 ∙ h)
+    no_lock h = and_left (eqb b 46) (bytes_eq x (codes "lock")) (eqb_turned b 46 ∙ h)
 
     no_fault_between : is_none (at_least_place (λ i. first_of (faults_at y i)) (length y)) ≡ (is_none (walked [] y) && not (ends_in_lock y))
     no_fault_between =

@@ -1,7 +1,6 @@
 -- The definitions of tag names, computed on texts: worked answers, and the tables of bytes.
-use Rattle.std.proofs.Common.{◌≡◌, ℕ, zero, suc, Bool, true, false, refl, List, [], ◌∷◌, ◌++◌, cond, Option, Some, None}
-use Rattle.std.specs.Prelude.{codes, filter, is_none}
-use Rattle.gix_validate.specs.declared.tag.NameError.{NameError}
+use Rattle.std.proofs.Common.{◌≡◌, ℕ, zero, suc, true, false, refl, List, [], ◌∷◌, ◌++◌, Some, None}
+use Rattle.std.specs.Prelude.{codes, filter}
 use Rattle.gix_validate.specs.declared.tag.NameError.TheVariants.{InvalidByte, StartsWithSlash, RepeatedSlash, RepeatedDot, LockFileSuffix, ReflogPortion, Asterisk, StartsWithDot, EndsWithDot, EndsWithSlash, Empty}
 use Rattle.gix_validate.specs.Bytes.{is_bad}
 use Rattle.gix_validate.specs.Faults.{at_least_place}

@@ -1,8 +1,7 @@
 -- The table of bytes says no only of bytes that have no fault, whatever stands before them.
-use Rattle.std.proofs.Common.{◌≡◌, ℕ, ◌<◌, Bool, true, false, ◌||◌, eqb, List, [], ◌∷◌, get_or, refl, sym, ap, ◌∙◌, Option, Some, None}
-use Rattle.std.proofs.lemmas.Bool.{agree_below, agree_below_at, or_parts, eqb-false}
+use Rattle.std.proofs.Common.{◌≡◌, ℕ, ◌<◌, false, ◌||◌, eqb, List, [], get_or, refl, ap, ◌∙◌, None}
+use Rattle.std.proofs.lemmas.Bool.{agree_below_at, or_parts, eqb-false}
 use Rattle.gix_validate.specs.declared.bytes.TheConstants.{MAY_BE_FAULTY}
-use Rattle.gix_validate.specs.declared.tag.NameError.{NameError}
 use Rattle.gix_validate.specs.declared.tag.NameError.TheVariants.{InvalidByte}
 use Rattle.gix_validate.specs.Bytes.{is_bad, is_among}
 use Rattle.std.specs.Prelude.{codes}

@@ -1,16 +1,16 @@
 -- How a text that grows by one byte at its end begins, ends, holds a part and falls into pieces.
-use Rattle.std.proofs.Common.{◌≡◌, ℕ, suc, ◌+◌, ◌-◌, ◌≤◌, Bool, true, false, not, ◌&&◌, ◌||◌, cond, eqb, List, [], ◌∷◌, ◌++◌, length, take, drop, refl, sym, ap, subst, ◌∙◌, inl, inr, ◌⊎◌, arith}
-use Rattle.std.proofs.lemmas.List.{length-append, length_push, drop-append-le, append_assoc, append-nil, reverse-append, reverse-reverse, drop_all, nil_from_length, length-reverse}
-use Rattle.std.proofs.lemmas.Bool.{cases_Bool, and_right, and_parts, not-true, ne_eqb, both_ways}
+use Rattle.std.proofs.Common.{◌≡◌, ℕ, suc, ◌+◌, ◌-◌, Bool, true, false, not, ◌&&◌, ◌||◌, cond, eqb, List, [], ◌∷◌, ◌++◌, length, drop, refl, sym, ap, subst, ◌∙◌, inl, inr, ◌⊎◌, arith}
+use Rattle.std.proofs.lemmas.List.{length_push, drop-append-le, reverse-append, reverse-reverse, drop_all, nil_from_length, length-reverse}
+use Rattle.std.proofs.lemmas.Bool.{and_right, and_parts, not-true, ne_eqb, both_ways}
 use Rattle.std.proofs.lemmas.List.Sums.{suffix_len-le-length}
-use Rattle.std.proofs.Math.Seq.{drop-length}
-use Rattle.std.specs.Prelude.{reverse, codes}
-use Rattle.std.specs.List.{prefix_len, suffix_len, slice_split, onto_first, list_all}
-use Rattle.std.specs.Str.{byte, bytes_eq}
+use Rattle.std.specs.Prelude.{reverse}
+use Rattle.std.specs.List.{prefix_len, suffix_len}
+use Rattle.std.specs.Str.{bytes_eq}
 use mathlib.Core.Bool.{and-true, and-false, and_assoc}
+use Rattle.std.proofs.Math.Bool.{or_assoc}
 use mathlib.Core.List.{reverse-cons}
 use Rattle.gix_validate.specs.Bytes.{is_empty, begins, ends, holds}
-use Rattle.gix_validate.specs.Pieces.{is_slash, pieces, last_piece, has_no_slash}
+use Rattle.gix_validate.specs.Pieces.{is_slash, last_piece, has_no_slash}
 
 reverse_nothing : reverse {A = ℕ} [] ≡ []
 reverse_nothing = nil_from_length (reverse {A = ℕ} []) (length-reverse {A = ℕ} [])
@@ -89,12 +89,8 @@ holds_push (x ∷ []) b a c = two (eqb a x) (eqb c b) (eqb a b)
     two false n false = refl
 holds_push (x ∷ y ∷ p) b a c =
     ap (λ t. begins (x ∷ y ∷ p) (a ∷ c ∷ []) || t) (holds_push (y ∷ p) b a c)
-    ∙ regroup (begins (x ∷ y ∷ p) (a ∷ c ∷ [])) (holds (y ∷ p) (a ∷ c ∷ [])) (ends (y ∷ p) (a ∷ []) && eqb c b)
+    ∙ sym (or_assoc (begins (x ∷ y ∷ p) (a ∷ c ∷ [])) (holds (y ∷ p) (a ∷ c ∷ [])) (ends (y ∷ p) (a ∷ []) && eqb c b))
     ∙ ap (λ t. holds (x ∷ y ∷ p) (a ∷ c ∷ []) || (t && eqb c b)) (sym (ends_one_more x y p a))
-  where
-    regroup : (m n o : Bool) → (m || (n || o)) ≡ ((m || n) || o)
-    regroup true n o = refl
-    regroup false n o = refl
 
 -- the last piece goes on, or a new one begins
 pub last_piece_push : (y : List ℕ) (b : ℕ) → last_piece (y ++ b ∷ []) ≡ cond (is_slash b) [] (last_piece y ++ b ∷ [])

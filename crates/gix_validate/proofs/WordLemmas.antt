@@ -1,15 +1,16 @@
 -- A form against a word, without ASCII case: byte by byte from the front, and what then is left of the form.
-use Rattle.std.proofs.Common.{◌≡◌, ℕ, zero, suc, ◌+◌, ◌-◌, ◌<◌, ◌≤◌, Bool, true, false, not, ◌&&◌, ◌||◌, cond, eqb, nat_eq, List, [], ◌∷◌, ◌++◌, length, take, drop, map, refl, sym, ap, ◌∙◌, arith, rules, inl, inr, codes}
+use Rattle.std.proofs.Common.{◌≡◌, ℕ, ◌+◌, ◌<◌, ◌≤◌, Bool, true, false, ◌&&◌, cond, eqb, List, [], ◌∷◌, ◌++◌, get_or, length, drop, refl, sym, ap, ◌∙◌, arith, inl, inr, codes, append-nil}
 use Rattle.std.specs.Prelude.{IsTrue, ◌==◌}
-use Rattle.std.specs.List.{list_all, list_any}
+use Rattle.std.specs.List.{list_all}
 use Rattle.std.specs.Str.{byte, bytes_eq}
-use Rattle.std.proofs.lemmas.Bool.{cases_eq, cases_Bool, eq-eqb, ne_eqb, and_parts}
+use Rattle.std.proofs.lemmas.List.{at_drop_more, at_drop_all}
+use Rattle.std.proofs.lemmas.Bool.{cases_eq, ne_eqb, and_parts}
 use Rattle.std.proofs.lemmas.Bool.Decides.{nat_tests}
 use Rattle.gix_validate.specs.Bytes.{is_empty, is_among, lower, lower_byte, begins}
-use Rattle.gix_validate.specs.Ntfs.{ntfs_form}
-use Rattle.gix_validate.specs.Windows.{device_form, is_plain}
+use Rattle.gix_validate.specs.Windows.{is_plain}
 use Rattle.gix_validate.proofs.CaseLemmas.{test-lower_byte}
 use Rattle.gix_validate.proofs.FormLemmas.{form, form_at}
+use Rattle.gix_validate.proofs.LetterLemmas.{eqb_turned}
 
 -- plain bytes are neither a cut nor trimmed
 abbrev pub KeepsPlain : (ℕ → Bool) → (ℕ → Bool) → Type 0
@@ -18,9 +19,6 @@ KeepsPlain cut trim = (b : ℕ) → is_plain b ≡ true → (cut b ≡ false) ×
 pub none_left : (x : List ℕ) → bytes_eq (lower x) [] ≡ is_empty x
 none_left [] = refl
 none_left (b ∷ x) = refl
-
-eqb_turned : (a b : ℕ) → eqb a b ≡ eqb b a
-eqb_turned a b = grind (arith, nat_tests)
 
 plain_alike : (b w : ℕ) → lower_byte b ≡ lower_byte w → is_plain w ≡ true → is_plain b ≡ true
 plain_alike b w e plain = sym (test-lower_byte is_plain refl b) ∙ ap is_plain e ∙ test-lower_byte is_plain refl w ∙ plain
@@ -63,6 +61,44 @@ word_front cut trim keeps (w ∷ word) (b ∷ x) ws plain =
     word_head cut trim keeps b x w (lower word ++ ws) parts.0
     ∙ ap (λ v. eqb (lower_byte b) (lower_byte w) && v) (word_front cut trim keeps word x ws parts.1)
     ∙ and_apart _ _ _ _ (eqb_turned (lower_byte b) (lower_byte w))
+
+-- ---- what is left of a form behind a word
+
+form-none : (cut trim : ℕ → Bool) → is_empty (form cut trim []) ≡ true
+form-none cut trim = refl
+
+-- whether nothing is left of the form, by the byte in front
+left_at : (cut trim : ℕ → Bool) (b : ℕ) (x : List ℕ) → is_empty (form cut trim (b ∷ x)) ≡ cond (cut b) true (cond (trim b) (is_empty (form cut trim x)) false)
+left_at cut trim b x =
+    ap is_empty (form_at cut trim b x)
+    ∙ elim (cut b) as (λ v. is_empty (cond v [] (cond (trim b && is_empty (form cut trim x)) [] (b ∷ form cut trim x))) ≡ cond v true (cond (trim b) (is_empty (form cut trim x)) false)) [
+      | true ↦ refl
+      | false ↦ elim (trim b) as (λ v. is_empty (cond (v && is_empty (form cut trim x)) [] (b ∷ form cut trim x)) ≡ cond v (is_empty (form cut trim x)) false) [
+        | true ↦ elim (is_empty (form cut trim x)) as (λ v. is_empty (cond v [] (b ∷ form cut trim x)) ≡ v) [ true ↦ refl | false ↦ refl ]
+        | false ↦ refl
+      ]
+    ]
+
+pub form_left : (cut trim : ℕ → Bool) (x : List ℕ) (i : ℕ) → i < length x → is_empty (form cut trim (drop i x)) ≡ cond (cut (get_or x i 0)) true (cond (trim (get_or x i 0)) (is_empty (form cut trim (drop (i + 1) x))) false)
+form_left cut trim x i h = at_drop_more (λ t. is_empty (form cut trim t)) x i 0 h ∙ left_at cut trim (get_or x i 0) (drop (i + 1) x)
+
+pub form_all_left : (cut trim : ℕ → Bool) (x : List ℕ) (i : ℕ) → length x ≤ i → is_empty (form cut trim (drop i x)) ≡ true
+form_all_left cut trim x i h = at_drop_all (λ t. is_empty (form cut trim t)) x i h ∙ form-none cut trim
+
+pub form_word : (cut trim : ℕ → Bool) → KeepsPlain cut trim → (word x : List ℕ) → list_all is_plain word ≡ true → bytes_eq (lower (form cut trim x)) (lower word) ≡ (begins (lower x) (lower word) && is_empty (form cut trim (drop (length word) x)))
+form_word cut trim keeps word x plain =
+    ap (bytes_eq (lower (form cut trim x))) (sym (append-nil (lower word)))
+    ∙ word_front cut trim keeps word x [] plain
+    ∙ ap (λ v. begins (lower x) (lower word) && v) (none_left (form cut trim (drop (length word) x)))
+
+pub form_word_then : (cut trim : ℕ → Bool) → KeepsPlain cut trim → (word x rest : List ℕ) (r : Bool) → IsTrue (list_all is_plain word) → (begins (lower x) (lower word) ≡ true) × (rest ≡ drop (length word) x) → r ≡ is_empty (form cut trim rest) → r ≡ bytes_eq (lower (form cut trim x)) (lower word)
+form_word_then cut trim keeps word x rest r plain front back =
+    back
+    ∙ ap (λ t. is_empty (form cut trim t)) front.1
+    ∙ sym (form_word cut trim keeps word x plain ∙ ap (λ v. v && is_empty (form cut trim (drop (length word) x))) front.0)
+
+pub form_word_not : (cut trim : ℕ → Bool) → KeepsPlain cut trim → (word x : List ℕ) → IsTrue (list_all is_plain word) → begins (lower x) (lower word) ≡ false → false ≡ bytes_eq (lower (form cut trim x)) (lower word)
+form_word_not cut trim keeps word x plain front = sym (form_word cut trim keeps word x plain ∙ ap (λ v. v && is_empty (form cut trim (drop (length word) x))) front)
 
 pub ntfs_keeps : KeepsPlain (is_among (codes ":\\")) (is_among (codes " ."))
 ntfs_keeps b plain = grind (arith, nat_tests)

@@ -12,4 +12,5 @@ pub mod Hfs
 pub mod Ntfs
 pub mod Windows
 pub mod Component
+pub mod Ordinary
 pub mod ComponentLaws

@@ -12,23 +12,26 @@ use std::simd::prelude::*;
 /// Half a block.
 const HALF: usize = 8;
 
-/// The kinds of bytes that are suspect wherever they stand: a bit for each high half that such bytes have.
+/// The kinds of bytes that are suspect wherever they stand: one for the high halves 0 and 1, and one for each other
+/// high half that such bytes have.
 const LOUD: u8 = 0x1F;
 
 /// The kind of dots and slashes.
 const BREAK: u8 = 0x20;
 
+/// The bits of the kinds that a byte may have with this low half.
 const KINDS_BY_LOW_HALF: [u8; 16] = [
     0x03, 0x01, 0x01, 0x01, 0x01, 0x01, 0x01, 0x01, 0x01, 0x01, 0x07, 0x19, 0x09, 0x01, 0x39, 0x35,
 ];
 
+/// The bits of the kinds that a byte may have with this high half.
 const KINDS_BY_HIGH_HALF: [u8; 16] = [
     0x01, 0x01, 0x22, 0x04, 0x00, 0x08, 0x00, 0x10, 0x00, 0x00, 0x00, 0x00, 0x00, 0x00, 0x00, 0x00,
 ];
 
 /// Whether a text of nine bytes or more is clear. It says no to all that are shorter.
 ///
-/// A clear text is a tag name. Of another text nothing is known.
+/// A clear text is a tag name and a submodule name. Of another text nothing is known.
 #[inline(never)]
 pub(crate) fn is_clear(text: &[u8]) -> bool
     ensures { IsTrue result ↔ ((8 < length text.now) × IsTrue (is_clear text.now)) }
@@ -116,7 +119,7 @@ fn has_no_suspect(before: u8x16, bytes: u8x16) -> bool
     are_zero(kinds(KINDS_BY_LOW_HALF, KINDS_BY_HIGH_HALF, bytes) & suspect_behind(before))
 }
 
-/// The kinds that are suspect behind each byte.
+/// The kinds that are suspect behind each byte. A dot is a slash but for its lowest bit.
 #[inline(always)]
 fn suspect_behind(bytes: u8x16) -> u8x16
     ensures { result ≡ map (λ b. if is_among (codes "./k") b then 63 else 31) bytes }

@@ -1,4 +1,4 @@
-//! Sixteen bytes at a time.
+//! Looks at sixteen bytes at a time, a block. The place of each byte in it is its lane.
 
 ghost use Rattle.std.specs.Prelude.{◌≡◌, ◌↔◌, ◌<◌, ◌≤◌, ◌/◌, ◌%◌, ◌==◌, ℕ, IsTrue, map, length, take, slice_index, bit_and};
 ghost use Rattle.std.specs.List.{list_any};
@@ -8,7 +8,7 @@ use std::simd::prelude::*;
 /// How many bytes are looked at together.
 pub(crate) const LANES: usize = 16;
 
-/// What two tables say of each byte: the bits that the one has for its low half and the other for its high half.
+/// The kinds of each byte: the bits that both tables have, the one for its low half and the other for its high half.
 #[inline(always)]
 pub(crate) fn kinds(by_low_half: [u8; 16], by_high_half: [u8; 16], bytes: u8x16) -> u8x16
     ensures { result ≡ map (λ b. bit_and (slice_index by_low_half (b % 16)) (slice_index by_high_half (b / 16))) bytes }

@@ -5,12 +5,12 @@
 //! is a full name. None of them takes memory, and each gives back the very text that it was given.
 
 ghost use Rattle.std.specs.Prelude.{◌≡◌, ◌≢◌, ◌↔◌, ◌⊎◌, ◌+◌, ◌≤◌, [], ◌∷◌, ◌++◌, length, codes, All, Contains, IsOk, IfOk, IsTrue, MatchResult, vec_len, vec_capacity};
-ghost use Rattle.std.specs.List.{list_all, list_any};
+ghost use Rattle.std.specs.List.{list_all};
 ghost use Rattle.std.specs.Str.{byte};
 ghost use Rattle.bstr.specs.BStr.{bstr_bytes};
 ghost use Rattle.bstr.specs.Owned.{bstring_bytes};
 ghost use Rattle.gix_validate.specs.Faults.{Validates};
-ghost use Rattle.gix_validate.specs.Pieces.{is_slash, joined};
+ghost use Rattle.gix_validate.specs.Pieces.{joined};
 ghost use Rattle.gix_validate.specs.Reference.{is_standalone_byte, has_slash_or_stands_alone, is_partial_name, is_full_name, is_branch_name, reserved as reserved_fault, partial_fault_of, full_fault_of, branch_fault_of};
 ghost use Rattle.gix_validate.specs.Tag.{is_tag_name};
 
@@ -250,24 +250,24 @@ fn unless_reserved<'a>(name: BStr<'a>, reserved: &[u8]) -> Result<BStr<'a>, Name
     })
 }
 
-// Whether the name has a slash, or else may stand alone.
+// Whether the name has a slash, or else may stand alone. Most names that have a slash have one in the
+// first sixteen bytes.
 #[inline]
 fn has_slash_or_stands_alone(bytes: &[u8]) -> bool
     ensures { result ≡ has_slash_or_stands_alone bytes.now }
 {
-    has_slash(bytes) || stands_alone(bytes)
+    bytes.len() >= LANES && block_holds(bytes, b'/') || has_slash_or_stands_alone_on_walk(bytes)
 }
 
-// Most names that have a slash have one in the first sixteen bytes.
-#[inline]
-fn has_slash(bytes: &[u8]) -> bool
-    ensures { result ≡ list_any is_slash bytes.now }
+// The same of any name, byte by byte.
+#[inline(never)]
+fn has_slash_or_stands_alone_on_walk(bytes: &[u8]) -> bool
+    ensures { result ≡ has_slash_or_stands_alone bytes.now }
 {
-    bytes.len() >= LANES && block_holds(bytes, b'/') || bytes.contains(&b'/')
+    bytes.contains(&b'/') || stands_alone(bytes)
 }
 
-// Whether each byte may stand alone. Most names end the search at the first byte.
-#[inline]
+// Whether each byte may stand alone.
 fn stands_alone(bytes: &[u8]) -> bool
     ensures { result ≡ list_all is_standalone_byte bytes.now }
 {

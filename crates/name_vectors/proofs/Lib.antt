@@ -1,3 +1,4 @@
 pub mod FrontLemmas
 pub mod OldNtfsLemmas
 mod OldNtfsRows
+pub mod DecodedLemmas

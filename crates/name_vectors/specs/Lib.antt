@@ -1,1 +1,2 @@
 pub mod OldNtfs
+pub mod Decoded

@@ -30,7 +30,7 @@ pub enum Fault<'a> {
 }
 
 /// The fault of the first row whose test passed.
-pub fn first_of(rows: &[(bool, Fault<'static>)]) -> Option<Fault<'static>> {
+pub(crate) fn first_of(rows: &[(bool, Fault<'static>)]) -> Option<Fault<'static>> {
     rows.iter().find(|row| row.0).map(|row| row.1)
 }
 

@@ -3,9 +3,9 @@
 //!
 //! Each rule is written from its words, as plainly as they are, and by other means than the library
 //! has: a search where that walks, a list of all words where that compares fronts. Nothing here is
-//! taken from the library but the types of its faults. All that is built for the tests alone; what the
-//! crate offers is the module `versions`, which says what has changed from one version of the rules to
-//! the next.
+//! taken from the library but the types of its faults. All that is built for the tests alone. What the
+//! crate offers are laws about the definitions: the module `laws` says what these agree with, and the
+//! module `versions` what has changed from one version of the rules to the next.
 #![tactic(auto)]
 
 #[cfg(test)]
@@ -14,6 +14,7 @@ mod component;
 mod fault;
 #[cfg(test)]
 mod forms;
+pub mod laws;
 #[cfg(test)]
 mod reference;
 #[cfg(test)]

@@ -6,27 +6,27 @@ use crate::tag;
 const BRANCH_HEAD: &[u8] = b"refs/heads/HEAD";
 
 /// Whether the text is a partial name.
-pub fn is_partial(text: &[u8]) -> bool {
+pub(crate) fn is_partial(text: &[u8]) -> bool {
     tag::is_name(text) && text != b"@".as_slice()
 }
 
 /// Whether the text is a full name.
-pub fn is_full(text: &[u8]) -> bool {
+pub(crate) fn is_full(text: &[u8]) -> bool {
     is_partial(text) && may_stand(text)
 }
 
 /// Whether the text is the name of a branch.
-pub fn is_branch(text: &[u8]) -> bool {
+pub(crate) fn is_branch(text: &[u8]) -> bool {
     is_full(text) && text != BRANCH_HEAD
 }
 
 /// The first fault of the text as a partial name.
-pub fn partial_fault(text: &[u8]) -> Option<Fault<'static>> {
+pub(crate) fn partial_fault(text: &[u8]) -> Option<Fault<'static>> {
     tag::fault(text).or_else(|| reserved(text, b"@"))
 }
 
 /// The first fault of the text as a full name.
-pub fn full_fault(text: &[u8]) -> Option<Fault<'static>> {
+pub(crate) fn full_fault(text: &[u8]) -> Option<Fault<'static>> {
     partial_fault(text).or_else(|| {
         if may_stand(text) {
             None
@@ -37,7 +37,7 @@ pub fn full_fault(text: &[u8]) -> Option<Fault<'static>> {
 }
 
 /// The first fault of the text as the name of a branch.
-pub fn branch_fault(text: &[u8]) -> Option<Fault<'static>> {
+pub(crate) fn branch_fault(text: &[u8]) -> Option<Fault<'static>> {
     full_fault(text).or_else(|| reserved(text, BRANCH_HEAD))
 }
 

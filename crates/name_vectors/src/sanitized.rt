@@ -4,7 +4,7 @@ use crate::text::{is_bad, is_slash};
 use std::alloc::{AllocError, Global};
 
 /// The sanitised text.
-pub fn sanitized(alloc: Global, text: &[u8]) -> Result<Vec<u8>, AllocError> {
+pub(crate) fn sanitized(alloc: Global, text: &[u8]) -> Result<Vec<u8>, AllocError> {
     let pieces = text.split(is_slash).filter(|piece| !piece.is_empty());
     let mut name = Vec::new(alloc);
     for (number, piece) in pieces.enumerate() {

@@ -4,7 +4,7 @@ use crate::fault::Fault;
 use crate::text::stands_at;
 
 /// The fault of the text as the name of a submodule.
-pub fn fault(text: &[u8]) -> Option<Fault<'static>> {
+pub(crate) fn fault(text: &[u8]) -> Option<Fault<'static>> {
     if text.is_empty() {
         Some(Fault::Empty)
     } else if (0..text.len()).any(|place| is_parent_at(text, place)) {

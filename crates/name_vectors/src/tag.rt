@@ -4,7 +4,7 @@ use crate::fault::{Fault, first_of};
 use crate::text::{holds, is_bad, is_slash};
 
 /// Whether the text is a tag name.
-pub fn is_name(text: &[u8]) -> bool {
+pub(crate) fn is_name(text: &[u8]) -> bool {
     text.split(is_slash).all(|piece| is_good_piece(piece)) && !text.ends_with(b".")
 }
 
@@ -19,7 +19,7 @@ fn is_good_piece(piece: &[u8]) -> bool {
 }
 
 /// The first fault of the text, if it has one.
-pub fn fault(text: &[u8]) -> Option<Fault<'static>> {
+pub(crate) fn fault(text: &[u8]) -> Option<Fault<'static>> {
     first_of(&[
         (text.is_empty(), Fault::Empty),
         (text.ends_with(b"/"), Fault::EndsWithSlash),
@@ -35,7 +35,7 @@ pub fn fault(text: &[u8]) -> Option<Fault<'static>> {
 }
 
 /// The faults that a place may have, and which of them it has: at most one.
-pub fn faults_at(text: &[u8], place: usize) -> [(bool, Fault<'static>); 8] {
+pub(crate) fn faults_at(text: &[u8], place: usize) -> [(bool, Fault<'static>); 8] {
     let (before, here) = text.split_at_checked(place).unwrap_or((text, b""));
     let byte = here.first().copied();
     let follows = |last: &[u8], next: u8| before.ends_with(last) && byte == Some(next);

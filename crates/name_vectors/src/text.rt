@@ -1,17 +1,17 @@
 //! Words on texts, of which the rules make use (docs/RULES.md, "Bytes").
 
 /// Whether the byte is a slash, which stands between two pieces.
-pub fn is_slash(byte: &u8) -> bool {
+pub(crate) fn is_slash(byte: &u8) -> bool {
     *byte == b'/'
 }
 
 /// Whether the byte stands in no reference name; `*`, which has a fault of its own, is not meant.
-pub fn is_bad(byte: u8) -> bool {
+pub(crate) fn is_bad(byte: u8) -> bool {
     byte < 0x20 || b"\\^:[? ~\x7f".contains(&byte)
 }
 
 /// The byte, or the small letter where it is a capital.
-pub fn lower(byte: u8) -> u8 {
+pub(crate) fn lower(byte: u8) -> u8 {
     match byte {
         b'A'..=b'Z' => byte | 0x20,
         _ => byte,
@@ -19,23 +19,23 @@ pub fn lower(byte: u8) -> u8 {
 }
 
 /// Whether two texts are the same but for capital and small letters.
-pub fn is_same_word(a: &[u8], b: &[u8]) -> bool {
+pub(crate) fn is_same_word(a: &[u8], b: &[u8]) -> bool {
     a.len() == b.len() && a.iter().zip(b).all(|(a, b)| lower(*a) == lower(*b))
 }
 
 /// Whether the word stands in the text, from that place on.
-pub fn stands_at(text: &[u8], place: usize, word: &[u8]) -> bool {
+pub(crate) fn stands_at(text: &[u8], place: usize, word: &[u8]) -> bool {
     text.split_at_checked(place)
         .is_some_and(|(_, rest)| rest.starts_with(word))
 }
 
 /// Whether the word stands anywhere in the text.
-pub fn holds(text: &[u8], word: &[u8]) -> bool {
+pub(crate) fn holds(text: &[u8], word: &[u8]) -> bool {
     (0..text.len()).any(|place| stands_at(text, place, word))
 }
 
 /// The shortest front of the text behind which there are only bytes of the given ones.
-pub fn trimmed<'a>(text: &'a [u8], bytes: &[u8]) -> &'a [u8] {
+pub(crate) fn trimmed<'a>(text: &'a [u8], bytes: &[u8]) -> &'a [u8] {
     for end in 0..text.len() {
         if let Some((front, rest)) = text.split_at_checked(end)
             && rest.iter().all(|byte| bytes.contains(byte))

@@ -15,7 +15,7 @@ const ROWS: [&[(u8, u8)]; 9] = [
 
 /// The first unit: the front that is a whole sequence, else the longest front that begins one, else
 /// one byte.
-pub fn first_unit(text: &[u8]) -> &[u8] {
+pub(crate) fn first_unit(text: &[u8]) -> &[u8] {
     let fronts = [text.get(..4), text.get(..3), text.get(..2), text.get(..1)];
     for front in fronts.into_iter().flatten() {
         if ROWS

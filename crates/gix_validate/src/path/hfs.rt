@@ -1,25 +1,40 @@
 //! How a name reads on HFS+, which ignores sixteen characters.
 
 ghost use Rattle.std.specs.Prelude.{◌≡◌, ◌<◌, ◌∷◌, [], MatchOption, codes, length, drop, slice_index};
+ghost use Rattle.std.specs.List.{list_any};
 ghost use Rattle.std.specs.Str.{bytes_eq};
 ghost use Rattle.gix_validate.specs.Bytes.{lower};
 ghost use Rattle.gix_validate.specs.Hfs.{hfs_form, is_ignored};
+ghost use Rattle.gix_validate.specs.Ordinary.{is_lead};
 
-/// Whether the name reads as `.git`.
-pub(super) fn is_git(name: &[u8]) -> bool
+use crate::path::word::is_word;
+
+/// Whether the name reads as `.git`. It has ignored characters only where it has a byte with which one begins.
+pub(super) fn is_git(name: &[u8], has_lead: bool) -> bool
+    requires { has_lead ≡ list_any is_lead name.now }
     ensures { result ≡ bytes_eq (lower (hfs_form name.now)) (codes ".git") }
 {
-    reads_as(name, b".git")
+    if has_lead {
+        reads_as(name, b".git")
+    } else {
+        is_word(name, b".git")
+    }
 }
 
 /// Whether the name reads as `.gitmodules`.
-pub(super) fn is_modules(name: &[u8]) -> bool
+pub(super) fn is_modules(name: &[u8], has_lead: bool) -> bool
+    requires { has_lead ≡ list_any is_lead name.now }
     ensures { result ≡ bytes_eq (lower (hfs_form name.now)) (codes ".gitmodules") }
 {
-    reads_as(name, b".gitmodules")
+    if has_lead {
+        reads_as(name, b".gitmodules")
+    } else {
+        is_word(name, b".gitmodules")
+    }
 }
 
 /// Whether the name without what is ignored, in small letters, is the word.
+#[inline(always)]
 fn reads_as(name: &[u8], word: &[u8]) -> bool
     ensures { result ≡ bytes_eq (lower (hfs_form name.now)) word.now }
 {
@@ -38,6 +53,7 @@ fn reads_as(name: &[u8], word: &[u8]) -> bool
 }
 
 /// The first byte that isn't ignored, and what stands after it.
+#[inline(always)]
 fn next_kept(bytes: &[u8]) -> Option<(u8, &[u8])>
     ensures { MatchOption result (hfs_form bytes.now ≡ [])
         (λ kept. hfs_form bytes.now ≡ kept.0 ∷ hfs_form kept.1.now) }
@@ -53,6 +69,7 @@ fn next_kept(bytes: &[u8]) -> Option<(u8, &[u8])>
 }
 
 /// What stands after the ignored character that the bytes begin with, if they begin with one.
+#[inline(always)]
 fn after_ignored(bytes: &[u8]) -> Option<&[u8]>
     ensures { MatchOption result
         (0 < length bytes.now → hfs_form bytes.now ≡ slice_index bytes.now 0 ∷ hfs_form (drop 1 bytes.now))
@@ -70,6 +87,7 @@ fn after_ignored(bytes: &[u8]) -> Option<&[u8]>
 
 /// Whether the three bytes are one of the ignored characters.
 #[tactic(auto, unfolding(crate::specs::Hfs::is_ignored))]
+#[inline(always)]
 fn is_ignored(a: u8, b: u8, c: u8) -> bool
     ensures { result ≡ is_ignored a b c }
 {

@@ -6,16 +6,18 @@ ghost use Rattle.std.specs.Str.{byte, bytes_eq};
 ghost use Rattle.gix_validate.specs.Bytes.{lower, is_empty, ends};
 ghost use Rattle.gix_validate.specs.Units.{first_unit_len};
 ghost use Rattle.gix_validate.specs.Ntfs.{is_digit};
-ghost use Rattle.gix_validate.specs.Windows.{device_form, is_device, is_plain};
+ghost use Rattle.gix_validate.specs.Windows.{device_form, is_device, is_illegal_byte, is_plain};
 
 use crate::path::units::first_unit_len;
 use crate::path::word::after_word;
 
-/// Whether a colon stands after the first unit.
-pub(super) fn has_prefix(name: &[u8]) -> bool
+/// Whether a colon stands after the first unit, which none does where nothing illegal stands.
+#[tactic(auto, using(crate::proofs::OrdinaryLemmas::legal_no_prefix))]
+pub(super) fn has_prefix(name: &[u8], has_illegal: bool) -> bool
+    requires { has_illegal ≡ list_any is_illegal_byte name.now }
     ensures { result ≡ (slice_index name.now (first_unit_len name.now) == byte ":") }
 {
-    name.get(first_unit_len(name)) == Some(&b':')
+    has_illegal && name.get(first_unit_len(name)) == Some(&b':')
 }
 
 /// Whether the name ends in a dot or a space.
@@ -25,34 +27,35 @@ pub(super) fn ends_illegally(name: &[u8]) -> bool
     matches!(name.last(), Some(b'.' | b' '))
 }
 
-/// Whether the name means a device.
+/// Whether the name means a device, by its first three letters and what follows them.
+#[inline(always)]
 pub(super) fn is_device(name: &[u8]) -> bool
     ensures { result ≡ is_device name.now }
 {
-    let [first, ..] = name else {
-        return false;
-    };
-    match first.to_ascii_lowercase() {
-        b'a' => form_is(name, b"AUX"),
-        b'c' => is_console(name) || is_numbered(name, b"COM", b"123456789"),
-        b'l' => is_numbered(name, b"LPT", b"0123456789"),
-        b'n' => form_is(name, b"NUL"),
-        b'p' => form_is(name, b"PRN"),
+    match name {
+        [b'a' | b'A', b'u' | b'U', b'x' | b'X', rest @ ..] => ends_form(rest),
+        [b'c' | b'C', b'o' | b'O', b'n' | b'N', rest @ ..] => ends_console(rest),
+        [b'c' | b'C', b'o' | b'O', b'm' | b'M', rest @ ..] => ends_counted(rest),
+        [b'l' | b'L', b'p' | b'P', b't' | b'T', rest @ ..] => ends_numbered(rest),
+        [b'n' | b'N', b'u' | b'U', b'l' | b'L', rest @ ..] => ends_form(rest),
+        [b'p' | b'P', b'r' | b'R', b'n' | b'N', rest @ ..] => ends_form(rest),
         _ => false,
     }
 }
 
-/// Whether the name means the console.
+/// Whether the form ends after `con`, or in what makes it one of the console's two other names.
+#[inline(always)]
 #[tactic(auto, unfolding(crate::specs::Bytes::lower_byte))]
-fn is_console(name: &[u8]) -> bool
-    ensures { result ≡ (bytes_eq (lower (device_form name.now)) (codes "con")
-        || (bytes_eq (lower (device_form name.now)) (codes "conin$")
-        || bytes_eq (lower (device_form name.now)) (codes "conout$"))) }
+fn ends_console(rest: &[u8]) -> bool
+    ensures { result ≡ (is_empty (device_form rest.now)
+        || (bytes_eq (lower (device_form rest.now)) (codes "in$")
+        || bytes_eq (lower (device_form rest.now)) (codes "out$"))) }
 {
-    form_is(name, b"CON") || form_is(name, b"CONIN$") || form_is(name, b"CONOUT$")
+    ends_form(rest) || form_is(rest, b"IN$") || form_is(rest, b"OUT$")
 }
 
 /// Whether the form of the name is the word, in any letter case.
+#[inline(always)]
 fn form_is(name: &[u8], word: &[u8]) -> bool
     requires { IsTrue (list_all is_plain word.now) }
     ensures { result ≡ bytes_eq (lower (device_form name.now)) (lower word.now) }
@@ -63,24 +66,31 @@ fn form_is(name: &[u8], word: &[u8]) -> bool
     }
 }
 
-/// Whether the form of the name is the word with one of the digits after it, in any letter case.
-fn is_numbered(name: &[u8], word: &[u8], digits: &[u8]) -> bool
-    requires plain { IsTrue (list_all is_plain word.now) }
-    requires digits { IsTrue (list_all is_digit digits.now) }
-    ensures { result
-        ≡ list_any (λ digit. bytes_eq (lower (device_form name.now)) (lower word.now ++ digit ∷ [])) digits.now }
+/// Whether the form is a digit.
+#[inline(always)]
+fn ends_numbered(rest: &[u8]) -> bool
+    ensures { result ≡ list_any (λ digit. bytes_eq (lower (device_form rest.now)) (digit ∷ [])) (codes "0123456789") }
 {
-    let Some(number) = after_word(name, word) else {
-        return false;
-    };
-    let [digit, rest @ ..] = number else {
-        return false;
-    };
-    digits.contains(digit) && ends_form(rest)
+    match rest {
+        [b'0'..=b'9', after @ ..] => ends_form(after),
+        _ => false,
+    }
+}
+
+/// Whether the form is a digit, and not zero.
+#[inline(always)]
+fn ends_counted(rest: &[u8]) -> bool
+    ensures { result ≡ list_any (λ digit. bytes_eq (lower (device_form rest.now)) (digit ∷ [])) (codes "123456789") }
+{
+    match rest {
+        [b'1'..=b'9', after @ ..] => ends_form(after),
+        _ => false,
+    }
 }
 
 /// Whether nothing of the form is in what stands after a word.
 #[tactic(auto, using(crate::proofs::DeviceLemmas::device_left, crate::proofs::DeviceLemmas::device_all_left, std::proofs::lemmas::Bool::Decides::nat_tests))]
+#[inline(always)]
 fn ends_form(rest: &[u8]) -> bool
     ensures { result ≡ is_empty (device_form rest.now) }
 {

@@ -1,10 +1,11 @@
 //! Words in any letter case.
 
-ghost use Rattle.std.specs.Prelude.{◌≡◌, true, false, drop, length, MatchOption};
+ghost use Rattle.std.specs.Prelude.{◌≡◌, ◌==◌, true, false, drop, length, MatchOption};
 ghost use Rattle.std.specs.Str.{bytes_eq};
-ghost use Rattle.gix_validate.specs.Bytes.{begins, lower};
+ghost use Rattle.gix_validate.specs.Bytes.{begins, lower, lower_byte};
 
 /// What stands after the word, where the text begins with it in any letter case.
+#[inline(always)]
 pub(super) fn after_word<'a>(text: &'a [u8], word: &[u8]) -> Option<&'a [u8]>
     ensures { MatchOption result (begins (lower text.now) (lower word.now) ≡ false)
         (λ rest. (begins (lower text.now) (lower word.now) ≡ true)
@@ -17,8 +18,27 @@ pub(super) fn after_word<'a>(text: &'a [u8], word: &[u8]) -> Option<&'a [u8]>
 }
 
 /// Whether the text is the word in any letter case.
+#[inline(always)]
+#[tactic(auto, using(crate::proofs::LetterLemmas::alike_from, crate::proofs::LetterLemmas::alike_at_end, crate::proofs::LetterLemmas::other_length, std::proofs::lemmas::Bool::Decides::nat_tests))]
 pub(super) fn is_word(text: &[u8], word: &[u8]) -> bool
     ensures { result ≡ bytes_eq (lower text.now) (lower word.now) }
 {
-    text.eq_ignore_ascii_case(word)
+    if text.len() != word.len() {
+        return false;
+    }
+    for (place, wanted) in word.iter().enumerate() {
+        if !are_alike(text[place], *wanted) {
+            return false;
+        }
+    }
+    true
+}
+
+/// Whether the two bytes are one in any letter case.
+#[inline(always)]
+#[tactic(auto, using(std::proofs::lemmas::Bool::Decides::nat_tests), unfolding(crate::specs::Bytes::lower_byte))]
+fn are_alike(byte: u8, wanted: u8) -> bool
+    ensures { result ≡ (lower_byte byte == lower_byte wanted) }
+{
+    byte == wanted.to_ascii_lowercase() || byte == wanted.to_ascii_uppercase()
 }

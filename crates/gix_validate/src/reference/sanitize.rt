@@ -220,8 +220,8 @@ fn end_of_text(text: &[u8], start: usize, end: usize) -> usize
     }
 }
 
-/// Where the piece that was written from `start` to `end` ends once the `.lock`s at its end are cut. Few pieces have the
-/// last letter.
+/// Where the piece that was written from `start` to `end` ends once the `.lock`s at its end are cut. Few pieces end
+/// in a `k`.
 fn end_of_cut(text: &[u8], start: usize, end: usize) -> usize
     requires some { start < end }
     requires within { end ≤ length text.now }

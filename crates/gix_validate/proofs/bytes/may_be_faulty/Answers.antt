@@ -1,4 +1,4 @@
-use Rattle.std.proofs.Common.{◌≡◌, false, get_or, ap, ◌∙◌}
+use Rattle.std.proofs.Common.{false, get_or, ap, ◌∙◌}
 use Rattle.gix_validate.specs.declared.bytes.TheConstants.{MAY_BE_FAULTY}
 use Rattle.gix_validate.proofs.TagTable.{tabled}
 use Rattle.gix_validate.proofs.bytes.may_be_faulty.Goals as goal

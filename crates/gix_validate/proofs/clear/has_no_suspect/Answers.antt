@@ -1,4 +1,3 @@
-use Rattle.std.proofs.Common.{◌∙◌}
 use Rattle.gix_validate.proofs.ClearLemmas.{all_lanes}
 use Rattle.gix_validate.proofs.clear.has_no_suspect.Goals as goal
 

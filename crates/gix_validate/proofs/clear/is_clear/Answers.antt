@@ -1,7 +1,5 @@
-use Rattle.std.proofs.Common.{◌≡◌, ◌↔◌, ◌<◌, ℕ, Bool, true, false, List, length, refl, sym, ◌∙◌, arith}
-use Rattle.std.specs.Prelude.{IsTrue}
+use Rattle.std.proofs.Common.{sym, ◌∙◌, arith}
 use Rattle.std.proofs.lemmas.Bool.{true≢false}
-use Rattle.gix_validate.specs.Clear.{is_clear, NoSuspectBetween}
 use Rattle.gix_validate.proofs.ClearLemmas.{clear_by_looks}
 use Rattle.gix_validate.proofs.clear.is_clear.Goals as goal
 use Rattle.gix_validate.proofs.clear.is_clear.Goals.{then-may_be_faulty-via-then-may_be_faulty, then-may_be_faulty-via-else-may_be_faulty+then-ends_suspect}

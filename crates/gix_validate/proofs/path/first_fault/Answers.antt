@@ -1,114 +1,41 @@
-use Rattle.std.proofs.Common.{◌≡◌, ℕ, Bool, true, false, not, ◌&&◌, ◌||◌, List, slice_index, codes, refl, arith, None, Some}
-use Rattle.std.specs.Prelude.{◌==◌, is_some}
-use Rattle.std.specs.Str.{byte, bytes_eq}
-use Rattle.std.proofs.lemmas.Grind.{common_steps}
-use Rattle.gix_validate.specs.declared.path.ComponentError.TheVariants.{WindowsIllegalCharacter, SymlinkedGitModules}
-use Rattle.gix_validate.specs.Bytes.{is_empty, lower, lower_byte}
-use Rattle.gix_validate.specs.Faults.{first_of}
-use Rattle.gix_validate.specs.Units.{first_unit_len}
-use Rattle.gix_validate.specs.Hfs.{hfs_form}
-use Rattle.gix_validate.specs.Ntfs.{ntfs_form, is_git_form, is_modules_form}
-use Rattle.gix_validate.specs.Windows.{is_device, is_illegal}
-use Rattle.gix_validate.specs.Component.{conditions, component_fault_of, has_byte}
+use Rattle.std.proofs.Common.{◌≡◌, Bool, true, false, ◌&&◌, refl, sym, ap, ◌∙◌}
+use Rattle.gix_validate.specs.declared.path.ComponentError.TheVariants.{WindowsReservedName}
+use Rattle.gix_validate.specs.Bytes.{lower_byte}
+use Rattle.gix_validate.specs.Faults.{when}
+use Rattle.gix_validate.specs.Windows.{is_device}
+use Rattle.gix_validate.proofs.OrdinaryLemmas.{ordinary_fault, git_fault}
 use Rattle.gix_validate.proofs.path.first_fault.Goals as goal
+use Rattle.gix_validate.proofs.path.first_fault.Goals.{else-options-via-then-options+then-options-2+else-is_device, else-options-via-then-options+else-options-2, else-options-via-else-options}
 
--- no condition holds
-no_fault : (windows hfs ntfs symlink : Bool) (x : List ℕ)
-    → is_empty x ≡ false
-    → (bytes_eq x (codes ".") || bytes_eq x (codes "..")) ≡ false
-    → (has_byte (byte "/") x || (windows && has_byte (byte "\\") x)) ≡ false
-    → (windows && slice_index x (first_unit_len x) == byte ":") ≡ false
-    → (hfs && bytes_eq (lower (hfs_form x)) (codes ".git")) ≡ false
-    → (hfs && symlink && bytes_eq (lower (hfs_form x)) (codes ".gitmodules")) ≡ false
-    → (ntfs && is_git_form (lower (ntfs_form x))) ≡ false
-    → (ntfs && symlink && is_modules_form (lower (ntfs_form x))) ≡ false
-    → (windows && ntfs && is_device x) ≡ false
-    → (windows && ntfs && is_illegal x) ≡ false
-    → (not hfs && not ntfs && bytes_eq (lower x) (codes ".git")) ≡ false
-    → (not hfs && not ntfs && symlink && bytes_eq (lower x) (codes ".gitmodules")) ≡ false
-    → None ≡ first_of (conditions windows hfs ntfs symlink x)
-unfolding conditions
-no_fault windows hfs ntfs symlink x a b c d e f g h i j k l = rw (a, b, c, d, e, f, g, h, i, j, k, l) refl
+all_on : (a b d : Bool) → a ≡ true → b ≡ true → d ≡ true → (a && b && d) ≡ true
+all_on a b d on also last = rw (on, also, last) refl
 
--- the condition on illegal bytes holds, and none before it
-illegal_first : (windows hfs ntfs symlink : Bool) (x : List ℕ)
-    → is_empty x ≡ false
-    → (bytes_eq x (codes ".") || bytes_eq x (codes "..")) ≡ false
-    → (has_byte (byte "/") x || (windows && has_byte (byte "\\") x)) ≡ false
-    → (windows && slice_index x (first_unit_len x) == byte ":") ≡ false
-    → (hfs && bytes_eq (lower (hfs_form x)) (codes ".git")) ≡ false
-    → (hfs && symlink && bytes_eq (lower (hfs_form x)) (codes ".gitmodules")) ≡ false
-    → (ntfs && is_git_form (lower (ntfs_form x))) ≡ false
-    → (ntfs && symlink && is_modules_form (lower (ntfs_form x))) ≡ false
-    → (windows && ntfs && is_device x) ≡ false
-    → (windows && ntfs && is_illegal x) ≡ true
-    → Some WindowsIllegalCharacter ≡ first_of (conditions windows hfs ntfs symlink x)
-unfolding conditions
-illegal_first windows hfs ntfs symlink x a b c d e f g h i j = rw (a, b, c, d, e, f, g, h, i, j) refl
+last_off : (a b d : Bool) → d ≡ false → (a && b && d) ≡ false
+last_off true true d off = off
+last_off true false d off = refl
+last_off false b d off = refl
 
--- the last condition holds, and none before it
-modules_last : (windows hfs ntfs symlink : Bool) (x : List ℕ)
-    → is_empty x ≡ false
-    → (bytes_eq x (codes ".") || bytes_eq x (codes "..")) ≡ false
-    → (has_byte (byte "/") x || (windows && has_byte (byte "\\") x)) ≡ false
-    → (windows && slice_index x (first_unit_len x) == byte ":") ≡ false
-    → (hfs && bytes_eq (lower (hfs_form x)) (codes ".git")) ≡ false
-    → (hfs && symlink && bytes_eq (lower (hfs_form x)) (codes ".gitmodules")) ≡ false
-    → (ntfs && is_git_form (lower (ntfs_form x))) ≡ false
-    → (ntfs && symlink && is_modules_form (lower (ntfs_form x))) ≡ false
-    → (windows && ntfs && is_device x) ≡ false
-    → (windows && ntfs && is_illegal x) ≡ false
-    → (not hfs && not ntfs && bytes_eq (lower x) (codes ".git")) ≡ false
-    → (not hfs && not ntfs && symlink && bytes_eq (lower x) (codes ".gitmodules")) ≡ true
-    → Some SymlinkedGitModules ≡ first_of (conditions windows hfs ntfs symlink x)
-unfolding conditions
-modules_last windows hfs ntfs symlink x a b c d e f g h i j k l = rw (a, b, c, d, e, f, g, h, i, j, k, l) refl
+second_off : (a b d : Bool) → b ≡ false → (a && b && d) ≡ false
+second_off true b d off = ap (λ v. v && d) off
+second_off false b d off = refl
 
-pub returns-then-ends_illegally : goal.returns-then-ends_illegally
-unfolding component_fault_of is_illegal lower_byte
-returns-then-ends_illegally c =
-    illegal_first c.args.options.protect_windows c.args.options.protect_hfs c.args.options.protect_ntfs (is_some c.args.mode) c.args.name.now
-    (grind (arith, common_steps))
-    (grind (arith, common_steps))
-    (grind (arith, common_steps))
-    (grind (arith, common_steps))
-    (grind (arith, common_steps))
-    (grind (arith, common_steps))
-    (grind (arith, common_steps))
-    (grind (arith, common_steps))
-    (grind (arith, common_steps))
-    (grind (arith, common_steps))
+first_off : (a b d : Bool) → a ≡ false → (a && b && d) ≡ false
+first_off a b d off = ap (λ v. v && b && d) off
 
-pub returns-then-is_word-2 : goal.returns-then-is_word-2
-unfolding component_fault_of is_illegal lower_byte
-returns-then-is_word-2 c =
-    modules_last c.args.options.protect_windows c.args.options.protect_hfs c.args.options.protect_ntfs (is_some c.args.mode) c.args.name.now
-    (grind (arith, common_steps))
-    (grind (arith, common_steps))
-    (grind (arith, common_steps))
-    (grind (arith, common_steps))
-    (grind (arith, common_steps))
-    (grind (arith, common_steps))
-    (grind (arith, common_steps))
-    (grind (arith, common_steps))
-    (grind (arith, common_steps))
-    (grind (arith, common_steps))
-    (grind (arith, common_steps))
-    (grind (arith, common_steps))
+pub returns-then-is_device : goal.returns-then-is_device
+returns-then-is_device c =
+    let law = ordinary_fault c.args.options c.args.mode c.args.name.now (sym c.is_ordinary.ensures ∙ c.if-not-is_ordinary.false) in
+    sym (law ∙ ap (λ t. when t WindowsReservedName) (all_on c.args.options.protect_windows c.args.options.protect_ntfs (is_device c.args.name.now) c.if-options.true c.if-options-2.true (sym c.is_device.ensures ∙ c.if-is_device.true)))
 
-pub returns-else-not-hfs-2 : goal.returns-else-not-hfs-2
-unfolding component_fault_of is_illegal lower_byte
-returns-else-not-hfs-2 c =
-    no_fault c.args.options.protect_windows c.args.options.protect_hfs c.args.options.protect_ntfs (is_some c.args.mode) c.args.name.now
-    (grind (arith, common_steps))
-    (grind (arith, common_steps))
-    (grind (arith, common_steps))
-    (grind (arith, common_steps))
-    (grind (arith, common_steps))
-    (grind (arith, common_steps))
-    (grind (arith, common_steps))
-    (grind (arith, common_steps))
-    (grind (arith, common_steps))
-    (grind (arith, common_steps))
-    (grind (arith, common_steps))
-    (grind (arith, common_steps))
+pub returns-else-options : goal.returns-else-options
+returns-else-options c =
+    let law = ordinary_fault c.args.options c.args.mode c.args.name.now (sym c.is_ordinary.ensures ∙ c.if-not-is_ordinary.false) in
+    sym (law ∙ elim c.else-options.branch [
+      | else-options-via-then-options+then-options-2+else-is_device w ↦ ap (λ t. when t WindowsReservedName) (last_off c.args.options.protect_windows c.args.options.protect_ntfs (is_device c.args.name.now) (sym w.is_device.ensures ∙ w.if-is_device.false))
+      | else-options-via-then-options+else-options-2 w ↦ ap (λ t. when t WindowsReservedName) (second_off c.args.options.protect_windows c.args.options.protect_ntfs (is_device c.args.name.now) w.if-options-2.false)
+      | else-options-via-else-options w ↦ ap (λ t. when t WindowsReservedName) (first_off c.args.options.protect_windows c.args.options.protect_ntfs (is_device c.args.name.now) w.if-options.false)
+    ])
+
+pub returns-then-is_word : goal.returns-then-is_word
+unfolding lower_byte
+returns-then-is_word c = sym (git_fault c.args.options c.args.mode c.args.name.now (sym c.is_word.ensures ∙ c.if-is_word.true))

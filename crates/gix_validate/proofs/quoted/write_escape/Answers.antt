@@ -1,5 +1,5 @@
 -- What the two digits of a byte print.
-use Rattle.std.proofs.Common.{◌≡◌, false, Some, sym, subst, ap, ◌∙◌, inl, inr, ◌⊎◌, ◌<◌, arith}
+use Rattle.std.proofs.Common.{◌≡◌, false, Some, subst, ap, ◌∙◌, inl, inr, ◌⊎◌, ◌<◌, arith}
 use Rattle.std.specs.Fmt.{DisplaysOnOk, styled_digits_output, padded_integral, shown_prefix, radix_prefix, ◌++?◌}
 use Rattle.std.specs.Option.{option_map}
 use Rattle.gix_validate.specs.Quoted.{escape_of}

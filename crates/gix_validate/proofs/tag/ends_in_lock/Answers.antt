@@ -1,4 +1,4 @@
-use Rattle.std.proofs.Common.{◌≡◌, sym, ◌∙◌}
+use Rattle.std.proofs.Common.{sym, ◌∙◌}
 use Rattle.gix_validate.proofs.TagFaults.{lock_ends_in_k}
 use Rattle.gix_validate.proofs.tag.ends_in_lock.Goals as goal
 

@@ -1,9 +1,7 @@
 -- Each arm answers the line of the table for its byte.
-use Rattle.std.proofs.Common.{◌≡◌, ℕ, Bool, true, false, List, ◌∷◌, Option, Some, None, sym, subst, ap, ◌∙◌, arith}
-use Rattle.std.specs.Prelude.{codes}
+use Rattle.std.proofs.Common.{◌≡◌, ℕ, Bool, true, false, List, ◌∷◌, Option, Some, None, sym, ap, ◌∙◌, arith}
 use Rattle.gix_validate.specs.declared.tag.NameError.{NameError}
 use Rattle.gix_validate.specs.declared.tag.NameError.TheVariants.{InvalidByte, RepeatedSlash, RepeatedDot, LockFileSuffix, ReflogPortion, Asterisk, StartsWithDot}
-use Rattle.gix_validate.specs.Bytes.{ends, is_bad}
 use Rattle.gix_validate.specs.Faults.{when, first_of, ◌orelse◌}
 use Rattle.gix_validate.specs.Tag.{faults_between}
 use Rattle.gix_validate.proofs.TagFaults.{after_star, after_dot, after_brace, after_slash, after_other}

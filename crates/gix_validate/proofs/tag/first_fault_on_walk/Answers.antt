@@ -1,10 +1,8 @@
 -- Each return answers the first line that applies.
-use Rattle.std.proofs.Common.{◌≡◌, ◌<◌, ◌-◌, ℕ, Bool, false, eqb, List, [], ◌∷◌, length, get_or, refl, sym, ap, ◌∙◌, arith, Option, Some, None}
+use Rattle.std.proofs.Common.{◌≡◌, ◌<◌, ℕ, false, eqb, List, [], ◌∷◌, length, refl, sym, ◌∙◌, arith, Some}
 use Rattle.std.proofs.lemmas.Bool.{eq-eqb, ne_eqb, eqb-false, eqb-true}
-use Rattle.gix_validate.specs.declared.tag.NameError.{NameError}
 use Rattle.gix_validate.specs.declared.tag.NameError.TheVariants.{Empty}
-use Rattle.gix_validate.specs.Faults.{first_of, at_least_place}
-use Rattle.gix_validate.specs.Tag.{faults_at, fault_of}
+use Rattle.gix_validate.specs.Tag.{fault_of}
 use Rattle.gix_validate.proofs.TagEnds.{fault_of_read, at_slash_last, at_slash_first, at_place, at_dot_first, at_dot_last, at_none}
 use Rattle.gix_validate.proofs.tag.first_fault_on_walk.Goals as goal
 

@@ -1,5 +1,5 @@
 -- The laws of the definitions, at the text.
-use Rattle.std.proofs.Common.{◌≡◌, true, false, Option, Some, None, sym, ap, ◌∙◌}
+use Rattle.std.proofs.Common.{true, sym, ap, ◌∙◌}
 use Rattle.std.proofs.lemmas.Bool.{true≢false}
 use Rattle.std.specs.Prelude.{is_none}
 use Rattle.bstr.specs.BStr.{bstr_bytes}

@@ -1,44 +1,73 @@
-use Rattle.std.proofs.Common.{◌||◌, get_or, sym, ap, ◌∙◌, arith, codes}
-use Rattle.std.specs.List.{list_any}
+use Rattle.std.proofs.Common.{◌≡◌, ◌-◌, take, drop, length, codes, sym, ap, ◌∙◌, arith}
 use Rattle.std.proofs.lemmas.Bool.Decides.{nat_tests}
-use Rattle.gix_validate.specs.Bytes.{lower_byte}
-use Rattle.gix_validate.proofs.LetterLemmas.{lower_byte-is}
-use Rattle.gix_validate.proofs.DeviceLemmas.{device_at_a, device_at_c, device_at_l, device_at_n, device_at_p, device_elsewhere, device_of_none, numbered_by}
+use Rattle.std.proofs.lemmas.Grind.{common_steps}
+use Rattle.gix_validate.specs.Bytes.{is_empty}
+use Rattle.gix_validate.specs.Windows.{device_form}
+use Rattle.gix_validate.proofs.DeviceLemmas.{is_any_digit, is_console_end, device_none, device_short, device_aux, device_nul, device_prn, device_console, device_counted, device_numbered}
 use Rattle.gix_validate.proofs.path.windows.is_device.Goals as goal
 
 pub returns-in_default : goal.returns-in_default
-returns-in_default c = sym (device_of_none c.args.name.now c.in_default.len_below)
+returns-in_default c = sym (device_short c.args.name.now c.in_default.len_below)
 
 pub returns-in-97 : goal.returns-in-97
-unfolding lower_byte
-returns-in-97 c = c.form_is.ensures ∙ sym (device_at_a c.args.name.now c.in-len1-up.len_at_least (sym (lower_byte-is (get_or c.args.name.now 0 0)) ∙ sym c.to_ascii_lowercase.ensures.value ∙ c.in-97.is))
+returns-in-97 c =
+    let rest : take (length c.args.name.now - 3) (drop 3 c.args.name.now) ≡ drop 3 c.args.name.now = grind (arith, common_steps) in
+    c.ends_form.ensures ∙ ap (λ t. is_empty (device_form t)) rest ∙ sym (device_aux c.args.name.now (grind (arith, nat_tests)))
 
-pub returns-then-is_console : goal.returns-then-is_console
-unfolding lower_byte
-returns-then-is_console c =
-    let all = device_at_c c.args.name.now c.in-len1-up.len_at_least (sym (lower_byte-is (get_or c.args.name.now 0 0)) ∙ sym c.to_ascii_lowercase.ensures.value ∙ c.in-99.is) in
-    c.if-is_console.true ∙ sym (all ∙ ap (λ v. v || list_any (numbered_by c.args.name.now (codes "COM")) (codes "123456789")) (sym c.is_console.ensures ∙ c.if-is_console.true))
+pub returns-in-99 : goal.returns-in-99
+returns-in-99 c =
+    let rest : take (length c.args.name.now - 3) (drop 3 c.args.name.now) ≡ drop 3 c.args.name.now = grind (arith, common_steps) in
+    c.ends_console.ensures ∙ ap is_console_end rest ∙ sym (device_console c.args.name.now (grind (arith, nat_tests)))
 
-pub returns-else-is_console : goal.returns-else-is_console
-unfolding lower_byte
-returns-else-is_console c =
-    let all = device_at_c c.args.name.now c.in-len1-up.len_at_least (sym (lower_byte-is (get_or c.args.name.now 0 0)) ∙ sym c.to_ascii_lowercase.ensures.value ∙ c.in-99.is) in
-    c.is_numbered.ensures ∙ sym (all ∙ ap (λ v. v || list_any (numbered_by c.args.name.now (codes "COM")) (codes "123456789")) (sym c.is_console.ensures ∙ c.if-is_console.false))
+pub returns-in-99-2 : goal.returns-in-99-2
+returns-in-99-2 c =
+    let rest : take (length c.args.name.now - 3) (drop 3 c.args.name.now) ≡ drop 3 c.args.name.now = grind (arith, common_steps) in
+    c.ends_counted.ensures ∙ ap (is_any_digit (codes "123456789")) rest ∙ sym (device_counted c.args.name.now (grind (arith, nat_tests)))
 
 pub returns-in-108 : goal.returns-in-108
-unfolding lower_byte
-returns-in-108 c = c.is_numbered-in-108.ensures ∙ sym (device_at_l c.args.name.now c.in-len1-up.len_at_least (sym (lower_byte-is (get_or c.args.name.now 0 0)) ∙ sym c.to_ascii_lowercase.ensures.value ∙ c.in-108.is))
+returns-in-108 c =
+    let rest : take (length c.args.name.now - 3) (drop 3 c.args.name.now) ≡ drop 3 c.args.name.now = grind (arith, common_steps) in
+    c.ends_numbered.ensures ∙ ap (is_any_digit (codes "0123456789")) rest ∙ sym (device_numbered c.args.name.now (grind (arith, nat_tests)))
 
 pub returns-in-110 : goal.returns-in-110
-unfolding lower_byte
-returns-in-110 c = c.form_is-in-110.ensures ∙ sym (device_at_n c.args.name.now c.in-len1-up.len_at_least (sym (lower_byte-is (get_or c.args.name.now 0 0)) ∙ sym c.to_ascii_lowercase.ensures.value ∙ c.in-110.is))
+returns-in-110 c =
+    let rest : take (length c.args.name.now - 3) (drop 3 c.args.name.now) ≡ drop 3 c.args.name.now = grind (arith, common_steps) in
+    c.ends_form-in-110.ensures ∙ ap (λ t. is_empty (device_form t)) rest ∙ sym (device_nul c.args.name.now (grind (arith, nat_tests)))
 
 pub returns-in-112 : goal.returns-in-112
-unfolding lower_byte
-returns-in-112 c = c.form_is-in-112.ensures ∙ sym (device_at_p c.args.name.now c.in-len1-up.len_at_least (sym (lower_byte-is (get_or c.args.name.now 0 0)) ∙ sym c.to_ascii_lowercase.ensures.value ∙ c.in-112.is))
+returns-in-112 c =
+    let rest : take (length c.args.name.now - 3) (drop 3 c.args.name.now) ≡ drop 3 c.args.name.now = grind (arith, common_steps) in
+    c.ends_form-in-112.ensures ∙ ap (λ t. is_empty (device_form t)) rest ∙ sym (device_prn c.args.name.now (grind (arith, nat_tests)))
 
-pub returns-in_default-to_ascii_lowercase : goal.returns-in_default-to_ascii_lowercase
-returns-in_default-to_ascii_lowercase c =
-    let small = lower_byte-is (get_or c.args.name.now 0 0) in
-    let value = c.to_ascii_lowercase.ensures.value in
-    sym (device_elsewhere c.args.name.now (grind (arith, nat_tests)) (grind (arith, nat_tests)) (grind (arith, nat_tests)) (grind (arith, nat_tests)) (grind (arith, nat_tests)))
+pub returns-in_default-2 : goal.returns-in_default-2
+returns-in_default-2 c = sym (device_none c.args.name.now (grind (arith, nat_tests)) (grind (arith, nat_tests)) (grind (arith, nat_tests)) (grind (arith, nat_tests)) (grind (arith, nat_tests)) (grind (arith, nat_tests)))
+
+pub returns-in_default-3 : goal.returns-in_default-3
+returns-in_default-3 c = sym (device_none c.args.name.now (grind (arith, nat_tests)) (grind (arith, nat_tests)) (grind (arith, nat_tests)) (grind (arith, nat_tests)) (grind (arith, nat_tests)) (grind (arith, nat_tests)))
+
+pub returns-in_default-4 : goal.returns-in_default-4
+returns-in_default-4 c = sym (device_none c.args.name.now (grind (arith, nat_tests)) (grind (arith, nat_tests)) (grind (arith, nat_tests)) (grind (arith, nat_tests)) (grind (arith, nat_tests)) (grind (arith, nat_tests)))
+
+pub returns-in_default-5 : goal.returns-in_default-5
+returns-in_default-5 c = sym (device_none c.args.name.now (grind (arith, nat_tests)) (grind (arith, nat_tests)) (grind (arith, nat_tests)) (grind (arith, nat_tests)) (grind (arith, nat_tests)) (grind (arith, nat_tests)))
+
+pub returns-in_default-6 : goal.returns-in_default-6
+returns-in_default-6 c = sym (device_none c.args.name.now (grind (arith, nat_tests)) (grind (arith, nat_tests)) (grind (arith, nat_tests)) (grind (arith, nat_tests)) (grind (arith, nat_tests)) (grind (arith, nat_tests)))
+
+pub returns-in_default-7 : goal.returns-in_default-7
+returns-in_default-7 c = sym (device_none c.args.name.now (grind (arith, nat_tests)) (grind (arith, nat_tests)) (grind (arith, nat_tests)) (grind (arith, nat_tests)) (grind (arith, nat_tests)) (grind (arith, nat_tests)))
+
+pub returns-in_default-8 : goal.returns-in_default-8
+returns-in_default-8 c = sym (device_none c.args.name.now (grind (arith, nat_tests)) (grind (arith, nat_tests)) (grind (arith, nat_tests)) (grind (arith, nat_tests)) (grind (arith, nat_tests)) (grind (arith, nat_tests)))
+
+pub returns-in_default-9 : goal.returns-in_default-9
+returns-in_default-9 c = sym (device_none c.args.name.now (grind (arith, nat_tests)) (grind (arith, nat_tests)) (grind (arith, nat_tests)) (grind (arith, nat_tests)) (grind (arith, nat_tests)) (grind (arith, nat_tests)))
+
+pub returns-in_default-10 : goal.returns-in_default-10
+returns-in_default-10 c = sym (device_none c.args.name.now (grind (arith, nat_tests)) (grind (arith, nat_tests)) (grind (arith, nat_tests)) (grind (arith, nat_tests)) (grind (arith, nat_tests)) (grind (arith, nat_tests)))
+
+pub returns-in_default-11 : goal.returns-in_default-11
+returns-in_default-11 c = sym (device_none c.args.name.now (grind (arith, nat_tests)) (grind (arith, nat_tests)) (grind (arith, nat_tests)) (grind (arith, nat_tests)) (grind (arith, nat_tests)) (grind (arith, nat_tests)))
+
+pub returns-in_default-12 : goal.returns-in_default-12
+returns-in_default-12 c = sym (device_none c.args.name.now (grind (arith, nat_tests)) (grind (arith, nat_tests)) (grind (arith, nat_tests)) (grind (arith, nat_tests)) (grind (arith, nat_tests)) (grind (arith, nat_tests)))

@@ -1,5 +1,5 @@
 -- The quote and the escapes of the bytes so far are written.
-use Rattle.std.proofs.Common.{◌∷◌, [], ◌++◌, take}
+use Rattle.std.proofs.Common.{◌++◌, take}
 use Rattle.std.specs.Fmt.{HasWritten, IsPlainFormatter}
 use Rattle.std.specs.Prelude.{codes, flat_map}
 use Rattle.gix_validate.specs.Quoted.{escape_of}

@@ -1,0 +1,50 @@
+-- Ordinary names: those whose bytes alone say that no condition but the one on devices refuses them.
+use Rattle.std.specs.Prelude.{◌≡◌, ℕ, Bool, ◌==◌, ◌&&◌, ◌||◌, not, nat_lt, if◌then◌else◌, List, codes, map, bit_and}
+use Rattle.std.specs.List.{list_any}
+use Rattle.std.specs.Str.{byte}
+use Rattle.gix_validate.specs.Bytes.{is_among, is_empty, begins, ends}
+use Rattle.gix_validate.specs.Windows.{is_illegal_byte}
+use Rattle.gix_validate.specs.Component.{has_byte}
+
+-- each of the characters that HFS+ ignores begins with one of these bytes
+abbrev pub is_lead : ℕ → Bool
+is_lead b = b == 0xE2 || b == 0xEF
+
+-- A byte of which a condition asks, wherever it stands: one that Windows forbids or that parts a path, the tilde
+-- that each short name has on NTFS, or the first byte of what HFS+ may ignore.
+unfoldable pub is_noted : ℕ → Bool
+is_noted b = is_illegal_byte b || (is_among (codes "/\\~") b || is_lead b)
+
+-- The name is not empty, begins with no dot, ends in no dot and no space, and has no such byte.
+unfoldable pub is_ordinary : List ℕ → Bool
+is_ordinary x = not (is_empty x) && not (begins x (codes ".")) && not (ends x (codes ".") || ends x (codes " ")) && not (list_any is_noted x)
+
+-- The kind of a byte, a bit for each: four kinds that Windows forbids, and one each for `\`, `/`, `~` and what begins a
+-- character that HFS+ may ignore. A byte for which no condition asks has none.
+unfoldable pub kind_of : ℕ → ℕ
+kind_of b =
+    if nat_lt b 0x20 then 1
+    else if is_among (codes "\"*") b then 2
+    else if is_among (codes ":<>?") b then 4
+    else if b == byte "|" then 16
+    else if b == byte "\\" then 8
+    else if b == byte "/" then 64
+    else if b == byte "~" then 128
+    else if is_lead b then 32
+    else 0
+
+-- one of the kinds has a bit of the mask
+unfoldable pub any_kind : ℕ → List ℕ → Bool
+any_kind mask kinds = list_any (λ kind. not (bit_and kind mask == 0)) kinds
+
+-- under each mask the kinds tell what those of the bytes of the text do
+abbrev pub HaveKindsOf : List ℕ → List ℕ → Type 0
+HaveKindsOf kinds x = (mask : ℕ) → any_kind mask kinds ≡ any_kind mask (map kind_of x)
+
+-- What the kinds of the bytes of a name tell of it, a mask for each question.
+pub record Tell (kinds x : List ℕ) : Type 0 where
+  pub slash : any_kind 64 kinds ≡ has_byte (byte "/") x
+  pub backslash : any_kind 8 kinds ≡ has_byte (byte "\\") x
+  pub illegal : any_kind 23 kinds ≡ list_any is_illegal_byte x
+  pub lead : any_kind 32 kinds ≡ list_any is_lead x
+  pub noted : any_kind 255 kinds ≡ list_any is_noted x

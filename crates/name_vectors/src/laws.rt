@@ -1,0 +1,11 @@
+//! What the definitions of the rules agree with.
+
+ghost use Rattle.name_vectors.specs.Decoded.{FirstUnitIsDecoded};
+
+/// The first unit of a text (docs/RULES.md, "Path components") is as long as what the crate `bstr` decodes first: a whole
+/// UTF-8 sequence, or where none stands, what it reads as one replacement character.
+///
+/// It does nothing: what it says of the two definitions, for all texts, is its contract.
+pub fn first_units_are_decoded()
+    ensures { FirstUnitIsDecoded }
+{}

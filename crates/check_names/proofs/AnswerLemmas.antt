@@ -8,7 +8,8 @@ use Rattle.gix_validate.specs.Tag
 use Rattle.gix_validate.specs.Reference
 use Rattle.gix_validate.specs.Submodule
 use Rattle.gix_validate.specs.declared.path.ComponentMode.TheVariants.{Symlink}
-use Rattle.gix_validate.specs.Component.{all_protections, component_fault_of, component_text_of}
+use Rattle.gix_validate.specs.Component
+use Rattle.gix_validate.specs.Component.{all_protections}
 use Rattle.gix_validate.specs.Sanitized.{sanitized}
 use Rattle.bstr.specs.declared.bstr.BStr.{BStr}
 use Rattle.bstr.specs.BStr.{bstr_bytes}
@@ -47,11 +48,11 @@ pub asked_submodule : (name : List ℕ) → answer_by kinds (codes "submodule") 
 unfolding kinds
 asked_submodule name = refl
 
-pub asked_path : (name : List ℕ) → answer_by kinds (codes "path") name ≡ verdict (component_fault_of all_protections None name) component_text_of
+pub asked_path : (name : List ℕ) → answer_by kinds (codes "path") name ≡ verdict (Component.fault_of all_protections None name) Component.text_of
 unfolding kinds
 asked_path name = refl
 
-pub asked_symlink : (name : List ℕ) → answer_by kinds (codes "symlink") name ≡ verdict (component_fault_of all_protections (Some Symlink) name) component_text_of
+pub asked_symlink : (name : List ℕ) → answer_by kinds (codes "symlink") name ≡ verdict (Component.fault_of all_protections (Some Symlink) name) Component.text_of
 unfolding kinds
 asked_symlink name = refl
 

@@ -1,4 +1,3 @@
-pub mod TailLemmas
 pub mod WriteLemmas
 pub mod AnswersRows
 pub mod LineLemmas

@@ -5,7 +5,8 @@ use Rattle.gix_validate.specs.Tag
 use Rattle.gix_validate.specs.Reference
 use Rattle.gix_validate.specs.Submodule
 use Rattle.gix_validate.specs.declared.path.ComponentMode.TheVariants.{Symlink}
-use Rattle.gix_validate.specs.Component.{all_protections, component_fault_of, component_text_of}
+use Rattle.gix_validate.specs.Component
+use Rattle.gix_validate.specs.Component.{all_protections}
 use Rattle.gix_validate.specs.Windows.{is_device}
 use Rattle.gix_validate.specs.Sanitized.{sanitized}
 use Rattle.check_names.specs.Lines.{line_end, lines, request_of}
@@ -27,8 +28,8 @@ kinds =
     ∷ (codes "ref", λ name. verdict (Reference.full_fault_of name) Reference.text_of)
     ∷ (codes "branch", λ name. verdict (Reference.branch_fault_of name) Reference.text_of)
     ∷ (codes "submodule", λ name. verdict (Submodule.fault_of name) Submodule.text_of)
-    ∷ (codes "path", λ name. verdict (component_fault_of all_protections None name) component_text_of)
-    ∷ (codes "symlink", λ name. verdict (component_fault_of all_protections (Some Symlink) name) component_text_of)
+    ∷ (codes "path", λ name. verdict (Component.fault_of all_protections None name) Component.text_of)
+    ∷ (codes "symlink", λ name. verdict (Component.fault_of all_protections (Some Symlink) name) Component.text_of)
     ∷ (codes "device", λ name. device_answer name)
     ∷ (codes "sanitize", λ name. sanitized name)
     ∷ []

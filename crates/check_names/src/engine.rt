@@ -1,11 +1,11 @@
 //! The answers to the lines of a text.
 
-ghost use Rattle.std.specs.Prelude.{◌≡◌, ◌≢◌, ◌+◌, ◌<◌, [], ◌∷◌, ◌++◌, codes, length, max, vec_len, vec_capacity, Some, None, Err, IsOk, IsOkUnless, IfOk, OnOk, OnErr, IfSome, MatchOption, MatchResult};
+ghost use Rattle.std.specs.Prelude.{◌≡◌, ◌≢◌, ◌+◌, ◌<◌, [], ◌∷◌, ◌++◌, codes, length, vec_len, vec_capacity, Some, None, Err, IsOk, IsOkUnless, IfOk, OnOk, OnErr, IfSome, MatchOption, MatchResult};
 ghost use Rattle.std.specs.Io.KnownBytes.{Appends, IsAtEnd};
 ghost use Rattle.std.specs.Option.{option_map};
 ghost use Rattle.std.specs.Str.{bytes_eq};
 ghost use Rattle.bstr.specs.BStr.{bstr_bytes};
-ghost use Rattle.gix_validate.specs.Component.{all_protections, component_fault_of, component_text_of};
+ghost use Rattle.gix_validate.specs.Component.{all_protections, fault_of, text_of as component_text};
 ghost use Rattle.gix_validate.specs.Sanitized.{sanitized};
 ghost use Rattle.check_names.specs.Answers.{answer_of, answer_by, answers, device_answer, kinds, unknown_kind, verdict};
 ghost use Rattle.check_names.specs.Lines.{lines, request_of, split_once};
@@ -58,6 +58,12 @@ impl Error for RunError {}
 ///
 /// The input and the answers are each held whole in memory, of `alloc`.
 ///
+/// What the contract says of bytes it says where the reader and the writer tell theirs. Of std's readers
+/// `&[u8]`, `Cursor`, `VecDeque<u8>` and `Empty` do, of its writers `Vec<u8>` and `VecDeque<u8>`, and so do
+/// `&mut`, `Box`, `Take`, `Chain` and the buffers of `BufReader`, `BufWriter` and `LineWriter` over these.
+/// A terminal, a file, a pipe, a socket, `&mut [u8]` as a writer and the writers of `Cursor` tell nothing.
+/// `ok` asks it of both sides; `end`, `spent` and `empty` of the reader alone; `read` and `memory` of neither.
+///
 /// # Errors
 ///
 /// [`RunError`] says which of the three steps failed. Only a failed `Write` can leave anything written.
@@ -65,30 +71,36 @@ pub fn run<R: Read, W: Write>(alloc: Global, input: &mut R, output: &mut W) -> R
     ensures ok { OnOk result (IfSome (R.remaining input.old)
         (λ text. Appends (W.contents output.old) (W.contents output.new) (answers text))) }
     ensures end { result ≢ Err RunError.Read → IsAtEnd (R.remaining input.new) }
+    ensures spent { result ≢ Err RunError.Read → IfSome (R.remaining input.old)
+        (λ _. R.remaining input.new ≡ Some []) }
     ensures read { result ≡ Err RunError.Read → output.new ≡ output.old }
     ensures memory { result ≡ Err RunError.Memory → output.new ≡ output.old }
     ensures empty { R.remaining input.old ≡ Some [] → IsOkUnless result RunError.Read
         × (output.new ≡ output.old) }
 {
-    run_in(&alloc, input, output)
+    run_in(&alloc, alloc, input, output)
 }
 
-// `run`, which holds the input and the answers in the memory of any allocator.
+// `run`, which holds the input and the answers in the memory of any allocator; each repaired name is of
+// `global`.
 fn run_in<A: Allocator, R: Read, W: Write>(
     alloc: &A,
+    global: Global,
     input: &mut R,
     output: &mut W,
 ) -> Result<(), RunError>
     ensures ok { OnOk result (IfSome (R.remaining input.old)
         (λ text. Appends (W.contents output.old) (W.contents output.new) (answers text))) }
     ensures end { result ≢ Err RunError.Read → IsAtEnd (R.remaining input.new) }
+    ensures spent { result ≢ Err RunError.Read → IfSome (R.remaining input.old)
+        (λ _. R.remaining input.new ≡ Some []) }
     ensures read { result ≡ Err RunError.Read → output.new ≡ output.old }
     ensures memory { result ≡ Err RunError.Memory → output.new ≡ output.old }
     ensures empty { R.remaining input.old ≡ Some [] → IsOkUnless result RunError.Read
         × (output.new ≡ output.old) }
 {
     let text = read_all(alloc, input).map_err(|_| RunError::Read)?;
-    let answers = answer_all(alloc, &text).map_err(|_| RunError::Memory)?;
+    let answers = answer_all(alloc, global, &text).map_err(|_| RunError::Memory)?;
     write_once(&answers, output).map_err(|_| RunError::Write)
 }
 
@@ -96,6 +108,7 @@ fn run_in<A: Allocator, R: Read, W: Write>(
 fn read_all<A: Allocator, R: Read>(alloc: A, input: &mut R) -> io::Result<Vec<u8, A>>
     ensures bytes { IfOk result (λ text. IfSome (R.remaining input.old) (λ bytes. text.items ≡ bytes)) }
     ensures end { OnOk result (IsAtEnd (R.remaining input.new)) }
+    ensures spent { OnOk result (IfSome (R.remaining input.old) (λ _. R.remaining input.new ≡ Some [])) }
 {
     let mut text = Vec::new(alloc);
     input.read_to_end(&mut text)?;
@@ -115,14 +128,14 @@ fn write_once<W: Write>(bytes: &[u8], output: &mut W) -> io::Result<()>
 }
 
 // The answers to the lines of a text. No memory is asked for where there is no line.
-fn answer_all<A: Allocator>(alloc: A, text: &[u8]) -> Result<Vec<u8, A>, AllocError>
+fn answer_all<A: Allocator>(alloc: A, global: Global, text: &[u8]) -> Result<Vec<u8, A>, AllocError>
     ensures ok { IfOk result (λ written. written.items ≡ answers text.now) }
     ensures err { OnErr result (text.now ≢ []) }
 {
     let mut answers = Vec::new(alloc);
     let mut rest = text;
     while let Some((line, after)) = first_line(rest) {
-        push_answer(line, &mut answers)?;
+        push_answer(global, line, &mut answers)?;
         answers.push(b'\n')?;
         rest = after;
     }
@@ -153,19 +166,24 @@ fn split_once(separator: u8, text: &[u8]) -> Option<(&[u8], &[u8])>
 }
 
 // Appends the answer to one line.
-fn push_answer<A: Allocator>(line: &[u8], answers: &mut Vec<u8, A>) -> Result<(), AllocError>
+fn push_answer<A: Allocator>(
+    global: Global,
+    line: &[u8],
+    answers: &mut Vec<u8, A>,
+) -> Result<(), AllocError>
     ensures ok { OnOk result (answers.new.items ≡ answers.old.items ++ answer_of line.now) }
     ensures full { request_of line.now ≡ None → OnErr result
         (vec_capacity answers.old < vec_len answers.old + length unknown_kind) }
 {
     match split_once(b' ', line) {
-        Some((kind, name)) => push_answer_by(kind, BStr::new(name), answers),
+        Some((kind, name)) => push_answer_by(global, kind, BStr::new(name), answers),
         None => answers.extend_from_slice(UNKNOWN_KIND),
     }
 }
 
 // Appends what a kind answers for a name.
 fn push_answer_by<A: Allocator>(
+    global: Global,
     kind: &[u8],
     name: BStr<'_>,
     answers: &mut Vec<u8, A>,
@@ -190,7 +208,7 @@ fn push_answer_by<A: Allocator>(
     } else if is_word(kind, b"device") {
         push_device(name, answers)
     } else if is_word(kind, b"sanitize") {
-        push_sanitized(name, answers)
+        push_sanitized(global, name, answers)
     } else {
         answers.extend_from_slice(UNKNOWN_KIND)
     }
@@ -213,8 +231,8 @@ fn push_component<A: Allocator>(
     answers: &mut Vec<u8, A>,
 ) -> Result<(), AllocError>
     ensures ok { OnOk result (answers.new.items ≡ answers.old.items
-        ++ verdict (component_fault_of all_protections mode (bstr_bytes name.entry)) component_text_of) }
-    ensures full { component_fault_of all_protections mode (bstr_bytes name.entry) ≡ None → OnErr result
+        ++ verdict (fault_of all_protections mode (bstr_bytes name.entry)) component_text) }
+    ensures full { fault_of all_protections mode (bstr_bytes name.entry) ≡ None → OnErr result
         (vec_capacity answers.old < vec_len answers.old + length (codes "ok")) }
 {
     push_verdict(
@@ -235,25 +253,17 @@ fn push_device<A: Allocator>(name: BStr<'_>, answers: &mut Vec<u8, A>) -> Result
     }
 }
 
-// Appends the name, repaired to a partial name.
-fn push_sanitized<A: Allocator>(name: BStr<'_>, answers: &mut Vec<u8, A>) -> Result<(), AllocError>
-    ensures ok { OnOk result (answers.new.items
+// Appends the name, repaired to a partial name. The copy of it is given back.
+fn push_sanitized<A: Allocator>(
+    global: Global,
+    name: BStr<'_>,
+    answers: &mut Vec<u8, A>,
+) -> Result<(), AllocError>
+    ensures { OnOk result (answers.new.items
         ≡ answers.old.items ++ sanitized (bstr_bytes name.entry)) }
-    ensures full { OnErr result (vec_capacity answers.old
-        < vec_len answers.old + max 1 (length (bstr_bytes name.entry))) }
 {
-    let name = name.as_bytes();
-    // An empty name is repaired to one byte, which needs its room.
-    let copy = if name.is_empty() {
-        b"-".as_slice()
-    } else {
-        name
-    };
-    let start = answers.len();
-    answers.extend_from_slice(copy)?;
-    let len = reference::sanitize_in_place(&mut answers[start..], name.len());
-    answers.truncate(start + len);
-    Ok(())
+    let repaired = reference::name_partial_or_sanitize(global, name)?;
+    answers.extend_from_slice(repaired.as_slice())
 }
 
 // Appends what a validator says: that the name may serve, or its fault.

@@ -16,7 +16,7 @@ is_after_dot (Some a) = a == byte "."
 
 -- what one byte of a piece adds, behind this byte of the piece, if any
 abbrev pub given : Option ℕ → ℕ → List ℕ
-given before b = cond (b == byte ".") (cond (is_after_dot before) [] (byte_of before (Dots 1) ∷ [])) (byte_of before (Other b) ∷ [])
+given before b = cond (b == byte ".") (cond (is_after_dot before) [] (byte_of before Dots ∷ [])) (byte_of before (Other b) ∷ [])
 
 -- what the bytes of a piece add
 abbrev pub given_by : Option ℕ → List ℕ → List ℕ
@@ -25,25 +25,25 @@ given_by before (b ∷ p) = given before b ++ given_by (Some b) p
 
 one_dot : (before : Option ℕ) (rest : List Run) → bytes_of before (dot_before (dot_before rest)) ≡ bytes_of before (dot_before rest)
 one_dot None [] = refl
-one_dot None (Dots n ∷ rest) = refl
+one_dot None (Dots ∷ rest) = refl
 one_dot None (Other b ∷ rest) = refl
 one_dot (Some a) [] = refl
-one_dot (Some a) (Dots n ∷ rest) = refl
+one_dot (Some a) (Dots ∷ rest) = refl
 one_dot (Some a) (Other b ∷ rest) = refl
 
 -- runs against bytes: behind no dot, and with a dot in front
 both : (p : List ℕ) → ((before : Option ℕ) → is_after_dot before ≡ false → bytes_of before (runs p) ≡ given_by before p)
-    × ((before : Option ℕ) → bytes_of before (dot_before (runs p)) ≡ byte_of before (Dots 1) ∷ given_by (Some (byte ".")) p)
+    × ((before : Option ℕ) → bytes_of before (dot_before (runs p)) ≡ byte_of before Dots ∷ given_by (Some (byte ".")) p)
 both [] = (λ before h. refl, λ before. refl)
 both (b ∷ p) =
     let more = both p in
     elim (cases_Bool (b == byte ".")) [
       | inl dot ↦ (
         λ before h. rw (dot, h) (more.1 before
-            ∙ ap (λ v. byte_of before (Dots 1) ∷ given_by (Some v) p) (sym (eqb-true b (byte ".") dot))),
-        λ before. rw dot (one_dot before (runs p) ∙ (more.1 before ∙ ap (λ v. byte_of before (Dots 1) ∷ given_by (Some v) p) (sym (eqb-true b (byte ".") dot)))),
+            ∙ ap (λ v. byte_of before Dots ∷ given_by (Some v) p) (sym (eqb-true b (byte ".") dot))),
+        λ before. rw dot (one_dot before (runs p) ∙ (more.1 before ∙ ap (λ v. byte_of before Dots ∷ given_by (Some v) p) (sym (eqb-true b (byte ".") dot)))),
       )
-      | inr other ↦ (λ before h. rw other (ap (λ v. byte_of before (Other b) ∷ v) (more.0 (Some b) other)), λ before. rw other (ap (λ v. byte_of before (Dots 1) ∷ (allowed b ∷ v)) (more.0 (Some b) other)))
+      | inr other ↦ (λ before h. rw other (ap (λ v. byte_of before (Other b) ∷ v) (more.0 (Some b) other)), λ before. rw other (ap (λ v. byte_of before Dots ∷ (allowed b ∷ v)) (more.0 (Some b) other)))
     ]
 
 pub cleaned-given_by : (p : List ℕ) → cleaned p ≡ given_by None p
@@ -148,7 +148,7 @@ byte_of_other (Some a) b = cond_both (a == byte "@" && b == byte "{") (byte "-")
     × (v ≡ b))) (λ _. inl refl) (λ _. allowed_is b)
 
 dots_quiet : (before last : Option ℕ) (t : List ℕ) → is_after_dot before ≡ false → Agree before last
-    → is_quiet (Some (byte "-")) t ≡ true → is_quiet (Some (byte ".")) t ≡ true → is_quiet last (byte_of before (Dots 1) ∷ t) ≡ true
+    → is_quiet (Some (byte "-")) t ≡ true → is_quiet (Some (byte ".")) t ≡ true → is_quiet last (byte_of before Dots ∷ t) ≡ true
 dots_quiet None last t h agree dash dot = dash_quiet last t dash
 dots_quiet (Some a) last t h agree dash dot = and_from (may_follow last (byte ".")) (is_quiet (Some (byte ".")) t) (dot_follows a last h agree) dot
 
@@ -182,7 +182,7 @@ apart_byte before b h =
     cond_both (b == byte ".") _ _ (λ v. has_no_slash v ≡ true)
     (λ _. cond_both (is_after_dot before) _ _ (λ v. has_no_slash v ≡ true) (λ _. refl) (λ _. dots before))
     (λ _. elim (byte_of_other before b) [ inl dash ↦ rw dash refl | inr kept ↦ rw kept.1 (and_from (not (is_slash b)) true h refl) ]) where
-      dots : (before : Option ℕ) → has_no_slash (byte_of before (Dots 1) ∷ []) ≡ true
+      dots : (before : Option ℕ) → has_no_slash (byte_of before Dots ∷ []) ≡ true
       dots None = refl
       dots (Some a) = refl
 

@@ -6,13 +6,13 @@ use Rattle.std.specs.Prelude.{codes, is_none}
 use Rattle.std.specs.Str.{bytes_eq}
 use Rattle.gix_validate.specs.declared.tag.NameError.TheVariants.{InvalidByte, RepeatedSlash, RepeatedDot, LockFileSuffix, StartsWithDot}
 use Rattle.gix_validate.specs.Bytes.{is_bad, is_among, ends}
-use Rattle.gix_validate.specs.Faults.{when, first_of, ◌orelse◌, at_least_place}
+use Rattle.gix_validate.specs.Faults.{when, first_of, ◌orelse◌, at_first_place}
 use Rattle.gix_validate.specs.Tag.{fault_of, faults_at, is_tag_name}
 use Rattle.gix_validate.specs.Reference.{is_partial_name}
 use Rattle.gix_validate.specs.Clear.{is_suspect, has_no_suspect, is_clear}
 use Rattle.gix_validate.proofs.TextLemmas.{ends_push_one}
 use Rattle.gix_validate.proofs.TagFaults.{lock_ends_in_k, after_dot, after_slash, after_other}
-use Rattle.gix_validate.proofs.TagWalk.{fault_after, walked, at_least_place_walked, at_least_place_split}
+use Rattle.gix_validate.proofs.TagWalk.{fault_after, walked, at_first_place_walked, at_first_place_split}
 use Rattle.gix_validate.proofs.TagGrammar.{grammar_law}
 use Rattle.gix_validate.proofs.TagEnds.{fault_of_read, at_none, ends_read}
 
@@ -106,9 +106,9 @@ clear_has_no_fault (b ∷ x) h =
     let last = or_parts (ends y (codes "/")) (ends y (codes ".")) lock.0 in
     let start = first_is b (not-true _ (and_parts (not (is_suspect 47 b)) (has_no_suspect b x) parts.0).0) in
     let some : 0 < length y = omega arith in
-    let places : at_least_place (λ i. first_of (faults_at y i)) (length y) ≡ None =
-    at_least_place_split y refl
-    ∙ ap₂ (λ e t. e orelse when t LockFileSuffix) (at_least_place_walked y ∙ walks y parts.0) (ap (λ t. t && not (bytes_eq y (codes ".lock"))) lock.1) in
+    let places : at_first_place (λ i. first_of (faults_at y i)) (length y) ≡ None =
+    at_first_place_split y refl
+    ∙ ap₂ (λ e t. e orelse when t LockFileSuffix) (at_first_place_walked y ∙ walks y parts.0) (ap (λ t. t && not (bytes_eq y (codes ".lock"))) lock.1) in
     fault_of_read y some
     ∙ at_none _ _ _ _ _ (sym (ends_read y 47 some) ∙ last.0) start.1 places start.0 (sym (ends_read y 46 some) ∙ last.1)
 

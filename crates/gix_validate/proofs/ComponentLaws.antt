@@ -1,5 +1,5 @@
 -- The laws of path components, proved of their definitions.
-use Rattle.std.proofs.Common.{◌≡◌, ℕ, zero, suc, ◌+◌, Bool, true, false, cond, ◌&&◌, ◌||◌, not, is_none, is_some, Option, Some, None, List, [], ◌∷◌, length, refl, sym, ap, arith}
+use Rattle.std.proofs.Common.{◌∙◌, ◌≡◌, ℕ, zero, suc, ◌+◌, Bool, true, false, cond, ◌&&◌, ◌||◌, not, is_none, is_some, Option, Some, None, List, [], ◌∷◌, length, refl, sym, ap, arith}
 use Rattle.std.specs.Prelude.{codes, slice_index, IsTrue}
 use Rattle.std.specs.Bool.{◌==◌}
 use Rattle.std.specs.List.{list_all}
@@ -17,9 +17,10 @@ use Rattle.gix_validate.specs.Units.{is_within, fitting_len, whole_len, begun_le
 use Rattle.gix_validate.specs.Hfs.{is_ignored, hfs_form}
 use Rattle.gix_validate.specs.Ntfs.{ntfs_form, is_git_form, is_modules_form}
 use Rattle.gix_validate.specs.Windows.{device_form, is_device_form, is_device, is_illegal_byte, is_illegal}
-use Rattle.gix_validate.specs.Component.{has_byte, conditions, conditions_under, component_fault_of, is_component}
-use Rattle.gix_validate.specs.ComponentLaws.{PassesFewer, FaultIgnoresCase, FormIsKeptUnits, IsSafe, DeviceIgnoresCase, DeviceGoesByForm}
+use Rattle.gix_validate.specs.Component.{conditions, conditions_under, fault_of, is_component}
+use Rattle.gix_validate.specs.ComponentLaws.{PassesFewer, FaultIgnoresCase, FormIsKeptUnits, IsBasicName, DeviceIgnoresCase, DeviceGoesByForm}
 use Rattle.gix_validate.proofs.UnitLemmas.{hfs_form-none, hfs_form-one, hfs_form-two, hfs_form-more, hfs_form-units}
+use Rattle.gix_validate.proofs.LetterLemmas.{eqb_turned}
 use Rattle.gix_validate.proofs.CaseLemmas.{test-lower_byte, lower-lower, list_any-lower, bytes_eq-lower, before_first-lower, without_end-lower, ends-lower}
 
 -- The table of faults as a function of the answers of its tests.
@@ -39,7 +40,7 @@ table windows hfs ntfs symlink empty dot dots slash back prefix hfs_git hfs_modu
     ∷ when (not hfs && not ntfs && symlink && modules) SymlinkedGitModules
     ∷ []
 
-conditions_table : (w h n s : Bool) (x : List ℕ) → conditions w h n s x ≡ table w h n s (is_empty x) (bytes_eq x (codes ".")) (bytes_eq x (codes "..")) (has_byte (byte "/") x) (has_byte (byte "\\") x) (slice_index x (first_unit_len x) == byte ":") (bytes_eq (lower (hfs_form x)) (codes ".git")) (bytes_eq (lower (hfs_form x)) (codes ".gitmodules")) (is_git_form (lower (ntfs_form x))) (is_modules_form (lower (ntfs_form x))) (is_device x) (is_illegal x) (bytes_eq (lower x) (codes ".git")) (bytes_eq (lower x) (codes ".gitmodules"))
+conditions_table : (w h n s : Bool) (x : List ℕ) → conditions ntfs_form w h n s x ≡ table w h n s (is_empty x) (bytes_eq x (codes ".")) (bytes_eq x (codes "..")) (is_among x (byte "/")) (is_among x (byte "\\")) (slice_index x (first_unit_len x) == byte ":") (bytes_eq (lower (hfs_form x)) (codes ".git")) (bytes_eq (lower (hfs_form x)) (codes ".gitmodules")) (is_git_form (lower (ntfs_form x))) (is_modules_form (lower (ntfs_form x))) (is_device x) (is_illegal x) (bytes_eq (lower x) (codes ".git")) (bytes_eq (lower x) (codes ".gitmodules"))
 unfolding conditions table
 conditions_table w h n s x = refl
 
@@ -145,13 +146,13 @@ is_illegal-lower : (x : List ℕ) → is_illegal (lower x) ≡ is_illegal x
 unfolding is_illegal is_illegal_byte
 is_illegal-lower x = rw (list_any-lower is_illegal_byte refl x, ends-lower (codes ".") refl x, ends-lower (codes " ") refl x)
 
-conditions-lower : (w h n s : Bool) (x : List ℕ) → conditions w h n s x ≡ conditions w h n s (lower x)
+conditions-lower : (w h n s : Bool) (x : List ℕ) → conditions ntfs_form w h n s x ≡ conditions ntfs_form w h n s (lower x)
 conditions-lower w h n s x =
     let empty = is_empty-lower x in
     let dot = bytes_eq-lower (codes ".") refl x in
     let dots = bytes_eq-lower (codes "..") refl x in
-    let slash = list_any-lower (λ c. c == byte "/") refl x in
-    let back = list_any-lower (λ c. c == byte "\\") refl x in
+    let slash = list_any-lower (λ c. byte "/" == c) refl x in
+    let back = list_any-lower (λ c. byte "\\" == c) refl x in
     let prefix = prefix-lower x in
     let hfs_git = ap (λ form. bytes_eq form (codes ".git")) (lower-hfs_form x) in
     let hfs_modules = ap (λ form. bytes_eq form (codes ".gitmodules")) (lower-hfs_form x) in
@@ -165,7 +166,7 @@ conditions-lower w h n s x =
 
 -- A change of letter case changes neither acceptance nor the fault.
 pub case_law : (options : ComponentOptions) (mode : Option ComponentMode) (x : List ℕ) → FaultIgnoresCase options mode x
-unfolding component_fault_of
+unfolding fault_of
 case_law options mode x = ap first_of (conditions-lower options.protect_windows options.protect_hfs options.protect_ntfs (is_some mode) x)
 
 pub device_case_law : (x : List ℕ) → DeviceIgnoresCase x
@@ -181,15 +182,15 @@ none_of (None ∷ lines) = none_of lines
 none_of (Some fault ∷ lines) = refl
 
 -- A text is a component exactly where it has no fault.
-pub grammar_law : (options : ComponentOptions) (mode : Option ComponentMode) (x : List ℕ) → is_component options mode x ≡ is_none (component_fault_of options mode x)
-unfolding is_component component_fault_of
+pub grammar_law : (options : ComponentOptions) (mode : Option ComponentMode) (x : List ℕ) → is_component options mode x ≡ is_none (fault_of options mode x)
+unfolding is_component fault_of
 grammar_law options mode x = none_of (conditions_under options mode x)
 
 -- None of the conditions holds, each by itself.
 record NoneHolds (windows hfs ntfs symlink : Bool) (x : List ℕ) : Type 0 where
   empty : is_empty x ≡ false
   relative : (bytes_eq x (codes ".") || bytes_eq x (codes "..")) ≡ false
-  separator : (has_byte (byte "/") x || (windows && has_byte (byte "\\") x)) ≡ false
+  separator : (is_among x (byte "/") || (windows && is_among x (byte "\\"))) ≡ false
   prefix : (windows && slice_index x (first_unit_len x) == byte ":") ≡ false
   hfs_git : (hfs && bytes_eq (lower (hfs_form x)) (codes ".git")) ≡ false
   hfs_modules : (hfs && symlink && bytes_eq (lower (hfs_form x)) (codes ".gitmodules")) ≡ false
@@ -221,10 +222,10 @@ line_off false fault none = refl
 line_on : (test : Bool) (fault : ComponentError) → test ≡ false → when test fault ≡ None
 line_on test fault off = rw off
 
-NoneHolds-from_none : (w h n s : Bool) (x : List ℕ) → first_of (conditions w h n s x) ≡ None → NoneHolds w h n s x
+NoneHolds-from_none : (w h n s : Bool) (x : List ℕ) → first_of (conditions ntfs_form w h n s x) ≡ None → NoneHolds w h n s x
 unfolding conditions
 NoneHolds-from_none w h n s x none =
-    let lines = AllNone-from_first (conditions w h n s x) none in
+    let lines = AllNone-from_first (conditions ntfs_form w h n s x) none in
     record {
       empty = line_off _ _ lines.0;
       relative = line_off _ _ lines.1.0;
@@ -240,10 +241,10 @@ NoneHolds-from_none w h n s x none =
       modules = line_off _ _ lines.1.1.1.1.1.1.1.1.1.1.1.0;
     }
 
-none_from_NoneHolds : (w h n s : Bool) (x : List ℕ) → NoneHolds w h n s x → first_of (conditions w h n s x) ≡ None
+none_from_NoneHolds : (w h n s : Bool) (x : List ℕ) → NoneHolds w h n s x → first_of (conditions ntfs_form w h n s x) ≡ None
 unfolding conditions
 none_from_NoneHolds w h n s x off =
-    first_from_AllNone (conditions w h n s x) (
+    first_from_AllNone (conditions ntfs_form w h n s x) (
       line_on _ _ off.empty,
       (
         line_on _ _ off.relative,
@@ -362,8 +363,8 @@ NoneHolds-fewer w h n s w' h' n' s' windows hfs ntfs symlink x off =
     }
 
 -- What is accepted is accepted under fewer switches, and without the mode.
-pub fewer_law : (options : ComponentOptions) (mode : Option ComponentMode) (x : List ℕ) → component_fault_of options mode x ≡ None → PassesFewer options mode x
-unfolding component_fault_of
+pub fewer_law : (options : ComponentOptions) (mode : Option ComponentMode) (x : List ℕ) → fault_of options mode x ≡ None → PassesFewer options mode x
+unfolding fault_of
 fewer_law options mode x none =
     let w = options.protect_windows in
     let h = options.protect_hfs in
@@ -375,16 +376,16 @@ fewer_law options mode x none =
       none_from_NoneHolds fewer.protect_windows fewer.protect_hfs fewer.protect_ntfs false x (NoneHolds-fewer w h n s fewer.protect_windows fewer.protect_hfs fewer.protect_ntfs false part.windows part.hfs part.ntfs (λ on. absurd (false≢true on)) x off),
     )
 
-has_no_slash-from_none : (x : List ℕ) → has_byte (byte "/") x ≡ false → has_no_slash x ≡ true
+has_no_slash-from_none : (x : List ℕ) → is_among x (byte "/") ≡ false → has_no_slash x ≡ true
 has_no_slash-from_none [] none = refl
 has_no_slash-from_none (b ∷ x) none =
     let parts = or_parts _ _ none in
-    and_from _ _ (not_from_false _ parts.0) (has_no_slash-from_none x parts.1)
+    and_from _ _ (not_from_false _ (eqb_turned b 47 ∙ parts.0)) (has_no_slash-from_none x parts.1)
 
 -- What is accepted is nonempty, neither `.` nor `..`, has no slash, and isn't `.git` in any case.
-pub safe_law : (options : ComponentOptions) (mode : Option ComponentMode) (x : List ℕ) → component_fault_of options mode x ≡ None → IsSafe x
-unfolding component_fault_of
-safe_law options mode x none =
+pub basic_law : (options : ComponentOptions) (mode : Option ComponentMode) (x : List ℕ) → fault_of options mode x ≡ None → IsBasicName x
+unfolding fault_of
+basic_law options mode x none =
     let w = options.protect_windows in
     let h = options.protect_hfs in
     let n = options.protect_ntfs in

@@ -8,7 +8,8 @@ use Rattle.std.proofs.lemmas.Bool.{and_parts}
 use Rattle.std.proofs.lemmas.Bool.Decides.{nat_tests}
 use Rattle.gix_validate.specs.Bytes.{is_empty, is_among, lower, lower_byte, begins}
 use Rattle.gix_validate.specs.Ntfs.{is_digit}
-use Rattle.gix_validate.specs.Windows.{device_form, devices, is_device, is_device_form, is_plain}
+use Rattle.gix_validate.specs.Windows.{device_form, devices, is_device, is_device_form}
+use Rattle.gix_validate.specs.Ordinary.{stays_in_form}
 use Rattle.gix_validate.proofs.WordLemmas.{device_keeps, word_front, word_head, none_left, form_left, form_all_left, form_word_then, form_word_not}
 
 abbrev pub is_cut : ℕ → Bool
@@ -25,11 +26,11 @@ pub device_all_left : (x : List ℕ) (i : ℕ) → length x ≤ i → is_empty (
 unfolding device_form
 device_all_left = form_all_left is_cut is_trimmed
 
-pub device_word_then : (word x rest : List ℕ) (r : Bool) → IsTrue (list_all is_plain word) → (begins (lower x) (lower word) ≡ true) × (rest ≡ drop (length word) x) → r ≡ is_empty (device_form rest) → r ≡ bytes_eq (lower (device_form x)) (lower word)
+pub device_word_then : (word x rest : List ℕ) (r : Bool) → IsTrue (list_all stays_in_form word) → (begins (lower x) (lower word) ≡ true) × (rest ≡ drop (length word) x) → r ≡ is_empty (device_form rest) → r ≡ bytes_eq (lower (device_form x)) (lower word)
 unfolding device_form
 device_word_then = form_word_then is_cut is_trimmed device_keeps
 
-pub device_word_not : (word x : List ℕ) → IsTrue (list_all is_plain word) → begins (lower x) (lower word) ≡ false → false ≡ bytes_eq (lower (device_form x)) (lower word)
+pub device_word_not : (word x : List ℕ) → IsTrue (list_all stays_in_form word) → begins (lower x) (lower word) ≡ false → false ≡ bytes_eq (lower (device_form x)) (lower word)
 unfolding device_form
 device_word_not = form_word_not is_cut is_trimmed device_keeps
 
@@ -41,7 +42,7 @@ digit_alike : (c d : ℕ) → is_digit d ≡ true → eqb (lower_byte c) d ≡ e
 unfolding lower_byte
 digit_alike c d digit = grind (arith, nat_tests)
 
-digit_is_plain : (d : ℕ) → is_digit d ≡ true → is_plain d ≡ true
+digit_is_plain : (d : ℕ) → is_digit d ≡ true → stays_in_form d ≡ true
 digit_is_plain d digit = grind (arith, nat_tests)
 
 one_digit : (c : ℕ) (t : List ℕ) (d : ℕ) → is_digit d ≡ true → bytes_eq (lower (device_form (c ∷ t))) (d ∷ []) ≡ (eqb d c && is_empty (device_form t))
@@ -61,7 +62,7 @@ no_digit d = refl
 abbrev pub numbered_by : List ℕ → List ℕ → ℕ → Bool
 numbered_by x word d = bytes_eq (lower (device_form x)) (lower word ++ d ∷ [])
 
-numbered_front : (x word : List ℕ) (d : ℕ) → IsTrue (list_all is_plain word) → numbered_by x word d ≡ (begins (lower x) (lower word) && bytes_eq (lower (device_form (drop (length word) x))) (d ∷ []))
+numbered_front : (x word : List ℕ) (d : ℕ) → IsTrue (list_all stays_in_form word) → numbered_by x word d ≡ (begins (lower x) (lower word) && bytes_eq (lower (device_form (drop (length word) x))) (d ∷ []))
 unfolding device_form
 numbered_front x word d plain = word_front is_cut is_trimmed device_keeps word x (d ∷ []) plain
 
@@ -72,7 +73,7 @@ or_of_ands true false true = refl
 or_of_ands true false false = refl
 or_of_ands false q e = refl
 
-pub numbered_empty : (x word digits rest : List ℕ) → IsTrue (list_all is_plain word) → (begins (lower x) (lower word) ≡ true) × (rest ≡ drop (length word) x) → length rest < 1 → list_any (numbered_by x word) digits ≡ false
+pub numbered_empty : (x word digits rest : List ℕ) → IsTrue (list_all stays_in_form word) → (begins (lower x) (lower word) ≡ true) × (rest ≡ drop (length word) x) → length rest < 1 → list_any (numbered_by x word) digits ≡ false
 numbered_empty x word [] rest plain front none = refl
 numbered_empty x word (d ∷ digits) [] plain front none =
     ap (λ v. v || list_any (numbered_by x word) digits)
@@ -80,7 +81,7 @@ numbered_empty x word (d ∷ digits) [] plain front none =
     ∙ numbered_empty x word digits [] plain front none
 numbered_empty x word (d ∷ digits) (c ∷ rest) plain front none = absurd (omega arith)
 
-pub numbered_some : (x word digits rest : List ℕ) → IsTrue (list_all is_plain word) → IsTrue (list_all is_digit digits) → (begins (lower x) (lower word) ≡ true) × (rest ≡ drop (length word) x) → 1 ≤ length rest → list_any (numbered_by x word) digits ≡ (list_any (λ d. eqb d (get_or rest 0 0)) digits && is_empty (device_form (drop 1 rest)))
+pub numbered_some : (x word digits rest : List ℕ) → IsTrue (list_all stays_in_form word) → IsTrue (list_all is_digit digits) → (begins (lower x) (lower word) ≡ true) × (rest ≡ drop (length word) x) → 1 ≤ length rest → list_any (numbered_by x word) digits ≡ (list_any (λ d. eqb d (get_or rest 0 0)) digits && is_empty (device_form (drop 1 rest)))
 numbered_some x word [] rest plain digits_are front some = refl
 numbered_some x word (d ∷ digits) [] plain digits_are front some = absurd (omega arith)
 numbered_some x word (d ∷ digits) (c ∷ t) plain digits_are front some =
@@ -92,7 +93,7 @@ numbered_some x word (d ∷ digits) (c ∷ t) plain digits_are front some =
 
 -- ---- a name by its first three letters
 
-small_word_head : (b : ℕ) (x : List ℕ) (w : ℕ) (ws : List ℕ) → lower_byte w ≡ w → is_plain w ≡ true → bytes_eq (lower (device_form (b ∷ x))) (w ∷ ws) ≡ (eqb (lower_byte b) w && bytes_eq (lower (device_form x)) ws)
+small_word_head : (b : ℕ) (x : List ℕ) (w : ℕ) (ws : List ℕ) → lower_byte w ≡ w → stays_in_form w ≡ true → bytes_eq (lower (device_form (b ∷ x))) (w ∷ ws) ≡ (eqb (lower_byte b) w && bytes_eq (lower (device_form x)) ws)
 unfolding device_form
 small_word_head b x w ws small plain =
     ap (λ v. bytes_eq (lower (device_form (b ∷ x))) (v ∷ ws)) (sym small)
@@ -111,7 +112,7 @@ letter_small : (l : ℕ) → 97 ≤ l → l ≤ 122 → lower_byte l ≡ l
 unfolding lower_byte
 letter_small l from to = grind (arith, nat_tests)
 
-letter_plain : (l : ℕ) → 97 ≤ l → l ≤ 122 → is_plain l ≡ true
+letter_plain : (l : ℕ) → 97 ≤ l → l ≤ 122 → stays_in_form l ≡ true
 letter_plain l from to = grind (arith, nat_tests)
 
 letter_head : (b : ℕ) (x : List ℕ) (l : ℕ) (ws : List ℕ) → 97 ≤ l → l ≤ 122 → bytes_eq (lower (device_form (b ∷ x))) (l ∷ ws) ≡ (is_letter b l && bytes_eq (lower (device_form x)) ws)

@@ -11,7 +11,7 @@ use Rattle.std.proofs.lemmas.Bool.Decides.{nat_tests}
 use Rattle.std.proofs.lemmas.Grind.{common_steps}
 use Rattle.gix_validate.specs.Bytes.{is_empty, lower, lower_byte}
 use Rattle.gix_validate.specs.Ntfs.{ntfs_form, is_modules_form, is_short_name, is_digit}
-use Rattle.gix_validate.specs.Windows.{is_plain}
+use Rattle.gix_validate.specs.Ordinary.{stays_in_form}
 use Rattle.gix_validate.proofs.CaseLemmas.{test-lower_byte}
 use Rattle.gix_validate.proofs.WordLemmas.{plain_head, ntfs_keeps}
 use Rattle.gix_validate.proofs.NtfsLemmas.{is_cut, is_trimmed, ntfs_form-at, ntfs_form-none, dot_stays, ntfs_other}
@@ -21,21 +21,21 @@ bool_same true t h k = sym (h refl)
 bool_same false true h k = k refl
 bool_same false false h k = refl
 
-digits_are_plain : (x : List ℕ) → list_all is_digit x ≡ true → list_all is_plain x ≡ true
+digits_are_plain : (x : List ℕ) → list_all is_digit x ≡ true → list_all stays_in_form x ≡ true
 digits_are_plain [] digits = refl
 digits_are_plain (b ∷ x) digits =
     let parts = and_parts (is_digit b) (list_all is_digit x) digits in
-    let first : is_plain b ≡ true = grind (arith, nat_tests, parts.0) in
+    let first : stays_in_form b ≡ true = grind (arith, nat_tests, parts.0) in
     and_from _ _ first (digits_are_plain x parts.1)
 
 -- eight bytes around the tilde and the digit after it
 in_four : (k : ℕ) (w : List ℕ) → k + 2 ≤ length w → w ≡ take k w ++ (get_or w k 0 ∷ (get_or w (k + 1) 0 ∷ drop (k + 2) w))
 in_four k w long = grind (arith, common_steps)
 
-middle_is_plain : (b d : ℕ) → (b == byte "~") ≡ true → nat_le (byte "1") d ≡ true → nat_le d (byte "9") ≡ true → (is_plain b ≡ true) × (is_plain d ≡ true)
+middle_is_plain : (b d : ℕ) → (b == byte "~") ≡ true → nat_le (byte "1") d ≡ true → nat_le d (byte "9") ≡ true → (stays_in_form b ≡ true) × (stays_in_form d ≡ true)
 middle_is_plain b d tilde from to = (grind (arith, nat_tests), grind (arith, nat_tests))
 
-short_is_plain : (k : ℕ) (w : List ℕ) → k ≤ 6 → list_all is_plain (take k (codes "gi7eba")) ≡ true → is_short_name k w ≡ true → (length w ≡ 8) × (list_all is_plain w ≡ true)
+short_is_plain : (k : ℕ) (w : List ℕ) → k ≤ 6 → list_all stays_in_form (take k (codes "gi7eba")) ≡ true → is_short_name k w ≡ true → (length w ≡ 8) × (list_all stays_in_form w ≡ true)
 short_is_plain k w few letters short =
     let a = and_parts _ _ short in
     let b = and_parts _ _ a.0 in
@@ -43,13 +43,13 @@ short_is_plain k w few letters short =
     let d = and_parts _ _ c.0 in
     let e = and_parts _ _ d.0 in
     let eight : length w ≡ 8 = eqb-true _ _ e.0 in
-    let front : list_all is_plain (take k w) ≡ true = ap (list_all is_plain) ((bytes_eq-Decides (take k w) (take k (codes "gi7eba"))).0 e.1) ∙ letters in
+    let front : list_all stays_in_form (take k w) ≡ true = ap (list_all stays_in_form) ((bytes_eq-Decides (take k w) (take k (codes "gi7eba"))).0 e.1) ∙ letters in
     let middle = middle_is_plain (slice_index w k) (slice_index w (k + 1)) d.1 c.1 b.1 in
     let whole = in_four k w (omega arith) in
-    (eight, ap (list_all is_plain) whole ∙ list_all-append is_plain (take k w) _ ∙ and_from _ _ front (and_from _ _ middle.0 (and_from _ _ middle.1 (digits_are_plain (drop (k + 2) w) a.1))))
+    (eight, ap (list_all stays_in_form) whole ∙ list_all-append stays_in_form (take k w) _ ∙ and_from _ _ front (and_from _ _ middle.0 (and_from _ _ middle.1 (digits_are_plain (drop (k + 2) w) a.1))))
 
 -- a short name has eight bytes, and all are plain
-short_names_are_plain : (w : List ℕ) → list_any (λ k. is_short_name k w) (range_with_len 0 7) ≡ true → (length w ≡ 8) × (list_all is_plain w ≡ true)
+short_names_are_plain : (w : List ℕ) → list_any (λ k. is_short_name k w) (range_with_len 0 7) ≡ true → (length w ≡ 8) × (list_all stays_in_form w ≡ true)
 short_names_are_plain w any =
     elim (or_cases (is_short_name 0 w) _ any) [
       | inl at ↦ short_is_plain 0 w (omega arith) refl at
@@ -77,12 +77,12 @@ short_names_are_plain w any =
           ]
     ]
 
-literal_is_plain : (w p : List ℕ) → (length p ≡ 8) × (list_all is_plain p ≡ true) → bytes_eq w p ≡ true → (length w ≡ 8) × (list_all is_plain w ≡ true)
+literal_is_plain : (w p : List ℕ) → (length p ≡ 8) × (list_all stays_in_form p ≡ true) → bytes_eq w p ≡ true → (length w ≡ 8) × (list_all stays_in_form w ≡ true)
 literal_is_plain w p facts same =
     let e = (bytes_eq-Decides w p).0 same in
-    (ap length e ∙ facts.0, ap (list_all is_plain) e ∙ facts.1)
+    (ap length e ∙ facts.0, ap (list_all stays_in_form) e ∙ facts.1)
 
-modules_cases : (w : List ℕ) → is_modules_form w ≡ true → (w ≡ codes ".gitmodules") ⊎ ((length w ≡ 8) × (list_all is_plain w ≡ true))
+modules_cases : (w : List ℕ) → is_modules_form w ≡ true → (w ≡ codes ".gitmodules") ⊎ ((length w ≡ 8) × (list_all stays_in_form w ≡ true))
 unfolding is_modules_form
 modules_cases w modules =
     elim (or_cases _ (list_any (λ k. is_short_name k w) (range_with_len 0 7)) modules) [
@@ -117,11 +117,11 @@ dotted w front = bool_same _ _ (λ h. elim (modules_cases w h) [
   | inr plain ↦ absurd (no_plain w front plain.0 plain.1)
 ]) (whole_is_modules w)
   where
-    no_plain : (w : List ℕ) → (w ≡ []) ⊎ (get_or w 0 0 ≡ byte ".") → length w ≡ 8 → list_all is_plain w ≡ true → ⊥
+    no_plain : (w : List ℕ) → (w ≡ []) ⊎ (get_or w 0 0 ≡ byte ".") → length w ≡ 8 → list_all stays_in_form w ≡ true → ⊥
     no_plain [] front eight plain = omega arith
     no_plain (b ∷ w) front eight plain = elim front [
       | inl none ↦ cc
-      | inr dot ↦ false≢true (sym (ap is_plain dot) ∙ (and_parts (is_plain b) (list_all is_plain w) plain).0)
+      | inr dot ↦ false≢true (sym (ap stays_in_form dot) ∙ (and_parts (stays_in_form b) (list_all stays_in_form w) plain).0)
     ]
 
 none_is_none : ntfs_form [] ≡ []
@@ -144,16 +144,16 @@ form_is_front (b ∷ x) =
     rw e (front_by_tests (is_cut b) (is_trimmed b && is_empty (ntfs_form x)) b x (ntfs_form x) e (form_is_front x))
 
 -- plain bytes in front stay
-plain_run : (w y : List ℕ) → list_all is_plain w ≡ true → ntfs_form (w ++ y) ≡ w ++ ntfs_form y
+plain_run : (w y : List ℕ) → list_all stays_in_form w ≡ true → ntfs_form (w ++ y) ≡ w ++ ntfs_form y
 unfolding ntfs_form
 plain_run [] y plain = refl
 plain_run (b ∷ w) y plain =
-    let parts = and_parts (is_plain b) (list_all is_plain w) plain in
+    let parts = and_parts (stays_in_form b) (list_all stays_in_form w) plain in
     plain_head is_cut is_trimmed ntfs_keeps b (w ++ y) parts.0 ∙ ap (λ t. b ∷ t) (plain_run w y parts.1)
 
-plain_lower : (x : List ℕ) → list_all is_plain (lower x) ≡ list_all is_plain x
+plain_lower : (x : List ℕ) → list_all stays_in_form (lower x) ≡ list_all stays_in_form x
 plain_lower [] = refl
-plain_lower (b ∷ x) = rw (test-lower_byte is_plain refl b, plain_lower x) refl
+plain_lower (b ∷ x) = rw (test-lower_byte stays_in_form refl b, plain_lower x) refl
 
 nothing_left : (f : List ℕ) → is_empty f ≡ true → f ≡ []
 nothing_left [] e = refl
@@ -177,7 +177,7 @@ some_first : (x : List ℕ) → eqb (lower_byte (get_or x 0 0)) (byte ".") ≡ f
 some_first [] other long = refl
 some_first (b ∷ x) other long = other
 
-word_is_plain : (w : List ℕ) → eqb (get_or (lower w) 0 0) (byte ".") ≡ false → is_modules_form (lower w) ≡ true → list_all is_plain (lower w) ≡ true
+word_is_plain : (w : List ℕ) → eqb (get_or (lower w) 0 0) (byte ".") ≡ false → is_modules_form (lower w) ≡ true → list_all stays_in_form (lower w) ≡ true
 word_is_plain w other modules = elim (modules_cases (lower w) modules) [
   | inl whole ↦ absurd (false≢true (sym other ∙ ap (λ t. eqb (get_or t 0 0) (byte ".")) whole))
   | inr plain ↦ plain.1
@@ -196,7 +196,7 @@ modules_elsewhere x other long = bool_same _ _ forward back
     back : (is_modules_form (lower (take 8 x)) && is_empty (ntfs_form (drop 8 x))) ≡ true → is_modules_form (lower (ntfs_form x)) ≡ true
     back both =
         let parts = and_parts (is_modules_form (lower (take 8 x))) (is_empty (ntfs_form (drop 8 x))) both in
-        let plain : list_all is_plain (take 8 x) ≡ true = sym (plain_lower (take 8 x)) ∙ word_is_plain (take 8 x) (some_first x other long) parts.0 in
+        let plain : list_all stays_in_form (take 8 x) ≡ true = sym (plain_lower (take 8 x)) ∙ word_is_plain (take 8 x) (some_first x other long) parts.0 in
         let form : ntfs_form x ≡ take 8 x = ap ntfs_form (sym (take-append-drop 8 x)) ∙ plain_run (take 8 x) (drop 8 x) plain ∙ ap (λ t. take 8 x ++ t) (nothing_left _ parts.1) ∙ append-nil (take 8 x) in
         ap (λ f. is_modules_form (lower f)) form ∙ parts.0
 

@@ -6,7 +6,7 @@ use Rattle.std.specs.List.{list_all}
 use Rattle.std.specs.Str.{byte, bytes_eq}
 use Rattle.gix_validate.specs.Bytes.{is_empty, is_among, lower, lower_byte, begins}
 use Rattle.gix_validate.specs.Ntfs.{ntfs_form, is_git_form}
-use Rattle.gix_validate.specs.Windows.{is_plain}
+use Rattle.gix_validate.specs.Ordinary.{stays_in_form}
 use Rattle.gix_validate.proofs.FormLemmas.{form_at}
 use Rattle.gix_validate.proofs.WordLemmas.{ntfs_keeps, other_head, form_left, form_all_left, form_word_then, form_word_not}
 
@@ -32,11 +32,11 @@ pub ntfs_all_left : (x : List ℕ) (i : ℕ) → length x ≤ i → is_empty (nt
 unfolding ntfs_form
 ntfs_all_left = form_all_left is_cut is_trimmed
 
-pub ntfs_word_then : (word x rest : List ℕ) (r : Bool) → IsTrue (list_all is_plain word) → (begins (lower x) (lower word) ≡ true) × (rest ≡ drop (length word) x) → r ≡ is_empty (ntfs_form rest) → r ≡ bytes_eq (lower (ntfs_form x)) (lower word)
+pub ntfs_word_then : (word x rest : List ℕ) (r : Bool) → IsTrue (list_all stays_in_form word) → (begins (lower x) (lower word) ≡ true) × (rest ≡ drop (length word) x) → r ≡ is_empty (ntfs_form rest) → r ≡ bytes_eq (lower (ntfs_form x)) (lower word)
 unfolding ntfs_form
 ntfs_word_then = form_word_then is_cut is_trimmed ntfs_keeps
 
-pub ntfs_word_not : (word x : List ℕ) → IsTrue (list_all is_plain word) → begins (lower x) (lower word) ≡ false → false ≡ bytes_eq (lower (ntfs_form x)) (lower word)
+pub ntfs_word_not : (word x : List ℕ) → IsTrue (list_all stays_in_form word) → begins (lower x) (lower word) ≡ false → false ≡ bytes_eq (lower (ntfs_form x)) (lower word)
 unfolding ntfs_form
 ntfs_word_not = form_word_not is_cut is_trimmed ntfs_keeps
 

@@ -16,8 +16,9 @@ use Rattle.gix_validate.specs.Units.{first_unit_len, whole_sequences}
 use Rattle.gix_validate.specs.Hfs.{hfs_form, is_ignored}
 use Rattle.gix_validate.specs.Ntfs.{ntfs_form, is_git_form, is_modules_form, is_short_name, is_digit}
 use Rattle.gix_validate.specs.Windows.{device_form, devices, is_device, is_device_form, is_illegal, is_illegal_byte}
-use Rattle.gix_validate.specs.Component.{has_byte, conditions, component_fault_of}
+use Rattle.gix_validate.specs.Component.{conditions, fault_of}
 use Rattle.gix_validate.specs.Ordinary.{is_lead, is_noted, is_ordinary}
+use Rattle.gix_validate.proofs.LetterLemmas.{eqb_turned}
 use Rattle.gix_validate.proofs.ComponentLaws.{case_law}
 use Rattle.gix_validate.proofs.CaseLemmas.{test-lower_byte, list_any-lower}
 use Rattle.gix_validate.proofs.NtfsLemmas.{ntfs_other}
@@ -64,13 +65,13 @@ note_lead : (b : ℕ) → is_noted b ≡ false → is_lead b ≡ false
 unfolding is_noted
 note_lead b none = (or_parts (is_among (codes "/\\~") b) (is_lead b) (or_parts (is_illegal_byte b) (is_among (codes "/\\~") b || is_lead b) none).1).1
 
-note_slash : (b : ℕ) → is_noted b ≡ false → (b == byte "/") ≡ false
+note_slash : (b : ℕ) → is_noted b ≡ false → (byte "/" == b) ≡ false
 unfolding is_noted is_illegal_byte
-note_slash b none = other_byte is_noted (byte "/") b refl none
+note_slash b none = eqb_turned 47 b ∙ other_byte is_noted (byte "/") b refl none
 
-note_backslash : (b : ℕ) → is_noted b ≡ false → (b == byte "\\") ≡ false
+note_backslash : (b : ℕ) → is_noted b ≡ false → (byte "\\" == b) ≡ false
 unfolding is_noted is_illegal_byte
-note_backslash b none = other_byte is_noted (byte "\\") b refl none
+note_backslash b none = eqb_turned 92 b ∙ other_byte is_noted (byte "\\") b refl none
 
 note_tilde : (b : ℕ) → is_noted b ≡ false → (b == byte "~") ≡ false
 unfolding is_noted is_illegal_byte
@@ -157,7 +158,7 @@ and_no false t off = refl
 only_device : (windows hfs ntfs symlink : Bool) (x : List ℕ)
     → is_empty x ≡ false
     → (bytes_eq x (codes ".") || bytes_eq x (codes "..")) ≡ false
-    → (has_byte (byte "/") x || (windows && has_byte (byte "\\") x)) ≡ false
+    → (is_among x (byte "/") || (windows && is_among x (byte "\\"))) ≡ false
     → (windows && slice_index x (first_unit_len x) == byte ":") ≡ false
     → (hfs && bytes_eq (lower (hfs_form x)) (codes ".git")) ≡ false
     → (hfs && symlink && bytes_eq (lower (hfs_form x)) (codes ".gitmodules")) ≡ false
@@ -166,7 +167,7 @@ only_device : (windows hfs ntfs symlink : Bool) (x : List ℕ)
     → (windows && ntfs && is_illegal x) ≡ false
     → (not hfs && not ntfs && bytes_eq (lower x) (codes ".git")) ≡ false
     → (not hfs && not ntfs && symlink && bytes_eq (lower x) (codes ".gitmodules")) ≡ false
-    → first_of (conditions windows hfs ntfs symlink x) ≡ when (windows && ntfs && is_device x) WindowsReservedName
+    → first_of (conditions ntfs_form windows hfs ntfs symlink x) ≡ when (windows && ntfs && is_device x) WindowsReservedName
 unfolding conditions
 only_device windows hfs ntfs symlink x a b c d e f g h i j k = rw (a, b, c, d, e, f, g, h, i, j, k) (alone (windows && ntfs && is_device x))
   where
@@ -186,15 +187,15 @@ first_no_dot b ws x other = ap (λ v. v && bytes_eq x ws) other
 small_no_dot : (b : ℕ) → eqb b (byte ".") ≡ false → eqb (lower_byte b) (byte ".") ≡ false
 small_no_dot b other = test-lower_byte (λ c. c == byte ".") refl b ∙ other
 
-ordinary_is : (windows hfs ntfs symlink : Bool) (b : ℕ) (x : List ℕ) → HasNoFault b x → first_of (conditions windows hfs ntfs symlink (b ∷ x)) ≡ when (windows && ntfs && is_device (b ∷ x)) WindowsReservedName
+ordinary_is : (windows hfs ntfs symlink : Bool) (b : ℕ) (x : List ℕ) → HasNoFault b x → first_of (conditions ntfs_form windows hfs ntfs symlink (b ∷ x)) ≡ when (windows && ntfs && is_device (b ∷ x)) WindowsReservedName
 unfolding is_illegal is_tilde
 ordinary_is windows hfs ntfs symlink b x has =
     let y = b ∷ x in
     let small = small_no_dot b has.no_dot in
     let legal = any_weaker is_noted is_illegal_byte note_illegal y has.none in
     let tilde = any_weaker is_noted is_tilde note_tilde y has.none in
-    let slash = any_weaker is_noted (λ c. c == byte "/") note_slash y has.none in
-    let backslash = any_weaker is_noted (λ c. c == byte "\\") note_backslash y has.none in
+    let slash = any_weaker is_noted (λ c. byte "/" == c) note_slash y has.none in
+    let backslash = any_weaker is_noted (λ c. byte "\\" == c) note_backslash y has.none in
     let form = ap lower (hfs_form-same y (any_weaker is_noted is_lead note_lead y has.none)) in
     let git = first_no_dot (lower_byte b) (codes "git") (lower x) small in
     let modules = first_no_dot (lower_byte b) (codes "gitmodules") (lower x) small in
@@ -229,8 +230,8 @@ parts b x ordinary =
     other : (b : ℕ) → (eqb (byte ".") b && true) ≡ false → eqb b (byte ".") ≡ false
     other b off = grind (arith, nat_tests)
 
-pub ordinary_fault : (options : ComponentOptions) (mode : Option ComponentMode) (x : List ℕ) → is_ordinary x ≡ true → component_fault_of options mode x ≡ when (options.protect_windows && options.protect_ntfs && is_device x) WindowsReservedName
-unfolding component_fault_of is_ordinary
+pub ordinary_fault : (options : ComponentOptions) (mode : Option ComponentMode) (x : List ℕ) → is_ordinary x ≡ true → fault_of options mode x ≡ when (options.protect_windows && options.protect_ntfs && is_device x) WindowsReservedName
+unfolding fault_of is_ordinary
 ordinary_fault options mode [] ordinary = absurd (false≢true ordinary)
 ordinary_fault options mode (b ∷ x) ordinary = ordinary_is options.protect_windows options.protect_hfs options.protect_ntfs (is_some mode) b x (parts b x ordinary)
 
@@ -265,7 +266,7 @@ ordinary_seen x nothing bad some other seen end =
 
 -- ---- `.git` in any letter case
 
-plain_git : (windows hfs ntfs symlink : Bool) → first_of (conditions windows hfs ntfs symlink (codes ".git")) ≡ Some DotGitDir
+plain_git : (windows hfs ntfs symlink : Bool) → first_of (conditions ntfs_form windows hfs ntfs symlink (codes ".git")) ≡ Some DotGitDir
 unfolding conditions first_unit_len whole_sequences hfs_form is_ignored ntfs_form is_git_form is_modules_form is_device is_device_form device_form devices is_illegal is_illegal_byte lower_byte
 plain_git true true true true = refl
 plain_git true true true false = refl
@@ -284,9 +285,9 @@ plain_git false false true false = refl
 plain_git false false false true = refl
 plain_git false false false false = refl
 
-pub git_fault : (options : ComponentOptions) (mode : Option ComponentMode) (x : List ℕ) → bytes_eq (lower x) (codes ".git") ≡ true → component_fault_of options mode x ≡ Some DotGitDir
-unfolding component_fault_of
+pub git_fault : (options : ComponentOptions) (mode : Option ComponentMode) (x : List ℕ) → bytes_eq (lower x) (codes ".git") ≡ true → fault_of options mode x ≡ Some DotGitDir
+unfolding fault_of
 git_fault options mode x git =
     case_law options mode x
-    ∙ ap (component_fault_of options mode) ((bytes_eq-Decides (lower x) (codes ".git")).0 git)
+    ∙ ap (fault_of options mode) ((bytes_eq-Decides (lower x) (codes ".git")).0 git)
     ∙ plain_git options.protect_windows options.protect_hfs options.protect_ntfs (is_some mode)

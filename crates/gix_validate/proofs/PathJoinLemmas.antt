@@ -10,10 +10,10 @@ use Rattle.std.proofs.lemmas.List.Sums.{list_all-from_AllPass}
 use Rattle.bstr.specs.declared.bstr.BStr.{BStr}
 use Rattle.bstr.specs.BStr.{bstr_bytes}
 use Rattle.gix_validate.specs.Pieces.{pieces, joined, has_no_slash}
-use Rattle.gix_validate.specs.Component.{component_fault_of}
-use Rattle.gix_validate.specs.ComponentLaws.{no_protections, IsSafe}
+use Rattle.gix_validate.specs.Component.{fault_of}
+use Rattle.gix_validate.specs.ComponentLaws.{no_protections, IsBasicName}
 use Rattle.gix_validate.proofs.PiecesLemmas.{pieces-joined}
-use Rattle.gix_validate.proofs.ComponentLaws.{safe_law}
+use Rattle.gix_validate.proofs.ComponentLaws.{basic_law}
 
 joined-push : (text : List ℕ) (texts : List (List ℕ)) (last : List ℕ) → joined (text ∷ (texts ++ last ∷ [])) ≡ joined (text ∷ texts) ++ (byte "/" ∷ last)
 joined-push text [] last = refl
@@ -87,16 +87,16 @@ map-some : {X : Type 0} (f : X → List ℕ) (xs : List X) → 0 < length xs →
 map-some f [] some = absurd (omega arith)
 map-some f (x ∷ xs) some = λ e. cc
 
--- Parts that are accepted under no switch are safe.
-pub All-IsSafe_parts : {X : Type 0} (f : X → List ℕ) (xs : List X) → All (λ x. component_fault_of no_protections None (f x) ≡ None) xs → All IsSafe (map f xs)
-All-IsSafe_parts f xs accepted = All-map IsSafe f xs (λ k d within. safe_law no_protections None (f (get_or xs k d)) (accepted k d within))
+-- Parts that are accepted under no switch are basic names.
+pub All-IsBasicName_parts : {X : Type 0} (f : X → List ℕ) (xs : List X) → All (λ x. fault_of no_protections None (f x) ≡ None) xs → All IsBasicName (map f xs)
+All-IsBasicName_parts f xs accepted = All-map IsBasicName f xs (λ k d within. basic_law no_protections None (f (get_or xs k d)) (accepted k d within))
 
-apart : (texts : List (List ℕ)) → All IsSafe texts → list_all has_no_slash texts ≡ true
-apart texts safe = list_all-from_AllPass has_no_slash texts (λ k d within. (safe k d within).no_slash)
+apart : (texts : List (List ℕ)) → All IsBasicName texts → list_all has_no_slash texts ≡ true
+apart texts basic = list_all-from_AllPass has_no_slash texts (λ k d within. (basic k d within).no_slash)
 
 -- The pieces of what they join to are the parts.
-pub pieces-joined_parts : {X : Type 0} (f : X → List ℕ) (xs : List X) → 0 < length xs → All (λ x. component_fault_of no_protections None (f x) ≡ None) xs → pieces (joined (map f xs)) ≡ map f xs
-pieces-joined_parts f xs some accepted = pieces-joined (map f xs) (map-some f xs some) (apart (map f xs) (All-IsSafe_parts f xs accepted))
+pub pieces-joined_parts : {X : Type 0} (f : X → List ℕ) (xs : List X) → 0 < length xs → All (λ x. fault_of no_protections None (f x) ≡ None) xs → pieces (joined (map f xs)) ≡ map f xs
+pieces-joined_parts f xs some accepted = pieces-joined (map f xs) (map-some f xs some) (apart (map f xs) (All-IsBasicName_parts f xs accepted))
 
 at_either : {X : Type 0} (P : X → Type 0) (x : X) (xs : List X) → P x → All P xs → (k : ℕ) (d : X) → k < length (x ∷ xs) → P (get_or (x ∷ xs) k d)
 at_either P x xs first others zero d within = first
@@ -104,11 +104,11 @@ at_either P x xs first others (suc k) d within = others k d (omega arith)
 
 -- The parts are accepted under no switch.
 abbrev pub AreParts : List BStr → Type 0
-AreParts parts = All (λ part. component_fault_of no_protections None (bstr_bytes part) ≡ None) parts
+AreParts parts = All (λ part. fault_of no_protections None (bstr_bytes part) ≡ None) parts
 
 pub AreParts-none : AreParts []
 AreParts-none = λ k d within. absurd (omega arith)
 
 -- A part whose bytes are a word that is accepted, before others.
-pub AreParts-cons : (part : BStr) (word : List ℕ) (parts : List BStr) → bstr_bytes part ≡ word → component_fault_of no_protections None word ≡ None → AreParts parts → AreParts (part ∷ parts)
-AreParts-cons part word parts same accepted others = at_either (λ p. component_fault_of no_protections None (bstr_bytes p) ≡ None) part parts (rw same accepted) others
+pub AreParts-cons : (part : BStr) (word : List ℕ) (parts : List BStr) → bstr_bytes part ≡ word → fault_of no_protections None word ≡ None → AreParts parts → AreParts (part ∷ parts)
+AreParts-cons part word parts same accepted others = at_either (λ p. fault_of no_protections None (bstr_bytes p) ≡ None) part parts (rw same accepted) others

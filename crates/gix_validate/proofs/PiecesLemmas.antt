@@ -3,7 +3,7 @@ use Rattle.std.proofs.Common.{◌≡◌, ◌≢◌, ℕ, Bool, true, false, not,
 use Rattle.std.proofs.lemmas.Bool.{and_parts, and_from, not-true, cond-false, not_from_false}
 use Rattle.std.proofs.lemmas.List.Splits.{join_with_byte-slice_split}
 use Rattle.std.specs.List.{onto_first, list_all}
-use Rattle.gix_validate.specs.Pieces.{is_slash, pieces, joined, has_no_slash, HasOnlyPieces}
+use Rattle.gix_validate.specs.Pieces.{is_slash, pieces, joined, has_no_slash, PiecesAreTheOnlySplit}
 
 onto_first_some : (b : ℕ) (texts : List (List ℕ)) → onto_first b texts ≢ []
 onto_first_some b [] = λ e. cc
@@ -57,8 +57,8 @@ pieces-joined (t ∷ u ∷ texts) some h =
     let parts = and_parts (has_no_slash t) (list_all has_no_slash (u ∷ texts)) h in
     pieces_front t (joined (u ∷ texts)) parts.0 ∙ ap (λ us. t ∷ us) (pieces-joined (u ∷ texts) (λ e. cc) parts.1)
 
-pub has_only_pieces : (x : List ℕ) → HasOnlyPieces x
-has_only_pieces x = record {
+pub pieces_are_the_only_split : (x : List ℕ) → PiecesAreTheOnlySplit x
+pieces_are_the_only_split x = record {
   these = record { some = pieces_some x; apart = pieces_apart x; whole = join_with_byte-slice_split 47 x };
   only = λ texts h. sym (pieces-joined texts h.some h.apart) ∙ ap pieces h.whole;
 }

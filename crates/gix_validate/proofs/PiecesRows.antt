@@ -1,7 +1,7 @@
 -- The pieces of literal texts, and literal texts joined.
 use Rattle.std.proofs.Common.{◌≡◌, refl, [], ◌∷◌, true, false}
 use Rattle.std.specs.Prelude.{codes}
-use Rattle.gix_validate.specs.Pieces.{pieces, last_piece, joined, has_no_slash}
+use Rattle.gix_validate.specs.Pieces.{pieces, joined, has_no_slash}
 
 no_text : pieces [] ≡ [] ∷ []
 no_text = refl
@@ -23,15 +23,6 @@ slash_alone = refl
 
 backslash_stays : pieces (codes ".../a\\b") ≡ codes "..." ∷ codes "a\\b" ∷ []
 backslash_stays = refl
-
-last_of_three : last_piece (codes "refs/heads/main") ≡ codes "main"
-last_of_three = refl
-
-last_of_one : last_piece (codes "main") ≡ codes "main"
-last_of_one = refl
-
-last_is_empty : last_piece (codes "main/") ≡ []
-last_is_empty = refl
 
 three_joined : joined (codes "src" ∷ codes ".github" ∷ codes "a.rs" ∷ []) ≡ codes "src/.github/a.rs"
 three_joined = refl

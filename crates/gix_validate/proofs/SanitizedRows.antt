@@ -8,10 +8,10 @@ use Rattle.gix_validate.specs.Bytes.{is_bad}
 use Rattle.gix_validate.specs.Reference.{is_partial_name}
 use Rattle.gix_validate.specs.Sanitized.{Dots, Other, runs, cleaned, cut, dash_last_of, mended_pieces, nonempty_pieces, sanitized, KeepsPieces}
 
-runs_between_bytes : runs (codes "a..b.") ≡ Other (byte "a") ∷ Dots 2 ∷ Other (byte "b") ∷ Dots 1 ∷ []
+runs_between_bytes : runs (codes "a..b.") ≡ Other (byte "a") ∷ Dots ∷ Other (byte "b") ∷ Dots ∷ []
 runs_between_bytes = refl
 
-runs_at_the_start : runs (codes "...@{") ≡ Dots 3 ∷ Other (byte "@") ∷ Other (byte "{") ∷ []
+runs_at_the_start : runs (codes "...@{") ≡ Dots ∷ Other (byte "@") ∷ Other (byte "{") ∷ []
 runs_at_the_start = refl
 
 runs_of_nothing : runs [] ≡ []

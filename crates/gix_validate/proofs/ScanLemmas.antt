@@ -165,8 +165,8 @@ pub Tell-from_kinds : (kinds x : List ℕ) → ((i : ℕ) → Fits w8 (get_or x 
 unfolding kind_of is_illegal_byte is_noted
 Tell-from_kinds kinds x fit have =
     record {
-      slash = tells 64 (λ b. b == byte "/") kinds x fit have (λ b h. agree_below_at (has_bit 64) (λ b. b == byte "/") 256 b refl h);
-      backslash = tells 8 (λ b. b == byte "\\") kinds x fit have (λ b h. agree_below_at (has_bit 8) (λ b. b == byte "\\") 256 b refl h);
+      slash = tells 64 (λ b. byte "/" == b) kinds x fit have (λ b h. agree_below_at (has_bit 64) (λ b. byte "/" == b) 256 b refl h);
+      backslash = tells 8 (λ b. byte "\\" == b) kinds x fit have (λ b h. agree_below_at (has_bit 8) (λ b. byte "\\" == b) 256 b refl h);
       illegal = tells 23 is_illegal_byte kinds x fit have (λ b h. agree_below_at (has_bit 23) is_illegal_byte 256 b refl h);
       lead = tells 32 is_lead kinds x fit have (λ b h. agree_below_at (has_bit 32) is_lead 256 b refl h);
       noted = tells 255 is_noted kinds x fit have (λ b h. agree_below_at (has_bit 255) is_noted 256 b refl h);

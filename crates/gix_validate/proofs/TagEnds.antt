@@ -5,7 +5,7 @@ use mathlib.Core.Bool.{and-true}
 use Rattle.gix_validate.specs.declared.tag.NameError.{NameError}
 use Rattle.gix_validate.specs.declared.tag.NameError.TheVariants.{EndsWithSlash, StartsWithSlash, StartsWithDot, EndsWithDot}
 use Rattle.gix_validate.specs.Bytes.{begins, ends}
-use Rattle.gix_validate.specs.Faults.{when, first_of, ◌orelse◌, at_least_place}
+use Rattle.gix_validate.specs.Faults.{when, first_of, ◌orelse◌, at_first_place}
 use Rattle.gix_validate.specs.Tag.{faults_at, fault_of}
 use Rattle.gix_validate.proofs.LetterLemmas.{eqb_turned}
 use Rattle.gix_validate.proofs.TextLemmas.{ends_push_one, last_cases, EndsIn}
@@ -34,12 +34,12 @@ lines slash_last slash_first dot_first dot_last between =
 
 pub fault_of_read : (x : List ℕ) → 0 < length x
     → fault_of x ≡ lines (eqb (get_or x (length x - 1) 0) 47) (eqb (get_or x 0 0) 47) (eqb (get_or x 0 0) 46) (eqb (get_or x (length x - 1) 0) 46)
-    (at_least_place (λ i. first_of (faults_at x i)) (length x))
+    (at_first_place (λ i. first_of (faults_at x i)) (length x))
 unfolding fault_of lines
 fault_of_read [] some = absurd (omega arith)
 fault_of_read (b ∷ x) some =
     λ i. lines (ends_read (b ∷ x) 47 some i) (begins_read (b ∷ x) 47 some i) (begins_read (b ∷ x) 46 some i) (ends_read (b ∷ x) 46 some i)
-    (at_least_place (λ i. first_of (faults_at (b ∷ x) i)) (length (b ∷ x)))
+    (at_first_place (λ i. first_of (faults_at (b ∷ x) i)) (length (b ∷ x)))
 
 -- each line, where the lines before it don't apply
 pub at_slash_last : (s t d e : Bool) (a : Option NameError) → s ≡ true → lines s t d e a ≡ Some EndsWithSlash

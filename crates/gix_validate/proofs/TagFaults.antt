@@ -7,15 +7,10 @@ use mathlib.Core.Bool.{and-false}
 use Rattle.gix_validate.specs.declared.tag.NameError.{NameError}
 use Rattle.gix_validate.specs.declared.tag.NameError.TheVariants.{InvalidByte, RepeatedSlash, RepeatedDot, LockFileSuffix, ReflogPortion, Asterisk, StartsWithDot}
 use Rattle.gix_validate.specs.Bytes.{is_bad, is_empty, ends}
-use Rattle.gix_validate.specs.Pieces.{last_piece}
 use Rattle.gix_validate.specs.Faults.{when, first_of, ◌orelse◌}
-use Rattle.gix_validate.specs.Tag.{faults_between, faults_at, HasOneFaultAPlace}
+use Rattle.gix_validate.specs.Tag.{faults_between, faults_at, HasAtMostOneFaultAPlace}
 use Rattle.gix_validate.proofs.PlaceLemmas.{orelse_none}
-use Rattle.gix_validate.proofs.TextLemmas.{ends_push, ends_push_one, ends_last_piece, last_cases, EndsIn, empty_ends}
-
--- `.lock` is at the end of the last piece where it is at the end of the text.
-pub lock_ends : (y : List ℕ) → ends (last_piece y) (codes ".lock") ≡ ends y (codes ".lock")
-lock_ends y = ends_last_piece (codes "kcol.") refl y
+use Rattle.gix_validate.proofs.TextLemmas.{ends_push, ends_push_one, last_cases, EndsIn, empty_ends}
 
 -- the byte at the end of `.lock`
 pub lock_push : (y : List ℕ) (b : ℕ) → ends (y ++ b ∷ []) (codes ".lock") ≡ (ends y (codes ".loc") && eqb 107 b)
@@ -49,6 +44,14 @@ one_end y a c other = by (last_cases y)
         (ap (λ t. t && ends (v.front ++ v.last ∷ []) (c ∷ [])) (ends_push_one v.front v.last a)
         ∙ ap (λ t. eqb a v.last && t) (ends_push_one v.front v.last c) ∙ apart v.last)
 
+-- a text that ends in a slash doesn't end in `.lock`
+slash_or_lock : (y : List ℕ) → (ends y (codes "/") && ends y (codes ".lock")) ≡ false
+slash_or_lock y = by (ends y (codes "/")) refl
+  where
+    by : (t : Bool) → ends y (codes "/") ≡ t → (t && ends y (codes ".lock")) ≡ false
+    by false e = refl
+    by true e = lock_ends_in_k y (sym (ap (λ t. t && ends y (codes "k")) e) ∙ one_end y 47 107 refl)
+
 -- the table, from the tests of its lines
 table : (b : ℕ) (t1 t2 t3 t4 t5 t6 t7 t8 : Bool) → List (Option NameError)
 table b t1 t2 t3 t4 t5 t6 t7 t8 =
@@ -61,13 +64,13 @@ IsSingle lines = count_by is_some lines ≤ 1
 
 -- the test of the last line, which asks for a `k`
 last_line : List ℕ → ℕ → List ℕ → Bool
-last_line before b after = is_empty after && ends (last_piece (before ++ b ∷ [])) (codes ".lock") && not (bytes_eq (before ++ b ∷ []) (codes ".lock"))
+last_line before b after = is_empty after && ends (before ++ b ∷ []) (codes ".lock") && not (bytes_eq (before ++ b ∷ []) (codes ".lock"))
 
 last_line_no : (before : List ℕ) (b : ℕ) (after : List ℕ) → eqb 107 b ≡ false → last_line before b after ≡ false
 unfolding last_line
 last_line_no before b after other =
     ap (λ t. is_empty after && t && not (bytes_eq (before ++ b ∷ []) (codes ".lock")))
-    (lock_ends (before ++ b ∷ []) ∙ lock_push before b ∙ and_right (ends before (codes ".loc")) (eqb 107 b) other)
+    (lock_push before b ∙ and_right (ends before (codes ".loc")) (eqb 107 b) other)
     ∙ ap (λ t. t && not (bytes_eq (before ++ b ∷ []) (codes ".lock"))) (and-false (is_empty after))
 
 bad_line : (b : ℕ) (t1 t2 t3 t4 t5 t6 t7 t8 : Bool)
@@ -103,14 +106,15 @@ at_brace t5 t8 e8 = subst (λ t. IsSingle (table 123 false false false false t5 
     by true = lit≤ tt
     by false = lit≤ tt
 
-at_slash : (t6 t7 t8 : Bool) → t8 ≡ false → IsSingle (table 47 false false false false false t6 (not t6 && t7) t8)
+at_slash : (t6 t7 t8 : Bool) → (t6 && t7) ≡ false → t8 ≡ false → IsSingle (table 47 false false false false false t6 t7 t8)
 unfolding table
-at_slash t6 t7 t8 e8 = subst (λ t. IsSingle (table 47 false false false false false t6 (not t6 && t7) t)) (sym e8) (by t6 t7)
+at_slash t6 t7 t8 e e8 = subst (λ t. IsSingle (table 47 false false false false false t6 t7 t)) (sym e8) (by t6 t7 e)
   where
-    by : (t6 t7 : Bool) → IsSingle (table 47 false false false false false t6 (not t6 && t7) false)
-    by true t7 = lit≤ tt
-    by false true = lit≤ tt
-    by false false = lit≤ tt
+    by : (t6 t7 : Bool) → (t6 && t7) ≡ false → IsSingle (table 47 false false false false false t6 t7 false)
+    by true true e = absurd (true≢false e)
+    by true false e = lit≤ tt
+    by false true e = lit≤ tt
+    by false false e = lit≤ tt
 
 at_k : (t8 : Bool) → IsSingle (table 107 false false false false false false false t8)
 unfolding table
@@ -130,7 +134,7 @@ one_fault before b after =
                   | inl e ↦ subst Here (sym e) (at_brace (ends before (codes "@")) (last_line before 123 after) (last_line_no before 123 after refl))
                   | inr n123 ↦
                       elim (cases_eq b 47) [
-                        | inl e ↦ subst Here (sym e) (at_slash (ends before (codes "/")) (ends (last_piece before) (codes ".lock")) (last_line before 47 after) (last_line_no before 47 after refl))
+                        | inl e ↦ subst Here (sym e) (at_slash (ends before (codes "/")) (ends before (codes ".lock")) (last_line before 47 after) (slash_or_lock before) (last_line_no before 47 after refl))
                         | inr n47 ↦
                             elim (cases_eq b 107) [
                               | inl e ↦ subst Here (sym e) (at_k (last_line before 107 after))
@@ -140,13 +144,13 @@ one_fault before b after =
                                   let no123 = ne_eqb b 123 n123 in
                                   let no47 = ne_eqb b 47 n47 in
                                   bad_line b (is_bad b) (eqb b 42) (eqb b 46 && ends before (codes ".")) (eqb b 46 && ends before (codes "/")) (eqb b 123 && ends before (codes "@"))
-                                  (eqb b 47 && ends before (codes "/")) (eqb b 47 && not (ends before (codes "/")) && ends (last_piece before) (codes ".lock")) (last_line before b after)
+                                  (eqb b 47 && ends before (codes "/")) (eqb b 47 && ends before (codes ".lock")) (last_line before b after)
                                   no42
                                   (and_left (eqb b 46) (ends before (codes ".")) no46)
                                   (and_left (eqb b 46) (ends before (codes "/")) no46)
                                   (and_left (eqb b 123) (ends before (codes "@")) no123)
                                   (and_left (eqb b 47) (ends before (codes "/")) no47)
-                                  (and_left (eqb b 47 && not (ends before (codes "/"))) (ends (last_piece before) (codes ".lock")) (and_left (eqb b 47) (not (ends before (codes "/"))) no47))
+                                  (and_left (eqb b 47) (ends before (codes ".lock")) no47)
                                   (last_line_no before b after (ne_eqb 107 b (λ e. n107 (sym e))))
                             ]
                       ]
@@ -157,7 +161,7 @@ one_fault before b after =
     Here : ℕ → Type 0
     Here b = IsSingle (faults_between before b after)
 
-pub one_fault_a_place : (x : List ℕ) → HasOneFaultAPlace x
+pub one_fault_a_place : (x : List ℕ) → HasAtMostOneFaultAPlace x
 unfolding faults_at
 one_fault_a_place x i inside = one_fault (take i x) (get_or x i 0) (drop (i + 1) x)
 
@@ -178,25 +182,17 @@ after_brace before next rest = orelse_none (when (ends before (codes "@")) Reflo
 pub after_slash : (before : List ℕ) (next : ℕ) (rest : List ℕ)
     → first_of (faults_between before 47 (next ∷ rest)) ≡ (when (ends before (codes "/")) RepeatedSlash orelse when (ends before (codes ".lock")) LockFileSuffix)
 unfolding faults_between is_bad
-after_slash before next rest = ap (λ t. line (ends before (codes "/")) t) (lock_ends before) ∙ by (ends before (codes "/")) (ends before (codes ".lock"))
-  where
-    line : Bool → Bool → Option NameError
-    line s t = when s RepeatedSlash orelse (when (not s && t) LockFileSuffix orelse None)
-
-    by : (s t : Bool) → line s t ≡ (when s RepeatedSlash orelse when t LockFileSuffix)
-    by true t = refl
-    by false true = refl
-    by false false = refl
+after_slash before next rest = ap (λ o. when (ends before (codes "/")) RepeatedSlash orelse o) (orelse_none (when (ends before (codes ".lock")) LockFileSuffix))
 
 pub after_other : (before : List ℕ) (b next : ℕ) (rest : List ℕ) → (b ≡ 42 → ⊥) → (b ≡ 46 → ⊥) → (b ≡ 123 → ⊥) → (b ≡ 47 → ⊥)
     → first_of (faults_between before b (next ∷ rest)) ≡ when (is_bad b) (InvalidByte b)
 unfolding faults_between
 after_other before b next rest n42 n46 n123 n47 =
-    by (is_bad b) (eqb b 42) (eqb b 46) (ends before (codes ".")) (ends before (codes "/")) (eqb b 123) (ends before (codes "@")) (eqb b 47) (ends (last_piece before) (codes ".lock"))
+    by (is_bad b) (eqb b 42) (eqb b 46) (ends before (codes ".")) (ends before (codes "/")) (eqb b 123) (ends before (codes "@")) (eqb b 47) (ends before (codes ".lock"))
     (ne_eqb b 42 n42) (ne_eqb b 46 n46) (ne_eqb b 123 n123) (ne_eqb b 47 n47)
   where
     by : (t s d e f g h i j : Bool) → s ≡ false → d ≡ false → g ≡ false → i ≡ false
         → first_of (when t (InvalidByte b) ∷ when s Asterisk ∷ when (d && e) RepeatedDot ∷ when (d && f) StartsWithDot ∷ when (g && h) ReflogPortion
-        ∷ when (i && f) RepeatedSlash ∷ when (i && not f && j) LockFileSuffix ∷ None ∷ []) ≡ when t (InvalidByte b)
+        ∷ when (i && f) RepeatedSlash ∷ when (i && j) LockFileSuffix ∷ None ∷ []) ≡ when t (InvalidByte b)
     by true s d e f g h i j es ed eg ei = refl
     by false s d e f g h i j es ed eg ei = cc

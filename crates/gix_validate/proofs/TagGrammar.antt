@@ -9,16 +9,20 @@ use mathlib.Core.Bool.{and-true, and-false, and_assoc}
 use Rattle.gix_validate.specs.declared.tag.NameError.{NameError}
 use Rattle.gix_validate.specs.declared.tag.NameError.TheVariants.{InvalidByte, StartsWithSlash, RepeatedSlash, RepeatedDot, LockFileSuffix, ReflogPortion, StartsWithDot, EndsWithDot, EndsWithSlash}
 use Rattle.gix_validate.specs.Bytes.{is_bad, is_empty, begins, ends, holds}
-use Rattle.gix_validate.specs.Pieces.{is_slash, pieces, last_piece, has_no_slash}
-use Rattle.gix_validate.specs.Faults.{when, first_of, ◌orelse◌, at_least_place}
+use Rattle.gix_validate.specs.Pieces.{is_slash, pieces, has_no_slash}
+use Rattle.gix_validate.specs.Faults.{when, first_of, ◌orelse◌, at_first_place}
 use Rattle.gix_validate.specs.Tag.{is_good_piece, is_tag_name, faults_at, fault_of}
 use Rattle.std.proofs.Math.Bool.{or-false, or_assoc}
 use Rattle.gix_validate.proofs.LetterLemmas.{eqb_turned}
 use Rattle.gix_validate.proofs.PlaceLemmas.{is_none-orelse}
 use Rattle.gix_validate.proofs.PiecesLemmas.{pieces_front, pieces_alone}
-use Rattle.gix_validate.proofs.TagFaults.{after_star, after_dot, after_brace, after_slash, after_other, lock_ends}
-use Rattle.gix_validate.proofs.TagWalk.{fault_after, walked, ends_in_lock, at_least_place_split, at_least_place_walked}
-use Rattle.gix_validate.proofs.TextLemmas.{ends_push_one, holds_push, last_piece_push, last_piece_nothing, ends_last_piece, is_empty_push, last_cases, EndsIn}
+use Rattle.gix_validate.proofs.TagFaults.{after_star, after_dot, after_brace, after_slash, after_other}
+use Rattle.gix_validate.proofs.TagWalk.{fault_after, walked, ends_in_lock, at_first_place_split, at_first_place_walked}
+use Rattle.gix_validate.proofs.TextLemmas.{ends_push_one, holds_push, last_piece, last_piece_push, last_piece_nothing, ends_last_piece, is_empty_push, last_cases, EndsIn}
+
+-- `.lock` is at the end of the last piece where it is at the end of the text.
+lock_ends : (y : List ℕ) → ends (last_piece y) (codes ".lock") ≡ ends y (codes ".lock")
+lock_ends y = ends_last_piece (codes "kcol.") refl y
 
 -- a byte that no piece has
 unfoldable is_refused : ℕ → Bool
@@ -369,7 +373,7 @@ grammar_law (b ∷ x) =
     ∙ in_order (eqb 47 b) (eqb 46 b) (is_none (walked [] y)) (ends y (codes "/")) (ends y (codes ".lock")) (bytes_eq y (codes ".lock")) dot_last no_lock
     ∙ ap (λ t. not (ends y (codes "/")) && (not (eqb 47 b && true) && (t && (not (eqb 46 b && true) && not dot_last)))) (sym no_fault_between)
     ∙ sym (is_none-lines (ends y (codes "/")) (eqb 47 b && true) (eqb 46 b && true) dot_last EndsWithSlash StartsWithSlash StartsWithDot EndsWithDot
-    (at_least_place (λ i. first_of (faults_at y i)) (length y)))
+    (at_first_place (λ i. first_of (faults_at y i)) (length y)))
   where
     y : List ℕ
     y = b ∷ x
@@ -380,8 +384,8 @@ grammar_law (b ∷ x) =
     no_lock : eqb 46 b ≡ false → bytes_eq y (codes ".lock") ≡ false
     no_lock h = and_left (eqb b 46) (bytes_eq x (codes "lock")) (eqb_turned b 46 ∙ h)
 
-    no_fault_between : is_none (at_least_place (λ i. first_of (faults_at y i)) (length y)) ≡ (is_none (walked [] y) && not (ends_in_lock y))
+    no_fault_between : is_none (at_first_place (λ i. first_of (faults_at y i)) (length y)) ≡ (is_none (walked [] y) && not (ends_in_lock y))
     no_fault_between =
-        ap is_none (at_least_place_split y refl ∙ ap (λ o. o orelse when (ends_in_lock y) LockFileSuffix) (at_least_place_walked y))
+        ap is_none (at_first_place_split y refl ∙ ap (λ o. o orelse when (ends_in_lock y) LockFileSuffix) (at_first_place_walked y))
         ∙ is_none-orelse (walked [] y) (when (ends_in_lock y) LockFileSuffix)
         ∙ ap (λ t. is_none (walked [] y) && t) (is_none-when (ends_in_lock y) LockFileSuffix)

@@ -7,11 +7,9 @@ use Rattle.std.specs.Str.{byte, bytes_eq}
 use Rattle.gix_validate.specs.declared.tag.NameError.{NameError}
 use Rattle.gix_validate.specs.declared.tag.NameError.TheVariants.{InvalidByte, RepeatedSlash, RepeatedDot, LockFileSuffix, ReflogPortion, Asterisk, StartsWithDot}
 use Rattle.gix_validate.specs.Bytes.{is_bad, is_empty, ends}
-use Rattle.gix_validate.specs.Pieces.{last_piece}
-use Rattle.gix_validate.specs.Faults.{when, first_of, ◌orelse◌, at_least_place}
+use Rattle.gix_validate.specs.Faults.{when, first_of, ◌orelse◌, at_first_place}
 use Rattle.gix_validate.specs.Tag.{faults_between, faults_at}
-use Rattle.gix_validate.proofs.TagFaults.{lock_ends}
-use Rattle.gix_validate.proofs.PlaceLemmas.{orelse_none, orelse_assoc, at_least_place_more, at_least_place_same, at_least_place_first}
+use Rattle.gix_validate.proofs.PlaceLemmas.{orelse_none, orelse_assoc, at_first_place_more, at_first_place_same, at_first_place_first}
 
 -- the fault of a byte by what stands before it, where something follows
 unfoldable pub fault_after : List ℕ → ℕ → Option NameError
@@ -48,21 +46,20 @@ fault_at_end before b =
     first_of-more (when (is_bad b) (InvalidByte b)) (when (b == byte "*") Asterisk) (when (b == byte "." && ends before (codes ".")) RepeatedDot)
     (when (b == byte "." && ends before (codes "/")) StartsWithDot) (when (b == byte "{" && ends before (codes "@")) ReflogPortion)
     (when (b == byte "/" && ends before (codes "/")) RepeatedSlash)
-    (when (b == byte "/" && not (ends before (codes "/")) && ends (last_piece before) (codes ".lock")) LockFileSuffix)
-    (when (ends (last_piece (before ++ b ∷ [])) (codes ".lock") && not (bytes_eq (before ++ b ∷ []) (codes ".lock"))) LockFileSuffix)
-    ∙ ap (λ t. fault_after before b orelse when (t && not (bytes_eq (before ++ b ∷ []) (codes ".lock"))) LockFileSuffix) (lock_ends (before ++ b ∷ []))
+    (when (b == byte "/" && ends before (codes ".lock")) LockFileSuffix)
+    (when (ends (before ++ b ∷ []) (codes ".lock") && not (bytes_eq (before ++ b ∷ []) (codes ".lock"))) LockFileSuffix)
 
 -- The fault at the least place: by the lines that look back alone, and then the last line.
-pub at_least_place_split : (x : List ℕ) → is_empty x ≡ false
-    → at_least_place (λ i. first_of (faults_at x i)) (length x) ≡ (at_least_place (fault_before_place x) (length x) orelse when (ends_in_lock x) LockFileSuffix)
+pub at_first_place_split : (x : List ℕ) → is_empty x ≡ false
+    → at_first_place (λ i. first_of (faults_at x i)) (length x) ≡ (at_first_place (fault_before_place x) (length x) orelse when (ends_in_lock x) LockFileSuffix)
 unfolding fault_before_place faults_at
-at_least_place_split [] some = absurd (true≢false some)
-at_least_place_split (c ∷ y) some =
-    at_least_place_more f n
-    ∙ ap (λ a. a orelse f n) (at_least_place_same f g n inside)
-    ∙ ap (λ a. at_least_place g n orelse a) last
-    ∙ sym (orelse_assoc (at_least_place g n) (g n) lock)
-    ∙ ap (λ a. a orelse lock) (sym (at_least_place_more g n))
+at_first_place_split [] some = absurd (true≢false some)
+at_first_place_split (c ∷ y) some =
+    at_first_place_more f n
+    ∙ ap (λ a. a orelse f n) (at_first_place_same f g n inside)
+    ∙ ap (λ a. at_first_place g n orelse a) last
+    ∙ sym (orelse_assoc (at_first_place g n) (g n) lock)
+    ∙ ap (λ a. a orelse lock) (sym (at_first_place_more g n))
   where
     n : ℕ
     n = length y
@@ -97,17 +94,17 @@ unfoldable pub walked : List ℕ → List ℕ → Option NameError
 walked before [] = None
 walked before (b ∷ x) = fault_after before b orelse walked (before ++ b ∷ []) x
 
-walked_places : (before x : List ℕ) → at_least_place (λ i. fault_after (before ++ take i x) (get_or x i 0)) (length x) ≡ walked before x
-unfolding walked at_least_place
+walked_places : (before x : List ℕ) → at_first_place (λ i. fault_after (before ++ take i x) (get_or x i 0)) (length x) ≡ walked before x
+unfolding walked at_first_place
 walked_places before [] = refl
 walked_places before (b ∷ x) =
-    at_least_place_first (λ i. fault_after (before ++ take i (b ∷ x)) (get_or (b ∷ x) i 0)) (length x)
-    ∙ ap (λ y. fault_after y b orelse at_least_place (λ i. fault_after (before ++ b ∷ take i x) (get_or x i 0)) (length x)) (append-nil before)
+    at_first_place_first (λ i. fault_after (before ++ take i (b ∷ x)) (get_or (b ∷ x) i 0)) (length x)
+    ∙ ap (λ y. fault_after y b orelse at_first_place (λ i. fault_after (before ++ b ∷ take i x) (get_or x i 0)) (length x)) (append-nil before)
     ∙ ap (λ a. fault_after before b orelse a)
-    (at_least_place_same (λ i. fault_after (before ++ b ∷ take i x) (get_or x i 0)) (λ i. fault_after ((before ++ b ∷ []) ++ take i x) (get_or x i 0)) (length x)
+    (at_first_place_same (λ i. fault_after (before ++ b ∷ take i x) (get_or x i 0)) (λ i. fault_after ((before ++ b ∷ []) ++ take i x) (get_or x i 0)) (length x)
     (λ i _. ap (λ y. fault_after y (get_or x i 0)) (sym (append_assoc before (b ∷ []) (take i x))))
     ∙ walked_places (before ++ b ∷ []) x)
 
-pub at_least_place_walked : (x : List ℕ) → at_least_place (fault_before_place x) (length x) ≡ walked [] x
+pub at_first_place_walked : (x : List ℕ) → at_first_place (fault_before_place x) (length x) ≡ walked [] x
 unfolding fault_before_place
-at_least_place_walked x = walked_places [] x
+at_first_place_walked x = walked_places [] x

@@ -4,13 +4,13 @@ use Rattle.std.proofs.lemmas.List.{length_push, drop-append-le, reverse-append, 
 use Rattle.std.proofs.lemmas.Bool.{and_right, and_parts, not-true, ne_eqb, both_ways}
 use Rattle.std.proofs.lemmas.List.Sums.{suffix_len-le-length}
 use Rattle.std.specs.Prelude.{reverse}
-use Rattle.std.specs.List.{prefix_len, suffix_len}
+use Rattle.std.specs.List.{after_last, prefix_len, suffix_len}
 use Rattle.std.specs.Str.{bytes_eq}
 use mathlib.Core.Bool.{and-true, and-false, and_assoc}
 use Rattle.std.proofs.Math.Bool.{or_assoc}
 use mathlib.Core.List.{reverse-cons}
 use Rattle.gix_validate.specs.Bytes.{is_empty, begins, ends, holds}
-use Rattle.gix_validate.specs.Pieces.{is_slash, last_piece, has_no_slash}
+use Rattle.gix_validate.specs.Pieces.{is_slash, has_no_slash}
 
 reverse_nothing : reverse {A = ℕ} [] ≡ []
 reverse_nothing = nil_from_length (reverse {A = ℕ} []) (length-reverse {A = ℕ} [])
@@ -91,6 +91,10 @@ holds_push (x ∷ y ∷ p) b a c =
     ap (λ t. begins (x ∷ y ∷ p) (a ∷ c ∷ []) || t) (holds_push (y ∷ p) b a c)
     ∙ sym (or_assoc (begins (x ∷ y ∷ p) (a ∷ c ∷ [])) (holds (y ∷ p) (a ∷ c ∷ [])) (ends (y ∷ p) (a ∷ []) && eqb c b))
     ∙ ap (λ t. holds (x ∷ y ∷ p) (a ∷ c ∷ []) || (t && eqb c b)) (sym (ends_one_more x y p a))
+
+-- what follows the last slash, or the whole text where there is none
+abbrev pub last_piece : List ℕ → List ℕ
+last_piece y = after_last is_slash y
 
 -- the last piece goes on, or a new one begins
 pub last_piece_push : (y : List ℕ) (b : ℕ) → last_piece (y ++ b ∷ []) ≡ cond (is_slash b) [] (last_piece y ++ b ∷ [])

@@ -7,21 +7,21 @@ use Rattle.std.proofs.lemmas.List.{at_drop_more, at_drop_all}
 use Rattle.std.proofs.lemmas.Bool.{cases_eq, ne_eqb, and_parts}
 use Rattle.std.proofs.lemmas.Bool.Decides.{nat_tests}
 use Rattle.gix_validate.specs.Bytes.{is_empty, is_among, lower, lower_byte, begins}
-use Rattle.gix_validate.specs.Windows.{is_plain}
+use Rattle.gix_validate.specs.Ordinary.{stays_in_form}
 use Rattle.gix_validate.proofs.CaseLemmas.{test-lower_byte}
 use Rattle.gix_validate.proofs.FormLemmas.{form, form_at}
 use Rattle.gix_validate.proofs.LetterLemmas.{eqb_turned}
 
 -- plain bytes are neither a cut nor trimmed
 abbrev pub KeepsPlain : (ℕ → Bool) → (ℕ → Bool) → Type 0
-KeepsPlain cut trim = (b : ℕ) → is_plain b ≡ true → (cut b ≡ false) × (trim b ≡ false)
+KeepsPlain cut trim = (b : ℕ) → stays_in_form b ≡ true → (cut b ≡ false) × (trim b ≡ false)
 
 pub none_left : (x : List ℕ) → bytes_eq (lower x) [] ≡ is_empty x
 none_left [] = refl
 none_left (b ∷ x) = refl
 
-plain_alike : (b w : ℕ) → lower_byte b ≡ lower_byte w → is_plain w ≡ true → is_plain b ≡ true
-plain_alike b w e plain = sym (test-lower_byte is_plain refl b) ∙ ap is_plain e ∙ test-lower_byte is_plain refl w ∙ plain
+plain_alike : (b w : ℕ) → lower_byte b ≡ lower_byte w → stays_in_form w ≡ true → stays_in_form b ≡ true
+plain_alike b w e plain = sym (test-lower_byte stays_in_form refl b) ∙ ap stays_in_form e ∙ test-lower_byte stays_in_form refl w ∙ plain
 
 -- the form begins with what the text begins with, or is empty
 pub other_head : (cut trim : ℕ → Bool) (b : ℕ) (x : List ℕ) (w : ℕ) (ws : List ℕ) → eqb (lower_byte b) w ≡ false → bytes_eq (lower (form cut trim (b ∷ x))) (w ∷ ws) ≡ false
@@ -35,13 +35,13 @@ other_head cut trim b x w ws other =
       ]
     ]
 
-pub plain_head : (cut trim : ℕ → Bool) → KeepsPlain cut trim → (b : ℕ) (x : List ℕ) → is_plain b ≡ true → form cut trim (b ∷ x) ≡ b ∷ form cut trim x
+pub plain_head : (cut trim : ℕ → Bool) → KeepsPlain cut trim → (b : ℕ) (x : List ℕ) → stays_in_form b ≡ true → form cut trim (b ∷ x) ≡ b ∷ form cut trim x
 plain_head cut trim keeps b x plain =
     form_at cut trim b x
     ∙ ap (λ v. cond v [] (cond (trim b && is_empty (form cut trim x)) [] (b ∷ form cut trim x))) ((keeps b plain).0)
     ∙ ap (λ v. cond (v && is_empty (form cut trim x)) [] (b ∷ form cut trim x)) ((keeps b plain).1)
 
-pub word_head : (cut trim : ℕ → Bool) → KeepsPlain cut trim → (b : ℕ) (x : List ℕ) (w : ℕ) (ws : List ℕ) → is_plain w ≡ true → bytes_eq (lower (form cut trim (b ∷ x))) (lower_byte w ∷ ws) ≡ (eqb (lower_byte b) (lower_byte w) && bytes_eq (lower (form cut trim x)) ws)
+pub word_head : (cut trim : ℕ → Bool) → KeepsPlain cut trim → (b : ℕ) (x : List ℕ) (w : ℕ) (ws : List ℕ) → stays_in_form w ≡ true → bytes_eq (lower (form cut trim (b ∷ x))) (lower_byte w ∷ ws) ≡ (eqb (lower_byte b) (lower_byte w) && bytes_eq (lower (form cut trim x)) ws)
 word_head cut trim keeps b x w ws plain =
     elim (cases_eq (lower_byte b) (lower_byte w)) [
       | inl e ↦ ap (λ f. bytes_eq (lower f) (lower_byte w ∷ ws)) (plain_head cut trim keeps b x (plain_alike b w e plain))
@@ -53,11 +53,11 @@ and_apart true b c d e = ap (λ v. (v && c) && d) e
 and_apart false b c d e = ap (λ v. (v && c) && d) e
 
 -- A word of plain bytes, and more after it.
-pub word_front : (cut trim : ℕ → Bool) → KeepsPlain cut trim → (word x ws : List ℕ) → list_all is_plain word ≡ true → bytes_eq (lower (form cut trim x)) (lower word ++ ws) ≡ (begins (lower x) (lower word) && bytes_eq (lower (form cut trim (drop (length word) x))) ws)
+pub word_front : (cut trim : ℕ → Bool) → KeepsPlain cut trim → (word x ws : List ℕ) → list_all stays_in_form word ≡ true → bytes_eq (lower (form cut trim x)) (lower word ++ ws) ≡ (begins (lower x) (lower word) && bytes_eq (lower (form cut trim (drop (length word) x))) ws)
 word_front cut trim keeps [] x ws plain = refl
 word_front cut trim keeps (w ∷ word) [] ws plain = refl
 word_front cut trim keeps (w ∷ word) (b ∷ x) ws plain =
-    let parts = and_parts (is_plain w) (list_all is_plain word) plain in
+    let parts = and_parts (stays_in_form w) (list_all stays_in_form word) plain in
     word_head cut trim keeps b x w (lower word ++ ws) parts.0
     ∙ ap (λ v. eqb (lower_byte b) (lower_byte w) && v) (word_front cut trim keeps word x ws parts.1)
     ∙ and_apart _ _ _ _ (eqb_turned (lower_byte b) (lower_byte w))
@@ -85,19 +85,19 @@ form_left cut trim x i h = at_drop_more (λ t. is_empty (form cut trim t)) x i 0
 pub form_all_left : (cut trim : ℕ → Bool) (x : List ℕ) (i : ℕ) → length x ≤ i → is_empty (form cut trim (drop i x)) ≡ true
 form_all_left cut trim x i h = at_drop_all (λ t. is_empty (form cut trim t)) x i h ∙ form-none cut trim
 
-pub form_word : (cut trim : ℕ → Bool) → KeepsPlain cut trim → (word x : List ℕ) → list_all is_plain word ≡ true → bytes_eq (lower (form cut trim x)) (lower word) ≡ (begins (lower x) (lower word) && is_empty (form cut trim (drop (length word) x)))
+pub form_word : (cut trim : ℕ → Bool) → KeepsPlain cut trim → (word x : List ℕ) → list_all stays_in_form word ≡ true → bytes_eq (lower (form cut trim x)) (lower word) ≡ (begins (lower x) (lower word) && is_empty (form cut trim (drop (length word) x)))
 form_word cut trim keeps word x plain =
     ap (bytes_eq (lower (form cut trim x))) (sym (append-nil (lower word)))
     ∙ word_front cut trim keeps word x [] plain
     ∙ ap (λ v. begins (lower x) (lower word) && v) (none_left (form cut trim (drop (length word) x)))
 
-pub form_word_then : (cut trim : ℕ → Bool) → KeepsPlain cut trim → (word x rest : List ℕ) (r : Bool) → IsTrue (list_all is_plain word) → (begins (lower x) (lower word) ≡ true) × (rest ≡ drop (length word) x) → r ≡ is_empty (form cut trim rest) → r ≡ bytes_eq (lower (form cut trim x)) (lower word)
+pub form_word_then : (cut trim : ℕ → Bool) → KeepsPlain cut trim → (word x rest : List ℕ) (r : Bool) → IsTrue (list_all stays_in_form word) → (begins (lower x) (lower word) ≡ true) × (rest ≡ drop (length word) x) → r ≡ is_empty (form cut trim rest) → r ≡ bytes_eq (lower (form cut trim x)) (lower word)
 form_word_then cut trim keeps word x rest r plain front back =
     back
     ∙ ap (λ t. is_empty (form cut trim t)) front.1
     ∙ sym (form_word cut trim keeps word x plain ∙ ap (λ v. v && is_empty (form cut trim (drop (length word) x))) front.0)
 
-pub form_word_not : (cut trim : ℕ → Bool) → KeepsPlain cut trim → (word x : List ℕ) → IsTrue (list_all is_plain word) → begins (lower x) (lower word) ≡ false → false ≡ bytes_eq (lower (form cut trim x)) (lower word)
+pub form_word_not : (cut trim : ℕ → Bool) → KeepsPlain cut trim → (word x : List ℕ) → IsTrue (list_all stays_in_form word) → begins (lower x) (lower word) ≡ false → false ≡ bytes_eq (lower (form cut trim x)) (lower word)
 form_word_not cut trim keeps word x plain front = sym (form_word cut trim keeps word x plain ∙ ap (λ v. v && is_empty (form cut trim (drop (length word) x))) front)
 
 pub ntfs_keeps : KeepsPlain (is_among (codes ":\\")) (is_among (codes " ."))

@@ -1,12 +1,12 @@
 -- Path components: the twelve conditions under which a name is refused, in their order.
 use Rattle.std.specs.Prelude.{ℕ, Bool, true, ◌==◌, ◌&&◌, ◌||◌, not, is_none, is_some, List, [], ◌∷◌, slice_index, codes, Option}
-use Rattle.std.specs.List.{list_all, list_any}
+use Rattle.std.specs.List.{list_all}
 use Rattle.std.specs.Str.{byte, bytes_eq}
 use Rattle.gix_validate.specs.declared.path.ComponentError.{ComponentError}
 use Rattle.gix_validate.specs.declared.path.ComponentError.TheVariants.{Empty, PathSeparator, WindowsPathPrefix, WindowsReservedName, WindowsIllegalCharacter, DotGitDir, SymlinkedGitModules, Relative}
 use Rattle.gix_validate.specs.declared.path.ComponentOptions.{ComponentOptions}
 use Rattle.gix_validate.specs.declared.path.ComponentMode.{ComponentMode}
-use Rattle.gix_validate.specs.Bytes.{is_empty, lower}
+use Rattle.gix_validate.specs.Bytes.{is_empty, is_among, lower}
 use Rattle.gix_validate.specs.Faults.{when, first_of}
 use Rattle.gix_validate.specs.Units.{first_unit_len}
 use Rattle.gix_validate.specs.Hfs.{hfs_form}
@@ -17,22 +17,18 @@ use Rattle.gix_validate.specs.Windows.{is_device, is_illegal}
 abbrev pub all_protections : ComponentOptions
 all_protections = record { protect_windows = true; protect_hfs = true; protect_ntfs = true }
 
--- the byte stands in the name
-abbrev pub has_byte : ℕ → List ℕ → Bool
-has_byte b x = list_any (λ c. c == b) x
-
--- The conditions, a line each, under the switches for Windows, HFS and NTFS, and for a name that is to be a symlink.
--- (Behind the last byte `slice_index` finds 0, which is no colon.)
-unfoldable pub conditions : Bool → Bool → Bool → Bool → List ℕ → List (Option ComponentError)
-conditions windows hfs ntfs symlink x =
+-- The conditions, a line each, by what a name reads as on NTFS, under the switches for Windows, HFS and NTFS, and for a
+-- name that is to be a symlink. (Behind the last byte `slice_index` finds 0, which is no colon.)
+unfoldable pub conditions : (List ℕ → List ℕ) → Bool → Bool → Bool → Bool → List ℕ → List (Option ComponentError)
+conditions form windows hfs ntfs symlink x =
     when (is_empty x) Empty
     ∷ when (bytes_eq x (codes ".") || bytes_eq x (codes "..")) Relative
-    ∷ when (has_byte (byte "/") x || (windows && has_byte (byte "\\") x)) PathSeparator
+    ∷ when (is_among x (byte "/") || (windows && is_among x (byte "\\"))) PathSeparator
     ∷ when (windows && slice_index x (first_unit_len x) == byte ":") WindowsPathPrefix
     ∷ when (hfs && bytes_eq (lower (hfs_form x)) (codes ".git")) DotGitDir
     ∷ when (hfs && symlink && bytes_eq (lower (hfs_form x)) (codes ".gitmodules")) SymlinkedGitModules
-    ∷ when (ntfs && is_git_form (lower (ntfs_form x))) DotGitDir
-    ∷ when (ntfs && symlink && is_modules_form (lower (ntfs_form x))) SymlinkedGitModules
+    ∷ when (ntfs && is_git_form (lower (form x))) DotGitDir
+    ∷ when (ntfs && symlink && is_modules_form (lower (form x))) SymlinkedGitModules
     ∷ when (windows && ntfs && is_device x) WindowsReservedName
     ∷ when (windows && ntfs && is_illegal x) WindowsIllegalCharacter
     ∷ when (not hfs && not ntfs && bytes_eq (lower x) (codes ".git")) DotGitDir
@@ -41,23 +37,23 @@ conditions windows hfs ntfs symlink x =
 
 -- the same under options, and a mode if there is one (the one mode is that of a symlink)
 abbrev pub conditions_under : ComponentOptions → Option ComponentMode → List ℕ → List (Option ComponentError)
-conditions_under options mode x = conditions options.protect_windows options.protect_hfs options.protect_ntfs (is_some mode) x
+conditions_under options mode x = conditions ntfs_form options.protect_windows options.protect_hfs options.protect_ntfs (is_some mode) x
 
 -- The fault of a component: the first condition that holds.
-unfoldable pub component_fault_of : ComponentOptions → Option ComponentMode → List ℕ → Option ComponentError
-component_fault_of options mode x = first_of (conditions_under options mode x)
+unfoldable pub fault_of : ComponentOptions → Option ComponentMode → List ℕ → Option ComponentError
+fault_of options mode x = first_of (conditions_under options mode x)
 
 -- The text is a component: none of the conditions holds.
 unfoldable pub is_component : ComponentOptions → Option ComponentMode → List ℕ → Bool
 is_component options mode x = list_all is_none (conditions_under options mode x)
 
 -- What an error prints.
-abbrev pub component_text_of : ComponentError → List ℕ
-component_text_of Empty = codes "A path component must not be empty"
-component_text_of PathSeparator = codes "Path separators like / or \\ are not allowed"
-component_text_of WindowsPathPrefix = codes "Windows path prefixes are not allowed"
-component_text_of WindowsReservedName = codes "Windows device-names may have side-effects and are not allowed"
-component_text_of WindowsIllegalCharacter = codes "Trailing spaces or dots, and the following characters anywhere, are forbidden in Windows paths, along with non-printable ones: <>:\"|?*"
-component_text_of DotGitDir = codes "The .git name may never be used"
-component_text_of SymlinkedGitModules = codes "The .gitmodules file must not be a symlink"
-component_text_of Relative = codes "Relative components '.' and '..' are disallowed"
+abbrev pub text_of : ComponentError → List ℕ
+text_of Empty = codes "A path component must not be empty"
+text_of PathSeparator = codes "Path separators like / or \\ are not allowed"
+text_of WindowsPathPrefix = codes "Windows path prefixes are not allowed"
+text_of WindowsReservedName = codes "Windows device-names may have side-effects and are not allowed"
+text_of WindowsIllegalCharacter = codes "Trailing spaces or dots, and the following characters anywhere, are forbidden in Windows paths, along with non-printable ones: <>:\"|?*"
+text_of DotGitDir = codes "The .git name may never be used"
+text_of SymlinkedGitModules = codes "The .gitmodules file must not be a symlink"
+text_of Relative = codes "Relative components '.' and '..' are disallowed"

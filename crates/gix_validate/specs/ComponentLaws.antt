@@ -8,7 +8,7 @@ use Rattle.gix_validate.specs.Pieces.{has_no_slash}
 use Rattle.gix_validate.specs.Units.{units}
 use Rattle.gix_validate.specs.Hfs.{hfs_form, is_ignored_unit}
 use Rattle.gix_validate.specs.Windows.{device_form, is_device}
-use Rattle.gix_validate.specs.Component.{component_fault_of}
+use Rattle.gix_validate.specs.Component.{fault_of}
 
 -- every switch off
 abbrev pub no_protections : ComponentOptions
@@ -24,25 +24,25 @@ pub record HasOnlySwitchesOf (fewer options : ComponentOptions) : Type 0 where
 abbrev pub PassesFewer : ComponentOptions → Option ComponentMode → List ℕ → Type 0
 PassesFewer options mode x =
     (fewer : ComponentOptions) → HasOnlySwitchesOf fewer options
-    → (component_fault_of fewer mode x ≡ None) × (component_fault_of fewer None x ≡ None)
+    → (fault_of fewer mode x ≡ None) × (fault_of fewer None x ≡ None)
 
--- the name and its lower case have the same fault, or both have none
+-- the name and the same with small ASCII letters have the same fault, or both have none
 abbrev pub FaultIgnoresCase : ComponentOptions → Option ComponentMode → List ℕ → Type 0
-FaultIgnoresCase options mode x = component_fault_of options mode x ≡ component_fault_of options mode (lower x)
+FaultIgnoresCase options mode x = fault_of options mode x ≡ fault_of options mode (lower x)
 
 -- the HFS form is the units without the ignored characters, put one after the other
 abbrev pub FormIsKeptUnits : List ℕ → Type 0
 FormIsKeptUnits x = hfs_form x ≡ concat (filter (λ unit. not (is_ignored_unit unit)) (units x))
 
--- the name is one step down in a directory, and not into `.git` in any case
-pub record IsSafe (x : List ℕ) : Type 0 where
+-- the name is not empty, is neither `.` nor `..`, has no slash, and is not `.git` in any ASCII letter case
+pub record IsBasicName (x : List ℕ) : Type 0 where
   pub not_empty : x ≢ []
   pub not_here : x ≢ codes "."
   pub not_above : x ≢ codes ".."
   pub no_slash : IsTrue (has_no_slash x)
   pub not_git : lower x ≢ codes ".git"
 
--- the name and its lower case are both devices, or both are not
+-- the name and the same with small ASCII letters are both devices, or both are not
 abbrev pub DeviceIgnoresCase : List ℕ → Type 0
 DeviceIgnoresCase x = is_device x ≡ is_device (lower x)
 

@@ -18,10 +18,10 @@ abbrev pub first_of : {A : Type 0} → List (Option A) → Option A
 first_of [] = None
 first_of (line ∷ lines) = line orelse first_of lines
 
--- what f gives at the least place below n at which it gives something
-unfoldable pub at_least_place : {A : Type 0} → (ℕ → Option A) → ℕ → Option A
-at_least_place f zero = None
-at_least_place f (suc n) = at_least_place f n orelse f n
+-- what f gives at the first place at which it gives something, if there is one before place n
+unfoldable pub at_first_place : {A : Type 0} → (ℕ → Option A) → ℕ → Option A
+at_first_place f zero = None
+at_first_place f (suc n) = at_first_place f n orelse f n
 
 -- A validator that goes by a rule of faults: it gives back the text that has none, and else the fault.
 abbrev pub Validates : {E : Type 0} → (List ℕ → Option E) → List ℕ → Result BStr E → Type 0

@@ -4,7 +4,10 @@ use Rattle.std.specs.List.{list_any}
 use Rattle.std.specs.Str.{byte}
 use Rattle.gix_validate.specs.Bytes.{is_among, is_empty, begins, ends}
 use Rattle.gix_validate.specs.Windows.{is_illegal_byte}
-use Rattle.gix_validate.specs.Component.{has_byte}
+
+-- a byte that neither ends a device or NTFS form nor is cut from its end: no space, dot, colon or backslash
+abbrev pub stays_in_form : ℕ → Bool
+stays_in_form b = not (is_among (codes " .:\\") b)
 
 -- each of the characters that HFS+ ignores begins with one of these bytes
 abbrev pub is_lead : ℕ → Bool
@@ -43,8 +46,8 @@ HaveKindsOf kinds x = (mask : ℕ) → any_kind mask kinds ≡ any_kind mask (ma
 
 -- What the kinds of the bytes of a name tell of it, a mask for each question.
 pub record Tell (kinds x : List ℕ) : Type 0 where
-  pub slash : any_kind 64 kinds ≡ has_byte (byte "/") x
-  pub backslash : any_kind 8 kinds ≡ has_byte (byte "\\") x
+  pub slash : any_kind 64 kinds ≡ is_among x (byte "/")
+  pub backslash : any_kind 8 kinds ≡ is_among x (byte "\\")
   pub illegal : any_kind 23 kinds ≡ list_any is_illegal_byte x
   pub lead : any_kind 32 kinds ≡ list_any is_lead x
   pub noted : any_kind 255 kinds ≡ list_any is_noted x

@@ -1,5 +1,5 @@
 -- The sanitised text: what a text is repaired to, piece by piece, so that it is a partial name.
-use Rattle.std.specs.Prelude.{◌≡◌, ◌≢◌, ◌⊎◌, ℕ, ◌+◌, ◌-◌, Bool, true, false, ◌==◌, ◌&&◌, ◌||◌, not, IsTrue, if◌then◌else◌, List, [], ◌∷◌, ◌++◌, length, take, map, filter, codes, Option, Some, None}
+use Rattle.std.specs.Prelude.{◌≡◌, ◌≢◌, ◌⊎◌, ℕ, ◌-◌, Bool, true, false, ◌==◌, ◌&&◌, ◌||◌, not, IsTrue, if◌then◌else◌, List, [], ◌∷◌, ◌++◌, length, take, map, filter, codes, Option, Some, None}
 use Rattle.std.specs.List.{list_all}
 use Rattle.std.specs.Str.{byte, bytes_eq}
 use Rattle.gix_validate.specs.Bytes.{is_bad, is_empty, ends}
@@ -7,13 +7,13 @@ use Rattle.gix_validate.specs.Pieces.{pieces, joined}
 
 -- A run of a piece: all the dots that stand in a row at one place, or one other byte.
 pub data Run : Type 0 where
-  Dots : ℕ → Run
+  Dots : Run
   Other : ℕ → Run
 
--- the runs with one dot more in front of them
+-- the runs of a piece with one dot more in front of it
 abbrev pub dot_before : List Run → List Run
-dot_before (Dots n ∷ after) = Dots (n + 1) ∷ after
-dot_before after = Dots 1 ∷ after
+dot_before (Dots ∷ after) = Dots ∷ after
+dot_before after = Dots ∷ after
 
 -- the runs of a piece, in order
 abbrev pub runs : List ℕ → List Run
@@ -22,7 +22,7 @@ runs (b ∷ p) = if b == byte "." then dot_before (runs p) else Other b ∷ runs
 
 -- the last byte of a run
 abbrev pub last_of : Run → ℕ
-last_of (Dots n) = byte "."
+last_of Dots = byte "."
 last_of (Other b) = b
 
 -- the byte itself, or a dash for one that no name may have
@@ -31,8 +31,8 @@ allowed b = if is_bad b || b == byte "*" then byte "-" else b
 
 -- the one byte that a run gives, by the byte that stands before it in the piece, if there is one
 abbrev pub byte_of : Option ℕ → Run → ℕ
-byte_of None (Dots n) = byte "-"
-byte_of (Some before) (Dots n) = byte "."
+byte_of None Dots = byte "-"
+byte_of (Some before) Dots = byte "."
 byte_of None (Other b) = allowed b
 byte_of (Some before) (Other b) = if before == byte "@" && b == byte "{" then byte "-" else allowed b
 
@@ -45,13 +45,13 @@ bytes_of before (run ∷ after) = byte_of before run ∷ bytes_of (Some (last_of
 unfoldable pub cleaned : List ℕ → List ℕ
 cleaned p = bytes_of None (runs p)
 
--- the text is nothing but `.lock`, some number of times
+-- the text is `.lock` any number of times, none included
 abbrev pub is_locks : List ℕ → Bool
 is_locks [] = true
 is_locks (a ∷ b ∷ c ∷ d ∷ e ∷ t) = bytes_eq (a ∷ b ∷ c ∷ d ∷ e ∷ []) (codes ".lock") && is_locks t
 is_locks _ = false
 
--- the shortest front of the text after which there is nothing but `.lock`, some number of times
+-- the shortest front of the text after which only `.lock` follows, any number of times, none included
 unfoldable pub cut : List ℕ → List ℕ
 cut [] = []
 cut (b ∷ t) = if is_locks (b ∷ t) then [] else b ∷ cut t

@@ -5,8 +5,8 @@ use Rattle.std.specs.Str.{byte, bytes_eq}
 use Rattle.gix_validate.specs.declared.tag.NameError.{NameError}
 use Rattle.gix_validate.specs.declared.tag.NameError.TheVariants.{InvalidByte, StartsWithSlash, RepeatedSlash, RepeatedDot, LockFileSuffix, ReflogPortion, Asterisk, StartsWithDot, EndsWithDot, EndsWithSlash, Empty}
 use Rattle.gix_validate.specs.Bytes.{is_bad, is_empty, begins, ends, holds}
-use Rattle.gix_validate.specs.Pieces.{pieces, last_piece}
-use Rattle.gix_validate.specs.Faults.{when, first_of, at_least_place}
+use Rattle.gix_validate.specs.Pieces.{pieces}
+use Rattle.gix_validate.specs.Faults.{when, first_of, at_first_place}
 use Rattle.gix_validate.specs.Quoted.{quoted}
 
 -- The piece may stand in a tag name.
@@ -23,8 +23,8 @@ is_good_piece p =
 unfoldable pub is_tag_name : List ℕ → Bool
 is_tag_name x = list_all is_good_piece (pieces x) && not (ends x (codes "."))
 
--- The table of the faults at one place of a text, a line each: what stands before the place, the byte at
--- it, and what stands after it.
+-- The table of the faults at one place of a text, a line each. The text is cut at the place into all that stands
+-- before it, the byte at it, and all that stands after it.
 unfoldable pub faults_between : List ℕ → ℕ → List ℕ → List (Option NameError)
 faults_between before b after =
     when (is_bad b) (InvalidByte b)
@@ -33,8 +33,8 @@ faults_between before b after =
     ∷ when (b == byte "." && ends before (codes "/")) StartsWithDot
     ∷ when (b == byte "{" && ends before (codes "@")) ReflogPortion
     ∷ when (b == byte "/" && ends before (codes "/")) RepeatedSlash
-    ∷ when (b == byte "/" && not (ends before (codes "/")) && ends (last_piece before) (codes ".lock")) LockFileSuffix
-    ∷ when (is_empty after && ends (last_piece (before ++ b ∷ [])) (codes ".lock") && not (bytes_eq (before ++ b ∷ []) (codes ".lock"))) LockFileSuffix
+    ∷ when (b == byte "/" && ends before (codes ".lock")) LockFileSuffix
+    ∷ when (is_empty after && ends (before ++ b ∷ []) (codes ".lock") && not (bytes_eq (before ++ b ∷ []) (codes ".lock"))) LockFileSuffix
     ∷ []
 
 -- the lines of the table at place i of x, where x has that place
@@ -42,8 +42,8 @@ unfoldable pub faults_at : List ℕ → ℕ → List (Option NameError)
 faults_at x i = faults_between (take i x) (slice_index x i) (drop (i + 1) x)
 
 -- At each place of the text at most one line of the table applies, so their order says nothing.
-abbrev pub HasOneFaultAPlace : List ℕ → Type 0
-HasOneFaultAPlace x = (i : ℕ) → i < length x → count_by is_some (faults_at x i) ≤ 1
+abbrev pub HasAtMostOneFaultAPlace : List ℕ → Type 0
+HasAtMostOneFaultAPlace x = (i : ℕ) → i < length x → count_by is_some (faults_at x i) ≤ 1
 
 -- The fault of a text: the first of these that applies.
 unfoldable pub fault_of : List ℕ → Option NameError
@@ -51,7 +51,7 @@ fault_of x = first_of (
     when (is_empty x) Empty
     ∷ when (ends x (codes "/")) EndsWithSlash
     ∷ when (begins x (codes "/")) StartsWithSlash
-    ∷ at_least_place (λ i. first_of (faults_at x i)) (length x)
+    ∷ at_first_place (λ i. first_of (faults_at x i)) (length x)
     ∷ when (begins x (codes ".")) StartsWithDot
     ∷ when (ends x (codes ".")) EndsWithDot
     ∷ [])

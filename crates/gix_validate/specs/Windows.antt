@@ -1,5 +1,5 @@
--- Names that mean a device on Windows, and names that Windows forbids.
-use Rattle.std.specs.Prelude.{ℕ, Bool, ◌==◌, ◌||◌, not, nat_lt, List, [], ◌∷◌, ◌++◌, map, codes}
+-- Devices, told by the device form of a name, and names that are illegal on Windows.
+use Rattle.std.specs.Prelude.{ℕ, Bool, ◌==◌, ◌||◌, nat_lt, List, [], ◌∷◌, ◌++◌, map, codes}
 use Rattle.std.specs.List.{before_first, list_any}
 use Rattle.std.specs.Str.{byte, bytes_eq}
 use Rattle.gix_validate.specs.Bytes.{is_among, lower, ends}
@@ -24,13 +24,9 @@ devices =
 unfoldable pub is_device_form : List ℕ → Bool
 is_device_form form = list_any (λ name. bytes_eq (lower form) (lower name)) devices
 
--- The name means a device.
+-- The name is a device: its device form is the name of one.
 unfoldable pub is_device : List ℕ → Bool
 is_device x = is_device_form (device_form x)
-
--- a byte that neither ends a device or NTFS form nor is cut from its end: no space, dot, colon or backslash
-abbrev pub is_plain : ℕ → Bool
-is_plain b = not (is_among (codes " .:\\") b)
 
 -- a byte that makes a name illegal on Windows wherever it stands
 unfoldable pub is_illegal_byte : ℕ → Bool

@@ -228,7 +228,7 @@ pub fn join(alloc: Global, a: BStr<'_>, b: BStr<'_>) -> Result<BString, AllocErr
     requires second { IsTrue (is_tag_name (bstr_bytes b)) }
     ensures bytes { IfOk result (λ name. bstring_bytes name
         ≡ joined (bstr_bytes a.entry ∷ bstr_bytes b.entry ∷ [])) }
-    ensures full_name { IfOk result (λ name. IsTrue (is_full_name (bstring_bytes name))) }
+    ensures valid { IfOk result (λ name. IsTrue (is_full_name (bstring_bytes name))) }
 {
     let name = join_in(alloc, a.as_bytes(), b.as_bytes())?;
     Ok(BString::new(name))
@@ -283,15 +283,15 @@ fn join_in<A: Allocator>(alloc: A, a: &[u8], b: &[u8]) -> Result<Vec<u8, A>, All
     write_joined(Vec::with_capacity(alloc, len)?, a, b)
 }
 
-// All that follows the reservation: it succeeds where the capacity serves.
+// All that follows the reservation, which was for the join and no byte more: it succeeds.
 fn write_joined<A: Allocator>(
     mut buffer: Vec<u8, A>,
     a: &[u8],
     b: &[u8],
 ) -> Result<Vec<u8, A>, AllocError>
+    requires room { vec_capacity buffer ≡ vec_len buffer + length (joined (a.now ∷ b.now ∷ [])) }
     ensures bytes { IfOk result (λ name. name.items ≡ buffer.items ++ joined (a.now ∷ b.now ∷ [])) }
-    ensures succeeds { vec_len buffer + length (joined (a.now ∷ b.now ∷ [])) ≤ vec_capacity buffer
-        → IsOk result }
+    ensures succeeds { IsOk result }
 {
     buffer.extend_from_slice(a)?;
     buffer.push(b'/')?;

@@ -1,4 +1,6 @@
-//! Submodule names, which may not lead out of the folder that holds the submodules.
+//! Submodule names: any text but the empty one that has no part `..`, where both `/` and `\` end a part.
+//!
+//! Nothing else is refused: `/etc` is a submodule name.
 
 ghost use Rattle.std.specs.Prelude.{◌≡◌, ◌↔◌, IsOk, IfOk, IsTrue};
 ghost use Rattle.bstr.specs.BStr.{bstr_bytes};

@@ -3,9 +3,9 @@
 ghost use Rattle.std.specs.Prelude.{◌≡◌, ◌↔◌, ◌<◌, ℕ, List, ◌∷◌, length, codes, Some, IsOk, IfOk, IsTrue};
 ghost use Rattle.bstr.specs.BStr.{bstr_bytes};
 ghost use Rattle.gix_validate.specs.Bytes.{ends};
-ghost use Rattle.gix_validate.specs.Faults.{Validates, first_of, at_least_place};
-ghost use Rattle.gix_validate.specs.Pieces.{HasOnlyPieces};
-ghost use Rattle.gix_validate.specs.Tag.{fault_of, faults_at, faults_between, is_tag_name, HasOneFaultAPlace};
+ghost use Rattle.gix_validate.specs.Faults.{Validates, first_of, at_first_place};
+ghost use Rattle.gix_validate.specs.Pieces.{PiecesAreTheOnlySplit};
+ghost use Rattle.gix_validate.specs.Tag.{fault_of, faults_at, faults_between, is_tag_name, HasAtMostOneFaultAPlace};
 
 use crate::bytes::{is_bad_byte, may_be_faulty};
 use crate::clear::is_clear;
@@ -99,8 +99,8 @@ pub fn name<'a>(input: BStr<'a>) -> Result<BStr<'a>, NameError>
     ensures answer { Validates fault_of (bstr_bytes input.entry) result }
     ensures grammar { IsOk result ↔ IsTrue (is_tag_name (bstr_bytes input.entry)) }
     ensures same { IfOk result (λ name. name ≡ input.entry) }
-    ensures one_fault { HasOneFaultAPlace (bstr_bytes input.entry) }
-    ensures pieces { HasOnlyPieces (bstr_bytes input.entry) }
+    ensures one_fault { HasAtMostOneFaultAPlace (bstr_bytes input.entry) }
+    ensures pieces { PiecesAreTheOnlySplit (bstr_bytes input.entry) }
 {
     match first_fault(input.as_bytes()) {
         None => Ok(input),
@@ -136,7 +136,7 @@ fn first_fault_on_walk(bytes: &[u8]) -> Option<NameError>
     if first == b'/' {
         return Some(NameError::StartsWithSlash);
     }
-    if let Some(fault) = fault_at_least_place(bytes) {
+    if let Some(fault) = fault_at_first_place(bytes) {
         return Some(fault);
     }
     if first == b'.' {
@@ -149,9 +149,9 @@ fn first_fault_on_walk(bytes: &[u8]) -> Option<NameError>
 }
 
 /// The fault at the least place that has one: one pass, and most bytes cost a look into a table.
-fn fault_at_least_place(bytes: &[u8]) -> Option<NameError>
+fn fault_at_first_place(bytes: &[u8]) -> Option<NameError>
     requires { 0 < length bytes.now }
-    ensures { result ≡ at_least_place (λ i. first_of (faults_at bytes.now i)) (length bytes.now) }
+    ensures { result ≡ at_first_place (λ i. first_of (faults_at bytes.now i)) (length bytes.now) }
 {
     for (i, &byte) in bytes.iter().enumerate() {
         if may_be_faulty(byte) {

@@ -1,4 +1,4 @@
 pub mod FrontLemmas
-pub mod OldNtfsLemmas
-mod OldNtfsRows
+pub mod Version1Lemmas
+mod Version1Rows
 pub mod DecodedLemmas

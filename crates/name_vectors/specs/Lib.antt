@@ -1,2 +1,2 @@
-pub mod OldNtfs
+pub mod Version1
 pub mod Decoded

@@ -50,18 +50,10 @@ pub(crate) fn faults_at(text: &[u8], place: usize) -> [(bool, Fault<'static>); 8
         (follows(b"/", b'.'), Fault::StartsWithDot),
         (follows(b"@", b'{'), Fault::ReflogPortion),
         (follows(b"/", b'/'), Fault::RepeatedSlash),
+        (follows(b".lock", b'/'), Fault::LockFileSuffix),
         (
-            byte == Some(b'/') && last_piece(before).ends_with(b".lock"),
-            Fault::LockFileSuffix,
-        ),
-        (
-            is_last && last_piece(text).ends_with(b".lock") && text != b".lock".as_slice(),
+            is_last && text.ends_with(b".lock") && text != b".lock".as_slice(),
             Fault::LockFileSuffix,
         ),
     ]
-}
-
-/// What stands behind the last slash.
-fn last_piece(text: &[u8]) -> &[u8] {
-    text.rsplit(is_slash).next().unwrap_or(text)
 }

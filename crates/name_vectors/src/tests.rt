@@ -7,7 +7,7 @@ mod single;
 
 use crate::component::Setting;
 use crate::fault::Fault;
-use crate::{component, forms, reference, sanitized, submodule, tag};
+use crate::{component, forms, reference, sanitized, submodule, tag, units};
 use bstr::BStr;
 use gix_validate::path::{ComponentMode, ComponentOptions};
 use std::alloc::{AllocError, Global};
@@ -39,6 +39,19 @@ fn ask_rules(rt: &impl Abort, text: &[u8]) {
     }
 }
 
+/// The units are the text, cut; and without the ignored characters they are what HFS+ reads.
+fn ask_forms(rt: &impl Abort, alloc: Global, text: &[u8], on_hfs: &[u8]) -> Result<(), AllocError> {
+    let units = units::units(alloc, text)?;
+    let mut rest = Some(text);
+    for unit in &units {
+        rest = rest.and_then(|rest| rest.strip_prefix(*unit));
+    }
+    assert_eq!(rt; rest, Some(b"".as_slice()), "the units of {text:?}");
+    let kept = forms::kept_units(alloc, &units)?;
+    assert_eq!(rt; on_hfs, kept.as_slice(), "the form of {text:?}");
+    Ok(())
+}
+
 fn ask_names(rt: &impl Abort, text: &[u8]) {
     let answer = gix_validate::tag::name(BStr::new(text));
     let told = answer.as_ref().map_err(|fault| Fault::from(fault));
@@ -63,6 +76,7 @@ fn ask_reference_names(rt: &impl Abort, text: &[u8]) {
 /// Under all settings of the switches, without the mode and with it.
 fn ask_components(rt: &impl Abort, alloc: Global, text: &[u8]) -> Result<(), AllocError> {
     let readings = component::read(alloc, text)?;
+    ask_forms(rt, alloc, text, &readings.on_hfs)?;
     for windows in [false, true] {
         for hfs in [false, true] {
             for ntfs in [false, true] {

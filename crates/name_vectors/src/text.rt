@@ -10,7 +10,7 @@ pub(crate) fn is_bad(byte: u8) -> bool {
     byte < 0x20 || b"\\^:[? ~\x7f".contains(&byte)
 }
 
-/// The byte, or the small letter where it is a capital.
+/// The byte, or the small letter where it is an ASCII capital.
 pub(crate) fn lower(byte: u8) -> u8 {
     match byte {
         b'A'..=b'Z' => byte | 0x20,
@@ -18,7 +18,7 @@ pub(crate) fn lower(byte: u8) -> u8 {
     }
 }
 
-/// Whether two texts are the same but for capital and small letters.
+/// Whether two texts are the same but for the case of ASCII letters.
 pub(crate) fn is_same_word(a: &[u8], b: &[u8]) -> bool {
     a.len() == b.len() && a.iter().zip(b).all(|(a, b)| lower(*a) == lower(*b))
 }

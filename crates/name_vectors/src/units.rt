@@ -1,5 +1,7 @@
 //! Units of a text, by the table of whole sequences (docs/RULES.md, "Path components").
 
+use std::alloc::{AllocError, Global};
+
 /// The rows of Unicode's table of whole UTF-8 sequences: the least and the greatest of each byte.
 const ROWS: [&[(u8, u8)]; 9] = [
     &[(0x00, 0x7F)],
@@ -12,6 +14,21 @@ const ROWS: [&[(u8, u8)]; 9] = [
     &[(0xF1, 0xF3), (0x80, 0xBF), (0x80, 0xBF), (0x80, 0xBF)],
     &[(0xF4, 0xF4), (0x80, 0x8F), (0x80, 0xBF), (0x80, 0xBF)],
 ];
+
+/// The units of a text, in order.
+pub(crate) fn units(alloc: Global, text: &[u8]) -> Result<Vec<&[u8]>, AllocError> {
+    let mut units = Vec::new(alloc);
+    let mut rest = text;
+    for _ in 0..text.len() {
+        let unit = first_unit(rest);
+        if unit.is_empty() {
+            break;
+        }
+        units.push(unit)?;
+        rest = rest.get(unit.len()..).unwrap_or(b"");
+    }
+    Ok(units)
+}
 
 /// The first unit: the front that is a whole sequence, else the longest front that begins one, else
 /// one byte.

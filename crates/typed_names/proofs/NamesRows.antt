@@ -5,7 +5,7 @@ use Rattle.std.specs.List.{after_first}
 use Rattle.bstr.specs.declared.bstr.BStr.{BStr}
 use Rattle.gix_validate.specs.declared.path.ComponentError.TheVariants.{WindowsReservedName, DotGitDir, Relative}
 use Rattle.gix_validate.specs.Bytes.{is_bad, lower_byte}
-use Rattle.gix_validate.specs.Component.{all_protections, conditions, component_fault_of}
+use Rattle.gix_validate.specs.Component.{all_protections, conditions, fault_of}
 use Rattle.gix_validate.specs.ComponentLaws.{no_protections}
 use Rattle.gix_validate.specs.Hfs.{hfs_form, is_ignored}
 use Rattle.gix_validate.specs.Ntfs.{ntfs_form, is_git_form, is_modules_form}
@@ -71,26 +71,26 @@ part_after = refl
 
 -- What a component is tested by, and what it keeps.
 
-device_under_all : component_fault_of all_protections None (codes "CON") ≡ Some WindowsReservedName
-unfolding component_fault_of conditions first_unit_len whole_sequences hfs_form is_ignored ntfs_form is_git_form is_modules_form is_device is_device_form device_form devices is_illegal is_illegal_byte lower_byte
+device_under_all : fault_of all_protections None (codes "CON") ≡ Some WindowsReservedName
+unfolding fault_of conditions first_unit_len whole_sequences hfs_form is_ignored ntfs_form is_git_form is_modules_form is_device is_device_form device_form devices is_illegal is_illegal_byte lower_byte
 device_under_all = refl
 
-device_on_windows_alone : component_fault_of (record { protect_windows = true; protect_hfs = false; protect_ntfs = false }) None (codes "CON") ≡ None
-unfolding component_fault_of conditions first_unit_len whole_sequences hfs_form is_ignored ntfs_form is_git_form is_modules_form is_device is_device_form device_form devices is_illegal is_illegal_byte lower_byte
+device_on_windows_alone : fault_of (record { protect_windows = true; protect_hfs = false; protect_ntfs = false }) None (codes "CON") ≡ None
+unfolding fault_of conditions first_unit_len whole_sequences hfs_form is_ignored ntfs_form is_git_form is_modules_form is_device is_device_form device_form devices is_illegal is_illegal_byte lower_byte
 device_on_windows_alone = refl
 
-device_under_none : component_fault_of no_protections None (codes "CON") ≡ None
-unfolding component_fault_of conditions first_unit_len whole_sequences hfs_form is_ignored ntfs_form is_git_form is_modules_form is_device is_device_form device_form devices is_illegal is_illegal_byte lower_byte
+device_under_none : fault_of no_protections None (codes "CON") ≡ None
+unfolding fault_of conditions first_unit_len whole_sequences hfs_form is_ignored ntfs_form is_git_form is_modules_form is_device is_device_form device_form devices is_illegal is_illegal_byte lower_byte
 device_under_none = refl
 
-git_under_none : component_fault_of no_protections None (codes ".GIT") ≡ Some DotGitDir
-unfolding component_fault_of conditions first_unit_len whole_sequences hfs_form is_ignored ntfs_form is_git_form is_modules_form is_device is_device_form device_form devices is_illegal is_illegal_byte lower_byte
+git_under_none : fault_of no_protections None (codes ".GIT") ≡ Some DotGitDir
+unfolding fault_of conditions first_unit_len whole_sequences hfs_form is_ignored ntfs_form is_git_form is_modules_form is_device is_device_form device_form devices is_illegal is_illegal_byte lower_byte
 git_under_none = refl
 
-folder_above_under_none : component_fault_of no_protections None (codes "..") ≡ Some Relative
-unfolding component_fault_of conditions first_unit_len whole_sequences hfs_form is_ignored ntfs_form is_git_form is_modules_form is_device is_device_form device_form devices is_illegal is_illegal_byte lower_byte
+folder_above_under_none : fault_of no_protections None (codes "..") ≡ Some Relative
+unfolding fault_of conditions first_unit_len whole_sequences hfs_form is_ignored ntfs_form is_git_form is_modules_form is_device is_device_form device_form devices is_illegal is_illegal_byte lower_byte
 folder_above_under_none = refl
 
-modules_without_the_mode : component_fault_of no_protections None (codes ".gitmodules") ≡ None
-unfolding component_fault_of conditions first_unit_len whole_sequences hfs_form is_ignored ntfs_form is_git_form is_modules_form is_device is_device_form device_form devices is_illegal is_illegal_byte lower_byte
+modules_without_the_mode : fault_of no_protections None (codes ".gitmodules") ≡ None
+unfolding fault_of conditions first_unit_len whole_sequences hfs_form is_ignored ntfs_form is_git_form is_modules_form is_device is_device_form device_form devices is_illegal is_illegal_byte lower_byte
 modules_without_the_mode = refl

@@ -2,7 +2,7 @@
 
 ghost use Rattle.std.specs.Prelude.{◌≡◌, ◌↔◌, None, IsOk, IsTrue};
 ghost use Rattle.bstr.specs.BStr.{bstr_bytes};
-ghost use Rattle.gix_validate.specs.Component.{component_fault_of, is_component};
+ghost use Rattle.gix_validate.specs.Component.{fault_of, is_component};
 ghost use Rattle.gix_validate.specs.ComponentLaws.{no_protections};
 
 use bstr::BStr;
@@ -17,7 +17,7 @@ use gix_validate::path::{self, ComponentError, ComponentMode, ComponentOptions};
 pub struct Component<'a> {
     name: BStr<'a>,
     // The text has no fault under no switch and without a mode.
-    pub ghost valid: { component_fault_of no_protections None (bstr_bytes name) ≡ None },
+    pub ghost valid: { fault_of no_protections None (bstr_bytes name) ≡ None },
 }
 
 impl<'a> Component<'a> {
@@ -39,7 +39,7 @@ impl<'a> Component<'a> {
         mode: Option<ComponentMode>,
         options: ComponentOptions,
     ) -> Result<Component<'a>, ComponentError>
-        ensures answer { Keeps component_text (component_fault_of options mode) name.entry result }
+        ensures answer { Keeps component_text (fault_of options mode) name.entry result }
         ensures grammar { IsOk result ↔ IsTrue (is_component options mode (bstr_bytes name.entry)) }
     {
         Ok(Component {
@@ -51,7 +51,7 @@ impl<'a> Component<'a> {
     /// mode.
     pub fn as_bstr(&self) -> BStr<'a>
         ensures same { result ≡ component_text self.now }
-        ensures valid { component_fault_of no_protections None (bstr_bytes result) ≡ None }
+        ensures valid { fault_of no_protections None (bstr_bytes result) ≡ None }
     {
         self.name
     }

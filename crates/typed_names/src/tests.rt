@@ -198,6 +198,9 @@ fn parts_outlive_the_name_that_gave_them(rt: HostRuntime) -> Result<(), Fail> {
         (name.pieces(), name.after_first_slash())
     };
     assert_eq!(rt; pieces.next(), Some(BStr::from("refs")));
+    assert_eq!(rt; pieces.next(), Some(BStr::from("heads")));
+    assert_eq!(rt; pieces.next(), Some(BStr::from("main")));
+    assert_eq!(rt; pieces.next(), None);
     let rest = rest.expect(&rt, "a slash");
     assert_eq!(rt; rest.as_bstr(), BStr::from("heads/main"));
     Ok(())

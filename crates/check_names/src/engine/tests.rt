@@ -1,4 +1,5 @@
 ghost use Rattle.std.specs.Prelude.{◌≡◌, IfOk, codes, string_bytes};
+ghost use Rattle.check_names.specs.Answers.{answers};
 
 use super::{RunError, run, run_in};
 use linked_list_allocator::LocalHeap;
@@ -72,6 +73,30 @@ const ROWS: [(&[u8], &[u8]); 34] = [
     (b"\0\0\0", b"unknown kind"),
 ];
 
+// Names, and what each is repaired to.
+const REPAIRS: [(&[u8], &[u8]); 20] = [
+    (b"", b"-"),
+    (b"///", b"-"),
+    (b".", b"-"),
+    (b"..", b"-"),
+    (b"a.", b"a-"),
+    (b"a..b", b"a.b"),
+    (b"/a//b/", b"a/b"),
+    (b"a./b", b"a./b"),
+    (b"a/.lock", b"a/-lock"),
+    (b"a//.lock", b"a/-lock"),
+    (b"a.lock.lock", b"a"),
+    (b"a.lock/b.lock", b"a/b"),
+    (b"x.lock..", b"x.lock-"),
+    (b"@{", b"@-"),
+    (b"@..{", b"@.{"),
+    (b"@", b"-"),
+    (b"@/@", b"@/@"),
+    (b"*.lock", b"-"),
+    (b"\0\x7f", b"--"),
+    (b"\xc3\xa9", b"\xc3\xa9"),
+];
+
 fn lines(alloc: Global) -> Result<Vec<u8>, AllocError> {
     let mut text = Vec::new(alloc);
     for (line, _) in &ROWS {
@@ -90,7 +115,10 @@ fn answers(alloc: Global) -> Result<Vec<u8>, AllocError> {
     Ok(text)
 }
 
-fn answered(alloc: Global, text: &[u8]) -> Result<Vec<u8>, RunError> {
+// A run over memory, which meets each premise of the contract of `run`.
+fn answered(alloc: Global, text: &[u8]) -> Result<Vec<u8>, RunError>
+    ensures { IfOk result (λ output. output.items ≡ answers text.now) }
+{
     let mut output = Vec::new(alloc);
     run(alloc, &mut &*text, &mut output)?;
     Ok(output)
@@ -111,10 +139,12 @@ impl Read for BrokenReader<'_> {
     }
 }
 
-// Takes bytes while it has room, and then fails. It counts its bytes, its flushes, and the bytes of the last flush.
+// Takes bytes while it has room, and then fails. It counts its writes and their bytes, its flushes, and the bytes of
+// the last flush.
 #[derive(Drop)]
 struct Device<'a> {
     room: &'a mut [u8],
+    writes: usize,
     taken: usize,
     flushed: usize,
     flushes: usize,
@@ -125,6 +155,7 @@ impl<'a> Device<'a> {
     fn new(room: &'a mut [u8]) -> Device<'a> {
         Device {
             room,
+            writes: 0,
             taken: 0,
             flushed: 0,
             flushes: 0,
@@ -135,6 +166,7 @@ impl<'a> Device<'a> {
 
 impl Write for Device<'_> {
     fn write(&mut self, buf: &[u8]) -> io::Result<usize> {
+        self.writes = self.writes.saturating_add(1);
         if self.room.is_empty() {
             return Err(io::Error::from(ErrorKind::StorageFull));
         }
@@ -197,37 +229,56 @@ fn answers_long_lines(rt: HostRuntime) -> Result<(), Fail> {
 }
 
 #[test]
-fn flushes_once_where_it_answers(rt: HostRuntime) -> Result<(), Fail> {
-    for (text, flushes) in [
+fn repairs_each_row(rt: HostRuntime) -> Result<(), Fail> {
+    let (mut text, mut want) = (Vec::new(rt.alloc()), Vec::new(rt.alloc()));
+    for (name, repaired) in &REPAIRS {
+        let mut line = b"sanitize ".to_vec(rt.alloc())?;
+        line.extend_from_slice(name)?;
+        line.push(b'\n')?;
+        let mut answer = repaired.to_vec(rt.alloc())?;
+        answer.push(b'\n')?;
+        let output = answered(rt.alloc(), &line)?;
+        assert_eq!(rt; output.as_slice(), answer.as_slice());
+        text.extend_from_slice(&line)?;
+        want.extend_from_slice(&answer)?;
+    }
+    assert_eq!(rt; answered(rt.alloc(), &text)?.as_slice(), want.as_slice());
+    Ok(())
+}
+
+#[test]
+fn writes_and_flushes_once_where_it_answers(rt: HostRuntime) -> Result<(), Fail> {
+    let all = lines(rt.alloc())?;
+    for (text, times) in [
         (b"".as_slice(), 0),
         (b"\n", 1),
         (b"tag a", 1),
         (b"tag a\ntag b\n", 1),
+        (&all, 1),
     ] {
-        let mut room = [0; 64];
+        let mut room = [0; 2048];
         let mut output = Device::new(&mut room);
         run(rt.alloc(), &mut &*text, &mut output)?;
-        assert_eq!(rt; output.flushes, flushes);
+        assert_eq!(rt; output.writes, times);
+        assert_eq!(rt; output.flushes, times);
         assert_eq!(rt; output.flushed, output.taken);
         assert_eq!(rt; output.taken == 0, text.is_empty());
     }
     Ok(())
 }
 
+// The reader fails at each place of its text, and behind the last byte. After each failure the same lines are answered.
 #[test]
 fn reports_a_failed_read(rt: HostRuntime) -> Result<(), Fail> {
-    let text = lines(rt.alloc())?;
-    for k in 0..text.len() {
+    let (text, want) = (lines(rt.alloc())?, answers(rt.alloc())?);
+    for k in 0..=text.len() {
         let mut input = BrokenReader { left: &text[..k] };
         let mut output = Vec::new(rt.alloc());
         let result = run(rt.alloc(), &mut input, &mut output);
         assert!(rt; matches!(result, Err(RunError::Read)));
         assert!(rt; output.is_empty());
+        assert_eq!(rt; answered(rt.alloc(), &text)?.as_slice(), want.as_slice());
     }
-    assert_eq!(rt;
-        answered(rt.alloc(), &text)?.as_slice(),
-        answers(rt.alloc())?.as_slice()
-    );
     Ok(())
 }
 
@@ -241,6 +292,7 @@ fn reports_a_failed_write(rt: HostRuntime) -> Result<(), Fail> {
         let result = run(rt.alloc(), &mut text.as_slice(), &mut output);
         assert!(rt; matches!(result, Err(RunError::Write)));
         run(rt.alloc(), &mut b"".as_slice(), &mut output)?;
+        assert_eq!(rt; answered(rt.alloc(), &text)?.as_slice(), want.as_slice());
     }
     let mut output = Device::new(&mut room);
     output.can_flush = false;
@@ -265,7 +317,7 @@ fn reports_refused_memory(rt: HostRuntime) -> Result<(), Fail> {
         let heap = LocalHeap::new(rt.alloc(), 16 * units)?;
         let mut room = [0; 2048];
         let mut output = Device::new(&mut room);
-        let result = run_in(&heap, &mut text.as_slice(), &mut output);
+        let result = run_in(&heap, rt.alloc(), &mut text.as_slice(), &mut output);
         let taken = output.taken;
         assert_eq!(rt; heap.used(), 0);
         match result {
@@ -292,6 +344,10 @@ fn reports_a_writer_that_cannot_grow(rt: HostRuntime) -> Result<(), Fail> {
     let text = lines(rt.alloc())?;
     let result = run(rt.alloc(), &mut text.as_slice(), &mut output);
     assert!(rt; matches!(result, Err(RunError::Write)));
+    assert_eq!(rt;
+        answered(rt.alloc(), &text)?.as_slice(),
+        answers(rt.alloc())?.as_slice()
+    );
     Ok(())
 }
 

@@ -33,7 +33,7 @@ pub(super) fn is_modules(name: &[u8], has_lead: bool) -> bool
     }
 }
 
-/// Whether the name without what is ignored, in small letters, is the word.
+/// Whether the name without what is ignored, with small ASCII letters, is the word.
 #[inline(always)]
 fn reads_as(name: &[u8], word: &[u8]) -> bool
     ensures { result ≡ bytes_eq (lower (hfs_form name.now)) word.now }

@@ -3,8 +3,8 @@
 ghost use Rattle.std.specs.Prelude.{◌≡◌, ◌+◌, ◌<◌, ◌≤◌, ◌^◌, None, ◌++◌, map, length, All, IsOk, IfOk, SomeIff, vec_len, vec_capacity};
 ghost use Rattle.bstr.specs.BStr.{bstr_bytes};
 ghost use Rattle.bstr.specs.Owned.{bstring_bytes};
-ghost use Rattle.gix_validate.specs.Component.{component_fault_of};
-ghost use Rattle.gix_validate.specs.ComponentLaws.{no_protections, IsSafe};
+ghost use Rattle.gix_validate.specs.Component.{fault_of};
+ghost use Rattle.gix_validate.specs.ComponentLaws.{no_protections, IsBasicName};
 ghost use Rattle.gix_validate.specs.Pieces.{pieces, joined};
 
 use bstr::{BStr, BString};
@@ -32,11 +32,11 @@ use std::alloc::{AllocError, Allocator, Global};
 pub fn join(alloc: Global, parts: &[BStr<'_>]) -> Result<BString, AllocError>
     requires some { 0 < length parts.now }
     requires components { All
-        (λ part. component_fault_of no_protections None (bstr_bytes part) ≡ None) parts.now }
+        (λ part. fault_of no_protections None (bstr_bytes part) ≡ None) parts.now }
     ensures bytes { IfOk result (λ path. bstring_bytes path ≡ joined (map bstr_bytes parts.now)) }
     ensures pieces { IfOk result (λ path. pieces (bstring_bytes path) ≡ map bstr_bytes parts.now) }
-    // No piece is empty, `.`, `..`, or `.git` in any case.
-    ensures safe { IfOk result (λ path. All IsSafe (pieces (bstring_bytes path))) }
+    // No piece is empty, `.`, `..`, or `.git` in any ASCII letter case.
+    ensures basic { IfOk result (λ path. All IsBasicName (pieces (bstring_bytes path))) }
 {
     Ok(BString::new(join_in(alloc, parts)?))
 }
@@ -64,15 +64,15 @@ fn joined_len(parts: &[BStr<'_>]) -> Option<usize>
     Some(len)
 }
 
-// All that follows the reservation: it succeeds where the capacity serves.
+// All that follows the reservation, which was for the path and no byte more: it succeeds.
 fn write_joined<A: Allocator>(
     mut buffer: Vec<u8, A>,
     parts: &[BStr<'_>],
 ) -> Result<Vec<u8, A>, AllocError>
+    requires room { vec_capacity buffer ≡ vec_len buffer + length (joined (map bstr_bytes parts.now)) }
     ensures bytes { IfOk result
         (λ path. path.items ≡ buffer.items ++ joined (map bstr_bytes parts.now)) }
-    ensures succeeds { vec_len buffer + length (joined (map bstr_bytes parts.now))
-        ≤ vec_capacity buffer → IsOk result }
+    ensures succeeds { IsOk result }
 {
     for (i, part) in parts.iter().enumerate() {
         if i > 0 {

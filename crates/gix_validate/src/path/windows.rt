@@ -6,7 +6,8 @@ ghost use Rattle.std.specs.Str.{byte, bytes_eq};
 ghost use Rattle.gix_validate.specs.Bytes.{lower, is_empty, ends};
 ghost use Rattle.gix_validate.specs.Units.{first_unit_len};
 ghost use Rattle.gix_validate.specs.Ntfs.{is_digit};
-ghost use Rattle.gix_validate.specs.Windows.{device_form, is_device, is_illegal_byte, is_plain};
+ghost use Rattle.gix_validate.specs.Windows.{device_form, is_device, is_illegal_byte};
+ghost use Rattle.gix_validate.specs.Ordinary.{stays_in_form};
 
 use crate::path::units::first_unit_len;
 use crate::path::word::after_word;
@@ -54,10 +55,10 @@ fn ends_console(rest: &[u8]) -> bool
     ends_form(rest) || form_is(rest, b"IN$") || form_is(rest, b"OUT$")
 }
 
-/// Whether the form of the name is the word, in any letter case.
+/// Whether the form of the name is the word, in any ASCII letter case.
 #[inline(always)]
 fn form_is(name: &[u8], word: &[u8]) -> bool
-    requires { IsTrue (list_all is_plain word.now) }
+    requires { IsTrue (list_all stays_in_form word.now) }
     ensures { result ≡ bytes_eq (lower (device_form name.now)) (lower word.now) }
 {
     match after_word(name, word) {

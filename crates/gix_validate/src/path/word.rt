@@ -1,10 +1,10 @@
-//! Words in any letter case.
+//! Words in any ASCII letter case.
 
 ghost use Rattle.std.specs.Prelude.{◌≡◌, ◌==◌, true, false, drop, length, MatchOption};
 ghost use Rattle.std.specs.Str.{bytes_eq};
 ghost use Rattle.gix_validate.specs.Bytes.{begins, lower, lower_byte};
 
-/// What stands after the word, where the text begins with it in any letter case.
+/// What stands after the word, where the text begins with it in any ASCII letter case.
 #[inline(always)]
 pub(super) fn after_word<'a>(text: &'a [u8], word: &[u8]) -> Option<&'a [u8]>
     ensures { MatchOption result (begins (lower text.now) (lower word.now) ≡ false)
@@ -17,7 +17,7 @@ pub(super) fn after_word<'a>(text: &'a [u8], word: &[u8]) -> Option<&'a [u8]>
     }
 }
 
-/// Whether the text is the word in any letter case.
+/// Whether the text is the word in any ASCII letter case.
 #[inline(always)]
 #[tactic(auto, using(crate::proofs::LetterLemmas::alike_from, crate::proofs::LetterLemmas::alike_at_end, crate::proofs::LetterLemmas::other_length, std::proofs::lemmas::Bool::Decides::nat_tests))]
 pub(super) fn is_word(text: &[u8], word: &[u8]) -> bool
@@ -34,7 +34,7 @@ pub(super) fn is_word(text: &[u8], word: &[u8]) -> bool
     true
 }
 
-/// Whether the two bytes are one in any letter case.
+/// Whether the two bytes are one in any ASCII letter case.
 #[inline(always)]
 #[tactic(auto, using(std::proofs::lemmas::Bool::Decides::nat_tests), unfolding(crate::specs::Bytes::lower_byte))]
 fn are_alike(byte: u8, wanted: u8) -> bool

@@ -53,10 +53,11 @@ fn sanitized_copy<A: Allocator>(alloc: A, path: &[u8]) -> Result<Vec<u8, A>, All
     Ok(name)
 }
 
-/// Writes the sanitised path to an empty vector that has room for the path, and for one byte. So it never fails.
+/// Writes the sanitised path to an empty vector that has room for the path, or for one byte if that is empty, and
+/// for no more. So it never fails.
 fn fill_sanitized<A: Allocator>(name: &mut Vec<u8, A>, path: &[u8]) -> Result<(), AllocError>
     requires empty { name.old.items ≡ [] }
-    requires room { max 1 (length path.now) ≤ vec_capacity name.old }
+    requires room { vec_capacity name.old ≡ max 1 (length path.now) }
     ensures succeeds { IsOk result }
     ensures text { name.new.items ≡ sanitized path.now }
 {
@@ -84,8 +85,8 @@ fn fill_sanitized<A: Allocator>(name: &mut Vec<u8, A>, path: &[u8]) -> Result<()
 /// sanitize_in_place(&mut buffer, 3); // 2, and the buffer begins with `-a` and ends in `zz`
 /// ```
 ///
-/// The call never fails and takes no memory. It is one walk over the name, within the buffer; most names that are
-/// partial names are only looked at.
+/// The call never fails and takes no memory. The name is looked at once, sixteen bytes at a time, and, where it isn't
+/// clear, walked once, within the buffer. Most names that are partial names are clear.
 pub fn sanitize_in_place(buf: &mut [u8], len: usize) -> usize
     requires some { 1 ≤ length buf.old }
     requires within { len ≤ length buf.old }

@@ -57,6 +57,7 @@ fn partial_names(rt: HostRuntime) -> Result<(), Fail> {
         ("a@", "ok"),
         ("@@", "ok"),
         ("main", "ok"),
+        ("some-name", "ok"),
     ] {
         let answer = said(rt.alloc(), name_partial(BStr::from(path)))?;
         assert_eq!(rt; answer.as_str(), want, "of {path}");
@@ -68,6 +69,7 @@ fn partial_names(rt: HostRuntime) -> Result<(), Fail> {
 fn full_names(rt: HostRuntime) -> Result<(), Fail> {
     for (path, want) in [
         ("V1", LOWERCASE),
+        ("lower", LOWERCASE),
         ("main", LOWERCASE),
         ("HEAD1", LOWERCASE),
         ("\u{c9}", LOWERCASE),

@@ -40,6 +40,14 @@ fn answers_all_texts_of_five_marks(rt: HostRuntime) -> Result<(), Fail> {
     Ok(())
 }
 
+/// The suffix that Git reserves for its own files, among the marks of the other rules.
+#[test]
+fn answers_all_texts_of_four_marks_and_suffixes(rt: HostRuntime) -> Result<(), Fail> {
+    let words: [&[u8]; 6] = [b".lock", b"/", b".", b"a", b"@", b"{"];
+    assert_eq!(rt; ask_all(&rt, rt.alloc(), &words, 4)?, 1_555);
+    Ok(())
+}
+
 #[test]
 fn answers_all_texts_of_three_tokens(rt: HostRuntime) -> Result<(), Fail> {
     assert_eq!(rt; ask_all(&rt, rt.alloc(), &TOKENS, 3)?, 4_369);

@@ -1,7 +1,8 @@
-//! Long texts and such as are no UTF-8, with answers that are written out.
+//! Long texts, and texts that are not UTF-8, with answers that are written out.
 
 use super::ask;
 use crate::fault::Fault;
+use crate::units::units;
 use bstr::BStr;
 use gix_validate::path::{ComponentOptions, component};
 use gix_validate::reference::name_partial_or_sanitize;
@@ -62,7 +63,29 @@ fn sees_through_ignored_characters(rt: HostRuntime) -> Result<(), Fail> {
     Ok(())
 }
 
-/// The 128 bytes that are no ASCII, in order.
+/// Ill-formed texts, and the units that they are cut into.
+#[test]
+fn cuts_texts_into_units(rt: HostRuntime) -> Result<(), Fail> {
+    let rows: [(&[u8], &[&[u8]]); 7] = [
+        (b"\xE2\x82:", &[b"\xE2\x82", b":"]),
+        (b"\x80\x80:", &[b"\x80", b"\x80", b":"]),
+        (b"\xC3\xA9:", &[b"\xC3\xA9", b":"]),
+        (
+            b"\xE2\xE2\x80\x8C\x80\x8D",
+            &[b"\xE2", b"\xE2\x80\x8C", b"\x80", b"\x8D"],
+        ),
+        (b"\xF0\x90\xE2\x80\x8C", &[b"\xF0\x90", b"\xE2\x80\x8C"]),
+        (b"\xC0:", &[b"\xC0", b":"]),
+        (b"\xE0\x80:", &[b"\xE0", b"\x80", b":"]),
+    ];
+    for (text, want) in rows {
+        assert_eq!(rt; units(rt.alloc(), text)?.as_slice(), want);
+        ask(&rt, rt.alloc(), text)?;
+    }
+    Ok(())
+}
+
+/// The 128 bytes that are not ASCII, in order.
 #[test]
 fn accepts_bytes_past_ascii(rt: HostRuntime) -> Result<(), Fail> {
     let alloc = rt.alloc();

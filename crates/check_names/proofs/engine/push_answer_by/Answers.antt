@@ -61,7 +61,7 @@ pub returns-then-is_word-9 : goal.returns-then-is_word-9
 returns-then-is_word-9 g c =
     let name = bstr_bytes c.args.name in
     let answer = answer-by_word c.args.kind.now (codes "sanitize") name (search rules) ∙ asked_sanitize name in
-    rw answer c.push_sanitized.ensures.ok
+    rw answer c.push_sanitized.ensures
 
 pub returns-else-is_word-9 : goal.returns-else-is_word-9
 returns-else-is_word-9 g c =

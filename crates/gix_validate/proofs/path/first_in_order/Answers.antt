@@ -3,20 +3,20 @@ use Rattle.std.specs.Prelude.{◌==◌, is_some}
 use Rattle.std.specs.Str.{byte, bytes_eq}
 use Rattle.std.proofs.lemmas.Grind.{common_steps}
 use Rattle.gix_validate.specs.declared.path.ComponentError.TheVariants.{WindowsIllegalCharacter, SymlinkedGitModules}
-use Rattle.gix_validate.specs.Bytes.{is_empty, lower, lower_byte}
+use Rattle.gix_validate.specs.Bytes.{is_empty, is_among, lower, lower_byte}
 use Rattle.gix_validate.specs.Faults.{first_of}
 use Rattle.gix_validate.specs.Units.{first_unit_len}
 use Rattle.gix_validate.specs.Hfs.{hfs_form}
 use Rattle.gix_validate.specs.Ntfs.{ntfs_form, is_git_form, is_modules_form}
 use Rattle.gix_validate.specs.Windows.{is_device, is_illegal}
-use Rattle.gix_validate.specs.Component.{conditions, component_fault_of, has_byte}
+use Rattle.gix_validate.specs.Component.{conditions, fault_of}
 use Rattle.gix_validate.proofs.path.first_in_order.Goals as goal
 
 -- no condition holds
 no_fault : (windows hfs ntfs symlink : Bool) (x : List ℕ)
     → is_empty x ≡ false
     → (bytes_eq x (codes ".") || bytes_eq x (codes "..")) ≡ false
-    → (has_byte (byte "/") x || (windows && has_byte (byte "\\") x)) ≡ false
+    → (is_among x (byte "/") || (windows && is_among x (byte "\\"))) ≡ false
     → (windows && slice_index x (first_unit_len x) == byte ":") ≡ false
     → (hfs && bytes_eq (lower (hfs_form x)) (codes ".git")) ≡ false
     → (hfs && symlink && bytes_eq (lower (hfs_form x)) (codes ".gitmodules")) ≡ false
@@ -26,7 +26,7 @@ no_fault : (windows hfs ntfs symlink : Bool) (x : List ℕ)
     → (windows && ntfs && is_illegal x) ≡ false
     → (not hfs && not ntfs && bytes_eq (lower x) (codes ".git")) ≡ false
     → (not hfs && not ntfs && symlink && bytes_eq (lower x) (codes ".gitmodules")) ≡ false
-    → None ≡ first_of (conditions windows hfs ntfs symlink x)
+    → None ≡ first_of (conditions ntfs_form windows hfs ntfs symlink x)
 unfolding conditions
 no_fault windows hfs ntfs symlink x a b c d e f g h i j k l = rw (a, b, c, d, e, f, g, h, i, j, k, l) refl
 
@@ -34,7 +34,7 @@ no_fault windows hfs ntfs symlink x a b c d e f g h i j k l = rw (a, b, c, d, e,
 illegal_first : (windows hfs ntfs symlink : Bool) (x : List ℕ)
     → is_empty x ≡ false
     → (bytes_eq x (codes ".") || bytes_eq x (codes "..")) ≡ false
-    → (has_byte (byte "/") x || (windows && has_byte (byte "\\") x)) ≡ false
+    → (is_among x (byte "/") || (windows && is_among x (byte "\\"))) ≡ false
     → (windows && slice_index x (first_unit_len x) == byte ":") ≡ false
     → (hfs && bytes_eq (lower (hfs_form x)) (codes ".git")) ≡ false
     → (hfs && symlink && bytes_eq (lower (hfs_form x)) (codes ".gitmodules")) ≡ false
@@ -42,7 +42,7 @@ illegal_first : (windows hfs ntfs symlink : Bool) (x : List ℕ)
     → (ntfs && symlink && is_modules_form (lower (ntfs_form x))) ≡ false
     → (windows && ntfs && is_device x) ≡ false
     → (windows && ntfs && is_illegal x) ≡ true
-    → Some WindowsIllegalCharacter ≡ first_of (conditions windows hfs ntfs symlink x)
+    → Some WindowsIllegalCharacter ≡ first_of (conditions ntfs_form windows hfs ntfs symlink x)
 unfolding conditions
 illegal_first windows hfs ntfs symlink x a b c d e f g h i j = rw (a, b, c, d, e, f, g, h, i, j) refl
 
@@ -50,7 +50,7 @@ illegal_first windows hfs ntfs symlink x a b c d e f g h i j = rw (a, b, c, d, e
 modules_last : (windows hfs ntfs symlink : Bool) (x : List ℕ)
     → is_empty x ≡ false
     → (bytes_eq x (codes ".") || bytes_eq x (codes "..")) ≡ false
-    → (has_byte (byte "/") x || (windows && has_byte (byte "\\") x)) ≡ false
+    → (is_among x (byte "/") || (windows && is_among x (byte "\\"))) ≡ false
     → (windows && slice_index x (first_unit_len x) == byte ":") ≡ false
     → (hfs && bytes_eq (lower (hfs_form x)) (codes ".git")) ≡ false
     → (hfs && symlink && bytes_eq (lower (hfs_form x)) (codes ".gitmodules")) ≡ false
@@ -60,12 +60,12 @@ modules_last : (windows hfs ntfs symlink : Bool) (x : List ℕ)
     → (windows && ntfs && is_illegal x) ≡ false
     → (not hfs && not ntfs && bytes_eq (lower x) (codes ".git")) ≡ false
     → (not hfs && not ntfs && symlink && bytes_eq (lower x) (codes ".gitmodules")) ≡ true
-    → Some SymlinkedGitModules ≡ first_of (conditions windows hfs ntfs symlink x)
+    → Some SymlinkedGitModules ≡ first_of (conditions ntfs_form windows hfs ntfs symlink x)
 unfolding conditions
 modules_last windows hfs ntfs symlink x a b c d e f g h i j k l = rw (a, b, c, d, e, f, g, h, i, j, k, l) refl
 
 pub returns-then-ends_illegally : goal.returns-then-ends_illegally
-unfolding component_fault_of is_illegal lower_byte
+unfolding fault_of is_illegal lower_byte
 returns-then-ends_illegally c =
     illegal_first c.args.options.protect_windows c.args.options.protect_hfs c.args.options.protect_ntfs (is_some c.args.mode) c.args.name.now
     (grind (arith, common_steps))
@@ -80,7 +80,7 @@ returns-then-ends_illegally c =
     (grind (arith, common_steps))
 
 pub returns-then-is_word-2 : goal.returns-then-is_word-2
-unfolding component_fault_of is_illegal lower_byte
+unfolding fault_of is_illegal lower_byte
 returns-then-is_word-2 c =
     modules_last c.args.options.protect_windows c.args.options.protect_hfs c.args.options.protect_ntfs (is_some c.args.mode) c.args.name.now
     (grind (arith, common_steps))
@@ -97,7 +97,7 @@ returns-then-is_word-2 c =
     (grind (arith, common_steps))
 
 pub returns-else-not-hfs-2 : goal.returns-else-not-hfs-2
-unfolding component_fault_of is_illegal lower_byte
+unfolding fault_of is_illegal lower_byte
 returns-else-not-hfs-2 c =
     no_fault c.args.options.protect_windows c.args.options.protect_hfs c.args.options.protect_ntfs (is_some c.args.mode) c.args.name.now
     (grind (arith, common_steps))

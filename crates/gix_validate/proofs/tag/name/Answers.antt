@@ -4,7 +4,7 @@ use Rattle.std.proofs.lemmas.Bool.{true≢false}
 use Rattle.std.specs.Prelude.{is_none}
 use Rattle.bstr.specs.BStr.{bstr_bytes}
 use Rattle.gix_validate.specs.Tag.{fault_of}
-use Rattle.gix_validate.proofs.PiecesLemmas.{has_only_pieces}
+use Rattle.gix_validate.proofs.PiecesLemmas.{pieces_are_the_only_split}
 use Rattle.gix_validate.proofs.TagFaults.{one_fault_a_place}
 use Rattle.gix_validate.proofs.TagGrammar.{grammar_law}
 use Rattle.gix_validate.proofs.tag.name.Goals as goal
@@ -17,7 +17,7 @@ pub returns-in-None-clause-one_fault : goal.returns-in-None-clause-one_fault
 returns-in-None-clause-one_fault c = one_fault_a_place (bstr_bytes c.args.input)
 
 pub returns-in-None-clause-pieces : goal.returns-in-None-clause-pieces
-returns-in-None-clause-pieces c = has_only_pieces (bstr_bytes c.args.input)
+returns-in-None-clause-pieces c = pieces_are_the_only_split (bstr_bytes c.args.input)
 
 pub returns-in-Some-clause-grammar : goal.returns-in-Some-clause-grammar
 returns-in-Some-clause-grammar c =
@@ -27,4 +27,4 @@ pub returns-in-Some-clause-one_fault : goal.returns-in-Some-clause-one_fault
 returns-in-Some-clause-one_fault c = one_fault_a_place (bstr_bytes c.args.input)
 
 pub returns-in-Some-clause-pieces : goal.returns-in-Some-clause-pieces
-returns-in-Some-clause-pieces c = has_only_pieces (bstr_bytes c.args.input)
+returns-in-Some-clause-pieces c = pieces_are_the_only_split (bstr_bytes c.args.input)

@@ -3,7 +3,7 @@ use Rattle.std.proofs.Common.{◌≡◌, ◌∙◌, ap, map}
 use Rattle.bstr.specs.BStr.{bstr_bytes}
 use Rattle.bstr.specs.Owned.{bstring_bytes}
 use Rattle.gix_validate.specs.Pieces.{pieces}
-use Rattle.gix_validate.proofs.PathJoinLemmas.{pieces-joined_parts, All-IsSafe_parts}
+use Rattle.gix_validate.proofs.PathJoinLemmas.{pieces-joined_parts, All-IsBasicName_parts}
 use Rattle.gix_validate.proofs.path.joining.join.Goals as goal
 
 pub returns-clause-pieces : goal.returns-clause-pieces
@@ -11,10 +11,10 @@ returns-clause-pieces c =
     ap pieces (c.new.ensures ∙ c.in_ok-join_in.ensures)
     ∙ pieces-joined_parts bstr_bytes c.args.parts.now c.requires.some c.requires.components
 
-pub returns-clause-safe : goal.returns-clause-safe
-returns-clause-safe c =
+pub returns-clause-basic : goal.returns-clause-basic
+returns-clause-basic c =
     let parts : pieces (bstring_bytes c.new.result) ≡ map bstr_bytes c.args.parts.now =
     ap pieces (c.new.ensures ∙ c.in_ok-join_in.ensures)
     ∙ pieces-joined_parts bstr_bytes c.args.parts.now c.requires.some c.requires.components
     in
-    rw parts (All-IsSafe_parts bstr_bytes c.args.parts.now c.requires.components)
+    rw parts (All-IsBasicName_parts bstr_bytes c.args.parts.now c.requires.components)

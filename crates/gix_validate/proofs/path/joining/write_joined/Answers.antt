@@ -1,4 +1,4 @@
--- The capacity that serves for all the parts serves for each, and each part goes behind those before it.
+-- The capacity that was asked for all the parts serves for each, and each part goes behind those before it.
 use Rattle.std.proofs.Common.{◌≡◌, [], get_or, ap, ◌∙◌, length, arith}
 use Rattle.bstr.specs.declared.bstr.BStr.{BStr}
 use Rattle.bstr.specs.BStr.{bstr_bytes}
@@ -11,14 +11,16 @@ abbrev none : BStr
 none = record { bytes = record { ref_ptr = (0, 0); now = [] } }
 
 pub returns-in_err-push-clause-succeeds : goal.returns-in_err-push-clause-succeeds
-returns-in_err-push-clause-succeeds g c = λ enough.
+returns-in_err-push-clause-succeeds g c =
+    let enough = c.requires.room in
     let fits = fits_more bstr_bytes c.args.parts.now c.loop-i.i none c.args.buffer.items c.loop-i.buffer.items c.if-i-gt0.true c.loop-i-test.true c.loop-i.invariant.written in
     let full = c.in_err-push.ensures.full in
     absurd (omega (arith, c.args.buffer.ok, c.loop-i.buffer.ok))
 
 pub returns-in_err-extend_from_slice-clause-succeeds :
     goal.returns-in_err-extend_from_slice-clause-succeeds
-returns-in_err-extend_from_slice-clause-succeeds g c = λ enough.
+returns-in_err-extend_from_slice-clause-succeeds g c =
+    let enough = c.requires.room in
     let part : c.as_bytes.result.now ≡ bstr_bytes (get_or c.args.parts.now c.loop-i.i none) = c.as_bytes.ensures in
     let full = c.in_err-extend_from_slice.ensures.full in
     elim c.if-i-gt0.branch [

@@ -2,33 +2,33 @@
 use Rattle.std.proofs.Common.{◌≡◌, [], ◌∷◌, refl}
 use Rattle.std.specs.Prelude.{codes, None}
 use Rattle.gix_validate.specs.Bytes.{lower_byte}
-use Rattle.gix_validate.specs.Component.{conditions, component_fault_of}
+use Rattle.gix_validate.specs.Component.{conditions, fault_of}
 use Rattle.gix_validate.specs.ComponentLaws.{no_protections}
 use Rattle.gix_validate.proofs.PathJoinLemmas.{AreParts-none, AreParts-cons}
 use Rattle.gix_validate.proofs.path.joining.tests.joins.Goals as goal
 
-src : component_fault_of no_protections None (codes "src") ≡ None
-unfolding component_fault_of conditions lower_byte
+src : fault_of no_protections None (codes "src") ≡ None
+unfolding fault_of conditions lower_byte
 src = refl
 
-github : component_fault_of no_protections None (codes ".github") ≡ None
-unfolding component_fault_of conditions lower_byte
+github : fault_of no_protections None (codes ".github") ≡ None
+unfolding fault_of conditions lower_byte
 github = refl
 
-a_rs : component_fault_of no_protections None (codes "a.rs") ≡ None
-unfolding component_fault_of conditions lower_byte
+a_rs : fault_of no_protections None (codes "a.rs") ≡ None
+unfolding fault_of conditions lower_byte
 a_rs = refl
 
-a : component_fault_of no_protections None (codes "a") ≡ None
-unfolding component_fault_of conditions lower_byte
+a : fault_of no_protections None (codes "a") ≡ None
+unfolding fault_of conditions lower_byte
 a = refl
 
-dots : component_fault_of no_protections None (codes "...") ≡ None
-unfolding component_fault_of conditions lower_byte
+dots : fault_of no_protections None (codes "...") ≡ None
+unfolding fault_of conditions lower_byte
 dots = refl
 
-a_b : component_fault_of no_protections None (codes "a\\b") ≡ None
-unfolding component_fault_of conditions lower_byte
+a_b : fault_of no_protections None (codes "a\\b") ≡ None
+unfolding fault_of conditions lower_byte
 a_b = refl
 
 pub join-requires-clause-components : goal.join-requires-clause-components

@@ -9,8 +9,8 @@ use Rattle.gix_validate.specs.Units.{first_unit_len, whole_sequences}
 use Rattle.gix_validate.specs.Hfs.{hfs_form, is_ignored}
 use Rattle.gix_validate.specs.Ntfs.{is_git_form, is_modules_form}
 use Rattle.gix_validate.specs.Windows.{device_form, devices, is_device_form, is_device, is_illegal_byte, is_illegal}
-use Rattle.gix_validate.specs.Component.{all_protections}
-use Rattle.name_vectors.specs.OldNtfs.{old_ntfs_form, old_conditions, added_fault_of, ntfs_alone}
+use Rattle.gix_validate.specs.Component.{all_protections, conditions}
+use Rattle.name_vectors.specs.Version1.{old_ntfs_form, added_fault_of, ntfs_alone}
 
 backslash_stays : old_ntfs_form (codes ".git\\x") ≡ codes ".git\\x"
 unfolding old_ntfs_form
@@ -24,36 +24,36 @@ backslash_after_stream_goes : old_ntfs_form (codes ".git:a\\b") ≡ codes ".git"
 unfolding old_ntfs_form
 backslash_after_stream_goes = refl
 
-git_backslash : first_of (old_conditions false false true false (codes ".git\\x")) ≡ None
-unfolding old_conditions first_unit_len whole_sequences hfs_form is_ignored lower_byte old_ntfs_form is_git_form is_modules_form device_form devices is_device_form is_device is_illegal_byte is_illegal
+git_backslash : first_of (conditions old_ntfs_form false false true false (codes ".git\\x")) ≡ None
+unfolding conditions first_unit_len whole_sequences hfs_form is_ignored lower_byte old_ntfs_form is_git_form is_modules_form device_form devices is_device_form is_device is_illegal_byte is_illegal
 git_backslash = refl
 
-git_backslash_hfs : first_of (old_conditions false true true false (codes ".git\\x")) ≡ None
-unfolding old_conditions first_unit_len whole_sequences hfs_form is_ignored lower_byte old_ntfs_form is_git_form is_modules_form device_form devices is_device_form is_device is_illegal_byte is_illegal
+git_backslash_hfs : first_of (conditions old_ntfs_form false true true false (codes ".git\\x")) ≡ None
+unfolding conditions first_unit_len whole_sequences hfs_form is_ignored lower_byte old_ntfs_form is_git_form is_modules_form device_form devices is_device_form is_device is_illegal_byte is_illegal
 git_backslash_hfs = refl
 
-git_backslash_windows : first_of (old_conditions true false true false (codes ".git\\x")) ≡ Some PathSeparator
-unfolding old_conditions first_unit_len whole_sequences hfs_form is_ignored lower_byte old_ntfs_form is_git_form is_modules_form device_form devices is_device_form is_device is_illegal_byte is_illegal
+git_backslash_windows : first_of (conditions old_ntfs_form true false true false (codes ".git\\x")) ≡ Some PathSeparator
+unfolding conditions first_unit_len whole_sequences hfs_form is_ignored lower_byte old_ntfs_form is_git_form is_modules_form device_form devices is_device_form is_device is_illegal_byte is_illegal
 git_backslash_windows = refl
 
-short_git_backslash : first_of (old_conditions false false true false (codes "git~1 \\a:b")) ≡ None
-unfolding old_conditions first_unit_len whole_sequences hfs_form is_ignored lower_byte old_ntfs_form is_git_form is_modules_form device_form devices is_device_form is_device is_illegal_byte is_illegal
+short_git_backslash : first_of (conditions old_ntfs_form false false true false (codes "git~1 \\a:b")) ≡ None
+unfolding conditions first_unit_len whole_sequences hfs_form is_ignored lower_byte old_ntfs_form is_git_form is_modules_form device_form devices is_device_form is_device is_illegal_byte is_illegal
 short_git_backslash = refl
 
-git_stream_backslash : first_of (old_conditions false false true false (codes ".git:a\\b")) ≡ Some DotGitDir
-unfolding old_conditions first_unit_len whole_sequences hfs_form is_ignored lower_byte old_ntfs_form is_git_form is_modules_form device_form devices is_device_form is_device is_illegal_byte is_illegal
+git_stream_backslash : first_of (conditions old_ntfs_form false false true false (codes ".git:a\\b")) ≡ Some DotGitDir
+unfolding conditions first_unit_len whole_sequences hfs_form is_ignored lower_byte old_ntfs_form is_git_form is_modules_form device_form devices is_device_form is_device is_illegal_byte is_illegal
 git_stream_backslash = refl
 
-modules_backslash : first_of (old_conditions false false true true (codes ".gitmodules\\x")) ≡ None
-unfolding old_conditions first_unit_len whole_sequences hfs_form is_ignored lower_byte old_ntfs_form is_git_form is_modules_form device_form devices is_device_form is_device is_illegal_byte is_illegal
+modules_backslash : first_of (conditions old_ntfs_form false false true true (codes ".gitmodules\\x")) ≡ None
+unfolding conditions first_unit_len whole_sequences hfs_form is_ignored lower_byte old_ntfs_form is_git_form is_modules_form device_form devices is_device_form is_device is_illegal_byte is_illegal
 modules_backslash = refl
 
-hashed_modules_backslash : first_of (old_conditions false false true true (codes "~1234567.\\y")) ≡ None
-unfolding old_conditions first_unit_len whole_sequences hfs_form is_ignored lower_byte old_ntfs_form is_git_form is_modules_form device_form devices is_device_form is_device is_illegal_byte is_illegal
+hashed_modules_backslash : first_of (conditions old_ntfs_form false false true true (codes "~1234567.\\y")) ≡ None
+unfolding conditions first_unit_len whole_sequences hfs_form is_ignored lower_byte old_ntfs_form is_git_form is_modules_form device_form devices is_device_form is_device is_illegal_byte is_illegal
 hashed_modules_backslash = refl
 
-git_alone : first_of (old_conditions false false true false (codes ".git")) ≡ Some DotGitDir
-unfolding old_conditions first_unit_len whole_sequences hfs_form is_ignored lower_byte old_ntfs_form is_git_form is_modules_form device_form devices is_device_form is_device is_illegal_byte is_illegal
+git_alone : first_of (conditions old_ntfs_form false false true false (codes ".git")) ≡ Some DotGitDir
+unfolding conditions first_unit_len whole_sequences hfs_form is_ignored lower_byte old_ntfs_form is_git_form is_modules_form device_form devices is_device_form is_device is_illegal_byte is_illegal
 git_alone = refl
 
 adds_git : added_fault_of ntfs_alone None (codes ".git\\x") ≡ Some DotGitDir

@@ -1,5 +1,5 @@
 -- What a backslash changes: the forms that it parts stand for nothing in version 1, and the rest of the table stays.
-use Rattle.std.proofs.Common.{◌≡◌, ℕ, ◌+◌, ◌≤◌, Bool, true, false, not, ◌&&◌, ◌||◌, Option, Some, None, List, [], ◌∷◌, ◌++◌, length, take, drop, get_or, refl, sym, ap, ◌∙◌, arith, codes, ◌⊎◌, inl, inr}
+use Rattle.std.proofs.Common.{eqb, ◌≡◌, ℕ, ◌+◌, ◌≤◌, Bool, true, false, not, ◌&&◌, ◌||◌, Option, Some, None, List, [], ◌∷◌, ◌++◌, length, take, drop, get_or, refl, sym, ap, ◌∙◌, arith, codes, ◌⊎◌, inl, inr}
 use Rattle.std.specs.Prelude.{◌==◌, nat_le, is_some, slice_index}
 use Rattle.std.specs.List.{before_first, list_all, list_any, range_with_len}
 use Rattle.std.specs.Str.{byte, bytes_eq}
@@ -12,14 +12,14 @@ use Rattle.gix_validate.specs.declared.path.ComponentError.{ComponentError}
 use Rattle.gix_validate.specs.declared.path.ComponentError.TheVariants.{Empty, PathSeparator, WindowsPathPrefix, WindowsReservedName, WindowsIllegalCharacter, DotGitDir, SymlinkedGitModules, Relative}
 use Rattle.gix_validate.specs.declared.path.ComponentOptions.{ComponentOptions}
 use Rattle.gix_validate.specs.declared.path.ComponentMode.{ComponentMode}
-use Rattle.gix_validate.specs.Bytes.{is_empty, lower, lower_byte}
+use Rattle.gix_validate.specs.Bytes.{is_empty, is_among, lower, lower_byte}
 use Rattle.gix_validate.specs.Faults.{when, first_of, ◌orelse◌}
 use Rattle.gix_validate.specs.Units.{first_unit_len, whole_sequences}
 use Rattle.gix_validate.specs.Hfs.{hfs_form, is_ignored}
 use Rattle.gix_validate.specs.Windows.{device_form, devices, is_device_form, is_device, is_illegal_byte, is_illegal}
 use Rattle.gix_validate.specs.Ntfs.{without_end, ntfs_form, is_git_form, is_modules_form, is_short_name, is_digit}
-use Rattle.gix_validate.specs.Component.{has_byte, conditions, component_fault_of}
-use Rattle.name_vectors.specs.OldNtfs.{old_ntfs_form, old_conditions, old_component_fault_of, front, has_open_backslash, added_fault_of, ReadsTheFront, OldFaultsComeFirst, OldFaultsStay, StaysElsewhere, ShowsTheChange}
+use Rattle.gix_validate.specs.Component.{conditions, fault_of}
+use Rattle.name_vectors.specs.Version1.{old_ntfs_form, old_fault_of, front, has_open_backslash, added_fault_of, ReadsTheFront, OldFaultsComeFirst, OldFaultsStay, StaysElsewhere, ShowsTheChange}
 use Rattle.name_vectors.proofs.FrontLemmas.{is_backslash, is_colon, is_trimmed, front_of_front, same_front, backslash_of_front, backslash_stays}
 
 -- No name that stands for `.git` or `.gitmodules` has a backslash.
@@ -104,6 +104,14 @@ lower_backslash (b ∷ x) any =
       | inr later ↦ or_right (is_backslash (lower_byte b)) _ (lower_backslash x later)
     ]
 
+backslash_among : (x : List ℕ) → list_any is_backslash x ≡ true → is_among x (byte "\\") ≡ true
+backslash_among [] any = any
+backslash_among (b ∷ x) any =
+    elim (or_cases (is_backslash b) (list_any is_backslash x) any) [
+      | inl here ↦ ap (λ c. eqb 92 c || is_among x 92) (eqb-true b 92 here)
+      | inr later ↦ or_right (eqb 92 b) _ (backslash_among x later)
+    ]
+
 pub form_of_front : ReadsTheFront
 unfolding ntfs_form old_ntfs_form
 form_of_front x = ap (without_end is_trimmed) (front_of_front x)
@@ -112,7 +120,7 @@ form_of_front x = ap (without_end is_trimmed) (front_of_front x)
 abbrev Forms : Bool → Bool → Bool → Bool → Bool → Type 0
 Forms back git modules old_git old_modules = ((git ≡ old_git) × (modules ≡ old_modules)) ⊎ ((back ≡ true) × (old_git ≡ false) × (old_modules ≡ false))
 
-forms : (x : List ℕ) → Forms (has_byte (byte "\\") x) (is_git_form (lower (ntfs_form x))) (is_modules_form (lower (ntfs_form x))) (is_git_form (lower (old_ntfs_form x))) (is_modules_form (lower (old_ntfs_form x)))
+forms : (x : List ℕ) → Forms (is_among x (byte "\\")) (is_git_form (lower (ntfs_form x))) (is_modules_form (lower (ntfs_form x))) (is_git_form (lower (old_ntfs_form x))) (is_modules_form (lower (old_ntfs_form x)))
 unfolding ntfs_form old_ntfs_form
 forms x =
     elim (same_front x) [
@@ -122,7 +130,7 @@ forms x =
       | inr back ↦
           let there = lower_backslash (old_ntfs_form x) (backslash_stays (before_first is_colon x) back) in
           inr (
-            backslash_of_front x back,
+            backslash_among x (backslash_of_front x back),
             false_from_ne_true _ (λ git. both_ways _ (git_has_none _ git) there),
             false_from_ne_true _ (λ modules. both_ways _ (modules_have_none _ modules) there),
           )
@@ -200,14 +208,14 @@ table_law false false false false false true new old more law = refl
 table_law false false false false false false new old more law = law refl
 
 pub old_faults_first : OldFaultsComeFirst
-unfolding component_fault_of conditions old_component_fault_of old_conditions added_fault_of tail added
+unfolding fault_of conditions old_fault_of added_fault_of tail added
 old_faults_first options mode x =
     let w = options.protect_windows in
     let h = options.protect_hfs in
     let n = options.protect_ntfs in
     let s = is_some mode in
-    let slash = has_byte (byte "/") x in
-    let back = has_byte (byte "\\") x in
+    let slash = is_among x (byte "/") in
+    let back = is_among x (byte "\\") in
     let git = λ (form : List ℕ). is_git_form (lower form) in
     let modules = λ (form : List ℕ). is_modules_form (lower form) in
     let plain_git = bytes_eq (lower x) (codes ".git") in
@@ -238,9 +246,9 @@ none_added options mode x off = rw off
 pub stays_elsewhere : StaysElsewhere
 stays_elsewhere options mode x off =
     old_faults_first options mode x
-    ∙ ap (λ v. old_component_fault_of options mode x orelse v) (none_added options mode x off)
-    ∙ sym (orelse_none (old_component_fault_of options mode x))
+    ∙ ap (λ v. old_fault_of options mode x orelse v) (none_added options mode x off)
+    ∙ sym (orelse_none (old_fault_of options mode x))
 
 pub shows_the_change : ShowsTheChange
-unfolding old_component_fault_of old_conditions old_ntfs_form component_fault_of conditions ntfs_form is_git_form is_modules_form lower_byte hfs_form is_ignored first_unit_len whole_sequences is_device device_form devices is_device_form is_illegal is_illegal_byte
+unfolding old_fault_of old_ntfs_form fault_of conditions ntfs_form is_git_form is_modules_form lower_byte hfs_form is_ignored first_unit_len whole_sequences is_device device_form devices is_device_form is_illegal is_illegal_byte
 shows_the_change = (refl, refl)

@@ -1,0 +1,320 @@
+/*
+ * Replays the rows of bindings/rows through the calls of gix_validate.h, and asks what no row can say: texts into
+ * buffers that are too small, large enough and larger; NULL with length 0; reads past either end of a name.
+ * Each name and each buffer is a block of its exact size, so that valgrind sees any byte beyond it.
+ *
+ *     rows FILE      prints how many rows were replayed; status 1 where an answer is wrong
+ */
+#define _DEFAULT_SOURCE /* MAP_ANONYMOUS */
+#include "gix_validate.h"
+
+#include <stdio.h>
+#include <stdlib.h>
+#include <sys/mman.h>
+#include <unistd.h>
+
+enum { MORE = 8, CANARY = 0xA5 };
+
+static const char *place = "";
+static int failures = 0;
+
+static void expect(bool holds, const char *what) {
+    if (!holds) {
+        fprintf(stderr, "%s\n    does not hold: %s\n", place, what);
+        failures++;
+    }
+}
+#define EXPECT(condition) expect((condition), #condition)
+
+/* A block of its exact size, which has no byte that may be read where that is 0. */
+struct bytes {
+    uint8_t *start;
+    size_t length;
+};
+
+static struct bytes block(size_t length, int fill) {
+    struct bytes made = {(uint8_t *)malloc(length), length};
+    if (made.start == NULL) { /* a C library that has no empty blocks is of no use here */
+        perror("a block of memory");
+        exit(1);
+    }
+    memset(made.start, fill, length);
+    return made;
+}
+
+static bool all_are(const uint8_t *start, size_t length, int byte) {
+    for (size_t i = 0; i < length; i++) {
+        if (start[i] != byte) {
+            return false;
+        }
+    }
+    return true;
+}
+
+static bool same(const uint8_t *left, const void *right, size_t length) {
+    return memcmp(left, right, length) == 0;
+}
+
+/* The calls by their words in the rows. A component asks under its flags, the others leave them aside. */
+struct question {
+    const char *call;
+    uint32_t (*code)(const uint8_t *, size_t);
+    size_t (*text)(const uint8_t *, size_t, uint8_t *, size_t);
+};
+
+static const struct question questions[] = {
+    {"tag", gix_validate_tag, gix_validate_tag_text},
+    {"partial", gix_validate_partial, gix_validate_partial_text},
+    {"full", gix_validate_full, gix_validate_full_text},
+    {"branch", gix_validate_branch, gix_validate_branch_text},
+    {"submodule", gix_validate_submodule, gix_validate_submodule_text},
+    {"component:", NULL, NULL},
+};
+
+static uint32_t code_of(const struct question *asked, uint32_t flags, struct bytes name) {
+    return asked->code != NULL ? asked->code(name.start, name.length)
+                               : gix_validate_component(name.start, name.length, flags);
+}
+
+static size_t text_of(const struct question *asked, uint32_t flags, struct bytes name, struct bytes text) {
+    return asked->text != NULL ? asked->text(name.start, name.length, text.start, text.length)
+                               : gix_validate_component_text(name.start, name.length, flags, text.start, text.length);
+}
+
+/* The text that the calls give has to be the same into each buffer that it fits, and nothing else changes. */
+static void check_texts(const struct question *asked, uint32_t flags, struct bytes name, const char *wanted) {
+    struct bytes none = {NULL, 0};
+    size_t length = text_of(asked, flags, name, none);
+    EXPECT(length <= GIX_VALIDATE_TEXT_MAX);
+    EXPECT((length == 0) == (code_of(asked, flags, name) == GIX_VALIDATE_OK));
+    struct bytes exact = block(length, CANARY);
+    struct bytes larger = block(length + MORE, CANARY);
+    struct bytes smaller = block(length == 0 ? 0 : length - 1, CANARY);
+    EXPECT(text_of(asked, flags, name, exact) == length);
+    EXPECT(text_of(asked, flags, name, larger) == length);
+    EXPECT(text_of(asked, flags, name, smaller) == length);
+    EXPECT(same(exact.start, larger.start, length));
+    EXPECT(all_are(larger.start + length, MORE, CANARY));
+    EXPECT(all_are(smaller.start, smaller.length, CANARY));
+    if (*wanted != '\0') {
+        EXPECT(length == strlen(wanted) && same(exact.start, wanted, length));
+    }
+    free(exact.start);
+    free(larger.start);
+    free(smaller.start);
+}
+
+static void check_sanitized(struct bytes name, struct bytes wanted) {
+    size_t least = name.length == 0 ? 1 : name.length;
+    for (size_t more = 0; more <= MORE; more += MORE) {
+        struct bytes copied = block(least + more, CANARY);
+        struct bytes repaired = block(least + more, CANARY);
+        memcpy(repaired.start, name.start, name.length);
+        EXPECT(gix_validate_sanitize(name.start, name.length, copied.start, copied.length) == wanted.length);
+        EXPECT(gix_validate_sanitize_in_place(repaired.start, repaired.length, name.length) == wanted.length);
+        EXPECT(same(copied.start, wanted.start, wanted.length));
+        EXPECT(same(repaired.start, wanted.start, wanted.length));
+        EXPECT(all_are(copied.start + least, more, CANARY));
+        EXPECT(all_are(repaired.start + least, more, CANARY));
+        free(copied.start);
+        free(repaired.start);
+    }
+    struct bytes small = block(least - 1, CANARY);
+    EXPECT(gix_validate_sanitize(name.start, name.length, small.start, small.length) == 0);
+    EXPECT(gix_validate_sanitize_in_place(small.start, small.length, name.length) == 0);
+    EXPECT(all_are(small.start, small.length, CANARY));
+    free(small.start);
+}
+
+/* Takes the quoted text at *at into a block of its size, and moves *at behind its closing quote. */
+static struct bytes quoted(const char **at) {
+    uint8_t decoded[4096];
+    size_t length = 0;
+    const char *next = *at + 1;
+    const char *end = strchr(next, '"');
+    if (**at != '"' || end == NULL) {
+        fprintf(stderr, "%s\n    has no quoted text here: %s\n", place, *at);
+        exit(1);
+    }
+    while (next < end) {
+        unsigned byte = (unsigned char)*next;
+        if (byte == '\\' && sscanf(next, "\\x%2x", &byte) == 1) {
+            next += 3;
+        }
+        decoded[length++] = (uint8_t)byte;
+        next++;
+    }
+    *at = end + 1;
+    struct bytes exact = block(length, 0);
+    memcpy(exact.start, decoded, length);
+    return exact;
+}
+
+static uint32_t flags_of(const char *letters) {
+    uint32_t flags = 0;
+    for (; *letters != ' ' && *letters != '\0'; letters++) {
+        const char *found = strchr("whns", *letters);
+        EXPECT(found != NULL);
+        flags |= found == NULL ? 0u : 1u << (found - "whns");
+    }
+    return flags;
+}
+
+/* answer is the fault's name, with a colon and the byte where that is InvalidByte. */
+static void check_code(const struct question *asked, const char *call, struct bytes name, const char *answer,
+                       const char *text) {
+    uint32_t flags = flags_of(call + strlen(asked->call));
+    uint32_t code = code_of(asked, flags, name);
+    const char *fault = gix_validate_fault_name(code);
+    size_t word = strcspn(answer, ":");
+    EXPECT(fault != NULL && strlen(fault) == word && memcmp(fault, answer, word) == 0);
+    if (asked->code == NULL) {
+        EXPECT(gix_validate_component(name.start, name.length, flags | 0xFFFFFFF0u) == code);
+    } else if (asked->code != gix_validate_submodule) {
+        unsigned byte = GIX_VALIDATE_NO_BYTE;
+        EXPECT((answer[word] == ':') == (code == GIX_VALIDATE_INVALID_BYTE));
+        EXPECT(answer[word] != ':' || sscanf(answer + word, ":%2x", &byte) == 1);
+        EXPECT(gix_validate_invalid_byte(name.start, name.length) == byte);
+    }
+    check_texts(asked, flags, name, text);
+}
+
+static const struct question *question_of(const char *call) {
+    for (size_t i = 0; i < sizeof questions / sizeof *questions; i++) {
+        size_t length = strlen(questions[i].call);
+        if (strncmp(questions[i].call, call, length) == 0 && (questions[i].code == NULL || call[length] == ' ')) {
+            return &questions[i];
+        }
+    }
+    return NULL;
+}
+
+static void check_row(const char *row) {
+    const char *at = row + strcspn(row, " ") + 1;
+    const struct question *asked = question_of(row);
+    place = row;
+    struct bytes name = quoted(&at);
+    const char *answer = at + 1;
+    if (asked != NULL) {
+        char word[64] = "";
+        size_t length = strcspn(answer, " ");
+        EXPECT(length < sizeof word);
+        memcpy(word, answer, length < sizeof word ? length : 0);
+        check_code(asked, row, name, word, answer[length] == ' ' ? answer + length + 1 : "");
+    } else if (strncmp(row, "sanitize ", 9) == 0) {
+        struct bytes wanted = quoted(&answer);
+        check_sanitized(name, wanted);
+        free(wanted.start);
+    } else {
+        EXPECT(strncmp(row, "device ", 7) == 0);
+        EXPECT(strcmp(answer, gix_validate_is_windows_device(name.start, name.length) ? "yes" : "no") == 0);
+    }
+    free(name.start);
+}
+
+/* Asks everything of a name; what is answered is not looked at. */
+static void ask_all(struct bytes name) {
+    struct bytes none = {NULL, 0};
+    uint8_t copy[512];
+    for (size_t i = 0; i < sizeof questions / sizeof *questions; i++) {
+        for (uint32_t flags = 0; flags < 16; flags++) {
+            (void)code_of(&questions[i], flags, name);
+            (void)text_of(&questions[i], flags, name, none);
+        }
+    }
+    (void)gix_validate_invalid_byte(name.start, name.length);
+    (void)gix_validate_is_windows_device(name.start, name.length);
+    (void)gix_validate_sanitize(name.start, name.length, copy, sizeof copy);
+}
+
+/* Names of each length that end or start at a page that may not be read: a read past either end stops the program. */
+static void check_ends(void) {
+    static const char *const fills[] = {"a", "refs/", "k/", "x.lock/", "..", "nul ", "\xe2\x80\x8c", ".git\\"};
+    size_t page = (size_t)sysconf(_SC_PAGESIZE);
+    uint8_t *start = (uint8_t *)mmap(NULL, 3 * page, PROT_NONE, MAP_PRIVATE | MAP_ANONYMOUS, -1, 0);
+    place = "names beside pages that may not be read";
+    if (start == MAP_FAILED || mprotect(start + page, page, PROT_READ | PROT_WRITE) != 0) {
+        perror(place);
+        exit(1);
+    }
+    for (size_t f = 0; f < sizeof fills / sizeof *fills; f++) {
+        for (size_t length = 0; length <= 130; length++) {
+            struct bytes at_front = {start + page, length};
+            struct bytes at_end = {start + 2 * page - length, length};
+            for (size_t i = 0; i < length; i++) {
+                at_front.start[i] = at_end.start[i] = (uint8_t)fills[f][i % strlen(fills[f])];
+            }
+            ask_all(at_front);
+            ask_all(at_end);
+            (void)gix_validate_sanitize_in_place(at_end.start, length, length);
+            (void)gix_validate_sanitize_in_place(at_front.start, length, length);
+        }
+    }
+    munmap(start, 3 * page);
+}
+
+/* No pointer is the empty name, and an empty buffer. */
+static void check_null(void) {
+    place = "NULL with length 0";
+    EXPECT(gix_validate_tag(NULL, 0) == GIX_VALIDATE_EMPTY);
+    EXPECT(gix_validate_partial(NULL, 0) == GIX_VALIDATE_EMPTY);
+    EXPECT(gix_validate_full(NULL, 0) == GIX_VALIDATE_EMPTY);
+    EXPECT(gix_validate_branch(NULL, 0) == GIX_VALIDATE_EMPTY);
+    EXPECT(gix_validate_submodule(NULL, 0) == GIX_VALIDATE_EMPTY);
+    EXPECT(gix_validate_component(NULL, 0, GIX_VALIDATE_PROTECT_ALL) == GIX_VALIDATE_EMPTY);
+    EXPECT(gix_validate_invalid_byte(NULL, 0) == GIX_VALIDATE_NO_BYTE);
+    EXPECT(!gix_validate_is_windows_device(NULL, 0));
+    uint8_t buffer[4] = {CANARY, CANARY, CANARY, CANARY};
+    EXPECT(gix_validate_sanitize(NULL, 0, buffer, sizeof buffer) == 1);
+    EXPECT(buffer[0] == '-' && all_are(buffer + 1, 3, CANARY));
+    EXPECT(gix_validate_sanitize(NULL, 0, NULL, 0) == 0);
+    EXPECT(gix_validate_sanitize_in_place(NULL, 0, 0) == 0);
+    EXPECT(gix_validate_sanitize_in_place(NULL, 0, 1) == 0);
+    uint8_t text[GIX_VALIDATE_TEXT_MAX];
+    EXPECT(gix_validate_submodule_text(NULL, 0, text, sizeof text) == strlen("Submodule names cannot be empty"));
+}
+
+/* The helpers of the header, and its constants. */
+static void check_helpers(void) {
+    place = "the helpers for C strings";
+    EXPECT(gix_validate_tag_str("a..b") == GIX_VALIDATE_REPEATED_DOT);
+    EXPECT(gix_validate_partial_str("@") == GIX_VALIDATE_RESERVED);
+    EXPECT(gix_validate_full_str("main") == GIX_VALIDATE_SOME_LOWERCASE);
+    EXPECT(gix_validate_branch_str("refs/heads/main") == GIX_VALIDATE_OK);
+    EXPECT(gix_validate_submodule_str("a\\..") == GIX_VALIDATE_PARENT_COMPONENT);
+    EXPECT(gix_validate_component_str("CON", GIX_VALIDATE_PROTECT_ALL) == GIX_VALIDATE_WINDOWS_RESERVED_NAME);
+    EXPECT(gix_validate_component_str(".gitmodules", GIX_VALIDATE_PROTECT_ALL | GIX_VALIDATE_SYMLINK) ==
+           GIX_VALIDATE_SYMLINKED_GIT_MODULES);
+    EXPECT(gix_validate_is_windows_device_str("nul.txt"));
+    char name[] = "refs//heads/../x.lock";
+    EXPECT(gix_validate_sanitize_str(name) == 14 && strcmp(name, "refs/heads/-/x") == 0);
+    char empty[] = "";
+    EXPECT(gix_validate_sanitize_str(empty) == 0 && *empty == '\0');
+    EXPECT(gix_validate_component_text((const uint8_t *)"a.", 2, GIX_VALIDATE_PROTECT_ALL, NULL, 0) ==
+           GIX_VALIDATE_TEXT_MAX);
+    EXPECT(gix_validate_fault_name(GIX_VALIDATE_RELATIVE + 1) == NULL);
+    EXPECT(gix_validate_version() / 1000000 == 2);
+}
+
+int main(int count, char **arguments) {
+    FILE *file = count == 2 ? fopen(arguments[1], "r") : NULL;
+    char row[4096];
+    int rows = 0;
+    if (file == NULL) {
+        fprintf(stderr, "usage: rows FILE\n");
+        return 2;
+    }
+    while (fgets(row, sizeof row, file) != NULL) {
+        row[strcspn(row, "\n")] = '\0';
+        if (*row != '\0' && *row != '#') {
+            check_row(row);
+            rows++;
+        }
+    }
+    fclose(file);
+    check_ends();
+    check_null();
+    check_helpers();
+    printf("%d rows, %d wrong\n", rows, failures);
+    return failures == 0 && rows > 0 ? 0 : 1;
+}

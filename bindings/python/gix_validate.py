@@ -1,0 +1,221 @@
+"""Validation of the names that Git uses, and the repair of a bad reference name.
+
+Each function asks a proved call of the Rattle crate gix_validate_c, through its shared object. The rules are those
+of docs/RULES.md; docs/BINDINGS.md says what is proved and what is not.
+
+>>> import gix_validate
+>>> gix_validate.tag_name(b"v1.2.3")
+b'v1.2.3'
+>>> gix_validate.sanitize(b"refs//heads/../x.lock")
+b'refs/heads/-/x'
+>>> try:
+...     gix_validate.path_component(b".GIT ")
+... except gix_validate.InvalidName as error:
+...     print(error.fault.name, "-", error)
+DOT_GIT_DIR - The .git name may never be used
+
+A name is bytes, of any values; a str or None is a TypeError. The functions have no state and may be called from any
+thread.
+
+The shared object is that of bindings/out, or the one whose path is in the environment variable GIX_VALIDATE_LIBRARY.
+"""
+
+import ctypes
+import enum
+import os
+from pathlib import Path
+from typing import Any, Callable, Optional, Tuple
+
+__all__ = [
+    "Fault",
+    "InvalidName",
+    "branch_name",
+    "full_name",
+    "is_windows_device",
+    "partial_name",
+    "path_component",
+    "sanitize",
+    "submodule_name",
+    "tag_name",
+    "version",
+]
+
+_TEXT_MAX = 134
+
+
+class Fault(enum.IntEnum):
+    """Why a name is refused. The numbers are stable, and those of gix_validate.h."""
+
+    INVALID_BYTE = 1
+    STARTS_WITH_SLASH = 2
+    REPEATED_SLASH = 3
+    REPEATED_DOT = 4
+    LOCK_FILE_SUFFIX = 5
+    REFLOG_PORTION = 6
+    ASTERISK = 7
+    STARTS_WITH_DOT = 8
+    ENDS_WITH_DOT = 9
+    ENDS_WITH_SLASH = 10
+    EMPTY = 11
+    SOME_LOWERCASE = 12
+    RESERVED = 13
+    PARENT_COMPONENT = 14
+    PATH_SEPARATOR = 15
+    WINDOWS_PATH_PREFIX = 16
+    WINDOWS_RESERVED_NAME = 17
+    WINDOWS_ILLEGAL_CHARACTER = 18
+    DOT_GIT_DIR = 19
+    SYMLINKED_GIT_MODULES = 20
+    RELATIVE = 21
+
+
+class InvalidName(ValueError):
+    """A name that is refused.
+
+    str() of it is the text of the fault.
+    """
+
+    name: bytes
+    """The name that was asked about."""
+    fault: Fault
+    """Its first fault; `fault.name` is the fault's name, as "REPEATED_DOT"."""
+    text: str
+    """The text of the fault, in English."""
+    byte: Optional[int]
+    """The invalid byte where the fault is INVALID_BYTE, and else None."""
+
+    def __init__(self, name: bytes, fault: Fault, text: str, byte: Optional[int] = None) -> None:
+        super().__init__(name, fault, text, byte)
+        self.name, self.fault, self.text, self.byte = name, fault, text, byte
+
+    def __str__(self) -> str:
+        return self.text
+
+
+def _library() -> ctypes.CDLL:
+    default = Path(__file__).resolve().parent.parent / "out" / "libgix_validate_c.so"
+    path = os.environ.get("GIX_VALIDATE_LIBRARY") or str(default)
+    try:
+        return ctypes.CDLL(path)
+    except OSError as error:
+        raise ImportError(
+            f"gix_validate needs its shared object: {error}. "
+            "Build it by bindings/build, or name its path in GIX_VALIDATE_LIBRARY."
+        ) from error
+
+
+_loaded = _library()
+
+
+def _function(name: str, result: Any, *more: Any) -> Any:
+    """A call of the library that takes the bytes of a name, their number, and `more`."""
+    function = _loaded[f"gix_validate_{name}"]
+    function.argtypes = [ctypes.c_char_p, ctypes.c_size_t, *more]
+    function.restype = result
+    return function
+
+
+def _code_and_text(name: str, *more: Any) -> Tuple[Callable[..., int], Callable[..., int]]:
+    text = _function(f"{name}_text", ctypes.c_size_t, *more, ctypes.c_char_p, ctypes.c_size_t)
+    return _function(name, ctypes.c_uint32, *more), text
+
+
+_tag, _tag_text = _code_and_text("tag")
+_partial, _partial_text = _code_and_text("partial")
+_full, _full_text = _code_and_text("full")
+_branch, _branch_text = _code_and_text("branch")
+_submodule, _submodule_text = _code_and_text("submodule")
+_component, _component_text = _code_and_text("component", ctypes.c_uint32)
+_invalid_byte = _function("invalid_byte", ctypes.c_uint32)
+_is_windows_device = _function("is_windows_device", ctypes.c_bool)
+_sanitize = _function("sanitize", ctypes.c_size_t, ctypes.c_char_p, ctypes.c_size_t)
+_version = _loaded.gix_validate_version
+_version.argtypes, _version.restype = [], ctypes.c_uint32
+
+
+def tag_name(name: bytes) -> bytes:
+    """Gives `name` back where it is a valid name of a tag, as b"v1.2.3"; else raises InvalidName."""
+    return _accepted(name, _tag, _tag_text)
+
+
+def partial_name(name: bytes) -> bytes:
+    """Gives `name` back where it is a valid partial name of a reference, as b"main"; else raises InvalidName."""
+    return _accepted(name, _partial, _partial_text)
+
+
+def full_name(name: bytes) -> bytes:
+    """Gives `name` back where it is a valid full name of a reference; else raises InvalidName.
+
+    A full name has a slash, as b"refs/heads/main", or has no byte but A to Z and _, as b"HEAD".
+    """
+    return _accepted(name, _full, _full_text)
+
+
+def branch_name(name: bytes) -> bytes:
+    """Gives `name` back where it is a full name that a branch may have; else raises InvalidName.
+
+    b"refs/heads/HEAD" is reserved.
+    """
+    return _accepted(name, _branch, _branch_text)
+
+
+def submodule_name(name: bytes) -> bytes:
+    """Gives `name` back where it is a valid name of a submodule, as b"vendor/package"; else raises InvalidName."""
+    return _accepted(name, _submodule, _submodule_text)
+
+
+def path_component(
+    name: bytes, *, windows: bool = True, hfs: bool = True, ntfs: bool = True, symlink: bool = False
+) -> bytes:
+    """Gives `name` back where it may be one component of a path, as b"src"; else raises InvalidName.
+
+    `windows`, `hfs` and `ntfs` protect against what these systems read otherwise. `symlink` says that the component
+    is to be a symbolic link, which .gitmodules may not be.
+    """
+    flags = bool(windows) | bool(hfs) << 1 | bool(ntfs) << 2 | bool(symlink) << 3
+    return _accepted(name, _component, _component_text, flags)
+
+
+def is_windows_device(name: bytes) -> bool:
+    """Does Windows take `name` for a device, as b"NUL" or b"com1.txt"?"""
+    if not isinstance(name, bytes):
+        raise _not_bytes(name)
+    answer: bool = _is_windows_device(name, len(name))
+    return answer
+
+
+def sanitize(name: bytes) -> bytes:
+    """Repairs any bytes to a valid partial name of a reference. Those that are one are given back."""
+    if not isinstance(name, bytes):
+        raise _not_bytes(name)
+    if not _partial(name, len(name)):
+        return name
+    buffer = ctypes.create_string_buffer(max(1, len(name)))
+    return ctypes.string_at(buffer, _sanitize(name, len(name), buffer, len(buffer)))
+
+
+def version() -> Tuple[int, int, int]:
+    """The version of the rules: major, minor, patch."""
+    number = _version()
+    return number // 1_000_000, number // 1000 % 1000, number % 1000
+
+
+def _not_bytes(name: object) -> TypeError:
+    return TypeError(f"a name has to be bytes, not {type(name).__name__}")
+
+
+def _accepted(name: bytes, code_of: Callable[..., int], text_of: Callable[..., int], *flags: int) -> bytes:
+    if not isinstance(name, bytes):
+        raise _not_bytes(name)
+    code = code_of(name, len(name), *flags)
+    if code:
+        raise _refused(name, code, text_of, flags)
+    return name
+
+
+def _refused(name: bytes, code: int, text_of: Callable[..., int], flags: Tuple[int, ...]) -> InvalidName:
+    text = ctypes.create_string_buffer(_TEXT_MAX)
+    length = text_of(name, len(name), *flags, text, len(text))
+    fault = Fault(code)
+    byte = _invalid_byte(name, len(name)) if fault is Fault.INVALID_BYTE else None
+    return InvalidName(name, fault, text.raw[:length].decode("ascii"), byte)

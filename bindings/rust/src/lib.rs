@@ -1,0 +1,23 @@
+//! Validation of the names that Git uses, and the repair of a bad reference name.
+//!
+//! This is the API of the crate gix-validate 0.13.1. Behind it stand the calls of the Rattle crate `gix_validate_c`,
+//! each with a contract that is proved. `docs/BINDINGS.md` says what that covers and what differs from gix-validate.
+//!
+//! ```
+//! use bstr::ByteSlice;
+//!
+//! let main = b"refs/heads/main".as_bstr();
+//! assert_eq!(gix_validate::reference::name(main)?, main);
+//! assert!(gix_validate::tag::name(b"v1..2".as_bstr()).is_err());
+//! # Ok::<(), gix_validate::reference::name::Error>(())
+//! ```
+
+#![deny(missing_docs, rust_2018_idioms, unsafe_code)]
+
+#[allow(unsafe_code)]
+mod archive;
+
+pub mod path;
+pub mod reference;
+pub mod submodule;
+pub mod tag;

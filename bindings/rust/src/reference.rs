@@ -1,0 +1,146 @@
+//! Names of references.
+
+use bstr::{BStr, BString};
+
+use crate::archive::{self, Code, ACCEPTED};
+use crate::tag;
+
+/// The error of [`name()`], [`name_partial()`] and [`branch_name()`].
+pub mod name {
+    use bstr::BString;
+    use std::convert::Infallible;
+    use std::fmt;
+
+    use crate::tag;
+
+    /// Why a text is not the name of a reference.
+    #[derive(Debug)]
+    #[allow(missing_docs)]
+    #[non_exhaustive]
+    pub enum Error {
+        InvalidByte { byte: BString },
+        StartsWithSlash,
+        RepeatedSlash,
+        RepeatedDot,
+        LockFileSuffix,
+        ReflogPortion,
+        Asterisk,
+        StartsWithDot,
+        EndsWithDot,
+        EndsWithSlash,
+        Empty,
+        SomeLowercase,
+        Reserved { name: BString },
+    }
+
+    impl fmt::Display for Error {
+        fn fmt(&self, f: &mut fmt::Formatter<'_>) -> fmt::Result {
+            f.write_str(match self {
+                Error::InvalidByte { byte } => {
+                    return write!(f, "Reference name contains invalid byte: {byte:?}")
+                }
+                Error::StartsWithSlash => "Reference name cannot start with a slash",
+                Error::RepeatedSlash => "Reference name cannot contain repeated slashes",
+                Error::RepeatedDot => "Reference name cannot contain repeated dots",
+                Error::LockFileSuffix => "Reference name cannot end with '.lock'",
+                Error::ReflogPortion => "Reference name cannot contain '@{'",
+                Error::Asterisk => "Reference name cannot contain '*'",
+                Error::StartsWithDot => "Reference name cannot start with a dot",
+                Error::EndsWithDot => "Reference name cannot end with a dot",
+                Error::EndsWithSlash => "Reference name cannot end with a slash",
+                Error::Empty => "Reference name cannot be empty",
+                Error::SomeLowercase => "Standalone references must be all uppercased, like 'HEAD'",
+                Error::Reserved { name } => {
+                    return write!(f, "Reference name is reserved and cannot be used: {name:?}")
+                }
+            })
+        }
+    }
+
+    impl std::error::Error for Error {}
+
+    impl From<tag::name::Error> for Error {
+        fn from(error: tag::name::Error) -> Self {
+            match error {
+                tag::name::Error::InvalidByte { byte } => Error::InvalidByte { byte },
+                tag::name::Error::StartsWithSlash => Error::StartsWithSlash,
+                tag::name::Error::RepeatedSlash => Error::RepeatedSlash,
+                tag::name::Error::RepeatedDot => Error::RepeatedDot,
+                tag::name::Error::LockFileSuffix => Error::LockFileSuffix,
+                tag::name::Error::ReflogPortion => Error::ReflogPortion,
+                tag::name::Error::Asterisk => Error::Asterisk,
+                tag::name::Error::StartsWithDot => Error::StartsWithDot,
+                tag::name::Error::EndsWithDot => Error::EndsWithDot,
+                tag::name::Error::EndsWithSlash => Error::EndsWithSlash,
+                tag::name::Error::Empty => Error::Empty,
+            }
+        }
+    }
+
+    impl From<Infallible> for Error {
+        fn from(never: Infallible) -> Self {
+            match never {}
+        }
+    }
+}
+
+/// Gives `path` back where it is a valid full name, and else its first fault. A full name has a slash, as
+/// `refs/heads/main`, or has no byte but `A` to `Z` and `_`, as `HEAD`.
+///
+/// ```
+/// use bstr::ByteSlice;
+/// use gix_validate::reference;
+///
+/// assert!(reference::name(b"HEAD".as_bstr()).is_ok());
+/// assert!(matches!(reference::name(b"main".as_bstr()), Err(reference::name::Error::SomeLowercase)));
+/// ```
+#[inline]
+pub fn name(path: &BStr) -> Result<&BStr, name::Error> {
+    accepted(path, archive::full(path))
+}
+
+/// Gives `path` back where it is a valid partial name, and else its first fault. `main` is one.
+#[inline]
+pub fn name_partial(path: &BStr) -> Result<&BStr, name::Error> {
+    accepted(path, archive::partial(path))
+}
+
+/// Gives `path` back where it is a full name that a branch may have, and else its first fault. `refs/heads/HEAD` is
+/// reserved.
+#[inline]
+pub fn branch_name(path: &BStr) -> Result<&BStr, name::Error> {
+    accepted(path, archive::branch(path))
+}
+
+/// The partial name that `path` is repaired to: `path` itself where it is one, and at least `-`.
+///
+/// ```
+/// use bstr::ByteSlice;
+/// use gix_validate::reference;
+///
+/// let repaired = reference::name_partial_or_sanitize(b"refs//heads/../x.lock".as_bstr());
+/// assert_eq!(repaired, b"refs/heads/-/x".as_bstr());
+/// ```
+pub fn name_partial_or_sanitize(path: &BStr) -> BString {
+    archive::sanitized(path)
+}
+
+#[inline]
+fn accepted(path: &BStr, code: Code) -> Result<&BStr, name::Error> {
+    match code {
+        ACCEPTED => Ok(path),
+        code => Err(fault(code, path)),
+    }
+}
+
+/// The fault of that number, which `path` has as the name of a reference.
+#[cold]
+fn fault(code: Code, path: &BStr) -> name::Error {
+    match code {
+        12 => name::Error::SomeLowercase,
+        13 => name::Error::Reserved {
+            name: path.to_owned(),
+        },
+        _ => tag::fault(code, path).into(),
+    }
+}

@@ -1,0 +1,57 @@
+//! Names of submodules.
+
+use bstr::BStr;
+
+use crate::archive::{self, ACCEPTED};
+
+/// The error of [`name()`].
+pub mod name {
+    use std::fmt;
+
+    /// Why a text is not the name of a submodule.
+    #[derive(Debug)]
+    #[allow(missing_docs)]
+    #[non_exhaustive]
+    pub enum Error {
+        Empty,
+        ParentComponent,
+    }
+
+    impl fmt::Display for Error {
+        fn fmt(&self, f: &mut fmt::Formatter<'_>) -> fmt::Result {
+            f.write_str(match self {
+                Error::Empty => "Submodule names cannot be empty",
+                Error::ParentComponent => "Submodules names must not contains '..'",
+            })
+        }
+    }
+
+    impl std::error::Error for Error {}
+}
+
+/// Gives `name` back where it is a valid name of a submodule, and else its fault. It may be neither empty nor have a
+/// part `..` between its slashes and backslashes.
+///
+/// ```
+/// use bstr::ByteSlice;
+/// use gix_validate::submodule;
+///
+/// assert!(submodule::name(b"vendor/package".as_bstr()).is_ok());
+/// assert!(submodule::name(b"vendor/../x".as_bstr()).is_err());
+/// ```
+#[inline]
+pub fn name(name: &BStr) -> Result<&BStr, name::Error> {
+    match archive::submodule(name) {
+        ACCEPTED => Ok(name),
+        code => Err(fault(code)),
+    }
+}
+
+#[cold]
+fn fault(code: archive::Code) -> name::Error {
+    match code {
+        11 => name::Error::Empty,
+        14 => name::Error::ParentComponent,
+        _ => unreachable!("a name of a submodule has no fault {code}"),
+    }
+}

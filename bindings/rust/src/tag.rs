@@ -1,0 +1,96 @@
+//! Names of tags.
+
+use bstr::BStr;
+
+use crate::archive::{self, Code, ACCEPTED};
+
+/// The error of [`name()`].
+pub mod name {
+    use bstr::BString;
+    use std::fmt;
+
+    /// Why a text is not the name of a tag.
+    #[derive(Debug)]
+    #[allow(missing_docs)]
+    #[non_exhaustive]
+    pub enum Error {
+        InvalidByte { byte: BString },
+        StartsWithSlash,
+        RepeatedSlash,
+        RepeatedDot,
+        LockFileSuffix,
+        ReflogPortion,
+        Asterisk,
+        StartsWithDot,
+        EndsWithDot,
+        EndsWithSlash,
+        Empty,
+    }
+
+    impl fmt::Display for Error {
+        fn fmt(&self, f: &mut fmt::Formatter<'_>) -> fmt::Result {
+            f.write_str(match self {
+                Error::InvalidByte { byte } => {
+                    return write!(f, "A ref must not contain invalid bytes or ascii control characters: {byte:?}")
+                }
+                Error::StartsWithSlash => "A reference name must not start with a slash '/'",
+                Error::RepeatedSlash => {
+                    "Multiple slashes in a row are not allowed as they may change the reference's meaning"
+                }
+                Error::RepeatedDot => "A ref must not contain '..' as it may be mistaken for a range",
+                Error::LockFileSuffix => "A ref must not end with '.lock'",
+                Error::ReflogPortion => "A ref must not contain '@{' which is a part of a ref-log",
+                Error::Asterisk => "A ref must not contain '*' character",
+                Error::StartsWithDot => "A ref must not start with a '.'",
+                Error::EndsWithDot => "A ref must not end with a '.'",
+                Error::EndsWithSlash => "A ref must not end with a '/'",
+                Error::Empty => "A ref must not be empty",
+            })
+        }
+    }
+
+    impl std::error::Error for Error {}
+}
+
+/// Gives `input` back where it is a valid name of a tag, and else its first fault. It may hold slashes.
+///
+/// ```
+/// use bstr::ByteSlice;
+/// use gix_validate::tag;
+///
+/// assert!(tag::name(b"v1.2.3".as_bstr()).is_ok());
+/// assert!(matches!(tag::name(b"a..b".as_bstr()), Err(tag::name::Error::RepeatedDot)));
+/// ```
+#[inline]
+pub fn name(input: &BStr) -> Result<&BStr, name::Error> {
+    match archive::tag(input) {
+        ACCEPTED => Ok(input),
+        code => Err(fault(code, input)),
+    }
+}
+
+/// The fault of that number, which `input` has as the name of a tag.
+#[cold]
+pub(crate) fn fault(code: Code, input: &BStr) -> name::Error {
+    use name::Error;
+    match code {
+        1 => {
+            let byte = archive::invalid_byte(input)
+                .expect("a name whose fault is its invalid byte has one");
+            Error::InvalidByte {
+                byte: vec![byte].into(),
+            }
+        }
+        2 => Error::StartsWithSlash,
+        3 => Error::RepeatedSlash,
+        4 => Error::RepeatedDot,
+        5 => Error::LockFileSuffix,
+        6 => Error::ReflogPortion,
+        7 => Error::Asterisk,
+        8 => Error::StartsWithDot,
+        9 => Error::EndsWithDot,
+        10 => Error::EndsWithSlash,
+        11 => Error::Empty,
+        _ => unreachable!("a name of a tag or reference has no fault {code}"),
+    }
+}

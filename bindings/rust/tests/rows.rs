@@ -1,0 +1,136 @@
+//! Replays the rows of `bindings/rows`.
+
+use bstr::{BStr, BString, ByteSlice};
+use gix_validate::{path, reference, submodule, tag};
+
+/// What a call answers: `Ok`, or the variant of the error with its payload, and the printed text.
+struct Answer {
+    variant: String,
+    text: Option<String>,
+}
+
+/// The answer of a call, which on success has to give back the very name that it was given.
+fn answer<E: std::error::Error>(name: &BStr, given: Result<&BStr, E>) -> Answer {
+    match given {
+        Ok(back) => {
+            assert_eq!((back.as_ptr(), back.len()), (name.as_ptr(), name.len()));
+            Answer {
+                variant: "Ok".into(),
+                text: None,
+            }
+        }
+        Err(error) => {
+            assert!(error.source().is_none());
+            Answer {
+                variant: format!("{error:?}"),
+                text: Some(error.to_string()),
+            }
+        }
+    }
+}
+
+fn component(name: &BStr, settings: &str) -> Answer {
+    let has = |letter| settings.contains::<char>(letter);
+    assert!(
+        settings.chars().all(|letter| "whns".contains(letter)),
+        "unknown settings {settings}"
+    );
+    let options = path::component::Options {
+        protect_windows: has('w'),
+        protect_hfs: has('h'),
+        protect_ntfs: has('n'),
+    };
+    answer(
+        name,
+        path::component(
+            name,
+            has('s').then_some(path::component::Mode::Symlink),
+            options,
+        ),
+    )
+}
+
+/// The bytes of a quoted text, and what follows its closing quote.
+fn quoted(text: &str) -> (BString, &str) {
+    let (inner, rest) = text
+        .strip_prefix('"')
+        .and_then(|text| text.split_once('"'))
+        .expect("a quoted text");
+    let mut pieces = inner.split("\\x");
+    let mut bytes = pieces.next().unwrap_or_default().as_bytes().to_vec();
+    for piece in pieces {
+        bytes.push(u8::from_str_radix(&piece[..2], 16).expect("two hexadecimal digits"));
+        bytes.extend_from_slice(&piece.as_bytes()[2..]);
+    }
+    (bytes.into(), rest)
+}
+
+/// The variant as it is printed by `Debug`, of the row's word for it.
+fn variant_of(word: &str, name: &BStr) -> String {
+    if word == "Reserved" {
+        return format!("Reserved {{ name: {name:?} }}");
+    }
+    match word.strip_prefix("InvalidByte:") {
+        Some(hex) => {
+            let byte = [u8::from_str_radix(hex, 16).expect("two hexadecimal digits")];
+            format!("InvalidByte {{ byte: {:?} }}", byte.as_bstr())
+        }
+        None => word.into(),
+    }
+}
+
+/// The text that the row has, with the byte or name at its end quoted as `bstr` does, which is how this crate does.
+fn text_of(text: &str, variant: &str) -> String {
+    match (text.split_once(": \""), variant.split_once(": ")) {
+        (Some((words, _)), Some((_, payload))) => {
+            format!("{words}: {}", payload.trim_end_matches(" }"))
+        }
+        _ => text.into(),
+    }
+}
+
+fn replay(row: &str) {
+    let (call, rest) = row.split_once(' ').expect("a call");
+    let (name, rest) = quoted(rest);
+    let name = name.as_bstr();
+    let wanted = rest.trim_start();
+    let given = match call {
+        "tag" => answer(name, tag::name(name)),
+        "partial" => answer(name, reference::name_partial(name)),
+        "full" => answer(name, reference::name(name)),
+        "branch" => answer(name, reference::branch_name(name)),
+        "submodule" => answer(name, submodule::name(name)),
+        "device" => {
+            assert_eq!(
+                path::component_is_windows_device(name),
+                wanted == "yes",
+                "{row}"
+            );
+            return assert!(["yes", "no"].contains(&wanted), "{row}");
+        }
+        "sanitize" => {
+            return assert_eq!(
+                reference::name_partial_or_sanitize(name),
+                quoted(wanted).0,
+                "{row}"
+            )
+        }
+        _ => component(name, call.strip_prefix("component:").expect("a known call")),
+    };
+    let (word, text) = wanted.split_once(' ').unwrap_or((wanted, ""));
+    let variant = variant_of(word, name);
+    assert_eq!(given.variant, variant, "{row}");
+    if !text.is_empty() {
+        assert_eq!(given.text, Some(text_of(text, &variant)), "{row}");
+    }
+}
+
+#[test]
+fn rows() {
+    let rows: Vec<&str> = include_str!("../../rows")
+        .lines()
+        .filter(|row| !row.is_empty() && !row.starts_with('#'))
+        .collect();
+    assert!(rows.len() > 300);
+    rows.into_iter().for_each(replay);
+}

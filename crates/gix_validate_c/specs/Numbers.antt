@@ -1,0 +1,75 @@
+-- The numbers that C sees: those of the faults of all four types, the byte of an invalid byte, and the version.
+use Rattle.std.specs.Prelude.{ℕ, ◌+◌, ◌*◌, Option, Some, None}
+use Rattle.gix_validate.specs.declared.tag.NameError.{NameError as TagError}
+use Rattle.gix_validate.specs.declared.tag.NameError.TheVariants as tag
+use Rattle.gix_validate.specs.declared.reference.NameError.{NameError as ReferenceError}
+use Rattle.gix_validate.specs.declared.reference.NameError.TheVariants as reference
+use Rattle.gix_validate.specs.declared.submodule.NameError.{NameError as SubmoduleError}
+use Rattle.gix_validate.specs.declared.submodule.NameError.TheVariants as submodule
+use Rattle.gix_validate.specs.declared.path.ComponentError.{ComponentError}
+use Rattle.gix_validate.specs.declared.path.ComponentError.TheVariants as path
+
+-- the number of a fault, or 0 where there is none
+abbrev pub code_by : {E : Type 0} → (E → ℕ) → Option E → ℕ
+code_by number None = 0
+code_by number (Some fault) = number fault
+
+-- The numbers of the faults of tag names.
+abbrev pub tag_number : TagError → ℕ
+tag_number (tag.InvalidByte b) = 1
+tag_number tag.StartsWithSlash = 2
+tag_number tag.RepeatedSlash = 3
+tag_number tag.RepeatedDot = 4
+tag_number tag.LockFileSuffix = 5
+tag_number tag.ReflogPortion = 6
+tag_number tag.Asterisk = 7
+tag_number tag.StartsWithDot = 8
+tag_number tag.EndsWithDot = 9
+tag_number tag.EndsWithSlash = 10
+tag_number tag.Empty = 11
+
+-- Those of reference names: the same for the same faults, and two more.
+abbrev pub reference_number : ReferenceError → ℕ
+reference_number (reference.InvalidByte b) = 1
+reference_number reference.StartsWithSlash = 2
+reference_number reference.RepeatedSlash = 3
+reference_number reference.RepeatedDot = 4
+reference_number reference.LockFileSuffix = 5
+reference_number reference.ReflogPortion = 6
+reference_number reference.Asterisk = 7
+reference_number reference.StartsWithDot = 8
+reference_number reference.EndsWithDot = 9
+reference_number reference.EndsWithSlash = 10
+reference_number reference.Empty = 11
+reference_number reference.SomeLowercase = 12
+reference_number (reference.Reserved name) = 13
+
+-- Those of submodule names.
+abbrev pub submodule_number : SubmoduleError → ℕ
+submodule_number submodule.Empty = 11
+submodule_number submodule.ParentComponent = 14
+
+-- Those of path components.
+abbrev pub component_number : ComponentError → ℕ
+component_number path.Empty = 11
+component_number path.PathSeparator = 15
+component_number path.WindowsPathPrefix = 16
+component_number path.WindowsReservedName = 17
+component_number path.WindowsIllegalCharacter = 18
+component_number path.DotGitDir = 19
+component_number path.SymlinkedGitModules = 20
+component_number path.Relative = 21
+
+-- the byte of the fault `InvalidByte`, and 256, which is not a byte, where there is no such fault
+abbrev pub invalid_byte_of : Option TagError → ℕ
+invalid_byte_of (Some (tag.InvalidByte b)) = b
+invalid_byte_of _ = 256
+
+-- the same for a fault of reference names
+abbrev pub reference_invalid_byte_of : Option ReferenceError → ℕ
+reference_invalid_byte_of (Some (reference.InvalidByte b)) = b
+reference_invalid_byte_of _ = 256
+
+-- a version as one number
+abbrev pub version_number : ℕ → ℕ → ℕ → ℕ
+version_number major minor patch = major * 1000000 + minor * 1000 + patch

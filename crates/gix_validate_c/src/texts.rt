@@ -1,0 +1,137 @@
+//! The printed texts of faults.
+//!
+//! Each call returns the length of the text of the fault that the name has, in bytes, and 0 where it has none. No text
+//! has more than [`LONGEST_TEXT`]. It is written to the front of the caller's buffer where the whole text fits, and the
+//! rest of the buffer stays as it was. Where the text doesn't fit, nothing is written. No NUL byte ends it.
+//!
+//! The texts are those of docs/RULES.md, "Printed texts". The calls take no memory and never fail. The name and the
+//! buffer may not overlap.
+
+ghost use Rattle.std.specs.Prelude.{◌≡◌, ◌↔◌, ◌≤◌, length, IsOk, IsTrue, MatchResult};
+ghost use Rattle.gix_validate.specs.Tag as tag;
+ghost use Rattle.gix_validate.specs.Reference.{text_of, partial_fault_of, full_fault_of, branch_fault_of, is_partial_name, is_full_name, is_branch_name};
+ghost use Rattle.gix_validate.specs.Submodule as submodule;
+ghost use Rattle.gix_validate.specs.Component as component;
+ghost use Rattle.gix_validate_c.specs.Flags.{options_of, mode_of};
+ghost use Rattle.gix_validate_c.specs.Texts.{text_by, with_text};
+
+use crate::fault::Fault;
+use crate::flags;
+use crate::text::write_whole;
+use bstr::BStr;
+use gix_validate::{path, reference, submodule, tag};
+
+/// How many bytes the longest text has: that of `WindowsIllegalCharacter`. Each text fits a buffer of this size.
+pub const LONGEST_TEXT: usize = 134;
+
+/// The text of the fault that the name has as a tag name.
+///
+/// ```c
+/// gix_validate_tag_text((const uint8_t *)"a..b", 4, text, sizeof text); // 61
+/// ```
+#[unsafe(no_mangle)]
+pub extern "C" fn gix_validate_tag_text(name: &[u8], text: &mut [u8]) -> usize
+    ensures length { result ≡ length (text_by tag.text_of (tag.fault_of name.now)) }
+    ensures bytes { text.new ≡ with_text (text_by tag.text_of (tag.fault_of name.now)) text.old }
+    ensures none { (result ≡ 0) ↔ IsTrue (tag.is_tag_name name.now) }
+    ensures longest { result ≤ LONGEST_TEXT }
+{
+    write_text(tag::name(BStr::new(name)), text)
+}
+
+/// The text of the fault that the name has as a partial reference name.
+///
+/// ```c
+/// gix_validate_partial_text((const uint8_t *)"@", 1, text, sizeof text); // 50
+/// ```
+#[unsafe(no_mangle)]
+pub extern "C" fn gix_validate_partial_text(name: &[u8], text: &mut [u8]) -> usize
+    ensures length { result ≡ length (text_by text_of (partial_fault_of name.now)) }
+    ensures bytes { text.new ≡ with_text (text_by text_of (partial_fault_of name.now)) text.old }
+    ensures none { (result ≡ 0) ↔ IsTrue (is_partial_name name.now) }
+    ensures longest { result ≤ LONGEST_TEXT }
+{
+    write_text(reference::name_partial(BStr::new(name)), text)
+}
+
+/// The text of the fault that the name has as a full reference name.
+///
+/// ```c
+/// gix_validate_full_text((const uint8_t *)"main", 4, text, sizeof text); // 57
+/// ```
+#[unsafe(no_mangle)]
+pub extern "C" fn gix_validate_full_text(name: &[u8], text: &mut [u8]) -> usize
+    ensures length { result ≡ length (text_by text_of (full_fault_of name.now)) }
+    ensures bytes { text.new ≡ with_text (text_by text_of (full_fault_of name.now)) text.old }
+    ensures none { (result ≡ 0) ↔ IsTrue (is_full_name name.now) }
+    ensures longest { result ≤ LONGEST_TEXT }
+{
+    write_text(reference::name(BStr::new(name)), text)
+}
+
+/// The text of the fault that the name has as the full name of a branch.
+///
+/// ```c
+/// gix_validate_branch_text((const uint8_t *)"refs/heads/HEAD", 15, text, sizeof text); // 64
+/// ```
+#[unsafe(no_mangle)]
+pub extern "C" fn gix_validate_branch_text(name: &[u8], text: &mut [u8]) -> usize
+    ensures length { result ≡ length (text_by text_of (branch_fault_of name.now)) }
+    ensures bytes { text.new ≡ with_text (text_by text_of (branch_fault_of name.now)) text.old }
+    ensures none { (result ≡ 0) ↔ IsTrue (is_branch_name name.now) }
+    ensures longest { result ≤ LONGEST_TEXT }
+{
+    write_text(reference::branch_name(BStr::new(name)), text)
+}
+
+/// The text of the fault that the name has as a submodule name.
+///
+/// ```c
+/// gix_validate_submodule_text(NULL, 0, text, sizeof text); // 31, "Submodule names cannot be empty"
+/// ```
+#[unsafe(no_mangle)]
+pub extern "C" fn gix_validate_submodule_text(name: &[u8], text: &mut [u8]) -> usize
+    ensures length { result ≡ length (text_by submodule.text_of (submodule.fault_of name.now)) }
+    ensures bytes { text.new ≡ with_text (text_by submodule.text_of (submodule.fault_of name.now)) text.old }
+    ensures none { (result ≡ 0) ↔ IsTrue (submodule.is_submodule_name name.now) }
+    ensures longest { result ≤ LONGEST_TEXT }
+{
+    write_text(submodule::name(BStr::new(name)), text)
+}
+
+/// The text of the fault that the name has as a path component under these flags.
+///
+/// ```c
+/// gix_validate_component_text((const uint8_t *)".git", 4, 7, text, sizeof text); // 31
+/// ```
+#[unsafe(no_mangle)]
+pub extern "C" fn gix_validate_component_text(name: &[u8], flags: u32, text: &mut [u8]) -> usize
+    ensures length { let fault = component.fault_of (options_of flags) (mode_of flags) name.now in
+        result ≡ length (text_by component.text_of fault) }
+    ensures bytes { let fault = component.fault_of (options_of flags) (mode_of flags) name.now in
+        text.new ≡ with_text (text_by component.text_of fault) text.old }
+    ensures none { (result ≡ 0) ↔ IsTrue (component.is_component (options_of flags) (mode_of flags) name.now) }
+    ensures longest { result ≤ LONGEST_TEXT }
+{
+    let answer = path::component(
+        BStr::new(name),
+        flags::mode_of(flags),
+        flags::options_of(flags),
+    );
+    write_text(answer, text)
+}
+
+/// Writes the text of the fault, where there is one, and gives its length.
+fn write_text<E: Fault + Drop>(answer: Result<BStr<'_>, E>, buffer: &mut [u8]) -> usize
+    ensures length { MatchResult answer.entry (λ _. result ≡ 0) (λ fault. result ≡ length (E.text fault)) }
+    ensures bytes { MatchResult answer.entry
+        (λ _. buffer.new ≡ buffer.old)
+        (λ fault. buffer.new ≡ with_text (E.text fault) buffer.old) }
+    ensures none { (result ≡ 0) ↔ IsOk answer.entry }
+    ensures longest { result ≤ LONGEST_TEXT }
+{
+    match answer {
+        Ok(_) => 0,
+        Err(fault) => write_whole(fault.text().as_slice(), buffer),
+    }
+}

@@ -1,4 +1,4 @@
--- The units of a text beside what `bstr` decodes, by the definition that this crate of the kit has of its own.
+-- The units of a text compared with what `bstr` decodes, by the kit's own definition in that crate.
 use Rattle.std.specs.Prelude.{◌≡◌, ℕ, ◌<◌, List, ◌∷◌}
 use Rattle.bstr.specs.Utf8.{decoded}
 use Rattle.gix_validate.specs.Units.{first_unit_len}

@@ -1,4 +1,4 @@
--- The rule of version 1 for path components, in which a backslash ended no NTFS name, and what has changed since.
+-- The rule of version 1 for path components, in which a backslash didn't end an NTFS name, and what has changed since.
 --
 -- The NTFS form is version 1's own. All else is shared with the present rule on purpose, since version 2 left it as it
 -- was: the twelve conditions and their order, the HFS form, the words that stand for `.git` and `.gitmodules`, the first
@@ -16,7 +16,7 @@ use Rattle.gix_validate.specs.Faults.{when, first_of, ◌orelse◌}
 use Rattle.gix_validate.specs.Ntfs.{without_end, ntfs_form, is_git_form, is_modules_form}
 use Rattle.gix_validate.specs.Component.{conditions, fault_of}
 
--- The front before the first colon, or the whole name where there is none, less the spaces and dots at its end.
+-- The front before the first colon, or the whole name where there is none, without the spaces and dots at its end.
 unfoldable pub old_ntfs_form : List ℕ → List ℕ
 old_ntfs_form x = without_end (is_among (codes " .")) (before_first (λ b. b == byte ":") x)
 
@@ -29,7 +29,7 @@ old_fault_of options mode x =
 abbrev pub front : List ℕ → List ℕ
 front x = before_first (λ b. b == byte "\\") x
 
--- the name has a backslash that the options let pass, and is judged for NTFS
+-- the name has a backslash that the options accept, and is judged for NTFS
 abbrev pub has_open_backslash : ComponentOptions → List ℕ → Bool
 has_open_backslash options x = options.protect_ntfs && not options.protect_windows && is_among x (byte "\\")
 
@@ -43,7 +43,7 @@ added_fault_of options mode x =
 abbrev pub ReadsTheFront : Type 0
 ReadsTheFront = (x : List ℕ) → ntfs_form x ≡ old_ntfs_form (front x)
 
--- the fault is that of version 1, and where that had none the added one
+-- the fault is that of version 1, and where version 1 had none, the added one
 abbrev pub OldFaultsComeFirst : Type 0
 OldFaultsComeFirst =
     (options : ComponentOptions) (mode : Option ComponentMode) (x : List ℕ)

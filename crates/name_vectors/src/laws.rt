@@ -3,9 +3,9 @@
 ghost use Rattle.name_vectors.specs.Decoded.{FirstUnitIsDecoded};
 
 /// The first unit of a text (docs/RULES.md, "Path components") is as long as what the crate `bstr` decodes first: a whole
-/// UTF-8 sequence, or where none stands, what it reads as one replacement character.
+/// UTF-8 sequence, or else what it reads as one replacement character.
 ///
-/// It does nothing: what it says of the two definitions, for all texts, is its contract.
+/// It does nothing. Its contract compares the two definitions, for all texts.
 pub fn first_units_are_decoded()
     ensures { FirstUnitIsDecoded }
 {}

@@ -1,11 +1,11 @@
-//! The rules of docs/RULES.md a second time, for tests that hold the calls of `gix_validate` to them
+//! The rules of docs/RULES.md a second time, for tests that compare the calls of `gix_validate` with them
 //! on every short text and on tens of thousands of others.
 //!
-//! Each rule is written from its words, as plainly as they are, and by other means than the library
-//! has: a search where that walks, a list of all words where that compares fronts. Nothing here is
-//! taken from the library but the types of its faults. All that is built for the tests alone. What the
-//! crate offers are laws about the definitions: the module `laws` says what these agree with, and the
-//! module `versions` what has changed from one version of the rules to the next.
+//! Each rule is written from its words, and in another way than in the library: a search where the
+//! library walks, a list of all words where it compares fronts. Only the types of the faults are taken
+//! from the library. These rules are built for the tests alone. Callers see only laws about the
+//! definitions: the module `laws` says what the definitions agree with, and the module `versions` what
+//! has changed from one version of the rules to the next.
 #![tactic(auto)]
 
 #[cfg(test)]

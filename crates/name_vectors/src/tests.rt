@@ -4,6 +4,7 @@ mod exhaustive;
 mod printed;
 mod refused_memory;
 mod single;
+mod tables;
 
 use crate::component::Setting;
 use crate::fault::Fault;
@@ -139,7 +140,7 @@ fn ask_repairs(rt: &impl Abort, alloc: Global, text: &[u8]) -> Result<(), AllocE
     Ok(())
 }
 
-/// What a call told is what the rule says: the same text, or the same fault.
+/// What a call answered is what the rule says: the same text, or the same fault.
 fn compare(
     rt: &impl Abort,
     text: &[u8],

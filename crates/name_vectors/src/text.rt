@@ -1,11 +1,11 @@
-//! Words on texts, of which the rules make use (docs/RULES.md, "Bytes").
+//! Tests of texts that the rules use (docs/RULES.md, "Bytes").
 
 /// Whether the byte is a slash, which stands between two pieces.
 pub(crate) fn is_slash(byte: &u8) -> bool {
     *byte == b'/'
 }
 
-/// Whether the byte stands in no reference name; `*`, which has a fault of its own, is not meant.
+/// Whether the byte is a bad byte; `*`, which has a fault of its own, is not.
 pub(crate) fn is_bad(byte: u8) -> bool {
     byte < 0x20 || b"\\^:[? ~\x7f".contains(&byte)
 }
@@ -18,7 +18,7 @@ pub(crate) fn lower(byte: u8) -> u8 {
     }
 }
 
-/// Whether two texts are the same but for the case of ASCII letters.
+/// Whether two texts are the same except for the case of ASCII letters.
 pub(crate) fn is_same_word(a: &[u8], b: &[u8]) -> bool {
     a.len() == b.len() && a.iter().zip(b).all(|(a, b)| lower(*a) == lower(*b))
 }

@@ -3,7 +3,7 @@
 use std::alloc::{AllocError, Global};
 
 /// The rows of Unicode's table of whole UTF-8 sequences: the least and the greatest of each byte.
-const ROWS: [&[(u8, u8)]; 9] = [
+pub(crate) const ROWS: [&[(u8, u8)]; 9] = [
     &[(0x00, 0x7F)],
     &[(0xC2, 0xDF), (0x80, 0xBF)],
     &[(0xE0, 0xE0), (0xA0, 0xBF), (0x80, 0xBF)],

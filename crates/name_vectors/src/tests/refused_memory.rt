@@ -1,5 +1,5 @@
-//! The calls that take memory, asked again where it is refused. `.ci/refused_memory` runs these tests
-//! with each request refused in turn, and counts what they print.
+//! The calls that take memory, asked again where they are out of memory. `.ci/refused_memory` runs these
+//! tests, makes each allocation fail in turn, and counts what they print.
 
 use bstr::BStr;
 use gix_validate::path::{ComponentOptions, component, join as path_join};

@@ -1,0 +1,5 @@
+pub mod Lines
+pub mod Words
+pub mod Settings
+pub mod Answers
+pub mod Stops

@@ -1,0 +1,10 @@
+pub mod SplitLemmas
+pub mod NumberLemmas
+pub mod HeaderLemmas
+pub mod ReadLemmas
+pub mod KnownLemmas
+pub mod EntryLemmas
+pub mod TreeLemmas
+pub mod ObjectLemmas
+pub mod SpelledLemmas
+pub mod ArgumentLemmas

@@ -1,0 +1,10 @@
+-- the words so far are on: with the others they give what all give
+use Rattle.std.proofs.Common.{◌≡◌, length}
+use Rattle.check_trees.specs.Arguments.{comma_parts, no_protections, all_switched_on}
+use Rattle.check_trees.proofs.arguments.protections_of.Given as goal
+
+abbrev pub invariant-loop-end : goal.invariant-loop-end
+invariant-loop-end l = all_switched_on (comma_parts l.rest) l.options ≡ all_switched_on (comma_parts l.fn.list) no_protections
+
+abbrev pub decreases-loop-end : goal.decreases-loop-end
+decreases-loop-end l = length l.rest

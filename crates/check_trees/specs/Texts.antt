@@ -1,0 +1,20 @@
+-- What is printed of an input that is malformed, and of a run that stopped before its end.
+use Rattle.std.specs.Prelude.{ℕ, List, codes}
+use Rattle.check_trees.specs.declared.engine.Fault.{Fault}
+use Rattle.check_trees.specs.declared.engine.Fault.TheVariants.{Header, TooLong, Ended, Entry, LineEnd}
+use Rattle.check_trees.specs.declared.engine.RunError.{RunError}
+use Rattle.check_trees.specs.declared.engine.RunError.TheVariants.{Read, Memory, Write}
+
+-- what a fault prints
+abbrev pub fault_text_of : Fault → List ℕ
+fault_text_of Header = codes "the header line is not 'OID TYPE SIZE' or 'OID missing'"
+fault_text_of TooLong = codes "a header line or an entry is longer than 65536 bytes"
+fault_text_of Ended = codes "the input ends within the object"
+fault_text_of Entry = codes "an entry is not 'MODE NAME', NUL and an object id, or runs past its tree"
+fault_text_of LineEnd = codes "no line end follows the object's bytes"
+
+-- what a stopped run prints
+abbrev pub stop_text_of : RunError → List ℕ
+stop_text_of Read = codes "read failed"
+stop_text_of Memory = codes "out of memory"
+stop_text_of Write = codes "write failed"

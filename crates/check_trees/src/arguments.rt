@@ -1,0 +1,115 @@
+//! What the program's arguments ask for.
+
+ghost use Rattle.std.specs.Prelude.{◌≡◌};
+ghost use Rattle.check_trees.specs.Arguments.{protections_of, switched_on};
+
+use gix_validate::path::ComponentOptions;
+use memchr::memchr;
+use std::error::Error;
+use std::fmt;
+
+/// What is asked for.
+#[derive(Debug, Clone, Copy)]
+pub enum Request {
+    /// To check standard input under these options.
+    Check(ComponentOptions),
+    /// The help.
+    Help,
+    /// The version.
+    Version,
+}
+
+/// Why the arguments ask for nothing.
+#[derive(Debug, Clone, Copy)]
+pub enum ArgumentError<'a> {
+    /// This argument is unknown.
+    Unknown(&'a str),
+    /// This is not a list of protections, or there is no list.
+    Protections(&'a str),
+}
+
+impl fmt::Display for ArgumentError<'_> {
+    fn fmt<W: fmt::Write>(&self, f: &mut fmt::Formatter<W>) -> fmt::Result {
+        match self {
+            ArgumentError::Unknown(word) => {
+                write!(f, "unknown argument {word:?}, see check_trees --help")
+            }
+            ArgumentError::Protections(list) => write!(
+                f,
+                "--protect takes windows, hfs and ntfs, separated by commas, or none, and not {list:?}"
+            ),
+        }
+    }
+}
+
+impl Error for ArgumentError<'_> {}
+
+/// What the arguments ask for. The first wrong one is an error, and of several lists the last one counts.
+pub fn request_of(words: &[String]) -> Result<Request, ArgumentError<'_>> {
+    let mut options = ComponentOptions::default();
+    let mut rest = words;
+    while let [word, after @ ..] = rest {
+        match word.as_str() {
+            "--help" => return Ok(Request::Help),
+            "--version" => return Ok(Request::Version),
+            "--protect" => match after {
+                [] => return Err(ArgumentError::Protections("")),
+                [list, others @ ..] => {
+                    options = protections_of(list.as_bytes()).ok_or(ArgumentError::Protections(
+                        list.as_str(),
+                    ))?;
+                    rest = others;
+                }
+            },
+            other => return Err(ArgumentError::Unknown(other)),
+        }
+    }
+    Ok(Request::Check(options))
+}
+
+/// The switches that a list of words turns on.
+fn protections_of(list: &[u8]) -> Option<ComponentOptions>
+    ensures { result ≡ protections_of list.now }
+{
+    let mut options = ComponentOptions {
+        protect_windows: false,
+        protect_hfs: false,
+        protect_ntfs: false,
+    };
+    if list == b"none".as_slice() {
+        return Some(options);
+    }
+    let mut rest = list;
+    while let Some(end) = memchr(b',', rest) {
+        options = switched_on(&rest[..end], options)?;
+        rest = &rest[end + 1..];
+    }
+    switched_on(rest, options)
+}
+
+/// The switch that a word turns on, beside those that are on.
+fn switched_on(word: &[u8], options: ComponentOptions) -> Option<ComponentOptions>
+    ensures { result ≡ switched_on word.now options }
+{
+    if word == b"windows".as_slice() {
+        Some(ComponentOptions {
+            protect_windows: true,
+            ..options
+        })
+    } else if word == b"hfs".as_slice() {
+        Some(ComponentOptions {
+            protect_hfs: true,
+            ..options
+        })
+    } else if word == b"ntfs".as_slice() {
+        Some(ComponentOptions {
+            protect_ntfs: true,
+            ..options
+        })
+    } else {
+        None
+    }
+}
+
+#[cfg(test)]
+mod tests;

@@ -1,0 +1,118 @@
+//! Reads that are bounded, and that say where the input ends.
+
+ghost use Rattle.std.specs.Prelude.{◌≡◌, ◌<◌, ◌≤◌, ℕ, List, [], ◌++◌, length, IfOk, IfSome, MatchOption, OnSome};
+ghost use Rattle.std.specs.Io.KnownBytes.{Consumes, IsAtEnd};
+ghost use Rattle.check_trees.specs.Steps.{Cuts, Fronts, Part, Skips};
+
+use crate::engine::RunError;
+use memchr::memchr;
+use std::alloc::Allocator;
+use std::io::{BufRead, ErrorKind};
+
+/// Where a read for a byte came to its end.
+#[derive(Debug, Clone, Copy, PartialEq, Eq)]
+pub(crate) enum Found {
+    /// Behind the byte.
+    Byte,
+    /// At the limit, with no such byte before it.
+    Limit,
+    /// At the end of the input, before the limit and with no such byte before it.
+    End,
+}
+
+/// Reads what stands before the first such byte, and the byte, which is left out. No more than `limit` bytes are read.
+pub(crate) fn read_before<R: BufRead, A: Allocator>(
+    input: &mut R,
+    byte: u8,
+    limit: usize,
+    front: &mut Vec<u8, A>,
+) -> Result<Found, RunError>
+    ensures { IfOk result (Fronts byte limit (R.remaining input.old) (R.remaining input.new) front.new.items) }
+{
+    front.clear();
+    for _ in 0..u64::MAX {
+        if front.len() >= limit {
+            return Ok(Found::Limit);
+        }
+        let room = limit - front.len();
+        if let Some(found) = append_part(input, byte, room, front)? {
+            return Ok(found);
+        }
+    }
+    Err(RunError::Read)
+}
+
+/// Appends what the reader has at hand of such a front, and says where that is all of it.
+fn append_part<R: BufRead, A: Allocator>(
+    input: &mut R,
+    byte: u8,
+    limit: usize,
+    front: &mut Vec<u8, A>,
+) -> Result<Option<Found>, RunError>
+    requires { 0 < limit }
+    ensures { IfOk result (λ found. (part : List ℕ) × (front.new.items ≡ front.old.items ++ part)
+        × Part byte limit (R.remaining input.old) (R.remaining input.new) part found) }
+{
+    let available = match input.fill_buf() {
+        Ok(available) => available,
+        Err(e) if e.kind() == ErrorKind::Interrupted => return Ok(None),
+        Err(_) => return Err(RunError::Read),
+    };
+    if available.is_empty() {
+        return Ok(Some(Found::End));
+    }
+    let shown = &available[..available.len().min(limit)];
+    let (part, used, found) = cut_at(byte, shown);
+    front.extend_from_slice(part).map_err(|_| RunError::Memory)?;
+    input.consume(used);
+    Ok(found)
+}
+
+/// What stands before the first such byte, how many bytes that takes with the byte itself, and whether there is one.
+fn cut_at(byte: u8, shown: &[u8]) -> (&[u8], usize, Option<Found>)
+    ensures { Cuts byte shown.now result.0.now result.1 result.2 }
+{
+    match memchr(byte, shown) {
+        Some(at) => (&shown[..at], at + 1, Some(Found::Byte)),
+        None => (shown, shown.len(), None),
+    }
+}
+
+/// Skips so many bytes, and says whether the input had them.
+pub(crate) fn skip<R: BufRead>(input: &mut R, count: u64) -> Result<bool, RunError>
+    ensures { IfOk result (λ whole. (bytes : List ℕ)
+        × Skips count (R.remaining input.old) (R.remaining input.new) bytes whole) }
+{
+    let mut left = count;
+    for _ in 0..u64::MAX {
+        if left == 0 {
+            return Ok(true);
+        }
+        match skip_part(input, left)? {
+            Some(0) => return Ok(false),
+            Some(skipped) => left -= skipped,
+            None => {}
+        }
+    }
+    Err(RunError::Read)
+}
+
+/// Skips what the reader has at hand of so many bytes. Only at the end of the input are these no bytes.
+fn skip_part<R: BufRead>(input: &mut R, count: u64) -> Result<Option<u64>, RunError>
+    requires { 0 < count }
+    ensures bound { IfOk result (λ skipped. IfSome skipped (λ n. n ≤ count)) }
+    ensures bytes { IfOk result (λ skipped. MatchOption skipped
+        (Consumes (R.remaining input.old) (R.remaining input.new) [])
+        (λ n. (bytes : List ℕ) × (length bytes ≡ n)
+        × Consumes (R.remaining input.old) (R.remaining input.new) bytes
+        × (n ≡ 0 → OnSome (R.remaining input.old) (IsAtEnd (R.remaining input.new))))) }
+{
+    let available = match input.fill_buf() {
+        Ok(available) => available.len(),
+        Err(e) if e.kind() == ErrorKind::Interrupted => return Ok(None),
+        Err(_) => return Err(RunError::Read),
+    };
+    let skipped = (available as u64).min(count);
+    input.consume(skipped as usize);
+    Ok(Some(skipped))
+}

@@ -1,7 +1,10 @@
 -- The answer of a line from what it asks for, and the answers of a text from its first line.
-use Rattle.std.proofs.Common.{◌≡◌, ℕ, List, [], ◌∷◌, ◌++◌, true, false, Option, Some, None, Result, Ok, Err, MatchResult, codes, refl, sym, ap, ◌∙◌, append_assoc, append-nil}
+use Rattle.std.proofs.Common.{◌≡◌, ◌≢◌, ◌==◌, ◌||◌, ◌+◌, ℕ, suc, Bool, not, List, [], ◌∷◌, ◌++◌, true, false, inl, inr}
+use Rattle.std.proofs.Common.{Option, Some, None, is_some, Result, Ok, Err, MatchResult, codes, refl, sym, ap, ◌∙◌, append_assoc, append-nil, arith}
 use Rattle.std.specs.Str.{byte, bytes_eq}
-use Rattle.std.proofs.lemmas.Bool.{cond-false}
+use Rattle.std.specs.List.{list_any, prefix_len, before_first, after_first}
+use Rattle.std.proofs.lemmas.Bool.{cases_Bool, cond-false, eqb-true, false≢true, false_from_ne_true}
+use Rattle.std.proofs.lemmas.List.Folds.{list_any-append}
 use Rattle.std.proofs.lemmas.Slice.Eq.{bytes_eq-Decides}
 use Rattle.gix_validate.specs.Faults.{Validates}
 use Rattle.gix_validate.specs.Tag
@@ -14,64 +17,105 @@ use Rattle.gix_validate.specs.Sanitized.{sanitized}
 use Rattle.bstr.specs.declared.bstr.BStr.{BStr}
 use Rattle.bstr.specs.BStr.{bstr_bytes}
 use Rattle.typed_names.specs.Names.{Keeps}
-use Rattle.check_names.specs.Lines.{line_end, lines, split_once}
-use Rattle.check_names.specs.Answers.{answer_of, answers, answer_by, answer_to, device_answer, kinds, unknown_kind, verdict}
+use Rattle.check_names.specs.Lines.{line_end, lines, request_of, split_once}
+use Rattle.check_names.specs.Answers.{answer_of, answers, device_answer, kinds, unknown_kind, verdict}
 
 -- ---- one line
 
-pub answer-of_request : (line : List ℕ) (request : Option (List ℕ × List ℕ)) → request ≡ split_once (byte " ") line → answer_of line ≡ answer_to request
-unfolding answer_of
-answer-of_request line request is = ap answer_to (sym is)
+-- the line of a kind has the answer of its row
+pub asked_tag : (line name : List ℕ) → line ≡ codes "tag " ++ name → answer_of line ≡ verdict (Tag.fault_of name) Tag.text_of
+unfolding answer_of split_once kinds
+asked_tag line name is = ap answer_of is
 
--- a kind that is the word of a row has the answer of that row
-pub answer-by_word : (kind word name : List ℕ) → bytes_eq kind word ≡ true → answer_by kinds kind name ≡ answer_by kinds word name
-answer-by_word kind word name is = ap (λ asked. answer_by kinds asked name) ((bytes_eq-Decides kind word).0 is)
+pub asked_partial : (line name : List ℕ) → line ≡ codes "partial " ++ name → answer_of line ≡ verdict (Reference.partial_fault_of name) Reference.text_of
+unfolding answer_of split_once kinds
+asked_partial line name is = ap answer_of is
 
--- the rows of the table
-pub asked_tag : (name : List ℕ) → answer_by kinds (codes "tag") name ≡ verdict (Tag.fault_of name) Tag.text_of
-unfolding kinds
-asked_tag name = refl
+pub asked_ref : (line name : List ℕ) → line ≡ codes "ref " ++ name → answer_of line ≡ verdict (Reference.full_fault_of name) Reference.text_of
+unfolding answer_of split_once kinds
+asked_ref line name is = ap answer_of is
 
-pub asked_partial : (name : List ℕ) → answer_by kinds (codes "partial") name ≡ verdict (Reference.partial_fault_of name) Reference.text_of
-unfolding kinds
-asked_partial name = refl
+pub asked_branch : (line name : List ℕ) → line ≡ codes "branch " ++ name → answer_of line ≡ verdict (Reference.branch_fault_of name) Reference.text_of
+unfolding answer_of split_once kinds
+asked_branch line name is = ap answer_of is
 
-pub asked_ref : (name : List ℕ) → answer_by kinds (codes "ref") name ≡ verdict (Reference.full_fault_of name) Reference.text_of
-unfolding kinds
-asked_ref name = refl
+pub asked_submodule : (line name : List ℕ) → line ≡ codes "submodule " ++ name → answer_of line ≡ verdict (Submodule.fault_of name) Submodule.text_of
+unfolding answer_of split_once kinds
+asked_submodule line name is = ap answer_of is
 
-pub asked_branch : (name : List ℕ) → answer_by kinds (codes "branch") name ≡ verdict (Reference.branch_fault_of name) Reference.text_of
-unfolding kinds
-asked_branch name = refl
+pub asked_path : (line name : List ℕ) → line ≡ codes "path " ++ name → answer_of line ≡ verdict (Component.fault_of all_protections None name) Component.text_of
+unfolding answer_of split_once kinds
+asked_path line name is = ap answer_of is
 
-pub asked_submodule : (name : List ℕ) → answer_by kinds (codes "submodule") name ≡ verdict (Submodule.fault_of name) Submodule.text_of
-unfolding kinds
-asked_submodule name = refl
+pub asked_symlink : (line name : List ℕ) → line ≡ codes "symlink " ++ name
+    → answer_of line ≡ verdict (Component.fault_of all_protections (Some Symlink) name) Component.text_of
+unfolding answer_of split_once kinds
+asked_symlink line name is = ap answer_of is
 
-pub asked_path : (name : List ℕ) → answer_by kinds (codes "path") name ≡ verdict (Component.fault_of all_protections None name) Component.text_of
-unfolding kinds
-asked_path name = refl
+pub asked_device : (line name : List ℕ) → line ≡ codes "device " ++ name → answer_of line ≡ device_answer name
+unfolding answer_of split_once kinds
+asked_device line name is = ap answer_of is
 
-pub asked_symlink : (name : List ℕ) → answer_by kinds (codes "symlink") name ≡ verdict (Component.fault_of all_protections (Some Symlink) name) Component.text_of
-unfolding kinds
-asked_symlink name = refl
+pub asked_sanitize : (line name : List ℕ) → line ≡ codes "sanitize " ++ name → answer_of line ≡ sanitized name
+unfolding answer_of split_once kinds
+asked_sanitize line name is = ap answer_of is
 
-pub asked_device : (name : List ℕ) → answer_by kinds (codes "device") name ≡ device_answer name
-unfolding kinds
-asked_device name = refl
+-- a line that begins with what has a space asks for something
+pub asks_something : (line front name : List ℕ) → line ≡ front ++ name → list_any (λ b. b == byte " ") front ≡ true → request_of line ≢ None
+unfolding split_once
+asks_something line front name is spaced none =
+    let here : list_any (λ b. b == byte " ") line ≡ true =
+    ap (list_any (λ b. b == byte " ")) is ∙ list_any-append (λ b. b == byte " ") front name
+    ∙ ap (λ some. some || list_any (λ b. b == byte " ") name) spaced in
+    let some : is_some (request_of line) ≡ true = rw here refl in
+    false≢true (sym (ap is_some none) ∙ some)
 
-pub asked_sanitize : (name : List ℕ) → answer_by kinds (codes "sanitize") name ≡ sanitized name
-unfolding kinds
-asked_sanitize name = refl
+-- a line with a space is what stands before the first one, the space, and what follows it
+kind-and-name-cons : (b : ℕ) (line : List ℕ) (here : Bool) → (b == byte " ") ≡ here → (here || list_any (λ b. b == byte " ") line) ≡ true
+    → (list_any (λ b. b == byte " ") line ≡ true → line ≡ before_first (λ b. b == byte " ") line ++ byte " " ∷ after_first (λ b. b == byte " ") line)
+    → b ∷ line ≡ before_first (λ b. b == byte " ") (b ∷ line) ++ byte " " ∷ after_first (λ b. b == byte " ") (b ∷ line)
+kind-and-name-cons b line true e spaced more = rw e (ap (λ c. c ∷ line) (eqb-true b (byte " ") e))
+kind-and-name-cons b line false e spaced more =
+    let n = prefix_len (λ b. not (b == byte " ")) line in
+    let next : 1 + n ≡ suc n = omega arith in
+    let after : suc n + 1 ≡ suc (n + 1) = omega arith in
+    rw (e, next, after) (ap (λ rest. b ∷ rest) (more spaced))
 
--- a kind that is none of the words
-pub asked_otherwise : (kind name : List ℕ) → bytes_eq kind (codes "tag") ≡ false → bytes_eq kind (codes "partial") ≡ false → bytes_eq kind (codes "ref") ≡ false
-    → bytes_eq kind (codes "branch") ≡ false → bytes_eq kind (codes "submodule") ≡ false → bytes_eq kind (codes "path") ≡ false → bytes_eq kind (codes "symlink") ≡ false
-    → bytes_eq kind (codes "device") ≡ false → bytes_eq kind (codes "sanitize") ≡ false → answer_by kinds kind name ≡ unknown_kind
-unfolding kinds
-asked_otherwise kind name e1 e2 e3 e4 e5 e6 e7 e8 e9 =
-    cond-false _ _ _ e1 ∙ cond-false _ _ _ e2 ∙ cond-false _ _ _ e3 ∙ cond-false _ _ _ e4 ∙ cond-false _ _ _ e5
-    ∙ cond-false _ _ _ e6 ∙ cond-false _ _ _ e7 ∙ cond-false _ _ _ e8 ∙ cond-false _ _ _ e9
+kind-and-name : (line : List ℕ) → list_any (λ b. b == byte " ") line ≡ true
+    → line ≡ before_first (λ b. b == byte " ") line ++ byte " " ∷ after_first (λ b. b == byte " ") line
+kind-and-name [] spaced = absurd (false≢true spaced)
+kind-and-name (b ∷ line) spaced = kind-and-name-cons b line (b == byte " ") refl spaced (kind-and-name line)
+
+-- a line that doesn't begin with a word and a space asks for another kind
+another-kind : (line word kind name : List ℕ) → ((rest : List ℕ) → line ≢ (word ++ byte " " ∷ []) ++ rest)
+    → line ≡ kind ++ byte " " ∷ name → bytes_eq kind word ≡ false
+another-kind line word kind name lacks is = false_from_ne_true _ (λ same.
+    lacks name (is ∙ ap (λ front. front ++ byte " " ∷ name) ((bytes_eq-Decides kind word).0 same) ∙ sym (append_assoc word (byte " " ∷ []) name)))
+
+-- a line that begins with no kind and a space
+pub asked_otherwise : (line : List ℕ) → ((rest : List ℕ) → line ≢ codes "ref " ++ rest) → ((rest : List ℕ) → line ≢ codes "tag " ++ rest)
+    → ((rest : List ℕ) → line ≢ codes "partial " ++ rest) → ((rest : List ℕ) → line ≢ codes "branch " ++ rest)
+    → ((rest : List ℕ) → line ≢ codes "submodule " ++ rest)
+    → ((rest : List ℕ) → line ≢ codes "path " ++ rest) → ((rest : List ℕ) → line ≢ codes "symlink " ++ rest)
+    → ((rest : List ℕ) → line ≢ codes "device " ++ rest)
+    → ((rest : List ℕ) → line ≢ codes "sanitize " ++ rest) → answer_of line ≡ unknown_kind
+unfolding answer_of split_once kinds
+asked_otherwise line n1 n2 n3 n4 n5 n6 n7 n8 n9 = elim (cases_Bool (list_any (λ b. b == byte " ") line)) [
+  | inl spaced ↦
+      let kind = before_first (λ b. b == byte " ") line in
+      let name = after_first (λ b. b == byte " ") line in
+      let is = kind-and-name line spaced in
+      rw spaced (cond-false _ _ _ (another-kind line (codes "tag") kind name n2 is)
+      ∙ cond-false _ _ _ (another-kind line (codes "partial") kind name n3 is)
+      ∙ cond-false _ _ _ (another-kind line (codes "ref") kind name n1 is)
+      ∙ cond-false _ _ _ (another-kind line (codes "branch") kind name n4 is)
+      ∙ cond-false _ _ _ (another-kind line (codes "submodule") kind name n5 is)
+      ∙ cond-false _ _ _ (another-kind line (codes "path") kind name n6 is)
+      ∙ cond-false _ _ _ (another-kind line (codes "symlink") kind name n7 is)
+      ∙ cond-false _ _ _ (another-kind line (codes "device") kind name n8 is)
+      ∙ cond-false _ _ _ (another-kind line (codes "sanitize") kind name n9 is))
+  | inr none ↦ rw none refl
+]
 
 -- what was answered by a rule of faults, whatever else it says of a name that passed, printed as a verdict
 verdict-of : {Name E : Type 0} (Also : Name → Type 0) (fault : List ℕ → Option E) (text_of : E → List ℕ) (name : List ℕ) (result : Result Name E) (old new : List ℕ)

@@ -1,13 +1,12 @@
--- A text that is cut at the first byte of a kind, and the first line of a text.
+-- The first line of a text, by the place of its first line end.
 use Rattle.std.proofs.Common.{◌≡◌, ◌≢◌, ℕ, ◌+◌, ◌<◌, false, List, [], ◌∷◌, ◌==◌, Some, None, length, take, drop, refl, ap, ◌∙◌, arith}
 use Rattle.std.specs.List.{All, slice_split, position_or_len, before_first, after_first}
 use Rattle.std.proofs.lemmas.Bool.{false_from_ne_true}
 use Rattle.std.proofs.lemmas.List.Sums.{position_or_len_is}
-use Rattle.std.proofs.lemmas.List.Folds.{list_any_at, list_any_none}
 use Rattle.std.proofs.lemmas.List.Elements.{All-from_get_or}
 use Rattle.std.proofs.lemmas.List.Splits.{slice_split_first, slice_split_none, length-slice_split}
 use Rattle.memchr.specs.Find.{is_byte, IsFirstByte}
-use Rattle.check_names.specs.Lines.{line_end, less_empty_last, lines, split_once}
+use Rattle.check_names.specs.Lines.{line_end, less_empty_last, lines}
 
 -- ---- what a search for a byte says
 
@@ -18,15 +17,6 @@ module _ (sep : ℕ) (text : List ℕ) where
   place_of_first : (k : ℕ) → IsFirstByte (is_byte sep) text (Some k) → position_or_len (λ b. b == sep) text ≡ k
   place_of_first k (first, here) =
       position_or_len_is (λ b. b == sep) text k 0 (omega (arith, first.high)) (λ j below. false_from_ne_true _ (first.before j (omega arith) below)) (λ _. here)
-
-  pub split_once-none : IsFirstByte (is_byte sep) text None → split_once sep text ≡ None
-  unfolding split_once
-  split_once-none nowhere = rw (list_any_none (λ b. b == sep) text (none_passes nowhere))
-
-  pub split_once-some : (k : ℕ) → IsFirstByte (is_byte sep) text (Some k) → split_once sep text ≡ Some (take k text, drop (k + 1) text)
-  unfolding split_once
-  split_once-some k (first, here) =
-      rw (list_any_at (λ b. b == sep) text k 0 first.high here, place_of_first k (first, here))
 
 -- ---- the first line
 

@@ -11,12 +11,12 @@ use Rattle.gix_validate.specs.Windows.{is_device}
 use Rattle.gix_validate.specs.Sanitized.{sanitized}
 use Rattle.check_names.specs.Lines.{line_end, lines, request_of}
 
--- the answer where a rule of faults is asked: `ok` where it finds none, and else the text of the fault
+-- the answer where a rule of faults is asked: `ok` where it finds no fault, and otherwise the text of the fault
 abbrev pub verdict : {E : Type 0} → Option E → (E → List ℕ) → List ℕ
 verdict None text_of = codes "ok"
 verdict (Some fault) text_of = codes "error: " ++ text_of fault
 
--- the answer where it is asked whether a name means a device
+-- the answer to whether a name is a device
 abbrev pub device_answer : List ℕ → List ℕ
 device_answer name = if is_device name then codes "yes" else codes "no"
 
@@ -34,11 +34,11 @@ kinds =
     ∷ (codes "sanitize", λ name. sanitized name)
     ∷ []
 
--- the answer where a line asks for none of the kinds
+-- the answer to a line of unknown kind
 abbrev pub unknown_kind : List ℕ
 unknown_kind = codes "unknown kind"
 
--- what the first of these kinds that is the one asked for answers
+-- what the first of these kinds that has the asked name answers
 abbrev pub answer_by : List (List ℕ × (List ℕ → List ℕ)) → List ℕ → List ℕ → List ℕ
 answer_by [] kind name = unknown_kind
 answer_by (row ∷ rows) kind name = if bytes_eq kind row.0 then row.1 name else answer_by rows kind name

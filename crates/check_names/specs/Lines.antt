@@ -9,7 +9,7 @@ use Rattle.gix_validate.specs.Faults.{when}
 abbrev pub line_end : ℕ
 line_end = 0x0A
 
--- the texts in order, less the last one if that is empty
+-- the texts in order, without the last one if that is empty
 abbrev pub less_empty_last : List (List ℕ) → List (List ℕ)
 less_empty_last [] = []
 less_empty_last (text ∷ []) = if is_empty text then [] else text ∷ []

@@ -1,14 +1,12 @@
 //! The answers to the lines of a text.
 
-ghost use Rattle.std.specs.Prelude.{◌≡◌, ◌≢◌, ◌+◌, ◌<◌, [], ◌∷◌, ◌++◌, codes, length, vec_len, vec_capacity, Some, None, Err, IsOk, IsOkUnless, IfOk, OnOk, OnErr, IfSome, MatchOption, MatchResult};
+ghost use Rattle.std.specs.Prelude.{◌≡◌, ◌≢◌, ◌+◌, ◌<◌, [], ◌∷◌, ◌++◌, ℕ, List, codes, length, vec_len, vec_capacity, Some, None, Err, IsOk, IsOkUnless, IfOk, OnOk, OnErr, IfSome, MatchOption, MatchResult};
 ghost use Rattle.std.specs.Io.KnownBytes.{Appends, IsAtEnd};
-ghost use Rattle.std.specs.Option.{option_map};
-ghost use Rattle.std.specs.Str.{bytes_eq};
 ghost use Rattle.bstr.specs.BStr.{bstr_bytes};
 ghost use Rattle.gix_validate.specs.Component.{all_protections, fault_of, text_of as component_text};
 ghost use Rattle.gix_validate.specs.Sanitized.{sanitized};
-ghost use Rattle.check_names.specs.Answers.{answer_of, answer_by, answers, device_answer, kinds, unknown_kind, verdict};
-ghost use Rattle.check_names.specs.Lines.{lines, request_of, split_once};
+ghost use Rattle.check_names.specs.Answers.{answer_of, answers, device_answer, unknown_kind, verdict};
+ghost use Rattle.check_names.specs.Lines.{lines, request_of};
 
 use bstr::BStr;
 use gix_validate::path::{ComponentMode, ComponentOptions};
@@ -26,11 +24,11 @@ const UNKNOWN_KIND: &[u8] = b"unknown kind";
 /// Why a run stopped before its end.
 #[derive(Debug, Drop)]
 pub enum RunError {
-    /// Reading to the end failed, or the bytes that were read found no memory. Nothing was written.
+    /// Reading to the end failed, or there was no memory for the bytes that were read. Nothing was written.
     Read,
-    /// The answers found no memory. Nothing was written.
+    /// There was no memory for the answers. Nothing was written.
     Memory,
-    /// Writing or flushing failed. Nothing is known of how much went out.
+    /// Writing or flushing failed. How much was written is unknown.
     Write,
 }
 
@@ -56,13 +54,13 @@ impl Error for RunError {}
 /// A line is a kind, a space and a name, as `tag v1.0`, which is answered by `ok`. Where there is no
 /// line, nothing is written and nothing is flushed.
 ///
-/// The input and the answers are each held whole in memory, of `alloc`.
+/// The whole input and all answers are held in memory, of `alloc`.
 ///
-/// What the contract says of bytes it says where the reader and the writer tell theirs. Of std's readers
-/// `&[u8]`, `Cursor`, `VecDeque<u8>` and `Empty` do, of its writers `Vec<u8>` and `VecDeque<u8>`, and so do
-/// `&mut`, `Box`, `Take`, `Chain` and the buffers of `BufReader`, `BufWriter` and `LineWriter` over these.
-/// A terminal, a file, a pipe, a socket, `&mut [u8]` as a writer and the writers of `Cursor` tell nothing.
-/// `ok` asks it of both sides; `end`, `spent` and `empty` of the reader alone; `read` and `memory` of neither.
+/// Clauses that speak of bytes hold for readers and writers whose bytes std's contracts know. These are the
+/// readers `&[u8]`, `Cursor`, `VecDeque<u8>` and `Empty`, the writers `Vec<u8>` and `VecDeque<u8>`, and over
+/// them `&mut`, `Box`, `Take`, `Chain` and the buffers of `BufReader`, `BufWriter` and `LineWriter`. They are
+/// not a terminal, a file, a pipe, a socket, `&mut [u8]` as a writer or the writers of `Cursor`. `ok` depends
+/// on both sides; `end`, `spent` and `empty` on the reader alone; `read` and `memory` on neither.
 ///
 /// # Errors
 ///
@@ -157,15 +155,7 @@ fn first_line(text: &[u8]) -> Option<(&[u8], &[u8])>
     }
 }
 
-// What stands before the first such byte of a text, and all that follows it.
-fn split_once(separator: u8, text: &[u8]) -> Option<(&[u8], &[u8])>
-    ensures { option_map (λ parts. (parts.0.now, parts.1.now)) result ≡ split_once separator text.now }
-{
-    let place = memchr(separator, text)?;
-    Some((&text[..place], &text[place + 1..]))
-}
-
-// Appends the answer to one line.
+// Appends the answer to one line. A kind costs a comparison for each kind before it, and full reference names come first.
 fn push_answer<A: Allocator>(
     global: Global,
     line: &[u8],
@@ -175,53 +165,37 @@ fn push_answer<A: Allocator>(
     ensures full { request_of line.now ≡ None → OnErr result
         (vec_capacity answers.old < vec_len answers.old + length unknown_kind) }
 {
-    match split_once(b' ', line) {
-        Some((kind, name)) => push_answer_by(global, kind, BStr::new(name), answers),
-        None => answers.extend_from_slice(UNKNOWN_KIND),
-    }
-}
-
-// Appends what a kind answers for a name.
-fn push_answer_by<A: Allocator>(
-    global: Global,
-    kind: &[u8],
-    name: BStr<'_>,
-    answers: &mut Vec<u8, A>,
-) -> Result<(), AllocError>
-    ensures { OnOk result (answers.new.items
-        ≡ answers.old.items ++ answer_by kinds kind.now (bstr_bytes name.entry)) }
-{
-    if is_word(kind, b"tag") {
-        push_verdict(TagName::new(name), answers)
-    } else if is_word(kind, b"partial") {
-        push_verdict(PartialName::new(name), answers)
-    } else if is_word(kind, b"ref") {
+    if let Some(name) = name_behind(b"ref ", line) {
         push_verdict(FullName::new(name), answers)
-    } else if is_word(kind, b"branch") {
+    } else if let Some(name) = name_behind(b"tag ", line) {
+        push_verdict(TagName::new(name), answers)
+    } else if let Some(name) = name_behind(b"partial ", line) {
+        push_verdict(PartialName::new(name), answers)
+    } else if let Some(name) = name_behind(b"branch ", line) {
         push_verdict(reference::branch_name(name), answers)
-    } else if is_word(kind, b"submodule") {
+    } else if let Some(name) = name_behind(b"submodule ", line) {
         push_verdict(submodule::name(name), answers)
-    } else if is_word(kind, b"path") {
+    } else if let Some(name) = name_behind(b"path ", line) {
         push_component(name, None, answers)
-    } else if is_word(kind, b"symlink") {
+    } else if let Some(name) = name_behind(b"symlink ", line) {
         push_component(name, Some(ComponentMode::Symlink), answers)
-    } else if is_word(kind, b"device") {
+    } else if let Some(name) = name_behind(b"device ", line) {
         push_device(name, answers)
-    } else if is_word(kind, b"sanitize") {
+    } else if let Some(name) = name_behind(b"sanitize ", line) {
         push_sanitized(global, name, answers)
     } else {
         answers.extend_from_slice(UNKNOWN_KIND)
     }
 }
 
-// Whether the text is the word. Its constant length makes this a comparison or two.
-fn is_word<const N: usize>(text: &[u8], word: &[u8; N]) -> bool
-    ensures { result ≡ bytes_eq text.now word.now }
+// The name of a line that begins with this kind and its space.
+fn name_behind<'a>(kind_and_space: &[u8], line: &'a [u8]) -> Option<BStr<'a>>
+    ensures { MatchOption result
+        ((name : List ℕ) → line.now ≢ kind_and_space.now ++ name)
+        (λ name. line.now ≡ kind_and_space.now ++ bstr_bytes name) }
 {
-    match <&[u8; N]>::try_from(text) {
-        Ok(text) => text == word,
-        Err(_) => false,
-    }
+    let name = line.strip_prefix(kind_and_space)?;
+    Some(BStr::new(name))
 }
 
 // Appends whether the name may be a path component of this mode, under the default options.
@@ -241,7 +215,7 @@ fn push_component<A: Allocator>(
     )
 }
 
-// Appends whether the name means a device on Windows.
+// Appends whether the name is a device on Windows.
 fn push_device<A: Allocator>(name: BStr<'_>, answers: &mut Vec<u8, A>) -> Result<(), AllocError>
     ensures { OnOk result (answers.new.items
         ≡ answers.old.items ++ device_answer (bstr_bytes name.entry)) }
@@ -266,7 +240,7 @@ fn push_sanitized<A: Allocator>(
     answers.extend_from_slice(repaired.as_slice())
 }
 
-// Appends what a validator says: that the name may serve, or its fault.
+// Appends what a validator says: `ok`, or the fault.
 fn push_verdict<T: Drop, E: Display + Drop, A: Allocator>(
     verdict: Result<T, E>,
     answers: &mut Vec<u8, A>,
@@ -295,7 +269,7 @@ fn push_fault<E: Display + Drop, A: Allocator>(
     write!(Appender { answers }, "error: {fault}").map_err(|_| AllocError)
 }
 
-// The answers as what text is written to. A write fails where they find no memory for its text.
+// The answers, as a target of writes. A write fails where there is no memory for its text.
 #[derive(Drop)]
 struct Appender<'a, A: Allocator> {
     answers: &'a mut Vec<u8, A>,

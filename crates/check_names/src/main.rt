@@ -1,4 +1,4 @@
-//! Answers, for each line of standard input, whether the name on it may serve.
+//! Answers, for each line of standard input, whether the name on it is accepted.
 #![tactic(auto)]
 
 mod engine;

@@ -1,28 +1,24 @@
 -- Parts of a text that together are all of it, and a short text as one block.
-use Rattle.std.proofs.Common.{◌≡◌, ℕ, zero, suc, ◌+◌, ◌-◌, ◌≤◌, Bool, true, false, ◌||◌, List, [], ◌∷◌, ◌++◌, length, take, drop, get_or, replicate, refl, ap, ◌∙◌, arith, length-drop, length-append}
+use Rattle.std.proofs.Common.{◌≡◌, ℕ, zero, suc, ◌+◌, ◌-◌, ◌≤◌, Bool, true, false, ◌||◌, List, [], ◌∷◌, ◌++◌, length, take, drop, get_or, replicate, refl, sym, ap, ◌∙◌, arith, take-add, length-drop, length-append}
 use Rattle.std.specs.List.{list_any, range_with_len}
 use Rattle.std.proofs.lemmas.List.Folds.{list_any-append}
 use Rattle.std.proofs.lemmas.Simd.{pick_l_whole, length-chunk}
 use Rattle.std.proofs.Math.Seq.{take-length}
 use lib.Lanes.{chunk, pick_l}
+use Rattle.std.proofs.lemmas.Bool.Decides.{nat_tests}
+use Rattle.std.proofs.lemmas.Grind.{common_steps}
 
 or_apart : (s t u : Bool) → ((s || t) || u) ≡ (s || (t || u))
-or_apart true t u = refl
-or_apart false t u = refl
+or_apart s t u = grind (arith, nat_tests)
 
 or_same : (t : Bool) → (t || t) ≡ t
-or_same true = refl
-or_same false = refl
+or_same t = grind (arith, nat_tests)
 
 -- a front and the whole
 front_and_all : (p : ℕ → Bool) (x : List ℕ) (j : ℕ) → (list_any p (take j x) || list_any p x) ≡ list_any p x
-front_and_all p x zero = refl
-front_and_all p [] (suc j) = refl
-front_and_all p (b ∷ x) (suc j) = mix (p b) (list_any p (take j x)) (list_any p x) ∙ ap (λ v. p b || v) (front_and_all p x j)
-  where
-    mix : (s t u : Bool) → ((s || t) || (s || u)) ≡ (s || (t || u))
-    mix true t u = refl
-    mix false t u = refl
+front_and_all p x zero = grind (arith, nat_tests)
+front_and_all p [] (suc j) = grind (arith, nat_tests)
+front_and_all p (b ∷ x) (suc j) = grind (arith, nat_tests, front_and_all p x j)
 
 -- a front and a back that meet or overlap
 pub any_overlap : (p : ℕ → Bool) (x : List ℕ) (i j : ℕ) → i ≤ j → (list_any p (take j x) || list_any p (drop i x)) ≡ list_any p x
@@ -32,9 +28,28 @@ any_overlap p [] (suc i) (suc j) h = refl
 any_overlap p (b ∷ x) (suc i) (suc j) h = or_apart (p b) (list_any p (take j x)) (list_any p (drop i x)) ∙ ap (λ v. p b || v) (any_overlap p x i j (omega arith))
 
 pub whole_chunk : (i n : ℕ) (x : List ℕ) → i + n ≡ length x → chunk i n x ≡ drop i x
-whole_chunk i n x e =
-    let long : n ≡ length (drop i x) = omega (arith, length-drop i x) in
-    ap (λ k. take k (drop i x)) long ∙ take-length (drop i x)
+whole_chunk i n x e = grind (arith, common_steps, length-drop, take-length)
+
+-- a front, and the part behind it
+pub any_with_chunk : (p : ℕ → Bool) (x : List ℕ) (i n : ℕ) → list_any p (take (i + n) x) ≡ (list_any p (take i x) || list_any p (chunk i n x))
+any_with_chunk p x i n = ap (list_any p) (take-add i n x) ∙ list_any-append p (take i x) (chunk i n x)
+
+-- a part at the end, where nothing is found before it
+pub any_to_end : (p : ℕ → Bool) (x : List ℕ) (last i n : ℕ) → last ≤ i → last + n ≡ length x → list_any p (take i x) ≡ false → list_any p (chunk last n x) ≡ list_any p x
+any_to_end p x last i n order long none = grind (arith, nat_tests, whole_chunk, any_overlap)
+
+-- a part in which something is found
+pub any_in_chunk : (p : ℕ → Bool) (x : List ℕ) (i n : ℕ) → true ≡ list_any p (chunk i n x) → true ≡ list_any p x
+any_in_chunk p x i n found =
+    sym (sym (any_overlap p x 0 (i + n) (omega arith)) ∙ ap (λ v. v || list_any p x) (any_with_chunk p x i n ∙ ap (λ v. list_any p (take i x) || v) (sym found) ∙ or_true (list_any p (take i x))))
+  where
+    or_true : (t : Bool) → (t || true) ≡ true
+    or_true true = refl
+    or_true false = refl
+
+-- the first n bytes and the last n
+pub any_halves : (p : ℕ → Bool) (x : List ℕ) (n : ℕ) → n ≤ length x → length x ≤ n + n → (list_any p (chunk 0 n x) || list_any p (chunk (length x - n) n x)) ≡ list_any p x
+any_halves p x n some few = ap (λ t. list_any p (take n x) || list_any p t) (whole_chunk (length x - n) n x (omega arith)) ∙ any_overlap p x (length x - n) n (omega arith)
 
 joined : (p : ℕ → Bool) (n : ℕ) (x : List ℕ) → n ≤ length x → length x ≤ n + n → list_any p (take n x ++ chunk (length x - n) n x) ≡ list_any p x
 joined p n x some few =

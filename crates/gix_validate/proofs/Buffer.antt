@@ -1,5 +1,5 @@
 -- The walk within one buffer: what is written stands before the place that is read next.
-use Rattle.std.proofs.Common.{◌≡◌, inl, inr, ℕ, zero, suc, ◌+◌, ◌-◌, ◌≤◌, ◌<◌, Bool, true, false, List, [], ◌∷◌, ◌++◌, length, take, drop, set, get_or, refl, sym, subst, ap, ◌∙◌, arith, eqb, length-take, length-drop, length-append, length-set, append_assoc, zero-add}
+use Rattle.std.proofs.Common.{◌≡◌, ℕ, zero, suc, ◌+◌, ◌-◌, ◌≤◌, ◌<◌, Bool, true, false, List, [], ◌∷◌, ◌++◌, length, take, drop, set, get_or, refl, sym, subst, ap, ◌∙◌, arith, eqb, length-take, length-drop, length-append, length-set, append_assoc, zero-add}
 use Rattle.std.specs.Prelude.{codes, ◌||◌, not, ◌==◌, slice_range, if◌then◌else◌}
 use Rattle.std.specs.List.{starts_with}
 use Rattle.std.specs.Str.{byte}
@@ -14,6 +14,8 @@ use Rattle.gix_validate.specs.Sanitized.{cut, mended_pieces}
 use Rattle.gix_validate.proofs.Cuts.{cut-own}
 use Rattle.gix_validate.proofs.Walk.{closed, finished}
 use Rattle.gix_validate.proofs.Walked.{Walked, Walked-start, Walked-slash, Walked-dots, Walked-lock, Walked-byte, Walked-end, Walked-last_slash, added, plain-apart}
+use Rattle.std.proofs.lemmas.Bool.Decides.{nat_tests}
+use Rattle.std.proofs.lemmas.Grind.{common_steps}
 
 take-add : (m n : ℕ) (xs : List ℕ) → take (m + n) xs ≡ take m xs ++ take n (drop m xs)
 take-add zero n xs = rw zero-add refl
@@ -24,11 +26,9 @@ take-add (suc m) n (x ∷ xs) = rw suc-add (ap (λ v. x ∷ v) (take-add m n xs)
 -- A front of a part, behind what stands before the part.
 pub take-front : (text : List ℕ) (start end n : ℕ) → n ≤ length (slice_range text start end)
     → take (start + n) text ≡ take start text ++ take n (slice_range text start end)
-take-front text start end n h =
-    let within : n ≤ end - start = omega (arith, length-take (end - start) (drop start text)) in
-    take-add start n text ∙ ap (λ v. take start text ++ v) (sym (take-take n (end - start) (drop start text) within))
+take-front text start end n h = grind (arith, nat_tests, length-take, take-add, take-take)
 
--- A part whose last byte is no `k` does not end in `.lock`, so nothing of it is cut.
+-- A part whose last byte is not `k` does not end in `.lock`, so nothing of it is cut.
 pub take-uncut : (text : List ℕ) (start end : ℕ) → start < end → end ≤ length text → (get_or text (end - 1) 0 ≡ byte "k" → ⊥)
     → take end text ≡ take start text ++ cut (slice_range text start end)
 take-uncut text start end some within other =
@@ -56,31 +56,19 @@ no_part : (text : List ℕ) (n : ℕ) → slice_range text n n ≡ []
 no_part text n = let none : n - n ≡ 0 = omega arith in ap (λ v. take v (drop n text)) none
 
 pub is_empty-false : (p : List ℕ) → 0 < length p → is_empty p ≡ false
-is_empty-false [] h = absurd (omega (arith, h))
-is_empty-false (b ∷ p) h = refl
+is_empty-false p hh1 = grind (arith, nat_tests)
 
 -- What `close_piece` leaves is the written text with the piece closed.
 closed-part : (text : List ℕ) (start end : ℕ) → start ≤ end → end < length text
     → (if start == end then take end text else take start text ++ (cut (slice_range text start end) ++ codes "/")) ≡ closed (take start text) (slice_range text start end)
 closed-part text start end order room =
-    elim (cases_eq start end) [
-      | inl same ↦ rw (eq-eqb start end same) (ap (λ v. take v text) (sym same)
-          ∙ sym (cond-true (is_empty (slice_range text start end)) (take start text) (take start text ++ (cut (slice_range text start end) ++ codes "/")) (ap is_empty (ap (λ v. slice_range text start v) (sym same) ∙ no_part text start))))
-      | inr ne ↦ rw (ne_eqb start end ne) (sym (cond-false (is_empty (slice_range text start end)) (take start text) (take start text ++ (cut (slice_range text start end) ++ codes "/")) (is_empty-false (slice_range text start end) (omega (arith, length-take (end - start) (drop start text), length-drop start text)))))
-    ]
+    grind (arith, nat_tests, cases_eq, eq-eqb, cond-true, no_part, ne_eqb, cond-false, is_empty-false, length-take, length-drop)
 
 -- What `end_of_text` gives is the written text with the last piece ended.
 finished-part : (text : List ℕ) (start end : ℕ) → start ≤ end → end ≤ length text
     → (if start == end then take (end - 1) text else take start text ++ cut (slice_range text start end)) ≡ finished (take start text) (slice_range text start end)
 finished-part text start end order within =
-    elim (cases_eq start end) [
-      | inl same ↦ rw (eq-eqb start end same) (
-          ap (λ v. take (v - 1) text) (sym same)
-          ∙ (sym (take-take (start - 1) start text (omega arith))
-          ∙ (ap (λ v. take (v - 1) (take start text)) (let all : start ≡ length (take start text) = omega (arith, length-take start text) in all)
-          ∙ sym (cond-true (is_empty (slice_range text start end)) (take (length (take start text) - 1) (take start text)) (take start text ++ cut (slice_range text start end)) (ap is_empty (ap (λ v. slice_range text start v) (sym same) ∙ no_part text start))))))
-      | inr ne ↦ rw (ne_eqb start end ne) (sym (cond-false (is_empty (slice_range text start end)) (take (length (take start text) - 1) (take start text)) (take start text ++ cut (slice_range text start end)) (is_empty-false (slice_range text start end) (omega (arith, length-take (end - start) (drop start text), length-drop start text)))))
-    ]
+    grind (arith, nat_tests, cases_eq, eq-eqb, take-take, length-take, cond-true, no_part, ne_eqb, cond-false, is_empty-false, length-drop)
 
 -- Behind the place that is read next the text is as it was up to the place `stop` of its last byte, where another than a
 -- plain byte stands.
@@ -93,13 +81,7 @@ pub record IsUnread (whole text : List ℕ) (read stop : ℕ) : Type 0 where
 
 IsUnread-later : (whole text new : List ℕ) (read later stop : ℕ) → IsUnread whole text read stop → length new ≡ length text → read ≤ later → later ≤ stop
     → ((k : ℕ) → later ≤ k → get_or new k 0 ≡ get_or text k 0) → IsUnread whole new later stop
-IsUnread-later whole text new read later stop so_far same further within agree = record {
-  long = same ∙ so_far.long;
-  same = same ∙ so_far.same;
-  ahead = λ k h below. agree k h ∙ so_far.ahead k (omega arith) below;
-  last_dot = ap (λ v. v == byte ".") (agree stop within) ∙ so_far.last_dot;
-  special = ap (λ v. is_bad v || is_among (codes "*./{") v) (agree stop within) ∙ so_far.special;
-}
+IsUnread-later whole text new read later stop so_far same further within agree = grind (arith, nat_tests)
 
 -- The walk over a text has come to a place: what is written before it, and the rest of the text as it was.
 pub record WalksOn (whole text : List ℕ) (start end read stop : ℕ) : Type 0 where
@@ -116,63 +98,30 @@ slash_special = refl
 -- It begins with a slash for a plain last byte.
 pub WalksOn-guarded : (text : List ℕ) (stop : ℕ) → length text ≡ stop + 1 → not (is_bad (get_or text stop 0) || is_among (codes "*./{") (get_or text stop 0)) ≡ true
     → WalksOn text (set text stop (byte "/")) 0 0 0 stop
-WalksOn-guarded text stop long plain =
-    let there : get_or (set text stop (byte "/")) stop 0 ≡ byte "/" = get_or-set_same text stop (byte "/") 0 (omega arith) in
-    record {
-      in_order = omega arith;
-      behind = omega arith;
-      within = omega arith;
-      unread = record {
-        long = length-set text stop (byte "/") ∙ long;
-        same = length-set text stop (byte "/");
-        ahead = λ k _ below. get_or-set_other text stop k (byte "/") 0 (λ e. omega arith);
-        last_dot = ap (λ v. v == byte ".") there ∙ sym (plain-apart (get_or text stop 0) plain).1;
-        special = ap (λ v. is_bad v || is_among (codes "*./{") v) there ∙ slash_special;
-      };
-      walked = Walked-start text;
-    }
+WalksOn-guarded text stop long plain = grind (arith, nat_tests, get_or-set_same, length-set, get_or-set_other, plain-apart, slash_special, Walked-start)
 
 -- Any other last byte stays.
 pub WalksOn-start : (text : List ℕ) (stop : ℕ) → length text ≡ stop + 1 → (is_bad (get_or text stop 0) || is_among (codes "*./{") (get_or text stop 0)) ≡ true
     → WalksOn text text 0 0 0 stop
-WalksOn-start text stop long special = record {
-  in_order = omega arith;
-  behind = omega arith;
-  within = omega arith;
-  unread = record { long = long; same = refl; ahead = λ k _ _. refl; last_dot = refl; special = special };
-  walked = Walked-start text;
-}
+WalksOn-start text stop long special = grind (arith, nat_tests, Walked-start)
 
 -- the byte read, before those behind it
 next_read : (whole text : List ℕ) (read stop : ℕ) → IsUnread whole text read stop → read < stop → drop read whole ≡ get_or text read 0 ∷ drop (read + 1) whole
-next_read whole text read stop unread room =
-    let long = unread.long in
-    let same = unread.same in
-    drop_more whole read 0 (omega arith) ∙ ap (λ v. v ∷ drop (read + 1) whole) (sym (unread.ahead read (omega arith) room))
+next_read whole text read stop unread room = grind (arith, nat_tests, drop_more)
 
 -- The last byte is not plain, so a plain one stands before it.
 pub run_goes : (whole text : List ℕ) (read stop : ℕ) → IsUnread whole text read stop → read ≤ stop
     → not (is_bad (get_or text read 0) || is_among (codes "*./{") (get_or text read 0)) ≡ true → read < stop
-run_goes whole text read stop unread within plain =
-    elim (cases_eq read stop) [
-      | inl last ↦ absurd (false≢true (sym (ap (λ v. not (is_bad (get_or text v 0) || is_among (codes "*./{") (get_or text v 0))) last ∙ ap not unread.special) ∙ plain))
-      | inr other ↦ omega arith
-    ]
+run_goes whole text read stop unread within plain = grind (arith, nat_tests, cases_eq, false≢true)
 
 -- one byte written behind the piece
 one_written : (whole text rest : List ℕ) (start end w : ℕ) → start ≤ end → end < length text
     → Walked whole (take start text) (slice_range text start end ++ w ∷ []) rest
     → Walked whole (take start (set text end w)) (slice_range (set text end w) start (end + 1)) rest
-one_written whole text rest start end w order room walked =
-    subst (λ v. Walked whole v (slice_range (set text end w) start (end + 1)) rest) (sym (take-set-le start text end w order))
-    (subst (λ v. Walked whole (take start text) v rest) (sym (range_more text start end w order room)) walked)
+one_written whole text rest start end w order room walked = grind (arith, nat_tests, Walked, take-set-le, range_more)
 
 is_empty-range : (text : List ℕ) (start end : ℕ) → start ≤ end → end ≤ length text → is_empty (slice_range text start end) ≡ (start == end)
-is_empty-range text start end order within =
-    elim (cases_eq start end) [
-      | inl same ↦ ap is_empty (ap (λ v. slice_range text start v) (sym same) ∙ no_part text start) ∙ sym (eq-eqb start end same)
-      | inr ne ↦ is_empty-false (slice_range text start end) (omega (arith, length-take (end - start) (drop start text), length-drop start text)) ∙ sym (ne_eqb start end ne)
-    ]
+is_empty-range text start end order within = grind (arith, nat_tests, cases_eq, no_part, eq-eqb, is_empty-false, length-take, length-drop, ne_eqb)
 
 -- A byte that adds one byte to its piece.
 pub WalksOn-byte : (whole text : List ℕ) (start end read stop w : ℕ) → WalksOn whole text start end read stop → read < stop
@@ -206,22 +155,13 @@ WalksOn-plain whole text start end read stop so_far room plain =
 
 next_dot : (whole text : List ℕ) (read stop : ℕ) → IsUnread whole text read stop → read < stop
     → (get_or text (read + 1) 0 == byte ".") ≡ (get_or whole (read + 1) 0 == byte ".")
-next_dot whole text read stop unread room =
-    elim (cases_eq (read + 1) stop) [
-      | inl last ↦ ap (λ v. get_or text v 0 == byte ".") last ∙ (unread.last_dot ∙ ap (λ v. get_or whole v 0 == byte ".") (sym last))
-      | inr other ↦ ap (λ v. v == byte ".") (unread.ahead (read + 1) (omega arith) (omega arith))
-    ]
+next_dot whole text read stop unread room = grind (arith, nat_tests, cases_eq)
 
 -- A dot that no other dot follows.
 pub single_dot : (whole text : List ℕ) (read stop : ℕ) → IsUnread whole text read stop → read < stop → (get_or text (read + 1) 0 == byte ".") ≡ false
     → begins (drop (read + 1) whole) (codes ".") ≡ false
 single_dot whole text read stop unread room single =
-    let long = unread.long in
-    let same = unread.same in
-    false_from_ne_true (begins (drop (read + 1) whole) (codes ".")) (λ h.
-    let after : drop (read + 1) whole ≡ codes "." ++ drop 1 (drop (read + 1) whole) = (starts_is Decides-eqb (drop (read + 1) whole) (codes ".") true (sym h)).0 refl in
-    let next : get_or whole (read + 1) 0 ≡ byte "." = ap (λ v. get_or v 0 0) (sym (drop_more whole (read + 1) 0 (omega arith)) ∙ after) in
-    false≢true (sym single ∙ (next_dot whole text read stop unread room ∙ eq-eqb (get_or whole (read + 1) 0) (byte ".") next)))
+    grind (arith, nat_tests, false_from_ne_true, starts_is, Decides-eqb, drop_more, false≢true, next_dot, eq-eqb)
 
 -- A dot before another one is left out.
 pub WalksOn-dots : (whole text : List ℕ) (start end read stop : ℕ) → WalksOn whole text start end read stop → read < stop
@@ -257,18 +197,7 @@ closed_on : (whole text new : List ℕ) (start end read later stop n : ℕ) → 
     → take n new ≡ (if start == end then take end text else take start text ++ (cut (slice_range text start end) ++ codes "/"))
     → drop (end + 1) new ≡ drop (end + 1) text → WalksOn whole new n n later stop
 closed_on whole text new start end read later stop n so_far past room walked same within written rest =
-    let order = so_far.in_order in
-    let behind = so_far.behind in
-    let long = so_far.unread.long in
-    record {
-      in_order = omega arith;
-      behind = omega arith;
-      within = room;
-      unread = IsUnread-later whole text new read later stop so_far.unread same (omega arith) room (λ k h. same_behind (end + 1) k new text rest (omega arith));
-      walked =
-          subst (λ v. Walked whole (take n new) v (drop later whole)) (sym (no_part new n))
-          (subst (λ v. Walked whole v [] (drop later whole)) (sym (written ∙ closed-part text start end order (omega arith))) walked);
-    }
+    grind (arith, common_steps, IsUnread-later, same_behind, Walked, no_part, closed-part)
 
 -- A slash closes the piece.
 pub WalksOn-slash : (whole text new : List ℕ) (start end read stop n : ℕ) → WalksOn whole text start end read stop → read < stop
@@ -316,11 +245,7 @@ WalksOn-lock whole text new start end read later stop n r so_far at room begun v
 
 last_read : (whole text : List ℕ) (start end stop : ℕ) → WalksOn whole text start end stop stop
     → Walked whole (take start text) (slice_range text start end) (get_or whole stop 0 ∷ [])
-last_read whole text start end stop so_far =
-    let long = so_far.unread.long in
-    let same = so_far.unread.same in
-    subst (λ v. Walked whole (take start text) (slice_range text start end) v)
-    (drop_more whole stop 0 (omega arith) ∙ ap (λ v. get_or whole stop 0 ∷ v) (drop_all (stop + 1) whole (omega arith))) so_far.walked
+last_read whole text start end stop so_far = grind (arith, nat_tests, Walked, drop_more, drop_all)
 
 -- At the end, where the last byte is a slash.
 pub WalksOn-last_slash : (whole text : List ℕ) (start end stop n : ℕ) → WalksOn whole text start end stop stop → is_slash (get_or whole stop 0) ≡ true

@@ -29,14 +29,7 @@ at_letter P letter b large within =
     rw (lower_letter b large within) (rw first at (rw second at at))
 
 pub lower_byte-lower_byte : (b : ℕ) → lower_byte (lower_byte b) ≡ lower_byte b
-lower_byte-lower_byte b =
-    elim (cases_lt b 65) [
-      | inl small ↦ rw (lower_below b small) (lower_below b small)
-      | inr large ↦ elim (cases_lt 90 b) [
-        | inl above ↦ rw (lower_above b above) (lower_above b above)
-        | inr within ↦ rw (lower_letter b large within) (lower_above (b + 32) (omega arith))
-      ]
-    ]
+lower_byte-lower_byte b = grind (arith, nat_tests, cases_lt, lower_below, lower_above, lower_letter)
 
 -- a property of bytes and their lower case, at a letter and elsewhere
 by_letter : (P : ℕ → ℕ → Type 0) → ((b : ℕ) → P b b) → ((k : ℕ) → k < 26 → P (k + 65) (k + 97)) → (b : ℕ) → P b (lower_byte b)
@@ -68,7 +61,7 @@ pub prefix_len-lower : (p : ℕ → Bool) → SkipsCase p → (x : List ℕ) →
 prefix_len-lower p skips [] = refl
 prefix_len-lower p skips (b ∷ x) = rw (test-lower_byte p skips b, prefix_len-lower p skips x)
 
--- each byte of the word is no letter
+-- no byte of the word is a letter
 abbrev pub has_no_letter : List ℕ → Bool
 has_no_letter word = list_all (λ c. agree_below (λ k. nat_eq (k + 97) c) (λ k. nat_eq (k + 65) c) 26) word
 

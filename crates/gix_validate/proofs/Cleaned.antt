@@ -1,4 +1,4 @@
--- A cleaned piece told byte by byte, and its laws.
+-- A cleaned piece read byte by byte, and its laws.
 use Rattle.std.proofs.Common.{◌≡◌, ◌⊎◌, inl, inr, ℕ, ◌≤◌, Bool, true, false, cond, List, [], ◌∷◌, ◌++◌, length, refl, sym, ap, ◌∙◌, arith, length-append}
 use Rattle.std.specs.Prelude.{◌&&◌, ◌||◌, not, ◌==◌, Option, Some, None}
 use Rattle.std.specs.Str.{byte}
@@ -8,6 +8,7 @@ use Rattle.gix_validate.specs.Bytes.{is_bad}
 use Rattle.gix_validate.specs.Pieces.{is_slash, has_no_slash}
 use Rattle.gix_validate.specs.Sanitized.{Run, Dots, Other, dot_before, runs, allowed, byte_of, bytes_of, cleaned}
 use Rattle.gix_validate.proofs.Quiet.{is_refused, may_follow, is_quiet, may_follow-dash, may_follow-None, may_follow-Some, and-true}
+use Rattle.std.proofs.lemmas.Bool.Decides.{nat_tests}
 
 -- a dot stands before
 abbrev pub is_after_dot : Option ℕ → Bool
@@ -24,27 +25,13 @@ given_by before [] = []
 given_by before (b ∷ p) = given before b ++ given_by (Some b) p
 
 one_dot : (before : Option ℕ) (rest : List Run) → bytes_of before (dot_before (dot_before rest)) ≡ bytes_of before (dot_before rest)
-one_dot None [] = refl
-one_dot None (Dots ∷ rest) = refl
-one_dot None (Other b ∷ rest) = refl
-one_dot (Some a) [] = refl
-one_dot (Some a) (Dots ∷ rest) = refl
-one_dot (Some a) (Other b ∷ rest) = refl
+one_dot before rest = grind (arith, nat_tests)
 
 -- runs against bytes: behind no dot, and with a dot in front
 both : (p : List ℕ) → ((before : Option ℕ) → is_after_dot before ≡ false → bytes_of before (runs p) ≡ given_by before p)
     × ((before : Option ℕ) → bytes_of before (dot_before (runs p)) ≡ byte_of before Dots ∷ given_by (Some (byte ".")) p)
-both [] = (λ before h. refl, λ before. refl)
-both (b ∷ p) =
-    let more = both p in
-    elim (cases_Bool (b == byte ".")) [
-      | inl dot ↦ (
-        λ before h. rw (dot, h) (more.1 before
-            ∙ ap (λ v. byte_of before Dots ∷ given_by (Some v) p) (sym (eqb-true b (byte ".") dot))),
-        λ before. rw dot (one_dot before (runs p) ∙ (more.1 before ∙ ap (λ v. byte_of before Dots ∷ given_by (Some v) p) (sym (eqb-true b (byte ".") dot)))),
-      )
-      | inr other ↦ (λ before h. rw other (ap (λ v. byte_of before (Other b) ∷ v) (more.0 (Some b) other)), λ before. rw other (ap (λ v. byte_of before Dots ∷ (allowed b ∷ v)) (more.0 (Some b) other)))
-    ]
+both [] = grind (arith, nat_tests)
+both (b ∷ p) = grind (arith, nat_tests, cases_Bool, eqb-true, one_dot, both p)
 
 pub cleaned-given_by : (p : List ℕ) → cleaned p ≡ given_by None p
 unfolding cleaned
@@ -69,21 +56,8 @@ allowed-own : (b : ℕ) → is_refused b ≡ false → allowed b ≡ b
 allowed-own b h = cond-false (is_refused b) (byte "-") b h
 
 given-own : (before : Option ℕ) (b : ℕ) → may_follow before b ≡ true → given before b ≡ b ∷ []
-given-own None b h =
-    let parts = and_parts (not (is_refused b)) (not (b == byte ".")) (sym (may_follow-None b) ∙ h) in
-    rw (not-true (b == byte ".") parts.1) (ap (λ v. v ∷ []) (allowed-own b (not-true (is_refused b) parts.0)))
-given-own (Some a) b h =
-    let parts = and_parts (not (is_refused b)) (not (a == byte "." && b == byte ".") && not (a == byte "@" && b == byte "{")) (sym (may_follow-Some a b) ∙ h) in
-    let pairs = and_parts (not (a == byte "." && b == byte ".")) (not (a == byte "@" && b == byte "{")) parts.1 in
-    let dots = not-true (a == byte "." && b == byte ".") pairs.0 in
-    elim (cases_Bool (b == byte ".")) [
-      | inl dot ↦ rw (
-        dot,
-        sym (and-true (a == byte ".")) ∙ (ap (λ v. a == byte "." && v) (sym dot)
-            ∙ dots),
-      ) (ap (λ v. v ∷ []) (sym (eqb-true b (byte ".") dot)))
-      | inr other ↦ rw (other, not-true (a == byte "@" && b == byte "{") pairs.1) (ap (λ v. v ∷ []) (allowed-own b (not-true (is_refused b) parts.0)))
-    ]
+given-own None b h = grind (arith, nat_tests, and_parts, is_refused, may_follow-None, not-true, allowed-own)
+given-own (Some a) b h = grind (arith, nat_tests, and_parts, is_refused, may_follow-Some, not-true, cases_Bool, and-true, eqb-true, allowed-own)
 
 given_by-own : (before : Option ℕ) (p : List ℕ) → is_quiet before p ≡ true → given_by before p ≡ p
 given_by-own before [] h = refl
@@ -105,52 +79,35 @@ abbrev Agree : Option ℕ → Option ℕ → Type 0
 Agree before last = is_marked last ≡ true → before ≡ last
 
 after_dot-true : (before : Option ℕ) → is_after_dot before ≡ true → before ≡ Some (byte ".")
-after_dot-true None h = absurd (false≢true h)
-after_dot-true (Some a) h = ap Some (eqb-true a (byte ".") h)
+after_dot-true before hh1 = grind (arith, nat_tests, false≢true, eqb-true)
 
 dash_quiet : (last : Option ℕ) (t : List ℕ) → is_quiet (Some (byte "-")) t ≡ true → is_quiet last (byte "-" ∷ t) ≡ true
 dash_quiet last t h = and_from (may_follow last (byte "-")) (is_quiet (Some (byte "-")) t) (may_follow-dash last) h
 
 dot_follows : (a : ℕ) (last : Option ℕ) → is_after_dot (Some a) ≡ false → Agree (Some a) last → may_follow last (byte ".") ≡ true
 unfolding is_bad
-dot_follows a None h agree = let e : Some a ≡ None = agree refl in cc
-dot_follows a (Some d) h agree =
-    let no_dot : (d == byte ".") ≡ false = false_from_ne_true (d == byte ".") (λ t. let e : Some a ≡ Some d = agree (or_left (d == byte ".") (d == byte "@") t) in let same : a ≡ d = cc in false≢true (sym h ∙ (ap (λ v. v == byte ".") same ∙ t))) in
-    may_follow-Some d (byte ".") ∙ rw (no_dot, and_right (d == byte "@") false refl) refl
+dot_follows a last hh1 hh2 = grind (arith, nat_tests, false_from_ne_true, or_left, false≢true, may_follow-Some, and_right)
 
 brace_kept : (a b : ℕ) → byte_of (Some a) (Other b) ≡ b → (a == byte "@" && b == byte "{") ≡ true → ⊥
-brace_kept a b kept t =
-    let dash : byte "-" ≡ b = sym (cond-true (a == byte "@" && b == byte "{") (byte "-") (allowed b) t) ∙ kept in
-    let brace = eqb-true b (byte "{") ((and_parts (a == byte "@") (b == byte "{") t).1) in
-    absurd (omega (arith, dash, brace))
+brace_kept a b kept t = grind (arith, nat_tests, cond-true, eqb-true, and_parts)
 
 brace_follows : (before : Option ℕ) (d b : ℕ) → Agree before (Some d) → byte_of before (Other b) ≡ b → (d == byte "@" && b == byte "{") ≡ true → ⊥
-brace_follows None d b agree kept t = let e : None ≡ Some d = agree (or_right (d == byte ".") (d == byte "@") ((and_parts (d == byte "@") (b == byte "{") t).0)) in cc
-brace_follows (Some a) d b agree kept t =
-    let e : Some a ≡ Some d = agree (or_right (d == byte ".") (d == byte "@") ((and_parts (d == byte "@") (b == byte "{") t).0)) in
-    let same : a ≡ d = cc in
-    brace_kept a b kept (ap (λ v. v == byte "@" && b == byte "{") same ∙ t)
+brace_follows before d b hh1 hh2 = grind (arith, nat_tests, or_right, and_parts, brace_kept)
 
 other_follows : (before last : Option ℕ) (b : ℕ) → (b == byte ".") ≡ false → is_refused b ≡ false → Agree before last
     → byte_of before (Other b) ≡ b → may_follow last b ≡ true
-other_follows before None b other good agree kept = may_follow-None b ∙ rw (good, other) refl
-other_follows before (Some d) b other good agree kept =
-    let no_brace = false_from_ne_true (d == byte "@" && b == byte "{") (brace_follows before d b agree kept) in
-    may_follow-Some d b ∙ rw (good, other, and_right (d == byte ".") false refl, no_brace) refl
+other_follows before last b hh1 hh2 hh3 hh4 = grind (arith, nat_tests, may_follow-None, false_from_ne_true, brace_follows, may_follow-Some, and_right)
 
 allowed_is : (b : ℕ) → (allowed b ≡ byte "-") ⊎ ((is_refused b ≡ false) × (allowed b ≡ b))
 allowed_is b = cond_both (is_refused b) (byte "-") b (λ v. (v ≡ byte "-") ⊎ ((is_refused b ≡ false) × (v ≡ b))) (λ _. inl refl) (λ h. inr (h, refl))
 
 -- what another byte than a dot gives: a dash, or itself where no name refuses it
 pub byte_of_other : (before : Option ℕ) (b : ℕ) → (byte_of before (Other b) ≡ byte "-") ⊎ ((is_refused b ≡ false) × (byte_of before (Other b) ≡ b))
-byte_of_other None b = allowed_is b
-byte_of_other (Some a) b = cond_both (a == byte "@" && b == byte "{") (byte "-") (allowed b) (λ v. (v ≡ byte "-") ⊎ ((is_refused b ≡ false)
-    × (v ≡ b))) (λ _. inl refl) (λ _. allowed_is b)
+byte_of_other before b = grind (arith, nat_tests, allowed_is, cond_both, is_refused)
 
 dots_quiet : (before last : Option ℕ) (t : List ℕ) → is_after_dot before ≡ false → Agree before last
     → is_quiet (Some (byte "-")) t ≡ true → is_quiet (Some (byte ".")) t ≡ true → is_quiet last (byte_of before Dots ∷ t) ≡ true
-dots_quiet None last t h agree dash dot = dash_quiet last t dash
-dots_quiet (Some a) last t h agree dash dot = and_from (may_follow last (byte ".")) (is_quiet (Some (byte ".")) t) (dot_follows a last h agree) dot
+dots_quiet before last t hh1 hh2 hh3 hh4 = grind (arith, nat_tests, dash_quiet, and_from, may_follow, is_quiet, dot_follows)
 
 agree_dash : (before : Option ℕ) → Agree before (Some (byte "-"))
 agree_dash before h = absurd (false≢true h)
@@ -178,13 +135,7 @@ pub is_quiet-cleaned : (p : List ℕ) → is_quiet None (cleaned p) ≡ true
 is_quiet-cleaned p = ap (is_quiet None) (cleaned-given_by p) ∙ given_by-quiet None None p (λ _. refl)
 
 apart_byte : (before : Option ℕ) (b : ℕ) → not (is_slash b) ≡ true → has_no_slash (given before b) ≡ true
-apart_byte before b h =
-    cond_both (b == byte ".") _ _ (λ v. has_no_slash v ≡ true)
-    (λ _. cond_both (is_after_dot before) _ _ (λ v. has_no_slash v ≡ true) (λ _. refl) (λ _. dots before))
-    (λ _. elim (byte_of_other before b) [ inl dash ↦ rw dash refl | inr kept ↦ rw kept.1 (and_from (not (is_slash b)) true h refl) ]) where
-      dots : (before : Option ℕ) → has_no_slash (byte_of before Dots ∷ []) ≡ true
-      dots None = refl
-      dots (Some a) = refl
+apart_byte before b h = grind (arith, nat_tests, cond_both, byte_of_other, and_from)
 
 -- A cleaned piece has no slash where the piece has none.
 given_by-apart : (before : Option ℕ) (p : List ℕ) → has_no_slash p ≡ true → has_no_slash (given_by before p) ≡ true

@@ -1,5 +1,5 @@
 -- The laws of path components, proved of their definitions.
-use Rattle.std.proofs.Common.{◌∙◌, ◌≡◌, ℕ, zero, suc, ◌+◌, Bool, true, false, cond, ◌&&◌, ◌||◌, not, is_none, is_some, Option, Some, None, List, [], ◌∷◌, length, refl, sym, ap, arith}
+use Rattle.std.proofs.Common.{◌≡◌, ℕ, zero, suc, ◌+◌, Bool, true, false, cond, ◌&&◌, ◌||◌, not, is_none, is_some, Option, Some, None, List, [], ◌∷◌, length, refl, sym, ap, arith}
 use Rattle.std.specs.Prelude.{codes, slice_index, IsTrue}
 use Rattle.std.specs.Bool.{◌==◌}
 use Rattle.std.specs.List.{list_all}
@@ -22,6 +22,7 @@ use Rattle.gix_validate.specs.ComponentLaws.{PassesFewer, FaultIgnoresCase, Form
 use Rattle.gix_validate.proofs.UnitLemmas.{hfs_form-none, hfs_form-one, hfs_form-two, hfs_form-more, hfs_form-units}
 use Rattle.gix_validate.proofs.LetterLemmas.{eqb_turned}
 use Rattle.gix_validate.proofs.CaseLemmas.{test-lower_byte, lower-lower, list_any-lower, bytes_eq-lower, before_first-lower, without_end-lower, ends-lower}
+use Rattle.std.proofs.lemmas.Bool.Decides.{nat_tests}
 
 -- The table of faults as a function of the answers of its tests.
 table : Bool → Bool → Bool → Bool → Bool → Bool → Bool → Bool → Bool → Bool → Bool → Bool → Bool → Bool → Bool → Bool → Bool → Bool → List (Option ComponentError)
@@ -45,8 +46,7 @@ unfolding conditions table
 conditions_table w h n s x = refl
 
 is_empty-lower : (x : List ℕ) → is_empty (lower x) ≡ is_empty x
-is_empty-lower [] = refl
-is_empty-lower (b ∷ x) = refl
+is_empty-lower x = grind (arith, nat_tests)
 
 -- The first unit is as long in lower case: no range of the table parts a letter from its small letter.
 skips : ℕ × ℕ → Bool
@@ -61,16 +61,12 @@ fitting_len-lower (range ∷ row) ok (b ∷ x) =
     rw (test-lower_byte (is_within range) parts.0 b, fitting_len-lower row parts.1 x)
 
 whole_len-lower : (rows : List (List (ℕ × ℕ))) → list_all (list_all skips) rows ≡ true → (x : List ℕ) → whole_len rows (lower x) ≡ whole_len rows x
-whole_len-lower [] ok x = refl
-whole_len-lower (row ∷ rows) ok x =
-    let parts = and_parts _ _ ok in
-    rw (fitting_len-lower row parts.0 x, whole_len-lower rows parts.1 x)
+whole_len-lower [] ok x = grind (arith, nat_tests)
+whole_len-lower (row ∷ rows) ok x = grind (arith, nat_tests, and_parts, fitting_len-lower, whole_len-lower rows)
 
 begun_len-lower : (rows : List (List (ℕ × ℕ))) → list_all (list_all skips) rows ≡ true → (x : List ℕ) → begun_len rows (lower x) ≡ begun_len rows x
-begun_len-lower [] ok x = refl
-begun_len-lower (row ∷ rows) ok x =
-    let parts = and_parts _ _ ok in
-    rw (fitting_len-lower row parts.0 x, begun_len-lower rows parts.1 x)
+begun_len-lower [] ok x = grind (arith, nat_tests)
+begun_len-lower (row ∷ rows) ok x = grind (arith, nat_tests, and_parts, fitting_len-lower, begun_len-lower rows)
 
 rows_skip : list_all (list_all skips) whole_sequences ≡ true
 unfolding whole_sequences skips
@@ -106,8 +102,7 @@ is_ignored-lower a b c =
     )
 
 cond-lower : (t : Bool) (x y : List ℕ) → lower (cond t x y) ≡ cond t (lower x) (lower y)
-cond-lower true x y = refl
-cond-lower false x y = refl
+cond-lower t x y = grind (arith, nat_tests)
 
 hfs_form-lower : (x : List ℕ) → hfs_form (lower x) ≡ lower (hfs_form x)
 hfs_form-lower [] = rw hfs_form-none
@@ -128,8 +123,7 @@ lower-hfs_form x = rw (hfs_form-lower x) (lower-lower (hfs_form x))
 
 ntfs_form-lower : (x : List ℕ) → ntfs_form (lower x) ≡ lower (ntfs_form x)
 unfolding ntfs_form
-ntfs_form-lower x =
-    rw (before_first-lower (is_among (codes ":\\")) refl x) (without_end-lower (is_among (codes " .")) refl _)
+ntfs_form-lower x = grind (arith, nat_tests, before_first-lower, without_end-lower)
 
 lower-ntfs_form : (x : List ℕ) → lower (ntfs_form (lower x)) ≡ lower (ntfs_form x)
 lower-ntfs_form x = rw (ntfs_form-lower x) (lower-lower (ntfs_form x))
@@ -148,21 +142,20 @@ is_illegal-lower x = rw (list_any-lower is_illegal_byte refl x, ends-lower (code
 
 conditions-lower : (w h n s : Bool) (x : List ℕ) → conditions ntfs_form w h n s x ≡ conditions ntfs_form w h n s (lower x)
 conditions-lower w h n s x =
-    let empty = is_empty-lower x in
-    let dot = bytes_eq-lower (codes ".") refl x in
-    let dots = bytes_eq-lower (codes "..") refl x in
-    let slash = list_any-lower (λ c. byte "/" == c) refl x in
-    let back = list_any-lower (λ c. byte "\\" == c) refl x in
-    let prefix = prefix-lower x in
-    let hfs_git = ap (λ form. bytes_eq form (codes ".git")) (lower-hfs_form x) in
-    let hfs_modules = ap (λ form. bytes_eq form (codes ".gitmodules")) (lower-hfs_form x) in
-    let ntfs_git = ap is_git_form (lower-ntfs_form x) in
-    let ntfs_modules = ap is_modules_form (lower-ntfs_form x) in
-    let device = is_device-lower x in
-    let illegal = is_illegal-lower x in
-    let git = ap (λ form. bytes_eq form (codes ".git")) (lower-lower x) in
-    let modules = ap (λ form. bytes_eq form (codes ".gitmodules")) (lower-lower x) in
-    rw (conditions_table w h n s x, conditions_table w h n s (lower x)) (cc)
+    grind (
+      arith,
+      nat_tests,
+      is_empty-lower,
+      bytes_eq-lower,
+      list_any-lower,
+      prefix-lower,
+      lower-hfs_form,
+      lower-ntfs_form,
+      is_device-lower,
+      is_illegal-lower,
+      lower-lower,
+      conditions_table,
+    )
 
 -- A change of letter case changes neither acceptance nor the fault.
 pub case_law : (options : ComponentOptions) (mode : Option ComponentMode) (x : List ℕ) → FaultIgnoresCase options mode x
@@ -216,8 +209,7 @@ first_from_AllNone (None ∷ lines) none = first_from_AllNone lines none.1
 first_from_AllNone (Some fault ∷ lines) none = none.0
 
 line_off : (test : Bool) (fault : ComponentError) → when test fault ≡ None → test ≡ false
-line_off true fault none = cc
-line_off false fault none = refl
+line_off test fault hh1 = grind (arith, nat_tests)
 
 line_on : (test : Bool) (fault : ComponentError) → test ≡ false → when test fault ≡ None
 line_on test fault off = rw off
@@ -243,74 +235,27 @@ NoneHolds-from_none w h n s x none =
 
 none_from_NoneHolds : (w h n s : Bool) (x : List ℕ) → NoneHolds w h n s x → first_of (conditions ntfs_form w h n s x) ≡ None
 unfolding conditions
-none_from_NoneHolds w h n s x off =
-    first_from_AllNone (conditions ntfs_form w h n s x) (
-      line_on _ _ off.empty,
-      (
-        line_on _ _ off.relative,
-        (
-          line_on _ _ off.separator,
-          (
-            line_on _ _ off.prefix,
-            (
-              line_on _ _ off.hfs_git,
-              (
-                line_on _ _ off.hfs_modules,
-                (
-                  line_on _ _ off.ntfs_git,
-                  (
-                    line_on _ _ off.ntfs_modules,
-                    (
-                      line_on _ _ off.device,
-                      (
-                        line_on _ _ off.illegal,
-                        (
-                          line_on _ _ off.git,
-                          (line_on _ _ off.modules, tt),
-                        ),
-                      ),
-                    ),
-                  ),
-                ),
-              ),
-            ),
-          ),
-        ),
-      ),
-    )
+none_from_NoneHolds w h n s x off = grind (arith, nat_tests, first_from_AllNone, line_on)
 
 -- A line that is off under its switches is off under fewer.
 and_fewer : (a b test : Bool) → (IsTrue a → IsTrue b) → (b && test) ≡ false → (a && test) ≡ false
-and_fewer false b test up off = refl
-and_fewer true true test up off = off
-and_fewer true false test up off = absurd (false≢true (up refl))
+and_fewer a b test hh1 hh2 = grind (arith, nat_tests, false≢true)
 
 both_fewer : (a b c d : Bool) → (IsTrue a → IsTrue b) → (IsTrue c → IsTrue d) → IsTrue (a && c) → IsTrue (b && d)
-both_fewer a b c d up down on =
-    let parts = and_parts a c on in
-    and_from b d (up parts.0) (down parts.1)
+both_fewer a b c d up down on = grind (arith, nat_tests, and_parts, and_from)
 
 or_fewer : (a b test other : Bool) → (IsTrue a → IsTrue b) → (other || (b && test)) ≡ false → (other || (a && test)) ≡ false
-or_fewer a b test other up off =
-    let parts = or_parts other (b && test) off in
-    or_from other (a && test) parts.0 (and_fewer a b test up parts.1)
+or_fewer a b test other up off = grind (arith, nat_tests, or_parts, or_from, and_fewer)
 
 -- A plain name that a form would show too is off wherever the three lines on it are, whatever the switches.
 plain_off : (h n plain by_hfs by_ntfs : Bool) → (plain ≡ true → by_hfs ≡ true) → (plain ≡ true → by_ntfs ≡ true) → (h && by_hfs) ≡ false → (n && by_ntfs) ≡ false → (not h && not n && plain) ≡ false → plain ≡ false
-plain_off h n false by_hfs by_ntfs to_hfs to_ntfs hfs ntfs off = refl
-plain_off true n true by_hfs by_ntfs to_hfs to_ntfs hfs ntfs off = absurd (both_ways by_hfs hfs (to_hfs refl))
-plain_off false true true by_hfs by_ntfs to_hfs to_ntfs hfs ntfs off = absurd (both_ways by_ntfs ntfs (to_ntfs refl))
-plain_off false false true by_hfs by_ntfs to_hfs to_ntfs hfs ntfs off = off
+plain_off h n plain by_hfs by_ntfs hh1 hh2 hh3 hh4 hh5 = grind (arith, nat_tests, both_ways)
 
 hfs_word : (x word : List ℕ) → bytes_eq (hfs_form word) word ≡ true → bytes_eq (lower x) word ≡ true → bytes_eq (lower (hfs_form x)) word ≡ true
-hfs_word x word own plain =
-    let same = (bytes_eq-Decides (lower x) word).0 plain in
-    rw (← hfs_form-lower x) (rw same own)
+hfs_word x word own plain = grind (arith, nat_tests, bytes_eq-Decides, hfs_form-lower)
 
 ntfs_word : (test : List ℕ → Bool) (x word : List ℕ) → test (ntfs_form word) ≡ true → bytes_eq (lower x) word ≡ true → test (lower (ntfs_form x)) ≡ true
-ntfs_word test x word own plain =
-    let same = (bytes_eq-Decides (lower x) word).0 plain in
-    rw (← ntfs_form-lower x) (rw same own)
+ntfs_word test x word own plain = grind (arith, nat_tests, bytes_eq-Decides, ntfs_form-lower)
 
 hfs_git_word : bytes_eq (hfs_form (codes ".git")) (codes ".git") ≡ true
 unfolding hfs_form is_ignored
@@ -333,17 +278,14 @@ git_off w h n s x off =
     plain_off h n _ _ _ (hfs_word x (codes ".git") hfs_git_word) (ntfs_word is_git_form x (codes ".git") ntfs_git_word) off.hfs_git off.ntfs_git off.git
 
 and_true : (a test : Bool) → (a && true && test) ≡ false → (a && test) ≡ false
-and_true true test off = off
-and_true false test off = refl
+and_true a test hh1 = grind (arith, nat_tests)
 
 modules_off : (w h n : Bool) (x : List ℕ) → NoneHolds w h n true x → bytes_eq (lower x) (codes ".gitmodules") ≡ false
 modules_off w h n x off =
     plain_off h n _ _ _ (hfs_word x (codes ".gitmodules") hfs_modules_word) (ntfs_word is_modules_form x (codes ".gitmodules") ntfs_modules_word) (and_true h _ off.hfs_modules) (and_true n _ off.ntfs_modules) (and_true (not h && not n) _ off.modules)
 
 both_off : (a s test : Bool) → (s ≡ true → test ≡ false) → (a && s && test) ≡ false
-both_off false s test off = refl
-both_off true false test off = refl
-both_off true true test off = off refl
+both_off a s test hh1 = grind (arith, nat_tests)
 
 NoneHolds-fewer : (w h n s w' h' n' s' : Bool) → (IsTrue w' → IsTrue w) → (IsTrue h' → IsTrue h) → (IsTrue n' → IsTrue n) → (IsTrue s' → IsTrue s) → (x : List ℕ) → NoneHolds w h n s x → NoneHolds w' h' n' s' x
 NoneHolds-fewer w h n s w' h' n' s' windows hfs ntfs symlink x off =
@@ -377,28 +319,13 @@ fewer_law options mode x none =
     )
 
 has_no_slash-from_none : (x : List ℕ) → is_among x (byte "/") ≡ false → has_no_slash x ≡ true
-has_no_slash-from_none [] none = refl
-has_no_slash-from_none (b ∷ x) none =
-    let parts = or_parts _ _ none in
-    and_from _ _ (not_from_false _ (eqb_turned b 47 ∙ parts.0)) (has_no_slash-from_none x parts.1)
+has_no_slash-from_none [] none = grind (arith, nat_tests)
+has_no_slash-from_none (b ∷ x) none = grind (arith, nat_tests, or_parts, and_from, not_from_false, eqb_turned, has_no_slash-from_none x)
 
 -- What is accepted is nonempty, neither `.` nor `..`, has no slash, and isn't `.git` in any case.
 pub basic_law : (options : ComponentOptions) (mode : Option ComponentMode) (x : List ℕ) → fault_of options mode x ≡ None → IsBasicName x
 unfolding fault_of
-basic_law options mode x none =
-    let w = options.protect_windows in
-    let h = options.protect_hfs in
-    let n = options.protect_ntfs in
-    let s = is_some mode in
-    let off = NoneHolds-from_none w h n s x none in
-    let relative = or_parts _ _ off.relative in
-    record {
-      not_empty = λ e. both_ways (is_empty x) off.empty (ap is_empty e);
-      not_here = λ e. both_ways _ relative.0 ((bytes_eq-Decides x (codes ".")).1 e);
-      not_above = λ e. both_ways _ relative.1 ((bytes_eq-Decides x (codes "..")).1 e);
-      no_slash = has_no_slash-from_none x (or_parts _ _ off.separator).0;
-      not_git = λ e. both_ways _ (git_off w h n s x off) ((bytes_eq-Decides (lower x) (codes ".git")).1 e);
-    }
+basic_law options mode x none = grind (arith, nat_tests, NoneHolds-from_none, or_parts, both_ways, bytes_eq-Decides, has_no_slash-from_none, git_off)
 
 -- The HFS form is the units without the ignored characters, put one after the other.
 pub units_law : (x : List ℕ) → FormIsKeptUnits x

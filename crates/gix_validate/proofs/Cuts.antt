@@ -6,6 +6,7 @@ use Rattle.std.proofs.lemmas.List.{take_at}
 use Rattle.std.proofs.lemmas.Slice.Eq.{bytes_eq-Decides}
 use Rattle.std.proofs.lemmas.Bool.{and_parts, and_right, false≢true, cond_both}
 use Rattle.gix_validate.specs.Sanitized.{cut, is_locks}
+use Rattle.std.proofs.lemmas.Bool.Decides.{nat_tests}
 
 -- Behind `.lock`s stands one more.
 pub is_locks-append_lock : (x : List ℕ) → is_locks (x ++ codes ".lock") ≡ is_locks x
@@ -92,15 +93,8 @@ pub IsCutTo-start : (whole : List ℕ) → IsCutTo whole whole
 IsCutTo-start whole = record { same = refl; behind = []; front = sym (append-nil whole) }
 
 pub IsCutTo-lock : (whole piece front : List ℕ) → IsCutTo whole piece → piece ≡ front ++ codes ".lock" → IsCutTo whole front
-IsCutTo-lock whole piece front so_far e = record {
-  same = sym (cut-append_lock front) ∙ (ap cut (sym e) ∙ so_far.same);
-  behind = codes ".lock" ++ so_far.behind;
-  front = so_far.front ∙ (ap (λ v. v ++ so_far.behind) e ∙ append_assoc front (codes ".lock") so_far.behind);
-}
+IsCutTo-lock whole piece front so_far e = grind (arith, nat_tests, cut-append_lock, append_assoc)
 
 pub IsCutTo-end : (whole piece : List ℕ) → IsCutTo whole piece → ((f : List ℕ) → piece ≢ f ++ codes ".lock")
     → (length piece ≤ length whole) × (take (length piece) whole ≡ cut whole)
-IsCutTo-end whole piece so_far other = (
-  omega (arith, ap length so_far.front, length-append piece so_far.behind),
-  ap (take (length piece)) so_far.front ∙ (take_at piece so_far.behind (length piece) refl ∙ (sym (cut-own piece other) ∙ so_far.same)),
-)
+IsCutTo-end whole piece so_far other = grind (arith, nat_tests, length-append, take_at, cut-own)

@@ -1,15 +1,17 @@
 -- Device forms: which text ends one, and which names have a given form.
-use Rattle.std.proofs.Common.{◌≡◌, ◌≢◌, ℕ, ◌+◌, ◌-◌, ◌<◌, ◌≤◌, Bool, true, false, ◌&&◌, ◌||◌, cond, eqb, List, [], ◌∷◌, ◌++◌, length, drop, get_or, refl, sym, ap, ap₂, ◌∙◌, arith, codes}
+use Rattle.std.proofs.Common.{◌≡◌, ◌≢◌, ℕ, ◌+◌, ◌-◌, ◌%◌, ◌<◌, ◌≤◌, bit_and, Bool, true, false, ◌&&◌, ◌||◌, cond, eqb, List, [], ◌∷◌, ◌++◌, length, drop, get_or, refl, sym, ap, ap₂, ◌∙◌, arith, codes}
 use Rattle.std.proofs.Math.Bool.{or-false}
 use Rattle.std.specs.Prelude.{IsTrue, ◌==◌}
 use Rattle.std.specs.List.{list_all, list_any}
 use Rattle.std.specs.Str.{byte, bytes_eq}
-use Rattle.std.proofs.lemmas.Bool.{and_parts}
+use Rattle.std.proofs.lemmas.Bool.{cases_Bool, and_parts, false_from_ne_true, eqb-true}
+use Rattle.std.proofs.lemmas.Nat.{and_assoc}
 use Rattle.std.proofs.lemmas.Bool.Decides.{nat_tests}
 use Rattle.gix_validate.specs.Bytes.{is_empty, is_among, lower, lower_byte, begins}
 use Rattle.gix_validate.specs.Ntfs.{is_digit}
 use Rattle.gix_validate.specs.Windows.{device_form, devices, is_device, is_device_form}
 use Rattle.gix_validate.specs.Ordinary.{stays_in_form}
+use Rattle.gix_validate.specs.declared.path.windows.TheConstants.{BY_FIRST, BY_SECOND, BY_THIRD}
 use Rattle.gix_validate.proofs.WordLemmas.{device_keeps, word_front, word_head, none_left, form_left, form_all_left, form_word_then, form_word_not}
 
 abbrev pub is_cut : ℕ → Bool
@@ -67,29 +69,18 @@ unfolding device_form
 numbered_front x word d plain = word_front is_cut is_trimmed device_keeps word x (d ∷ []) plain
 
 or_of_ands : (p q e : Bool) → ((p && e) || (q && e)) ≡ ((p || q) && e)
-or_of_ands true true true = refl
-or_of_ands true true false = refl
-or_of_ands true false true = refl
-or_of_ands true false false = refl
-or_of_ands false q e = refl
+or_of_ands p q e = grind (arith, nat_tests)
 
 pub numbered_empty : (x word digits rest : List ℕ) → IsTrue (list_all stays_in_form word) → (begins (lower x) (lower word) ≡ true) × (rest ≡ drop (length word) x) → length rest < 1 → list_any (numbered_by x word) digits ≡ false
-numbered_empty x word [] rest plain front none = refl
-numbered_empty x word (d ∷ digits) [] plain front none =
-    ap (λ v. v || list_any (numbered_by x word) digits)
-    (numbered_front x word d plain ∙ ap (λ v. v && bytes_eq (lower (device_form (drop (length word) x))) (d ∷ [])) front.0 ∙ ap (λ t. bytes_eq (lower (device_form t)) (d ∷ [])) (sym front.1) ∙ no_digit d)
-    ∙ numbered_empty x word digits [] plain front none
-numbered_empty x word (d ∷ digits) (c ∷ rest) plain front none = absurd (omega arith)
+numbered_empty x word [] rest plain front none = grind (arith, nat_tests)
+numbered_empty x word (d ∷ digits) [] plain front none = grind (arith, nat_tests, numbered_front, no_digit, numbered_empty x word digits [] plain front none)
+numbered_empty x word (d ∷ digits) (c ∷ rest) plain front none = grind (arith, nat_tests)
 
 pub numbered_some : (x word digits rest : List ℕ) → IsTrue (list_all stays_in_form word) → IsTrue (list_all is_digit digits) → (begins (lower x) (lower word) ≡ true) × (rest ≡ drop (length word) x) → 1 ≤ length rest → list_any (numbered_by x word) digits ≡ (list_any (λ d. eqb d (get_or rest 0 0)) digits && is_empty (device_form (drop 1 rest)))
-numbered_some x word [] rest plain digits_are front some = refl
-numbered_some x word (d ∷ digits) [] plain digits_are front some = absurd (omega arith)
+numbered_some x word [] rest plain digits_are front some = grind (arith, nat_tests)
+numbered_some x word (d ∷ digits) [] plain digits_are front some = grind (arith, nat_tests)
 numbered_some x word (d ∷ digits) (c ∷ t) plain digits_are front some =
-    let parts = and_parts (is_digit d) (list_all is_digit digits) digits_are in
-    let first = numbered_front x word d plain ∙ ap (λ v. v && bytes_eq (lower (device_form (drop (length word) x))) (d ∷ [])) front.0 ∙ ap (λ s. bytes_eq (lower (device_form s)) (d ∷ [])) (sym front.1) ∙ one_digit c t d parts.0 in
-    ap (λ v. v || list_any (numbered_by x word) digits) first
-    ∙ ap (λ v. (eqb d c && is_empty (device_form t)) || v) (numbered_some x word digits (c ∷ t) plain parts.1 front some)
-    ∙ or_of_ands (eqb d c) (list_any (λ b. eqb b c) digits) (is_empty (device_form t))
+    grind (arith, nat_tests, and_parts, numbered_front, one_digit, or_of_ands, numbered_some x word digits (c ∷ t) plain)
 
 -- ---- a name by its first three letters
 
@@ -116,18 +107,14 @@ letter_plain : (l : ℕ) → 97 ≤ l → l ≤ 122 → stays_in_form l ≡ true
 letter_plain l from to = grind (arith, nat_tests)
 
 letter_head : (b : ℕ) (x : List ℕ) (l : ℕ) (ws : List ℕ) → 97 ≤ l → l ≤ 122 → bytes_eq (lower (device_form (b ∷ x))) (l ∷ ws) ≡ (is_letter b l && bytes_eq (lower (device_form x)) ws)
-letter_head b x l ws from to =
-    small_word_head b x l ws (letter_small l from to) (letter_plain l from to)
-    ∙ ap (λ v. v && bytes_eq (lower (device_form x)) ws) (letter_by b l from to)
+letter_head b x l ws from to = grind (arith, nat_tests, small_word_head, letter_small, letter_plain, letter_by)
 
 -- the first three bytes are these letters in any case
 abbrev pub are_letters : List ℕ → ℕ → ℕ → ℕ → Bool
 are_letters x l m n = is_letter (get_or x 0 0) l && (is_letter (get_or x 1 0) m && is_letter (get_or x 2 0) n)
 
 and_three : (p q r s : Bool) → (p && (q && (r && s))) ≡ ((p && (q && r)) && s)
-and_three true true r s = refl
-and_three true false r s = refl
-and_three false q r s = refl
+and_three p q r s = grind (arith, nat_tests)
 
 no_letter : (l : ℕ) → 97 ≤ l → l ≤ 122 → is_letter 0 l ≡ false
 no_letter l from to = grind (arith, nat_tests)
@@ -137,33 +124,10 @@ unfolding device_form
 none_before l ws = refl
 
 and_no : (p q : Bool) → (p && (q && false)) ≡ false
-and_no true true = refl
-and_no true false = refl
-and_no false q = refl
+and_no p q = grind (arith, nat_tests)
 
 letters_head : (x : List ℕ) (l m n : ℕ) (ws : List ℕ) → (97 ≤ l) × (l ≤ 122) → (97 ≤ m) × (m ≤ 122) → (97 ≤ n) × (n ≤ 122) → bytes_eq (lower (device_form x)) (l ∷ m ∷ n ∷ ws) ≡ (are_letters x l m n && bytes_eq (lower (device_form (drop 3 x))) ws)
-letters_head [] l m n ws ol om on = none_before l (m ∷ n ∷ ws) ∙ sym (ap (λ v. (v && (is_letter 0 m && is_letter 0 n)) && bytes_eq (lower (device_form [])) ws) (no_letter l ol.0 ol.1))
-letters_head (a ∷ []) l m n ws ol om on =
-    letter_head a [] l (m ∷ n ∷ ws) ol.0 ol.1
-    ∙ ap (λ v. is_letter a l && v) (none_before m (n ∷ ws))
-    ∙ sym (ap (λ v. (is_letter a l && (v && is_letter 0 n)) && bytes_eq (lower (device_form [])) ws) (no_letter m om.0 om.1) ∙ spread (is_letter a l) (bytes_eq (lower (device_form [])) ws))
-  where
-    spread : (p s : Bool) → ((p && false) && s) ≡ (p && false)
-    spread true s = refl
-    spread false s = refl
-letters_head (a ∷ b ∷ []) l m n ws ol om on =
-    letter_head a (b ∷ []) l (m ∷ n ∷ ws) ol.0 ol.1
-    ∙ ap (λ v. is_letter a l && v) (letter_head b [] m (n ∷ ws) om.0 om.1 ∙ ap (λ v. is_letter b m && v) (none_before n ws))
-    ∙ sym (ap (λ v. (is_letter a l && (is_letter b m && v)) && bytes_eq (lower (device_form [])) ws) (no_letter n on.0 on.1) ∙ spread (is_letter a l) (is_letter b m) (bytes_eq (lower (device_form [])) ws))
-  where
-    spread : (p q s : Bool) → ((p && (q && false)) && s) ≡ (p && (q && false))
-    spread true true s = refl
-    spread true false s = refl
-    spread false q s = refl
-letters_head (a ∷ b ∷ c ∷ x) l m n ws ol om on =
-    letter_head a (b ∷ c ∷ x) l (m ∷ n ∷ ws) ol.0 ol.1
-    ∙ ap (λ v. is_letter a l && v) (letter_head b (c ∷ x) m (n ∷ ws) om.0 om.1 ∙ ap (λ v. is_letter b m && v) (letter_head c x n ws on.0 on.1))
-    ∙ and_three (is_letter a l) (is_letter b m) (is_letter c n) (bytes_eq (lower (device_form x)) ws)
+letters_head x l m n ws hh1 hh2 hh3 = grind (arith, nat_tests, none_before, no_letter, letter_head, and_three)
 
 -- the form is one of the digits
 abbrev pub is_any_digit : List ℕ → List ℕ → Bool
@@ -179,20 +143,13 @@ or_each (d ∷ ds) p rest = p d || or_each ds p rest
 
 or_each_and : (ds : List ℕ) (t : Bool) (p : ℕ → Bool) (rest : Bool) → or_each ds (λ d. t && p d) rest ≡ ((t && list_any p ds) || rest)
 unfolding or_each
-or_each_and [] true p rest = refl
-or_each_and [] false p rest = refl
-or_each_and (d ∷ ds) true p rest = ap (λ v. p d || v) (or_each_and ds true p rest) ∙ or_left (p d) (list_any p ds) rest
-  where
-    or_left : (s t u : Bool) → (s || (t || u)) ≡ ((s || t) || u)
-    or_left true t u = refl
-    or_left false t u = refl
-or_each_and (d ∷ ds) false p rest = or_each_and ds false p rest
+or_each_and [] true p rest = grind (arith, nat_tests)
+or_each_and [] false p rest = grind (arith, nat_tests)
+or_each_and (d ∷ ds) true p rest = grind (arith, nat_tests, or_each_and ds true p rest)
+or_each_and (d ∷ ds) false p rest = grind (arith, nat_tests, or_each_and ds false p rest)
 
 three_ways : (t p q r rest : Bool) → ((t && p) || ((t && q) || ((t && r) || rest))) ≡ ((t && (p || (q || r))) || rest)
-three_ways true true q r rest = refl
-three_ways true false true r rest = refl
-three_ways true false false r rest = refl
-three_ways false p q r rest = refl
+three_ways t p q r rest = grind (arith, nat_tests)
 
 or_each-same : (ds : List ℕ) (p q : ℕ → Bool) (rest : Bool) → ((d : ℕ) → p d ≡ q d) → or_each ds p rest ≡ or_each ds q rest
 unfolding or_each
@@ -242,9 +199,7 @@ apart_first : (x : List ℕ) (l m n k p q : ℕ) → (97 ≤ l) × (l ≤ 122) �
 apart_first x l m n k p q ol ok ne are = ap (λ v. v && (is_letter (get_or x 1 0) p && is_letter (get_or x 2 0) q)) (letter_apart (get_or x 0 0) l k ol ok ne (and_parts _ _ are).0)
 
 apart_third : (x : List ℕ) (l m n k p q : ℕ) → (97 ≤ n) × (n ≤ 122) → (97 ≤ q) × (q ≤ 122) → n ≢ q → are_letters x l m n ≡ true → are_letters x k p q ≡ false
-apart_third x l m n k p q on oq ne are =
-    ap (λ v. is_letter (get_or x 0 0) k && (is_letter (get_or x 1 0) p && v)) (letter_apart (get_or x 2 0) n q on oq ne (and_parts _ _ (and_parts _ _ are).1).1)
-    ∙ and_no (is_letter (get_or x 0 0) k) (is_letter (get_or x 1 0) p)
+apart_third x l m n k p q on oq ne are = grind (arith, nat_tests, letter_apart, and_parts, and_no)
 
 none_holds : (a b c d e f p q r s t u : Bool) → a ≡ false → b ≡ false → c ≡ false → d ≡ false → e ≡ false → f ≡ false → ((a && p) || ((b && q) || ((c && r) || ((d && s) || ((e && t) || ((f && u) || false)))))) ≡ false
 none_holds a b c d e f p q r s t u ha hb hc hd he hf = rw (ha, hb, hc, hd, he, hf) refl
@@ -253,70 +208,75 @@ pub device_none : (x : List ℕ) → are_letters x 97 117 120 ≡ false → are_
 device_none x a b c d e f = device_by_letters x ∙ none_holds _ _ _ _ _ _ _ _ _ _ _ _ a b c d e f
 
 pub device_short : (x : List ℕ) → length x < 3 → is_device x ≡ false
-device_short [] h = device_none [] refl refl refl refl refl refl
-device_short (a ∷ []) h = device_none (a ∷ []) (no_second a 97) (no_second a 110) (no_second a 112) (no_second a 99) (no_second a 99) (no_second a 108)
-  where
-    no_second : (a l : ℕ) → (is_letter a l && false) ≡ false
-    no_second a l = elim (is_letter a l) as (λ v. (v && false) ≡ false) [ true ↦ refl | false ↦ refl ]
-device_short (a ∷ b ∷ []) h = device_none (a ∷ b ∷ []) (no_third a b 97 117) (no_third a b 110 117) (no_third a b 112 114) (no_third a b 99 111) (no_third a b 99 111) (no_third a b 108 112)
-  where
-    no_third : (a b l m : ℕ) → (is_letter a l && (is_letter b m && false)) ≡ false
-    no_third a b l m = and_no (is_letter a l) (is_letter b m)
-device_short (a ∷ b ∷ c ∷ x) h = absurd (omega arith)
+device_short [] h = grind (arith, nat_tests, device_none)
+device_short (a ∷ []) h = grind (arith, nat_tests, device_none)
+device_short (a ∷ b ∷ []) h = grind (arith, nat_tests, device_none, and_no)
+device_short (a ∷ b ∷ c ∷ x) h = grind (arith, nat_tests)
 
 pub device_aux : (x : List ℕ) → are_letters x 97 117 120 ≡ true → is_device x ≡ is_empty (device_form (drop 3 x))
-device_aux x are = device_by_letters x ∙ only _ _ _ _ _ _ _ _ _ _ _ _ are (apart 110 117 108 (omega arith, omega arith) (omega arith)) (apart 112 114 110 (omega arith, omega arith) (omega arith)) (apart 99 111 110 (omega arith, omega arith) (omega arith)) (apart 99 111 109 (omega arith, omega arith) (omega arith)) (apart 108 112 116 (omega arith, omega arith) (omega arith))
-  where
-    apart : (k p q : ℕ) → (97 ≤ k) × (k ≤ 122) → 97 ≢ k → are_letters x k p q ≡ false
-    apart k p q ok ne = apart_first x 97 117 120 k p q (omega arith, omega arith) ok ne are
-
-    only : (a b c d e f p q r s t u : Bool) → a ≡ true → b ≡ false → c ≡ false → d ≡ false → e ≡ false → f ≡ false → ((a && p) || ((b && q) || ((c && r) || ((d && s) || ((e && t) || ((f && u) || false)))))) ≡ p
-    only a b c d e f p q r s t u ha hb hc hd he hf = rw (ha, hb, hc, hd, he, hf) (or-false p)
+device_aux x are = grind (arith, nat_tests, device_by_letters, apart_first, or-false)
 
 pub device_nul : (x : List ℕ) → are_letters x 110 117 108 ≡ true → is_device x ≡ is_empty (device_form (drop 3 x))
-device_nul x are = device_by_letters x ∙ only _ _ _ _ _ _ _ _ _ _ _ _ (apart 97 117 120 (omega arith, omega arith) (omega arith)) are (apart 112 114 110 (omega arith, omega arith) (omega arith)) (apart 99 111 110 (omega arith, omega arith) (omega arith)) (apart 99 111 109 (omega arith, omega arith) (omega arith)) (apart 108 112 116 (omega arith, omega arith) (omega arith))
-  where
-    apart : (k p q : ℕ) → (97 ≤ k) × (k ≤ 122) → 110 ≢ k → are_letters x k p q ≡ false
-    apart k p q ok ne = apart_first x 110 117 108 k p q (omega arith, omega arith) ok ne are
-
-    only : (a b c d e f p q r s t u : Bool) → a ≡ false → b ≡ true → c ≡ false → d ≡ false → e ≡ false → f ≡ false → ((a && p) || ((b && q) || ((c && r) || ((d && s) || ((e && t) || ((f && u) || false)))))) ≡ q
-    only a b c d e f p q r s t u ha hb hc hd he hf = rw (ha, hb, hc, hd, he, hf) (or-false q)
+device_nul x are = grind (arith, nat_tests, device_by_letters, apart_first, or-false)
 
 pub device_prn : (x : List ℕ) → are_letters x 112 114 110 ≡ true → is_device x ≡ is_empty (device_form (drop 3 x))
-device_prn x are = device_by_letters x ∙ only _ _ _ _ _ _ _ _ _ _ _ _ (apart 97 117 120 (omega arith, omega arith) (omega arith)) (apart 110 117 108 (omega arith, omega arith) (omega arith)) are (apart 99 111 110 (omega arith, omega arith) (omega arith)) (apart 99 111 109 (omega arith, omega arith) (omega arith)) (apart 108 112 116 (omega arith, omega arith) (omega arith))
-  where
-    apart : (k p q : ℕ) → (97 ≤ k) × (k ≤ 122) → 112 ≢ k → are_letters x k p q ≡ false
-    apart k p q ok ne = apart_first x 112 114 110 k p q (omega arith, omega arith) ok ne are
-
-    only : (a b c d e f p q r s t u : Bool) → a ≡ false → b ≡ false → c ≡ true → d ≡ false → e ≡ false → f ≡ false → ((a && p) || ((b && q) || ((c && r) || ((d && s) || ((e && t) || ((f && u) || false)))))) ≡ r
-    only a b c d e f p q r s t u ha hb hc hd he hf = rw (ha, hb, hc, hd, he, hf) (or-false r)
+device_prn x are = grind (arith, nat_tests, device_by_letters, apart_first, or-false)
 
 pub device_console : (x : List ℕ) → are_letters x 99 111 110 ≡ true → is_device x ≡ is_console_end (drop 3 x)
-device_console x are = device_by_letters x ∙ only _ _ _ _ _ _ _ _ _ _ _ _ (apart 97 117 120 (omega arith, omega arith) (omega arith)) (apart 110 117 108 (omega arith, omega arith) (omega arith)) (apart 112 114 110 (omega arith, omega arith) (omega arith)) are (apart_third x 99 111 110 99 111 109 (omega arith, omega arith) (omega arith, omega arith) (omega arith) are) (apart 108 112 116 (omega arith, omega arith) (omega arith))
-  where
-    apart : (k p q : ℕ) → (97 ≤ k) × (k ≤ 122) → 99 ≢ k → are_letters x k p q ≡ false
-    apart k p q ok ne = apart_first x 99 111 110 k p q (omega arith, omega arith) ok ne are
-
-    only : (a b c d e f p q r s t u : Bool) → a ≡ false → b ≡ false → c ≡ false → d ≡ true → e ≡ false → f ≡ false → ((a && p) || ((b && q) || ((c && r) || ((d && s) || ((e && t) || ((f && u) || false)))))) ≡ s
-    only a b c d e f p q r s t u ha hb hc hd he hf = rw (ha, hb, hc, hd, he, hf) (or-false s)
+device_console x are = grind (arith, nat_tests, device_by_letters, apart_third, apart_first, or-false)
 
 pub device_counted : (x : List ℕ) → are_letters x 99 111 109 ≡ true → is_device x ≡ is_any_digit (codes "123456789") (drop 3 x)
-device_counted x are = device_by_letters x ∙ only _ _ _ _ _ _ _ _ _ _ _ _ (apart 97 117 120 (omega arith, omega arith) (omega arith)) (apart 110 117 108 (omega arith, omega arith) (omega arith)) (apart 112 114 110 (omega arith, omega arith) (omega arith)) (apart_third x 99 111 109 99 111 110 (omega arith, omega arith) (omega arith, omega arith) (omega arith) are) are (apart 108 112 116 (omega arith, omega arith) (omega arith))
-  where
-    apart : (k p q : ℕ) → (97 ≤ k) × (k ≤ 122) → 99 ≢ k → are_letters x k p q ≡ false
-    apart k p q ok ne = apart_first x 99 111 109 k p q (omega arith, omega arith) ok ne are
-
-    only : (a b c d e f p q r s t u : Bool) → a ≡ false → b ≡ false → c ≡ false → d ≡ false → e ≡ true → f ≡ false → ((a && p) || ((b && q) || ((c && r) || ((d && s) || ((e && t) || ((f && u) || false)))))) ≡ t
-    only a b c d e f p q r s t u ha hb hc hd he hf = rw (ha, hb, hc, hd, he, hf) (or-false t)
+device_counted x are = grind (arith, nat_tests, device_by_letters, apart_third, apart_first, or-false)
 
 pub device_numbered : (x : List ℕ) → are_letters x 108 112 116 ≡ true → is_device x ≡ is_any_digit (codes "0123456789") (drop 3 x)
-device_numbered x are = device_by_letters x ∙ only _ _ _ _ _ _ _ _ _ _ _ _ (apart 97 117 120 (omega arith, omega arith) (omega arith)) (apart 110 117 108 (omega arith, omega arith) (omega arith)) (apart 112 114 110 (omega arith, omega arith) (omega arith)) (apart 99 111 110 (omega arith, omega arith) (omega arith)) (apart 99 111 109 (omega arith, omega arith) (omega arith)) are
-  where
-    apart : (k p q : ℕ) → (97 ≤ k) × (k ≤ 122) → 108 ≢ k → are_letters x k p q ≡ false
-    apart k p q ok ne = apart_first x 108 112 116 k p q (omega arith, omega arith) ok ne are
+device_numbered x are = grind (arith, nat_tests, device_by_letters, apart_first, or-false)
 
-    only : (a b c d e f p q r s t u : Bool) → a ≡ false → b ≡ false → c ≡ false → d ≡ false → e ≡ false → f ≡ true → ((a && p) || ((b && q) || ((c && r) || ((d && s) || ((e && t) || ((f && u) || false)))))) ≡ u
-    only a b c d e f p q r s t u ha hb hc hd he hf = rw (ha, hb, hc, hd, he, hf) (or-false u)
+-- ---- the words that may have the first three letters
+
+-- which of the six words may have them, a bit for each
+abbrev words_of : List ℕ → ℕ
+words_of x = bit_and (bit_and (get_or BY_FIRST (get_or x 0 0 % 32) 0) (get_or BY_SECOND (get_or x 1 0 % 32) 0)) (get_or BY_THIRD (get_or x 2 0 % 32) 0)
+
+-- a table has the bit at the byte, since it has it at the letter and at its capital
+keeps_bit : (f : ℕ → ℕ) (b l bit : ℕ) → bit_and (f l) bit ≡ bit → bit_and (f (l - 32)) bit ≡ bit → is_letter b l ≡ true → bit_and (f b) bit ≡ bit
+keeps_bit f b l bit small capital is = grind (arith, nat_tests, cases_Bool, bit_and, eqb-true)
+
+abbrev first_of : ℕ → ℕ
+first_of b = get_or BY_FIRST (b % 32) 0
+
+abbrev second_of : ℕ → ℕ
+second_of b = get_or BY_SECOND (b % 32) 0
+
+abbrev third_of : ℕ → ℕ
+third_of b = get_or BY_THIRD (b % 32) 0
+
+no_word : (x : List ℕ) (l m n bit : ℕ) → bit_and (first_of l) bit ≡ bit → bit_and (first_of (l - 32)) bit ≡ bit → bit_and (second_of m) bit ≡ bit → bit_and (second_of (m - 32)) bit ≡ bit → bit_and (third_of n) bit ≡ bit → bit_and (third_of (n - 32)) bit ≡ bit → bit_and 0 bit ≡ 0 → 0 < bit → words_of x ≡ 0 → are_letters x l m n ≡ false
+no_word x l m n bit l_has lc_has m_has mc_has n_has nc_has zero_has some none =
+    false_from_ne_true _ (λ are.
+    let front = and_parts _ _ are in
+    let back = and_parts _ _ front.1 in
+    let a = first_of (get_or x 0 0) in
+    let b = second_of (get_or x 1 0) in
+    let c = third_of (get_or x 2 0) in
+    let kept : bit_and (bit_and (bit_and a b) c) bit ≡ bit =
+    and_assoc bit (bit_and a b) c
+    ∙ ap (λ v. bit_and (bit_and a b) v) (keeps_bit third_of (get_or x 2 0) n bit n_has nc_has back.1)
+    ∙ and_assoc bit a b
+    ∙ ap (λ v. bit_and a v) (keeps_bit second_of (get_or x 1 0) m bit m_has mc_has back.0)
+    ∙ keeps_bit first_of (get_or x 0 0) l bit l_has lc_has front.0
+    in
+    let off : 0 ≡ bit = sym zero_has ∙ sym (ap (λ v. bit_and v bit) none) ∙ kept in
+    absurd (omega arith))
+
+pub device_no_word : (x : List ℕ) → words_of x ≡ 0 → is_device x ≡ false
+device_no_word x none =
+    device_none x
+    (no_word x 97 117 120 1 refl refl refl refl refl refl refl (omega arith) none)
+    (no_word x 110 117 108 16 refl refl refl refl refl refl refl (omega arith) none)
+    (no_word x 112 114 110 32 refl refl refl refl refl refl refl (omega arith) none)
+    (no_word x 99 111 110 2 refl refl refl refl refl refl refl (omega arith) none)
+    (no_word x 99 111 109 4 refl refl refl refl refl refl refl (omega arith) none)
+    (no_word x 108 112 116 8 refl refl refl refl refl refl refl (omega arith) none)
 
 -- a form that is a digit, by the first byte and what follows it
 pub digit_first : (digits x : List ℕ) → IsTrue (list_all is_digit digits) → 1 ≤ length x → is_any_digit digits x ≡ (list_any (λ d. eqb d (get_or x 0 0)) digits && is_empty (device_form (drop 1 x)))

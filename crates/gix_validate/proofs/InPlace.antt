@@ -5,13 +5,13 @@ use Rattle.std.proofs.lemmas.Slice.{drop-append-drop}
 use Rattle.std.specs.Str.{byte}
 use Rattle.gix_validate.specs.Pieces.{joined}
 use Rattle.gix_validate.specs.Sanitized.{mended_pieces, repaired_dot, repaired_at, repaired_nothing, sanitized}
+use Rattle.std.proofs.lemmas.Bool.Decides.{nat_tests}
 
 -- The front that was mended, and then repaired, is the sanitised text.
 pub sanitized-in_place : (whole front rest new : List ℕ) (m n : ℕ) → m ≤ length front → take m front ≡ joined (mended_pieces whole)
     → take n new ≡ repaired_nothing (repaired_at (repaired_dot (take m (front ++ rest)))) → take n new ≡ sanitized whole
 unfolding sanitized
-sanitized-in_place whole front rest new m n within mended repaired =
-    repaired ∙ ap (λ v. repaired_nothing (repaired_at (repaired_dot v))) (take-append-le m front rest within ∙ mended)
+sanitized-in_place whole front rest new m n within mended repaired = grind (arith, nat_tests, take-append-le)
 
 -- What stands behind it stays.
 pub rest-in_place : (buf front new : List ℕ) (m len : ℕ) → m ≤ len → length front ≡ len

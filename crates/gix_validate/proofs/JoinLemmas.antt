@@ -1,7 +1,7 @@
 -- Two texts that a slash joins: their pieces, their end, and that two tag names give a full name.
-use Rattle.std.proofs.Common.{◌≡◌, ◌≢◌, ℕ, ◌-◌, true, false, not, IsTrue, List, [], ◌∷◌, ◌++◌, length, drop, refl, ap, ◌∙◌, cond, suc, length-append, arith}
+use Rattle.std.proofs.Common.{◌≡◌, ℕ, ◌-◌, true, false, IsTrue, List, [], ◌∷◌, ◌++◌, length, drop, refl, ap, cond, suc, length-append, arith}
 use Rattle.std.specs.Prelude.{codes, nat_eq}
-use Rattle.std.specs.List.{list_all, list_any, onto_first}
+use Rattle.std.specs.List.{list_any, onto_first}
 use Rattle.std.specs.Str.{byte, bytes_eq}
 use Rattle.std.proofs.lemmas.Bool.{false≢true, both_ways, and_parts, and_from, and_right, or_left, or_right}
 use Rattle.std.proofs.lemmas.Slice.Eq.{bytes_eq-Decides}
@@ -11,6 +11,7 @@ use Rattle.gix_validate.specs.Pieces.{is_slash, pieces, joined}
 use Rattle.gix_validate.specs.Reference.{is_full_name}
 use Rattle.gix_validate.specs.Tag.{is_good_piece, is_tag_name}
 use Rattle.gix_validate.proofs.ReferenceLemmas.{partial_is, full_is}
+use Rattle.std.proofs.lemmas.Bool.Decides.{nat_tests}
 
 -- The pieces of two texts that a slash joins are those of the first, and then those of the second.
 has_first_piece : (a : List ℕ) → (p : List ℕ) × (ps : List (List ℕ)) × (pieces a ≡ p ∷ ps)
@@ -25,12 +26,8 @@ onto_first-append : (c : ℕ) (ps qs : List (List ℕ)) → ((p : List ℕ) × (
 onto_first-append c ps qs w = rw w.2
 
 pub pieces-joined : (a b : List ℕ) → pieces (a ++ byte "/" ∷ b) ≡ pieces a ++ pieces b
-pieces-joined [] b = refl
-pieces-joined (c ∷ a) b =
-    elim (is_slash c) as (λ v. cond v ([] ∷ pieces (a ++ byte "/" ∷ b)) (onto_first c (pieces (a ++ byte "/" ∷ b))) ≡ cond v ([] ∷ pieces a) (onto_first c (pieces a)) ++ pieces b) [
-      | true ↦ ap (λ ps. [] ∷ ps) (pieces-joined a b)
-      | false ↦ ap (onto_first c) (pieces-joined a b) ∙ onto_first-append c (pieces a) (pieces b) (has_first_piece a)
-    ]
+pieces-joined [] b = grind (arith, nat_tests)
+pieces-joined (c ∷ a) b = grind (arith, nat_tests, onto_first-append, has_first_piece, pieces-joined a b)
 
 -- The end of the second text is that of the whole.
 drop-joined : (a b : List ℕ) (s c : ℕ) → drop (length (a ++ s ∷ c ∷ b) - 1) (a ++ s ∷ c ∷ b) ≡ drop (length (c ∷ b) - 1) (c ∷ b)
@@ -57,21 +54,9 @@ joined_has_slash (c ∷ a) b = or_right (is_slash c) _ (joined_has_slash a b)
 
 pub joined_is_tag : (a b : List ℕ) → IsTrue (is_tag_name a) → IsTrue (is_tag_name b) → IsTrue (is_tag_name (joined (a ∷ b ∷ [])))
 unfolding is_tag_name is_good_piece
-joined_is_tag a [] ha hb = absurd (false≢true hb)
-joined_is_tag a (c ∷ b) ha hb =
-    let good_a : list_all is_good_piece (pieces a) ≡ true = (and_parts _ _ ha).0 in
-    let good_b : list_all is_good_piece (pieces (c ∷ b)) ≡ true = (and_parts _ _ hb).0 in
-    let end_b : not (ends (c ∷ b) (codes ".")) ≡ true = (and_parts _ _ hb).1 in
-    let parts : pieces (a ++ byte "/" ∷ c ∷ b) ≡ pieces a ++ pieces (c ∷ b) = pieces-joined a (c ∷ b) in
-    let good : list_all is_good_piece (pieces (a ++ byte "/" ∷ c ∷ b)) ≡ true =
-    ap (list_all is_good_piece) parts ∙ (list_all-append is_good_piece (pieces a) (pieces (c ∷ b)) ∙ and_from _ _ good_a good_b) in
-    let end : not (ends (a ++ byte "/" ∷ c ∷ b) (codes ".")) ≡ true = ap not (ends-joined a b c (byte ".")) ∙ end_b in
-    and_from _ _ good end
+joined_is_tag a [] ha hb = grind (arith, nat_tests, false≢true)
+joined_is_tag a (c ∷ b) ha hb = grind (arith, nat_tests, and_parts, pieces-joined, list_all-append, and_from, ends-joined)
 
 pub joined_is_full : (a b : List ℕ) → IsTrue (is_tag_name a) → IsTrue (is_tag_name b) → IsTrue (is_full_name (joined (a ∷ b ∷ [])))
 joined_is_full a b ha hb =
-    let t : is_tag_name (joined (a ∷ b ∷ [])) ≡ true = joined_is_tag a b ha hb in
-    let n : joined (a ∷ b ∷ []) ≢ codes "@" = λ e. both_ways _ (joined_is_not_at a b) ((bytes_eq-Decides _ _).1 e) in
-    let s : list_any is_slash (joined (a ∷ b ∷ [])) ≡ true = joined_has_slash a b in
-    full_is (joined (a ∷ b ∷ []))
-    ∙ and_from _ _ ((partial_is (joined (a ∷ b ∷ []))).1 (t, n)) (or_left _ _ s)
+    grind (arith, nat_tests, joined_is_tag, both_ways, joined_is_not_at, bytes_eq-Decides, joined_has_slash, full_is, and_from, partial_is, or_left)

@@ -11,24 +11,21 @@ use Rattle.gix_validate.specs.Pieces.{pieces, joined, has_no_slash}
 use Rattle.gix_validate.specs.Tag.{is_good_piece}
 use Rattle.gix_validate.specs.Sanitized.{dash_last, dash_last_of}
 use Rattle.gix_validate.proofs.Mended.{dash_last-good, dash_last-apart, is_good_piece-empty}
+use Rattle.std.proofs.lemmas.Bool.Decides.{nat_tests}
 
 pub joined-pieces : (x : List ℕ) → joined (pieces x) ≡ x
 joined-pieces x = join_with_byte-slice_split (byte "/") x
 
 -- Good pieces stay good with a dash for the last byte of the last of them.
 pub dash_last_of-good : (ps : List (List ℕ)) → list_all is_good_piece ps ≡ true → list_all is_good_piece (dash_last_of ps) ≡ true
-dash_last_of-good [] h = refl
-dash_last_of-good (p ∷ []) h = and_from _ true (dash_last-good p ((and_parts (is_good_piece p) true h).0)) refl
-dash_last_of-good (p ∷ q ∷ ps) h =
-    let parts = and_parts (is_good_piece p) (list_all is_good_piece (q ∷ ps)) h in
-    and_from (is_good_piece p) _ parts.0 (dash_last_of-good (q ∷ ps) parts.1)
+dash_last_of-good [] h = grind (arith, nat_tests)
+dash_last_of-good (p ∷ []) h = grind (arith, nat_tests, and_from, dash_last-good, and_parts)
+dash_last_of-good (p ∷ q ∷ ps) h = grind (arith, nat_tests, and_parts, and_from, dash_last_of-good (q ∷ ps))
 
 pub dash_last_of-apart : (ps : List (List ℕ)) → list_all has_no_slash ps ≡ true → list_all has_no_slash (dash_last_of ps) ≡ true
-dash_last_of-apart [] h = refl
-dash_last_of-apart (p ∷ []) h = and_from _ true (dash_last-apart p ((and_parts (has_no_slash p) true h).0)) refl
-dash_last_of-apart (p ∷ q ∷ ps) h =
-    let parts = and_parts (has_no_slash p) (list_all has_no_slash (q ∷ ps)) h in
-    and_from (has_no_slash p) _ parts.0 (dash_last_of-apart (q ∷ ps) parts.1)
+dash_last_of-apart [] h = grind (arith, nat_tests)
+dash_last_of-apart (p ∷ []) h = grind (arith, nat_tests, and_from, dash_last-apart, and_parts)
+dash_last_of-apart (p ∷ q ∷ ps) h = grind (arith, nat_tests, and_parts, and_from, dash_last_of-apart (q ∷ ps))
 
 pub length-dash_last_of : (ps : List (List ℕ)) → length (dash_last_of ps) ≡ length ps
 length-dash_last_of [] = refl
@@ -51,8 +48,7 @@ joined_first (b ∷ p) [] h = (b, p, refl)
 joined_first (b ∷ p) (q ∷ ps) h = (b, _, refl)
 
 pub good_nonempty : (p : List ℕ) → is_good_piece p ≡ true → is_empty p ≡ false
-good_nonempty [] h = absurd (false≢true (sym is_good_piece-empty ∙ h))
-good_nonempty (b ∷ p) h = refl
+good_nonempty p hh1 = grind (arith, nat_tests, false≢true, is_good_piece-empty)
 
 pub dash_last_of-cons : (q : List ℕ) (ps : List (List ℕ)) → (r : List ℕ) × (rs : List (List ℕ)) × (dash_last_of (q ∷ ps) ≡ r ∷ rs)
 dash_last_of-cons q [] = (_, _, refl)

@@ -1,10 +1,14 @@
 -- Sixteen lanes: look-ups in a table of sixteen, and the test whether all are zero.
-use Rattle.std.proofs.Common.{◌≡◌, ℕ, zero, suc, ◌+◌, ◌*◌, ◌/◌, ◌%◌, ◌^◌, ◌<◌, ◌↔◌, Bool, true, false, not, cond, eqb, List, [], ◌∷◌, map, length, get_or, replicate, bit_and, refl, sym, ap, ap₂, ◌∙◌, arith, w8, Fits, eqb-true, eq-eqb}
-use Rattle.std.proofs.lemmas.Bool.{eqb-false}
-use Rattle.std.proofs.lemmas.List.{get_or-map, length-map, ext_get_or}
+use Rattle.std.proofs.Common.{◌≡◌, ℕ, zero, suc, ◌+◌, ◌-◌, ◌*◌, ◌/◌, ◌%◌, ◌^◌, ◌<◌, ◌≤◌, ◌↔◌, Bool, true, not, cond, eqb, List, [], ◌∷◌, ◌++◌, map, length, get_or, replicate, bit_and, refl, sym, ap, ◌∙◌, arith, w8, Fits, eqb-true, eq-eqb, inl, inr}
+use Rattle.std.proofs.lemmas.Bool.{eqb-false, ne_eqb, cases_lt, lt-ltb, le-ltb, agree_below, agree_below_at}
+use Rattle.std.proofs.Math.Nat.{mod-lt}
+use Rattle.std.proofs.lemmas.List.{get_or-map, length-map, ext_get_or, get_or_append_left, get_or-append_right}
 use Rattle.std.proofs.lemmas.Nat.{and_mask}
-use Rattle.std.proofs.lemmas.Simd.{Each1-weaker, Each1-all, Each1-zip2, Each2-splat, below_from_Fits, length-zip2, zip2_splat, zip2-map, mask_l-mod, swz_l, SwzOk, SwzOk-from_below, length-swz_l, get_or-swz_l_below}
-use lib.Lanes.{zip2, mask_l, top, Each1}
+use Rattle.std.proofs.lemmas.Simd.{Each1-weaker, Each1-all, Each1-zip2, Each2-splat, below_from_Fits, length-zip2, zip2_splat, zip2-map, mask_l-mod, swz_l, SwzOk, SwzOk-from_below, length-swz_l, get_or-swz_l_below, length-chunk, get_or-chunk, bitmask_splat}
+use Rattle.std.specs.List.{list_any}
+use lib.Lanes.{zip2, mask_l, top, Each1, chunk, pick_l}
+use Rattle.gix_validate.specs.Lanes.{place_of, HasParts}
+use Rattle.std.proofs.lemmas.Bool.Decides.{nat_tests}
 
 -- sixteen lanes of bytes
 abbrev pub IsBlock : List ℕ → Type 0
@@ -19,7 +23,7 @@ lane_fits (x ∷ v) zero h = h.0.fits
 lane_fits (x ∷ v) (suc k) h = lane_fits v k h.1
 
 -- a table read at places g b below 16
-looked_up : (t : List ℕ) (g : ℕ → ℕ) (v js : List ℕ) → IsBlock v → js ≡ map g v → ((b : ℕ) → b < 256 → g b < 16)
+pub looked_up : (t : List ℕ) (g : ℕ → ℕ) (v js : List ℕ) → IsBlock v → js ≡ map g v → ((b : ℕ) → b < 256 → g b < 16)
     → swz_l w8 16 t 0 js ≡ map (λ b. get_or t (g b) 0) v
 looked_up t g v js block e small =
     let long : length js ≡ 16 = ap length e ∙ length-map v g ∙ block.0 in
@@ -59,9 +63,7 @@ by_high_half t v block = looked_up t (λ b. b / 16) v _ block (zip2_splat down v
 pub kinds_are : (s t v : List ℕ) → IsBlock v
     → zip2 bit_and (swz_l w8 16 s 0 (zip2 bit_and v (replicate 16 15))) (swz_l w8 16 t 0 (zip2 down v (replicate 16 4)))
     ≡ map (λ b. bit_and (get_or s (b % 16) 0) (get_or t (b / 16) 0)) v
-kinds_are s t v block =
-    ap₂ (zip2 bit_and) (by_low_half s v block) (by_high_half t v block)
-    ∙ zip2-map bit_and (λ b. get_or s (b % 16) 0) (λ b. get_or t (b / 16) 0) v
+kinds_are s t v block = grind (arith, nat_tests, bit_and, by_low_half, by_high_half, zip2-map)
 
 -- ---- the test whether all lanes are zero
 
@@ -72,11 +74,7 @@ abbrev pub AllZero : List ℕ → Type 0
 AllZero v = (k : ℕ) → k < length v → get_or v k 0 ≡ 0
 
 bit_is : (x : ℕ) → (◌≡◌ {A = ℕ} (cond (top 7 (differs x 0)) 1 0) 0) ↔ (x ≡ 0)
-bit_is x = go (eqb x 0) refl
-  where
-    go : (t : Bool) → eqb x 0 ≡ t → (◌≡◌ {A = ℕ} (cond (top 7 (cond (not t) 255 0)) 1 0) 0) ↔ (x ≡ 0)
-    go true e = (λ _. eqb-true _ _ e, λ _. refl)
-    go false e = (λ q. absurd (omega arith), λ z. absurd (eqb-false _ _ e z))
+bit_is x = grind (arith, nat_tests, eqb-true, eqb-false)
 
 no_bit : (v : List ℕ) → (mask_l (map (top 7) (zip2 differs v (replicate (length v) 0))) ≡ 0) ↔ AllZero v
 no_bit [] = (λ _ k h. refl, λ _. refl)
@@ -93,3 +91,41 @@ zero_mask v long =
       λ t k h. (no_bit v).0 (sym e ∙ eqb-true _ _ t) k (omega arith),
       λ z. eq-eqb _ _ (e ∙ (no_bit v).1 (λ k h. z k (omega arith))),
     )
+
+-- ---- a block of parts of a text
+
+pub place_front : (n first second k : ℕ) → k % (n + n) < n → place_of n first second k ≡ first + k % (n + n)
+place_front n first second k h = ap (λ t. cond t (first + k % (n + n)) (second + (k % (n + n) - n))) (lt-ltb _ _ h)
+
+pub place_back : (n first second k : ℕ) → n ≤ k % (n + n) → place_of n first second k ≡ second + (k % (n + n) - n)
+place_back n first second k h = ap (λ t. cond t (first + k % (n + n)) (second + (k % (n + n) - n))) (le-ltb _ _ h)
+
+pub has_parts : (n first second : ℕ) (x ks : List ℕ) → 0 < n → first + n ≤ length x → second + n ≤ length x → length ks ≡ 16
+    → agree_below (λ k. eqb (get_or ks k 0) (k % (n + n))) (λ _. true) 16 ≡ true
+    → HasParts n first second x (pick_l 0 (chunk first n x ++ chunk second n x) ks)
+has_parts n first second x ks some f s long all k small =
+    let r = k % (n + n) in
+    let front = chunk first n x in
+    let back = chunk second n x in
+    let below : r < n + n = mod-lt k (omega arith) in
+    let lane : get_or ks k 0 ≡ r = eqb-true _ _ (agree_below_at (λ k. eqb (get_or ks k 0) (k % (n + n))) (λ _. true) 16 k all small) in
+    get_or-map (λ j. get_or (front ++ back) j 0) ks k 0 0 (omega arith)
+    ∙ ap (λ j. get_or (front ++ back) j 0) lane
+    ∙ elim (cases_lt r n) [
+      | inl early ↦
+          get_or_append_left front back 0 r (omega (arith, length-chunk first n x f)) ∙ get_or-chunk first n x r 0 early
+          ∙ ap (λ j. get_or x j 0) (sym (place_front n first second k early))
+      | inr late ↦
+          get_or-append_right front back n r 0 (length-chunk first n x f) late ∙ get_or-chunk second n x (r - n) 0 (omega arith)
+          ∙ ap (λ j. get_or x j 0) (sym (place_back n first second k late))
+    ]
+
+-- ---- the test whether some lane passes
+
+any_bit : (p : ℕ → Bool) (v : List ℕ) → not (eqb (mask_l (map p v)) 0) ≡ list_any p v
+any_bit p [] = grind (arith, nat_tests)
+any_bit p (b ∷ v) = grind (arith, nat_tests, ne_eqb, any_bit p v)
+
+pub some_lane : (v : List ℕ) (b : ℕ) → length v ≡ 16
+    → not (eqb (mask_l (map (top 7) (zip2 (λ x y. cond (eqb x y) 255 0) v (replicate 16 b))) % 2 ^ 64) 0) ≡ list_any (λ x. eqb x b) v
+some_lane v b long = ap (λ n. not (eqb n 0)) (bitmask_splat w8 eqb v 16 b long (omega arith)) ∙ any_bit (λ x. eqb x b) v

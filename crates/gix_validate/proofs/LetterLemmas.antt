@@ -6,6 +6,7 @@ use Rattle.std.specs.Str.{bytes_eq}
 use Rattle.std.proofs.lemmas.Bool.Decides.{nat_tests}
 use Rattle.std.proofs.lemmas.List.{take-map, length-map, at_drop_more, at_drop_all}
 use Rattle.gix_validate.specs.Bytes.{lower, lower_byte, begins}
+use Rattle.std.proofs.lemmas.Grind.{common_steps}
 
 pub lower_byte-is : (b : ℕ) → to_ascii_lowercase b ≡ lower_byte b
 unfolding lower_byte
@@ -22,9 +23,7 @@ bytes_eq-turned (a ∷ x) (b ∷ y) = rw (eqb_turned a b, bytes_eq-turned x y)
 
 -- a text begins with a word where its front of that length is the word
 pub begins_word : (x word : List ℕ) → begins (lower x) (lower word) ≡ bytes_eq (lower (take (length word) x)) (lower word)
-begins_word x word =
-    rw (length-map, take-map lower_byte (length word) x)
-    (bytes_eq-turned (lower word) (lower (take (length word) x)))
+begins_word x word = grind (arith, nat_tests, length-map, take-map, bytes_eq-turned)
 
 -- a text that is shorter doesn't
 pub begins_short : (x word : List ℕ) → length x < length word → begins (lower x) (lower word) ≡ false
@@ -34,14 +33,10 @@ begins_short (b ∷ x) (w ∷ word) h = rw (begins_short x word (omega arith)) (
 
 -- two texts of one length against each other, from the place i on
 pub alike_from : (x word : List ℕ) (i : ℕ) → i < length x → i < length word → bytes_eq (lower (drop i x)) (lower (drop i word)) ≡ (eqb (lower_byte (get_or x i 0)) (lower_byte (get_or word i 0)) && bytes_eq (lower (drop (i + 1) x)) (lower (drop (i + 1) word)))
-alike_from x word i h k =
-    at_drop_more (λ t. bytes_eq (lower t) (lower (drop i word))) x i 0 h
-    ∙ at_drop_more (λ t. bytes_eq (lower (get_or x i 0 ∷ drop (i + 1) x)) (lower t)) word i 0 k
+alike_from x word i h k = grind (arith, common_steps, at_drop_more)
 
 pub alike_at_end : (x word : List ℕ) (i : ℕ) → length x ≤ i → length word ≤ i → bytes_eq (lower (drop i x)) (lower (drop i word)) ≡ true
-alike_at_end x word i h k =
-    at_drop_all (λ t. bytes_eq (lower t) (lower (drop i word))) x i h
-    ∙ at_drop_all (λ t. bytes_eq (lower []) (lower t)) word i k
+alike_at_end x word i h k = grind (arith, common_steps, at_drop_all)
 
 pub other_length : (x word : List ℕ) → length x ≢ length word → bytes_eq (lower x) (lower word) ≡ false
 other_length [] [] ne = absurd (ne refl)

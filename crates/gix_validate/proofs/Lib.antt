@@ -44,6 +44,8 @@ pub mod PathJoinLemmas
 pub mod LaneLemmas
 pub mod ClearLemmas
 pub mod ClearFaults
-pub mod ClearParts
+pub mod TagPlaces
+pub mod ParentLemmas
 pub mod BlockLemmas
 pub mod OrdinaryLemmas
+pub mod OnLiterals

@@ -1,7 +1,7 @@
 -- Laws of one mended piece: it is a good piece, and a good piece is its own.
 use Rattle.std.proofs.Common.{◌≡◌, ◌≢◌, ℕ, ◌-◌, ◌≤◌, true, false, List, [], ◌∷◌, ◌++◌, length, take, refl, sym, ap, ◌∙◌, arith, append_assoc}
-use Rattle.std.specs.Prelude.{codes, not, ◌==◌, Some, None}
-use Rattle.std.specs.Str.{byte, bytes_eq}
+use Rattle.std.specs.Prelude.{codes, not, ◌==◌, None}
+use Rattle.std.specs.Str.{byte}
 use Rattle.std.proofs.lemmas.Bool.{and_parts, and_from, false≢true, not-true, not_from_false, cond_both}
 use Rattle.std.proofs.lemmas.List.{take-append-drop, same_from_push}
 use Rattle.std.proofs.lemmas.List.Folds.{list_all-append}
@@ -13,22 +13,18 @@ use Rattle.gix_validate.proofs.Ends.{ends-false, ends-no}
 use Rattle.gix_validate.proofs.Cuts.{cut_front, cut_open, cut-own, length-cut}
 use Rattle.gix_validate.proofs.Quiet.{is_quiet, may_follow-None, is_quiet-front, is_quiet-dash, is_good_piece-quiet}
 use Rattle.gix_validate.proofs.Cleaned.{cleaned-own, cleaned_first, is_quiet-cleaned, cleaned-apart, length-cleaned}
+use Rattle.std.proofs.lemmas.Bool.Decides.{nat_tests}
 
 pub is_good_piece-empty : is_good_piece [] ≡ false
 unfolding is_good_piece
 is_good_piece-empty = refl
 
 locks_first : (c : ℕ) (t : List ℕ) → is_locks (c ∷ t) ≡ true → (c == byte ".") ≡ true
-locks_first a [] h = absurd (false≢true h)
-locks_first a (b ∷ []) h = absurd (false≢true h)
-locks_first a (b ∷ c ∷ []) h = absurd (false≢true h)
-locks_first a (b ∷ c ∷ d ∷ []) h = absurd (false≢true h)
-locks_first a (b ∷ c ∷ d ∷ e ∷ t) h = (and_parts (a == byte ".") _ ((and_parts (bytes_eq (a ∷ b ∷ c ∷ d ∷ e ∷ []) (codes ".lock")) (is_locks t) h).0)).0
+locks_first c t hh1 = grind (arith, nat_tests, false≢true, and_parts)
 
 -- A quiet text does not begin with a dot.
 quiet_first : (c : ℕ) (t : List ℕ) → is_quiet None (c ∷ t) ≡ true → (c == byte ".") ≡ false
-quiet_first c t h = not-true (c == byte ".") ((and_parts _ (not (c == byte ".")) (sym (may_follow-None c)
-    ∙ (and_parts _ (is_quiet (Some c) t) h).0)).1)
+quiet_first c t h = grind (arith, nat_tests, not-true, and_parts, may_follow-None, is_quiet)
 
 -- A cut of a quiet text that is not empty leaves something.
 cut_first : (c : ℕ) (t : List ℕ) → is_quiet None (c ∷ t) ≡ true → (u : List ℕ) × (cut (c ∷ t) ≡ c ∷ u)
@@ -38,14 +34,11 @@ cut_first c t h =
     × (v ≡ c ∷ u)) (λ locks. absurd (false≢true (sym (quiet_first c t h) ∙ locks_first c t locks))) (λ _. (cut t, refl))
 
 pub good_from_quiet : (p : List ℕ) → is_empty p ≡ false → is_quiet None p ≡ true → ends p (codes ".lock") ≡ false → is_good_piece p ≡ true
-good_from_quiet [] some quiet lock = absurd (false≢true (sym some))
-good_from_quiet (b ∷ p) some quiet lock = is_good_piece-quiet b p ∙ and_from _ _ quiet (not_from_false _ lock)
+good_from_quiet p hh1 hh2 hh3 = grind (arith, nat_tests, false≢true, is_good_piece-quiet, and_from, not_from_false)
 
 pub quiet_from_good : (p : List ℕ) → is_good_piece p ≡ true → (is_empty p ≡ false) × (is_quiet None p ≡ true) × (ends p (codes ".lock") ≡ false)
-quiet_from_good [] h = absurd (false≢true (sym is_good_piece-empty ∙ h))
-quiet_from_good (b ∷ p) h =
-    let parts = and_parts (is_quiet None (b ∷ p)) (not (ends (b ∷ p) (codes ".lock"))) (sym (is_good_piece-quiet b p) ∙ h) in
-    (refl, parts.0, not-true _ parts.1)
+quiet_from_good [] h = grind (arith, nat_tests, false≢true, is_good_piece-empty)
+quiet_from_good (b ∷ p) h = grind (arith, nat_tests, and_parts, is_quiet, is_good_piece-quiet, not-true)
 
 pub mend_nonempty : (b : ℕ) (p : List ℕ) → is_empty (cut (cleaned (b ∷ p))) ≡ false
 mend_nonempty b p =

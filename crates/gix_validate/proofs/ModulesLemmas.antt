@@ -17,16 +17,11 @@ use Rattle.gix_validate.proofs.WordLemmas.{plain_head, ntfs_keeps}
 use Rattle.gix_validate.proofs.NtfsLemmas.{is_cut, is_trimmed, ntfs_form-at, ntfs_form-none, dot_stays, ntfs_other}
 
 bool_same : (s t : Bool) → (s ≡ true → t ≡ true) → (t ≡ true → s ≡ true) → s ≡ t
-bool_same true t h k = sym (h refl)
-bool_same false true h k = k refl
-bool_same false false h k = refl
+bool_same s t hh1 hh2 = grind (arith, nat_tests)
 
 digits_are_plain : (x : List ℕ) → list_all is_digit x ≡ true → list_all stays_in_form x ≡ true
-digits_are_plain [] digits = refl
-digits_are_plain (b ∷ x) digits =
-    let parts = and_parts (is_digit b) (list_all is_digit x) digits in
-    let first : stays_in_form b ≡ true = grind (arith, nat_tests, parts.0) in
-    and_from _ _ first (digits_are_plain x parts.1)
+digits_are_plain [] digits = grind (arith, nat_tests)
+digits_are_plain (b ∷ x) digits = grind (arith, nat_tests, and_parts, and_from, digits_are_plain x)
 
 -- eight bytes around the tilde and the digit after it
 in_four : (k : ℕ) (w : List ℕ) → k + 2 ≤ length w → w ≡ take k w ++ (get_or w k 0 ∷ (get_or w (k + 1) 0 ∷ drop (k + 2) w))
@@ -78,9 +73,7 @@ short_names_are_plain w any =
     ]
 
 literal_is_plain : (w p : List ℕ) → (length p ≡ 8) × (list_all stays_in_form p ≡ true) → bytes_eq w p ≡ true → (length w ≡ 8) × (list_all stays_in_form w ≡ true)
-literal_is_plain w p facts same =
-    let e = (bytes_eq-Decides w p).0 same in
-    (ap length e ∙ facts.0, ap (list_all stays_in_form) e ∙ facts.1)
+literal_is_plain w p facts same = grind (arith, nat_tests, bytes_eq-Decides)
 
 modules_cases : (w : List ℕ) → is_modules_form w ≡ true → (w ≡ codes ".gitmodules") ⊎ ((length w ≡ 8) × (list_all stays_in_form w ≡ true))
 unfolding is_modules_form
@@ -112,17 +105,7 @@ whole_is_modules w whole = ap (λ v. (v || list_any (λ digit. bytes_eq w (codes
 
 -- what begins with a dot, or is empty, is only `.gitmodules` itself
 dotted : (w : List ℕ) → (w ≡ []) ⊎ (get_or w 0 0 ≡ byte ".") → is_modules_form w ≡ bytes_eq w (codes ".gitmodules")
-dotted w front = bool_same _ _ (λ h. elim (modules_cases w h) [
-  | inl whole ↦ (bytes_eq-Decides w (codes ".gitmodules")).1 whole
-  | inr plain ↦ absurd (no_plain w front plain.0 plain.1)
-]) (whole_is_modules w)
-  where
-    no_plain : (w : List ℕ) → (w ≡ []) ⊎ (get_or w 0 0 ≡ byte ".") → length w ≡ 8 → list_all stays_in_form w ≡ true → ⊥
-    no_plain [] front eight plain = omega arith
-    no_plain (b ∷ w) front eight plain = elim front [
-      | inl none ↦ cc
-      | inr dot ↦ false≢true (sym (ap stays_in_form dot) ∙ (and_parts (stays_in_form b) (list_all stays_in_form w) plain).0)
-    ]
+dotted w front = grind (arith, common_steps, bool_same, modules_cases, bytes_eq-Decides, whole_is_modules, false≢true, and_parts)
 
 none_is_none : ntfs_form [] ≡ []
 unfolding ntfs_form
@@ -132,16 +115,12 @@ abbrev IsFront : List ℕ → List ℕ → Type 0
 IsFront x f = (f ≡ take (length f) x) × (is_empty (ntfs_form (drop (length f) x)) ≡ true)
 
 front_by_tests : (cut stop : Bool) (b : ℕ) (x f : List ℕ) → ntfs_form (b ∷ x) ≡ cond cut [] (cond stop [] (b ∷ f)) → IsFront x f → IsFront (b ∷ x) (cond cut [] (cond stop [] (b ∷ f)))
-front_by_tests true stop b x f e front = (refl, ap is_empty e)
-front_by_tests false true b x f e front = (refl, ap is_empty e)
-front_by_tests false false b x f e front = (ap (λ t. b ∷ t) front.0, front.1)
+front_by_tests cut stop b x f hh1 hh2 = grind (arith, nat_tests)
 
 -- the form is a front of the text, and nothing of it is in what follows that front
 form_is_front : (x : List ℕ) → IsFront x (ntfs_form x)
-form_is_front [] = rw none_is_none (refl, ntfs_form-none)
-form_is_front (b ∷ x) =
-    let e = ntfs_form-at b x in
-    rw e (front_by_tests (is_cut b) (is_trimmed b && is_empty (ntfs_form x)) b x (ntfs_form x) e (form_is_front x))
+form_is_front [] = grind (arith, nat_tests, none_is_none, ntfs_form-none)
+form_is_front (b ∷ x) = grind (arith, nat_tests, ntfs_form-at, front_by_tests, is_cut, is_trimmed, form_is_front x)
 
 -- plain bytes in front stay
 plain_run : (w y : List ℕ) → list_all stays_in_form w ≡ true → ntfs_form (w ++ y) ≡ w ++ ntfs_form y
@@ -156,8 +135,7 @@ plain_lower [] = refl
 plain_lower (b ∷ x) = rw (test-lower_byte stays_in_form refl b, plain_lower x) refl
 
 nothing_left : (f : List ℕ) → is_empty f ≡ true → f ≡ []
-nothing_left [] e = refl
-nothing_left (b ∷ f) e = absurd (false≢true e)
+nothing_left f hh1 = grind (arith, nat_tests, false≢true)
 
 head_is_no_dot : (x : List ℕ) → eqb (lower_byte (get_or x 0 0)) (byte ".") ≡ false → lower (ntfs_form x) ≡ codes ".gitmodules" → ⊥
 head_is_no_dot x other whole =
@@ -168,20 +146,13 @@ head_is_no_dot x other whole =
     same_start (b ∷ x) other = ntfs_other b x (byte ".") (codes "gitmodules") other
 
 eight_long : (x : List ℕ) → eqb (lower_byte (get_or x 0 0)) (byte ".") ≡ false → is_modules_form (lower (ntfs_form x)) ≡ true → length (ntfs_form x) ≡ 8
-eight_long x other modules = elim (modules_cases (lower (ntfs_form x)) modules) [
-  | inl whole ↦ absurd (head_is_no_dot x other whole)
-  | inr plain ↦ sym (length-map (ntfs_form x) lower_byte) ∙ plain.0
-]
+eight_long x other modules = grind (arith, nat_tests, modules_cases, head_is_no_dot, length-map)
 
 some_first : (x : List ℕ) → eqb (lower_byte (get_or x 0 0)) (byte ".") ≡ false → 8 ≤ length x → eqb (get_or (lower (take 8 x)) 0 0) (byte ".") ≡ false
-some_first [] other long = refl
-some_first (b ∷ x) other long = other
+some_first x hh1 hh2 = grind (arith, nat_tests)
 
 word_is_plain : (w : List ℕ) → eqb (get_or (lower w) 0 0) (byte ".") ≡ false → is_modules_form (lower w) ≡ true → list_all stays_in_form (lower w) ≡ true
-word_is_plain w other modules = elim (modules_cases (lower w) modules) [
-  | inl whole ↦ absurd (false≢true (sym other ∙ ap (λ t. eqb (get_or t 0 0) (byte ".")) whole))
-  | inr plain ↦ plain.1
-]
+word_is_plain w other modules = grind (arith, common_steps, modules_cases, false≢true)
 
 pub modules_elsewhere : (x : List ℕ) → eqb (lower_byte (get_or x 0 0)) (byte ".") ≡ false → 8 ≤ length x → is_modules_form (lower (ntfs_form x)) ≡ (is_modules_form (lower (take 8 x)) && is_empty (ntfs_form (drop 8 x)))
 modules_elsewhere x other long = bool_same _ _ forward back
@@ -201,26 +172,20 @@ modules_elsewhere x other long = bool_same _ _ forward back
         ap (λ f. is_modules_form (lower f)) form ∙ parts.0
 
 pub modules_too_short : (x : List ℕ) → eqb (lower_byte (get_or x 0 0)) (byte ".") ≡ false → length x < 8 → is_modules_form (lower (ntfs_form x)) ≡ false
-modules_too_short x other short = false_from_ne_true _ (λ modules.
-    let eight = eight_long x other modules in
-    let front = ap length ((form_is_front x).0) in
-    grind (arith, common_steps))
+modules_too_short x other short = grind (arith, nat_tests, false_from_ne_true, eight_long, form_is_front, common_steps)
 
 dot_is_small : lower_byte 46 ≡ 46
 unfolding lower_byte
 dot_is_small = refl
 
 dot_or_none_by : (f : List ℕ) → (lower (cond (is_empty f) [] (46 ∷ f)) ≡ []) ⊎ (get_or (lower (cond (is_empty f) [] (46 ∷ f))) 0 0 ≡ byte ".")
-dot_or_none_by [] = inl refl
-dot_or_none_by (c ∷ f) = inr dot_is_small
+dot_or_none_by f = grind (arith, nat_tests, dot_is_small)
 
 dot_or_none : (x : List ℕ) → (lower (ntfs_form (46 ∷ x)) ≡ []) ⊎ (get_or (lower (ntfs_form (46 ∷ x))) 0 0 ≡ byte ".")
 dot_or_none x = rw (ntfs_form-at 46 x) (dot_or_none_by (ntfs_form x))
 
 pub modules_at_dot : (x : List ℕ) → 1 ≤ length x → get_or x 0 0 ≡ byte "." → is_modules_form (lower (ntfs_form x)) ≡ bytes_eq (lower (ntfs_form (drop 1 x))) (codes "gitmodules")
-modules_at_dot [] some first = absurd (omega arith)
-modules_at_dot (b ∷ x) some first =
-    rw first (dotted (lower (ntfs_form (46 ∷ x))) (dot_or_none x) ∙ dot_stays x (byte "g") (codes "itmodules"))
+modules_at_dot x hh1 hh2 = grind (arith, nat_tests, dotted, dot_or_none, dot_stays)
 
 digits_lower : (x : List ℕ) → list_all is_digit (lower x) ≡ list_all is_digit x
 digits_lower [] = refl
@@ -232,14 +197,10 @@ is_number bytes = slice_index bytes 0 == byte "~" && (nat_le (byte "1") (slice_i
 
 number_lower : (x : List ℕ) → 2 ≤ length x → is_number (lower x) ≡ is_number x
 unfolding lower_byte
-number_lower [] long = refl
-number_lower (b ∷ []) long = absurd (omega arith)
-number_lower (b ∷ d ∷ x) long = rw (test-lower_byte (λ c. c == byte "~") refl b, test-lower_byte (λ c. nat_le (byte "1") c) refl d, test-lower_byte (λ c. nat_le c (byte "9")) refl d, digits_lower x) refl
+number_lower x hh1 = grind (arith, nat_tests, test-lower_byte, digits_lower)
 
 and_regroup : (s t u v w : Bool) → (((((true && s) && t) && u) && v) && w) ≡ (s && ((t && (u && v)) && w))
-and_regroup true true u v w = refl
-and_regroup true false u v w = refl
-and_regroup false t u v w = refl
+and_regroup s t u v w = grind (arith, nat_tests)
 
 letters_are_small : (k : ℕ) → lower (take k (codes "gi7eba")) ≡ take k (codes "gi7eba")
 unfolding lower_byte
@@ -257,9 +218,7 @@ hashed_name k w eight few =
     rw (eight_small, stem, number, tilde, first, rest, letters_are_small k) (and_regroup (bytes_eq (lower (take k w)) (take k (codes "gi7eba"))) (slice_index (lower w) k == byte "~") (nat_le (byte "1") (slice_index (lower w) (k + 1))) (nat_le (slice_index (lower w) (k + 1)) (byte "9")) (list_all is_digit (drop (k + 2) (lower w))))
 
 not_whole : (w : List ℕ) → length w ≡ 8 → bytes_eq w (codes ".gitmodules") ≡ false
-not_whole w eight = false_from_ne_true _ (λ h.
-    let e = ap length ((bytes_eq-Decides w (codes ".gitmodules")).0 h) in
-    omega arith)
+not_whole w eight = grind (arith, nat_tests, false_from_ne_true, bytes_eq-Decides)
 
 pub eight_is_short : (w : List ℕ) → length w ≡ 8 → is_modules_form (lower w) ≡ (list_any (λ digit. bytes_eq (lower w) (codes "gitmod~" ++ digit ∷ [])) (codes "1234") || list_any (λ k. is_short_name k (lower w)) (range_with_len 0 7))
 unfolding is_modules_form

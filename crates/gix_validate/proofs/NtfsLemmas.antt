@@ -9,6 +9,7 @@ use Rattle.gix_validate.specs.Ntfs.{ntfs_form, is_git_form}
 use Rattle.gix_validate.specs.Ordinary.{stays_in_form}
 use Rattle.gix_validate.proofs.FormLemmas.{form_at}
 use Rattle.gix_validate.proofs.WordLemmas.{ntfs_keeps, other_head, form_left, form_all_left, form_word_then, form_word_not}
+use Rattle.std.proofs.lemmas.Bool.Decides.{nat_tests}
 
 abbrev pub is_cut : ℕ → Bool
 is_cut b = is_among (codes ":\\") b
@@ -42,8 +43,7 @@ ntfs_word_not = form_word_not is_cut is_trimmed ntfs_keeps
 
 dot_before : (f : List ℕ) (w : ℕ) (ws : List ℕ) → bytes_eq (lower (cond (is_empty f) [] (46 ∷ f))) (46 ∷ w ∷ ws) ≡ bytes_eq (lower f) (w ∷ ws)
 unfolding lower_byte
-dot_before [] w ws = refl
-dot_before (c ∷ f) w ws = refl
+dot_before f w ws = grind (arith, nat_tests)
 
 -- a dot in front stays where something of the form follows it
 pub dot_stays : (x : List ℕ) (w : ℕ) (ws : List ℕ) → bytes_eq (lower (ntfs_form (46 ∷ x))) (46 ∷ w ∷ ws) ≡ bytes_eq (lower (ntfs_form x)) (w ∷ ws)
@@ -60,10 +60,7 @@ dot_is_no_letter = refl
 
 pub git_at_dot : (x : List ℕ) → 1 ≤ length x → get_or x 0 0 ≡ byte "." → is_git_form (lower (ntfs_form x)) ≡ bytes_eq (lower (ntfs_form (drop 1 x))) (codes "git")
 unfolding is_git_form
-git_at_dot [] some first = absurd (omega arith)
-git_at_dot (b ∷ x) some first =
-    rw (first, dot_stays x (byte "g") (codes "it"), ntfs_other 46 x (byte "g") (codes "it~1") dot_is_no_letter)
-    (or-false (bytes_eq (lower (ntfs_form x)) (codes "git")))
+git_at_dot x hh1 hh2 = grind (arith, nat_tests, dot_stays, ntfs_other, dot_is_no_letter, or-false)
 
 pub git_at_letter : (x : List ℕ) → 1 ≤ length x → eqb (lower_byte (get_or x 0 0)) (byte ".") ≡ false → is_git_form (lower (ntfs_form x)) ≡ bytes_eq (lower (ntfs_form x)) (codes "git~1")
 unfolding is_git_form
@@ -77,5 +74,4 @@ git_elsewhere (b ∷ x) some no_dot no_letter = rw (ntfs_other b x (byte ".") (c
 
 pub git_of_none : (x : List ℕ) → length x < 1 → is_git_form (lower (ntfs_form x)) ≡ false
 unfolding is_git_form ntfs_form
-git_of_none [] none = refl
-git_of_none (b ∷ x) none = absurd (omega arith)
+git_of_none x hh1 = grind (arith, nat_tests)

@@ -1,43 +1,41 @@
 -- Ordinary names: no condition but the one on devices refuses one.
-use Rattle.std.proofs.Common.{◌≡◌, ◌≢◌, ℕ, zero, suc, ◌+◌, ◌-◌, ◌<◌, ◌≤◌, Bool, true, false, not, ◌&&◌, ◌||◌, cond, eqb, is_some, Option, Some, None, List, [], ◌∷◌, ◌++◌, length, take, get_or, refl, sym, ap, ap₂, ◌∙◌, arith, codes, inl, inr}
-use Rattle.std.specs.Prelude.{slice_index, nat_le, drop}
+use Rattle.std.proofs.Common.{◌≡◌, ℕ, zero, suc, ◌-◌, ◌<◌, Bool, true, false, not, ◌&&◌, ◌||◌, eqb, Option, Some, List, [], ◌∷◌, ◌++◌, length, take, get_or, refl, sym, ap, ap₂, ◌∙◌, arith, codes, inl, inr}
+use Rattle.std.specs.Prelude.{slice_index}
 use Rattle.std.specs.Bool.{◌==◌}
-use Rattle.std.specs.List.{list_any, list_all, before_first, position_or_len, suffix_len}
+use Rattle.std.specs.List.{list_any, before_first, position_or_len, suffix_len}
 use Rattle.std.specs.Str.{byte, bytes_eq}
-use Rattle.std.proofs.lemmas.Bool.{cases_Bool, both_ways, and_parts, or_parts, not-true, false≢true, eqb-true, ne_eqb}
-use Rattle.std.proofs.lemmas.Bool.Decides.{nat_tests}
+use Rattle.std.proofs.lemmas.Bool.{cases_Bool, false_from_ne_true, both_ways, and_parts, or_parts, not-true, false≢true, eqb-true, ne_eqb}
 use Rattle.std.proofs.lemmas.Slice.Eq.{bytes_eq-Decides}
-use Rattle.gix_validate.specs.declared.path.ComponentError.TheVariants.{WindowsReservedName, DotGitDir}
+use Rattle.gix_validate.specs.declared.path.ComponentError.TheVariants.{PathSeparator, WindowsReservedName, DotGitDir}
 use Rattle.gix_validate.specs.declared.path.ComponentOptions.{ComponentOptions}
 use Rattle.gix_validate.specs.declared.path.ComponentMode.{ComponentMode}
-use Rattle.gix_validate.specs.Bytes.{is_empty, is_among, begins, ends, lower, lower_byte}
-use Rattle.gix_validate.specs.Faults.{when, first_of, ◌orelse◌}
+use Rattle.gix_validate.specs.Bytes.{is_empty, is_among, ends, lower, lower_byte}
+use Rattle.gix_validate.specs.Faults.{when, first_of}
 use Rattle.gix_validate.specs.Units.{first_unit_len, whole_sequences}
 use Rattle.gix_validate.specs.Hfs.{hfs_form, is_ignored}
-use Rattle.gix_validate.specs.Ntfs.{ntfs_form, is_git_form, is_modules_form, is_short_name, is_digit}
+use Rattle.gix_validate.specs.Ntfs.{ntfs_form, is_git_form, is_modules_form, is_short_name}
 use Rattle.gix_validate.specs.Windows.{device_form, devices, is_device, is_device_form, is_illegal, is_illegal_byte}
 use Rattle.gix_validate.specs.Component.{conditions, fault_of}
 use Rattle.gix_validate.specs.Ordinary.{is_lead, is_noted, is_ordinary}
 use Rattle.gix_validate.proofs.LetterLemmas.{eqb_turned}
 use Rattle.gix_validate.proofs.ComponentLaws.{case_law}
-use Rattle.gix_validate.proofs.CaseLemmas.{test-lower_byte, list_any-lower}
-use Rattle.gix_validate.proofs.NtfsLemmas.{ntfs_other}
+use Rattle.gix_validate.proofs.CaseLemmas.{list_any-lower}
+use Rattle.gix_validate.proofs.TagEnds.{ends_read}
+use Rattle.std.proofs.lemmas.List.{take_all}
+use Rattle.std.proofs.lemmas.List.Sums.{position_or_len_is, suffix_len_is}
 use Rattle.gix_validate.proofs.UnitLemmas.{hfs_form-none, hfs_form-one, hfs_form-two, hfs_form-more}
+use Rattle.std.proofs.lemmas.Bool.Decides.{nat_tests}
 
 -- ---- tests that no byte passes
 
 any_weaker : (p q : ℕ → Bool) → ((b : ℕ) → p b ≡ false → q b ≡ false) → (x : List ℕ) → list_any p x ≡ false → list_any q x ≡ false
-any_weaker p q less [] none = refl
-any_weaker p q less (b ∷ x) none =
-    let parts = or_parts (p b) (list_any p x) none in
-    ap₂ (λ v w. v || w) (less b parts.0) (any_weaker p q less x parts.1)
+any_weaker p q less [] none = grind (arith, nat_tests)
+any_weaker p q less (b ∷ x) none = grind (arith, nat_tests, or_parts, any_weaker p q less x)
 
 any_take : (p : ℕ → Bool) (n : ℕ) (x : List ℕ) → list_any p x ≡ false → list_any p (take n x) ≡ false
-any_take p zero x none = refl
-any_take p (suc n) [] none = refl
-any_take p (suc n) (b ∷ x) none =
-    let parts = or_parts (p b) (list_any p x) none in
-    ap₂ (λ v w. v || w) parts.0 (any_take p n x parts.1)
+any_take p zero x none = grind (arith, nat_tests)
+any_take p (suc n) [] none = grind (arith, nat_tests)
+any_take p (suc n) (b ∷ x) none = grind (arith, nat_tests, or_parts, any_take p n x)
 
 any_at : (p : ℕ → Bool) → p 0 ≡ false → (x : List ℕ) (n : ℕ) → list_any p x ≡ false → p (get_or x n 0) ≡ false
 any_at p off [] n none = off
@@ -85,75 +83,52 @@ legal_no_prefix x legal = any_at (λ b. b == byte ":") refl x (first_unit_len x)
 
 unled : (a b c : ℕ) → is_lead a ≡ false → is_ignored a b c ≡ false
 unfolding is_ignored
-unled a b c none =
-    let parts = or_parts (a == 0xE2) (a == 0xEF) none in
-    rw (parts.0, parts.1) refl
+unled a b c none = grind (arith, nat_tests, or_parts)
 
 pub hfs_form-same : (x : List ℕ) → list_any is_lead x ≡ false → hfs_form x ≡ x
-hfs_form-same [] none = hfs_form-none
-hfs_form-same (a ∷ []) none = hfs_form-one a
-hfs_form-same (a ∷ b ∷ []) none = hfs_form-two a b
-hfs_form-same (a ∷ b ∷ c ∷ x) none =
-    let parts = or_parts (is_lead a) (list_any is_lead (b ∷ c ∷ x)) none in
-    hfs_form-more a b c x
-    ∙ ap (λ v. cond v (hfs_form x) (a ∷ hfs_form (b ∷ c ∷ x))) (unled a b c parts.0)
-    ∙ ap (λ y. a ∷ y) (hfs_form-same (b ∷ c ∷ x) parts.1)
+hfs_form-same [] none = grind (arith, nat_tests, hfs_form-none)
+hfs_form-same (a ∷ []) none = grind (arith, nat_tests, hfs_form-one)
+hfs_form-same (a ∷ b ∷ []) none = grind (arith, nat_tests, hfs_form-two)
+hfs_form-same (a ∷ b ∷ c ∷ x) none = grind (arith, nat_tests, or_parts, hfs_form-more, unled, hfs_form-same (b ∷ c ∷ x))
 
 -- ---- the NTFS form
 
 is_tilde : ℕ → Bool
 is_tilde b = b == byte "~"
 
-form_no_tilde : (x : List ℕ) → list_any is_tilde x ≡ false → list_any is_tilde (lower (ntfs_form x)) ≡ false
-unfolding ntfs_form is_tilde
-form_no_tilde x none =
-    let cut = before_first (is_among (codes ":\\")) x in
-    list_any-lower is_tilde refl (ntfs_form x)
-    ∙ any_take is_tilde (length cut - suffix_len (is_among (codes " .")) cut) cut (any_take is_tilde (position_or_len (is_among (codes ":\\")) x) x none)
-
 other_word : (f word : List ℕ) → list_any is_tilde f ≡ false → list_any is_tilde word ≡ true → bytes_eq f word ≡ false
-other_word f word none some =
-    elim (cases_Bool (bytes_eq f word)) [
-      | inl e ↦ absurd (both_ways _ (sym (ap (list_any is_tilde) ((bytes_eq-Decides f word).0 e)) ∙ none) some)
-      | inr e ↦ e
-    ]
+other_word f word none some = grind (arith, nat_tests, cases_Bool, both_ways, is_tilde, bytes_eq-Decides)
 
 no_short_name : (k : ℕ) (f : List ℕ) → list_any is_tilde f ≡ false → is_short_name k f ≡ false
 unfolding is_tilde
-no_short_name k f none =
-    third
-    (length f == 8)
-    (bytes_eq (take k f) (take k (codes "gi7eba")))
-    (slice_index f k == byte "~")
-    (nat_le (byte "1") (slice_index f (k + 1)))
-    (nat_le (slice_index f (k + 1)) (byte "9"))
-    (list_all is_digit (drop (k + 2) f))
-    (any_at is_tilde refl f k none)
-  where
-    third : (a b t c d e : Bool) → t ≡ false → (((((a && b) && t) && c) && d) && e) ≡ false
-    third true true t c d e off = rw off refl
-    third true false t c d e off = refl
-    third false b t c d e off = refl
+no_short_name k f none = grind (arith, nat_tests, any_at, is_tilde)
 
-ordinary_no_git : (b : ℕ) (x : List ℕ) → eqb (lower_byte b) (byte ".") ≡ false → list_any is_tilde (b ∷ x) ≡ false → is_git_form (lower (ntfs_form (b ∷ x))) ≡ false
+-- a form from which nothing is cut
+form_same : (x : List ℕ) → 0 < length x → list_any (is_among (codes ":\\")) x ≡ false → is_among (codes " .") (get_or x (length x - 1) 0) ≡ false → ntfs_form x ≡ x
+unfolding ntfs_form
+form_same x some none last =
+    let cut = is_among (codes ":\\") in
+    let trimmed = is_among (codes " .") in
+    let all : position_or_len cut x ≡ length x = position_or_len_is cut x (length x) 0 (omega arith) (λ k h. any_at cut refl x k none) (λ h. absurd (omega arith)) in
+    let whole : before_first cut x ≡ x = ap (λ n. take n x) all ∙ take_all (length x) x (omega arith) in
+    let kept : suffix_len trimmed x ≡ length x - length x = suffix_len_is trimmed x (length x) 0 (omega arith) (λ k from to. absurd (omega arith)) (λ _. last) in
+    ap (λ y. take (length y - suffix_len trimmed y) y) whole ∙ take_all (length x - suffix_len trimmed x) x (omega arith)
+
+no_git_form : (f : List ℕ) → list_any is_tilde f ≡ false → bytes_eq f (codes ".git") ≡ false → is_git_form f ≡ false
 unfolding is_git_form is_tilde
-ordinary_no_git b x no_dot none =
-    ap₂ (λ v w. v || w) (ntfs_other b x (byte ".") (codes "git") no_dot) (other_word (lower (ntfs_form (b ∷ x))) (codes "git~1") (form_no_tilde (b ∷ x) none) refl)
+no_git_form f clean other = ap₂ (λ v w. v || w) other (other_word f (codes "git~1") clean refl)
 
-ordinary_no_modules : (b : ℕ) (x : List ℕ) → eqb (lower_byte b) (byte ".") ≡ false → list_any is_tilde (b ∷ x) ≡ false → is_modules_form (lower (ntfs_form (b ∷ x))) ≡ false
+no_modules_form : (f : List ℕ) → list_any is_tilde f ≡ false → bytes_eq f (codes ".gitmodules") ≡ false → is_modules_form f ≡ false
 unfolding is_modules_form is_tilde
-ordinary_no_modules b x no_dot none =
-    let f = lower (ntfs_form (b ∷ x)) in
-    let clean = form_no_tilde (b ∷ x) none in
+no_modules_form f clean other =
     ap₂ (λ v w. v || w)
-    (ap₂ (λ v w. v || w) (ntfs_other b x (byte ".") (codes "gitmodules") no_dot) (any_never (λ digit. bytes_eq f (codes "gitmod~" ++ digit ∷ [])) (λ digit. other_word f (codes "gitmod~" ++ digit ∷ []) clean refl) (codes "1234")))
+    (ap₂ (λ v w. v || w) other (any_never (λ digit. bytes_eq f (codes "gitmod~" ++ digit ∷ [])) (λ digit. other_word f (codes "gitmod~" ++ digit ∷ []) clean refl) (codes "1234")))
     (any_never (λ k. is_short_name k f) (λ k. no_short_name k f clean) (0 ∷ 1 ∷ 2 ∷ 3 ∷ 4 ∷ 5 ∷ 6 ∷ []))
 
 -- ---- the table of conditions
 
 and_no : (s t : Bool) → t ≡ false → (s && t) ≡ false
-and_no true t off = off
-and_no false t off = refl
+and_no s t hh1 = grind (arith, nat_tests)
 
 only_device : (windows hfs ntfs symlink : Bool) (x : List ℕ)
     → is_empty x ≡ false
@@ -169,125 +144,85 @@ only_device : (windows hfs ntfs symlink : Bool) (x : List ℕ)
     → (not hfs && not ntfs && symlink && bytes_eq (lower x) (codes ".gitmodules")) ≡ false
     → first_of (conditions ntfs_form windows hfs ntfs symlink x) ≡ when (windows && ntfs && is_device x) WindowsReservedName
 unfolding conditions
-only_device windows hfs ntfs symlink x a b c d e f g h i j k = rw (a, b, c, d, e, f, g, h, i, j, k) (alone (windows && ntfs && is_device x))
-  where
-    alone : (t : Bool) → (when t WindowsReservedName orelse None) ≡ when t WindowsReservedName
-    alone true = refl
-    alone false = refl
+only_device windows hfs ntfs symlink x a b c d e f g h i j k = grind (arith, nat_tests)
 
 -- what an ordinary name has
-record HasNoFault (b : ℕ) (x : List ℕ) : Type 0 where
-  no_dot : eqb b (byte ".") ≡ false
-  good_end : (ends (b ∷ x) (codes ".") || ends (b ∷ x) (codes " ")) ≡ false
-  none : list_any is_noted (b ∷ x) ≡ false
+record HasNoFault (x : List ℕ) : Type 0 where
+  good_end : (ends x (codes ".") || ends x (codes " ")) ≡ false
+  none : list_any is_noted x ≡ false
+  no_git : bytes_eq (lower x) (codes ".git") ≡ false
+  no_modules : bytes_eq (lower x) (codes ".gitmodules") ≡ false
 
-first_no_dot : (b : ℕ) (ws x : List ℕ) → eqb b (byte ".") ≡ false → bytes_eq (b ∷ x) (byte "." ∷ ws) ≡ false
-first_no_dot b ws x other = ap (λ v. v && bytes_eq x ws) other
+-- a text that ends otherwise is another text
+other_end : (x word : List ℕ) → ends word (codes ".") ≡ true → ends x (codes ".") ≡ false → bytes_eq x word ≡ false
+other_end x word end other = false_from_ne_true _ (λ e. both_ways _ other (ap (λ y. ends y (codes ".")) ((bytes_eq-Decides x word).0 e) ∙ end))
 
-small_no_dot : (b : ℕ) → eqb b (byte ".") ≡ false → eqb (lower_byte b) (byte ".") ≡ false
-small_no_dot b other = test-lower_byte (λ c. c == byte ".") refl b ∙ other
+note_cut : (b : ℕ) → is_noted b ≡ false → is_among (codes ":\\") b ≡ false
+note_cut b none = ap₂ (λ v w. v || (w || false)) (colon_is_illegal b (note_illegal b none)) (eqb_turned b 92 ∙ note_backslash b none)
 
-ordinary_is : (windows hfs ntfs symlink : Bool) (b : ℕ) (x : List ℕ) → HasNoFault b x → first_of (conditions ntfs_form windows hfs ntfs symlink (b ∷ x)) ≡ when (windows && ntfs && is_device (b ∷ x)) WindowsReservedName
+ordinary_is : (windows hfs ntfs symlink : Bool) (b : ℕ) (t : List ℕ) → HasNoFault (b ∷ t) → first_of (conditions ntfs_form windows hfs ntfs symlink (b ∷ t)) ≡ when (windows && ntfs && is_device (b ∷ t)) WindowsReservedName
 unfolding is_illegal is_tilde
-ordinary_is windows hfs ntfs symlink b x has =
-    let y = b ∷ x in
-    let small = small_no_dot b has.no_dot in
+ordinary_is windows hfs ntfs symlink b t has =
+    let y = b ∷ t in
+    let some : 0 < length y = omega arith in
+    let end = or_parts (ends y (codes ".")) (ends y (codes " ")) has.good_end in
     let legal = any_weaker is_noted is_illegal_byte note_illegal y has.none in
     let tilde = any_weaker is_noted is_tilde note_tilde y has.none in
     let slash = any_weaker is_noted (λ c. byte "/" == c) note_slash y has.none in
     let backslash = any_weaker is_noted (λ c. byte "\\" == c) note_backslash y has.none in
-    let form = ap lower (hfs_form-same y (any_weaker is_noted is_lead note_lead y has.none)) in
-    let git = first_no_dot (lower_byte b) (codes "git") (lower x) small in
-    let modules = first_no_dot (lower_byte b) (codes "gitmodules") (lower x) small in
+    let hfs_same = ap lower (hfs_form-same y (any_weaker is_noted is_lead note_lead y has.none)) in
+    let last = ap₂ (λ v w. v || (w || false)) (sym (ends_read y 32 some) ∙ end.1) (sym (ends_read y 46 some) ∙ end.0) in
+    let ntfs_same = ap lower (form_same y some (any_weaker is_noted (is_among (codes ":\\")) note_cut y has.none) last) in
+    let clean : list_any is_tilde (lower y) ≡ false = list_any-lower is_tilde refl y ∙ tilde in
     only_device windows hfs ntfs symlink y
     refl
-    (ap₂ (λ v w. v || w) (first_no_dot b [] x has.no_dot) (first_no_dot b (codes ".") x has.no_dot))
+    (ap₂ (λ v w. v || w) (other_end y (codes ".") refl end.0) (other_end y (codes "..") refl end.0))
     (ap₂ (λ v w. v || w) slash (and_no windows _ backslash))
     (and_no windows _ (legal_no_prefix y legal))
-    (and_no hfs _ (ap (λ f. bytes_eq f (codes ".git")) form ∙ git))
-    (and_no (hfs && symlink) _ (ap (λ f. bytes_eq f (codes ".gitmodules")) form ∙ modules))
-    (and_no ntfs _ (ordinary_no_git b x small tilde))
-    (and_no (ntfs && symlink) _ (ordinary_no_modules b x small tilde))
+    (and_no hfs _ (ap (λ f. bytes_eq f (codes ".git")) hfs_same ∙ has.no_git))
+    (and_no (hfs && symlink) _ (ap (λ f. bytes_eq f (codes ".gitmodules")) hfs_same ∙ has.no_modules))
+    (and_no ntfs _ (ap is_git_form ntfs_same ∙ no_git_form (lower y) clean has.no_git))
+    (and_no (ntfs && symlink) _ (ap is_modules_form ntfs_same ∙ no_modules_form (lower y) clean has.no_modules))
     (and_no (windows && ntfs) _ (ap₂ (λ v w. v || w) legal has.good_end))
-    (and_no (not hfs && not ntfs) _ git)
-    (and_no (not hfs && not ntfs && symlink) _ modules)
+    (and_no (not hfs && not ntfs) _ has.no_git)
+    (and_no (not hfs && not ntfs && symlink) _ has.no_modules)
 
 -- the parts of the test
-parts : (b : ℕ) (x : List ℕ) → is_ordinary (b ∷ x) ≡ true → HasNoFault b x
+parts : (b : ℕ) (x : List ℕ) → is_ordinary (b ∷ x) ≡ true → HasNoFault (b ∷ x)
 unfolding is_ordinary
-parts b x ordinary =
-    let begin = begins (b ∷ x) (codes ".") in
-    let end = ends (b ∷ x) (codes ".") || ends (b ∷ x) (codes " ") in
-    let noted = list_any is_noted (b ∷ x) in
-    let all = and_parts (not begin && not end) (not noted) ordinary in
-    let front = and_parts (not begin) (not end) all.0 in
-    record {
-      no_dot = other b (not-true begin front.0);
-      good_end = not-true end front.1;
-      none = not-true noted all.1;
-    }
-  where
-    other : (b : ℕ) → (eqb (byte ".") b && true) ≡ false → eqb b (byte ".") ≡ false
-    other b off = grind (arith, nat_tests)
+parts b x ordinary = grind (arith, nat_tests, and_parts, not-true)
 
 pub ordinary_fault : (options : ComponentOptions) (mode : Option ComponentMode) (x : List ℕ) → is_ordinary x ≡ true → fault_of options mode x ≡ when (options.protect_windows && options.protect_ntfs && is_device x) WindowsReservedName
 unfolding fault_of is_ordinary
-ordinary_fault options mode [] ordinary = absurd (false≢true ordinary)
-ordinary_fault options mode (b ∷ x) ordinary = ordinary_is options.protect_windows options.protect_hfs options.protect_ntfs (is_some mode) b x (parts b x ordinary)
+ordinary_fault options mode x hh1 = grind (arith, nat_tests, false≢true, ordinary_is, parts)
 
 -- ---- the test by its parts
 
-pub ordinary_empty : (x : List ℕ) → length x < 1 → is_ordinary x ≡ false
+pub ordinary_by_looks : (x : List ℕ)
+    → is_ordinary x ≡ ((((not (eqb (length x) 0) && not (ends x (codes ".") || ends x (codes " "))) && not (list_any is_noted x)) && not (bytes_eq (lower x) (codes ".git"))) && not (bytes_eq (lower x) (codes ".gitmodules")))
 unfolding is_ordinary
-ordinary_empty [] none = refl
-ordinary_empty (b ∷ x) none = absurd (omega arith)
-
-pub ordinary_dot : (x : List ℕ) → 1 ≤ length x → get_or x 0 0 ≡ byte "." → is_ordinary x ≡ false
-unfolding is_ordinary
-ordinary_dot [] some dot = absurd (omega arith)
-ordinary_dot (b ∷ x) some dot = rw dot refl
-
-pub ordinary_else : (x : List ℕ) → 1 ≤ length x → get_or x 0 0 ≢ byte "." → is_ordinary x ≡ (not (ends x (codes ".") || ends x (codes " ")) && not (list_any is_noted x))
-unfolding is_ordinary
-ordinary_else [] some other = absurd (omega arith)
-ordinary_else (b ∷ x) some other = rw (ne_eqb (byte ".") b (λ e. other (sym e))) refl
-
-pub ordinary_seen : (x : List ℕ) (nothing bad : Bool) → 1 ≤ length x → get_or x 0 0 ≢ byte "." → not (list_any is_noted x) ≡ nothing → bad ≡ (ends x (codes ".") || ends x (codes " ")) → (nothing && not bad) ≡ is_ordinary x
-ordinary_seen x nothing bad some other seen end =
-    turned nothing (not bad)
-    ∙ ap₂ (λ v w. v && w) (ap not end) (sym seen)
-    ∙ sym (ordinary_else x some other)
-  where
-    turned : (s t : Bool) → (s && t) ≡ (t && s)
-    turned true true = refl
-    turned true false = refl
-    turned false true = refl
-    turned false false = refl
+ordinary_by_looks x = grind (arith, nat_tests, ne_eqb)
 
 -- ---- `.git` in any letter case
 
 plain_git : (windows hfs ntfs symlink : Bool) → first_of (conditions ntfs_form windows hfs ntfs symlink (codes ".git")) ≡ Some DotGitDir
 unfolding conditions first_unit_len whole_sequences hfs_form is_ignored ntfs_form is_git_form is_modules_form is_device is_device_form device_form devices is_illegal is_illegal_byte lower_byte
-plain_git true true true true = refl
-plain_git true true true false = refl
-plain_git true true false true = refl
-plain_git true true false false = refl
-plain_git true false true true = refl
-plain_git true false true false = refl
-plain_git true false false true = refl
-plain_git true false false false = refl
-plain_git false true true true = refl
-plain_git false true true false = refl
-plain_git false true false true = refl
-plain_git false true false false = refl
-plain_git false false true true = refl
-plain_git false false true false = refl
-plain_git false false false true = refl
-plain_git false false false false = refl
+plain_git windows hfs ntfs symlink = grind (arith, nat_tests)
 
 pub git_fault : (options : ComponentOptions) (mode : Option ComponentMode) (x : List ℕ) → bytes_eq (lower x) (codes ".git") ≡ true → fault_of options mode x ≡ Some DotGitDir
 unfolding fault_of
-git_fault options mode x git =
-    case_law options mode x
-    ∙ ap (fault_of options mode) ((bytes_eq-Decides (lower x) (codes ".git")).0 git)
-    ∙ plain_git options.protect_windows options.protect_hfs options.protect_ntfs (is_some mode)
+git_fault options mode x git = grind (arith, nat_tests, case_law, bytes_eq-Decides, plain_git)
+
+-- ---- a slash in a long name
+
+slash_turned : (x : List ℕ) → is_among x (byte "/") ≡ list_any (λ b. b == byte "/") x
+slash_turned [] = refl
+slash_turned (b ∷ x) = ap₂ (λ v w. v || w) (eqb_turned (byte "/") b) (slash_turned x)
+
+long_slash : (windows hfs ntfs symlink : Bool) (x : List ℕ) → 64 < length x → is_among x (byte "/") ≡ true → first_of (conditions ntfs_form windows hfs ntfs symlink x) ≡ Some PathSeparator
+unfolding conditions
+long_slash windows hfs ntfs symlink x hh1 hh2 = grind (arith, nat_tests, false_from_ne_true, bytes_eq-Decides)
+
+pub slash_fault : (options : ComponentOptions) (mode : Option ComponentMode) (x : List ℕ) → 64 < length x → list_any (λ b. b == byte "/") x ≡ true → fault_of options mode x ≡ Some PathSeparator
+unfolding fault_of
+slash_fault options mode x long slash = grind (arith, nat_tests, long_slash, slash_turned)

@@ -7,18 +7,17 @@ use Rattle.std.proofs.lemmas.List.{take_more, get_or-map, length-map}
 use Rattle.std.proofs.lemmas.List.Sums.{sum_by-cons}
 use Rattle.std.proofs.lemmas.List.Elements.{All-map}
 use Rattle.std.proofs.lemmas.List.Sums.{list_all-from_AllPass}
-use Rattle.bstr.specs.declared.bstr.BStr.{BStr}
-use Rattle.bstr.specs.BStr.{bstr_bytes}
 use Rattle.gix_validate.specs.Pieces.{pieces, joined, has_no_slash}
 use Rattle.gix_validate.specs.Component.{fault_of}
 use Rattle.gix_validate.specs.ComponentLaws.{no_protections, IsBasicName}
 use Rattle.gix_validate.proofs.PiecesLemmas.{pieces-joined}
 use Rattle.gix_validate.proofs.ComponentLaws.{basic_law}
+use Rattle.std.proofs.lemmas.Bool.Decides.{nat_tests}
+use Rattle.std.proofs.lemmas.Grind.{common_steps}
 
 joined-push : (text : List ℕ) (texts : List (List ℕ)) (last : List ℕ) → joined (text ∷ (texts ++ last ∷ [])) ≡ joined (text ∷ texts) ++ (byte "/" ∷ last)
-joined-push text [] last = refl
-joined-push text (next ∷ texts) last =
-    rw (append_assoc text (byte "/" ∷ joined (next ∷ texts)) (byte "/" ∷ last)) (ap (λ rest. text ++ (byte "/" ∷ rest)) (joined-push next texts last))
+joined-push text [] last = grind (arith, nat_tests)
+joined-push text (next ∷ texts) last = grind (arith, nat_tests, append_assoc, joined-push next texts last)
 
 -- The first text stands alone.
 pub joined_first : (texts : List (List ℕ)) (d : List ℕ) → 0 < length texts → joined (take (0 + 1) texts) ≡ get_or texts 0 d
@@ -34,22 +33,18 @@ joined_more (text ∷ texts) (suc i) d later within =
 
 -- The first texts joined are no longer than all.
 pub joined-take-le : (texts : List (List ℕ)) (i : ℕ) → length (joined (take i texts)) ≤ length (joined texts)
-joined-take-le texts zero = omega arith
-joined-take-le [] (suc i) = omega arith
-joined-take-le (text ∷ []) (suc zero) = omega arith
-joined-take-le (text ∷ []) (suc (suc i)) = omega arith
-joined-take-le (text ∷ next ∷ texts) (suc zero) = omega (arith, length-append text (byte "/" ∷ joined (next ∷ texts)))
-joined-take-le (text ∷ next ∷ texts) (suc (suc i)) =
-    let less = joined-take-le (next ∷ texts) (suc i) in
-    omega (arith, length-append text (byte "/" ∷ joined (next ∷ texts)), length-append text (byte "/" ∷ joined (next ∷ take i texts)))
+joined-take-le texts zero = grind (arith, nat_tests)
+joined-take-le [] (suc i) = grind (arith, nat_tests)
+joined-take-le (text ∷ []) (suc zero) = grind (arith, nat_tests)
+joined-take-le (text ∷ []) (suc (suc i)) = grind (arith, nat_tests)
+joined-take-le (text ∷ next ∷ texts) (suc zero) = grind (arith, nat_tests, length-append)
+joined-take-le (text ∷ next ∷ texts) (suc (suc i)) = grind (arith, nat_tests, length-append, joined-take-le (next ∷ texts) (suc i))
 
 -- The texts and a slash between each two.
 pub length-joined : {X : Type 0} (f : X → List ℕ) (xs : List X) → 0 < length xs → length (joined (map f xs)) ≡ (length xs - 1) + sum_by (λ x. length (f x)) xs
-length-joined f [] some = absurd (omega arith)
-length-joined f (x ∷ []) some = omega arith
-length-joined f (x ∷ y ∷ xs) some =
-    let rest = length-joined f (y ∷ xs) (omega arith) in
-    omega (arith, length-append (f x) (byte "/" ∷ joined (map f (y ∷ xs))), sum_by-cons (λ z. length (f z)) x (y ∷ xs))
+length-joined f [] some = grind (arith, common_steps)
+length-joined f (x ∷ []) some = grind (arith, common_steps)
+length-joined f (x ∷ y ∷ xs) some = grind (arith, common_steps, length-append, sum_by-cons, length-joined f (y ∷ xs))
 
 text_at : {X : Type 0} (f : X → List ℕ) (xs : List X) (i : ℕ) (d : X) → i < length xs → get_or (map f xs) i [] ≡ f (get_or xs i d)
 text_at f xs i d within = get_or-map f xs i d [] within
@@ -59,11 +54,7 @@ within-map f xs i within = omega (arith, length-map xs f)
 
 -- What a text holds once the first item is written to it.
 pub written_first : {X : Type 0} (f : X → List ℕ) (xs : List X) (i : ℕ) (d : X) (start text : List ℕ) → i ≤ 0 → i < length xs → text ≡ start ++ joined (take i (map f xs)) → text ++ f (get_or xs i d) ≡ start ++ joined (take (i + 1) (map f xs))
-written_first f xs i d start text none within written =
-    let at : i ≡ 0 = omega arith in
-    let first : joined (take (i + 1) (map f xs)) ≡ f (get_or xs i d) = rw at (joined_first (map f xs) [] (within-map f xs 0 (omega arith)) ∙ text_at f xs 0 d (omega arith)) in
-    let before : text ≡ start = written ∙ ap (λ n. start ++ joined (take n (map f xs))) at ∙ append-nil start in
-    rw (first, before)
+written_first f xs i d start text none within written = grind (arith, common_steps, joined_first, within-map, text_at, append-nil)
 
 -- What it holds once a slash and a later item are.
 pub written_more : {X : Type 0} (f : X → List ℕ) (xs : List X) (i : ℕ) (d : X) (start text : List ℕ) → 0 < i → i < length xs → text ≡ start ++ joined (take i (map f xs)) → (text ++ byte "/" ∷ []) ++ f (get_or xs i d) ≡ start ++ joined (take (i + 1) (map f xs))
@@ -74,9 +65,7 @@ written_more f xs i d start text later within written =
 
 -- The room that is needed for all is enough at each item.
 pub fits_first : {X : Type 0} (f : X → List ℕ) (xs : List X) (i : ℕ) (d : X) (start text : List ℕ) → i ≤ 0 → i < length xs → text ≡ start ++ joined (take i (map f xs)) → length text + length (f (get_or xs i d)) ≤ length start + length (joined (map f xs))
-fits_first f xs i d start text none within written =
-    let after = ap length (written_first f xs i d start text none within written) in
-    omega (arith, after, joined-take-le (map f xs) (i + 1), length-append text (f (get_or xs i d)), length-append start (joined (take (i + 1) (map f xs))))
+fits_first f xs i d start text none within written = grind (arith, common_steps, written_first, joined-take-le, length-append)
 
 pub fits_more : {X : Type 0} (f : X → List ℕ) (xs : List X) (i : ℕ) (d : X) (start text : List ℕ) → 0 < i → i < length xs → text ≡ start ++ joined (take i (map f xs)) → length text + 1 + length (f (get_or xs i d)) ≤ length start + length (joined (map f xs))
 fits_more f xs i d start text later within written =
@@ -97,18 +86,3 @@ apart texts basic = list_all-from_AllPass has_no_slash texts (λ k d within. (ba
 -- The pieces of what they join to are the parts.
 pub pieces-joined_parts : {X : Type 0} (f : X → List ℕ) (xs : List X) → 0 < length xs → All (λ x. fault_of no_protections None (f x) ≡ None) xs → pieces (joined (map f xs)) ≡ map f xs
 pieces-joined_parts f xs some accepted = pieces-joined (map f xs) (map-some f xs some) (apart (map f xs) (All-IsBasicName_parts f xs accepted))
-
-at_either : {X : Type 0} (P : X → Type 0) (x : X) (xs : List X) → P x → All P xs → (k : ℕ) (d : X) → k < length (x ∷ xs) → P (get_or (x ∷ xs) k d)
-at_either P x xs first others zero d within = first
-at_either P x xs first others (suc k) d within = others k d (omega arith)
-
--- The parts are accepted under no switch.
-abbrev pub AreParts : List BStr → Type 0
-AreParts parts = All (λ part. fault_of no_protections None (bstr_bytes part) ≡ None) parts
-
-pub AreParts-none : AreParts []
-AreParts-none = λ k d within. absurd (omega arith)
-
--- A part whose bytes are a word that is accepted, before others.
-pub AreParts-cons : (part : BStr) (word : List ℕ) (parts : List BStr) → bstr_bytes part ≡ word → fault_of no_protections None word ≡ None → AreParts parts → AreParts (part ∷ parts)
-AreParts-cons part word parts same accepted others = at_either (λ p. fault_of no_protections None (bstr_bytes p) ≡ None) part parts (rw same accepted) others

@@ -2,18 +2,16 @@
 use Rattle.std.proofs.Common.{◌≡◌, ℕ, suc, zero, ◌+◌, ◌-◌, ◌<◌, ◌&&◌, refl, sym, ap, ◌∙◌, arith, Option, Some, None}
 use Rattle.std.specs.Prelude.{is_none}
 use Rattle.gix_validate.specs.Faults.{◌orelse◌, at_first_place}
+use Rattle.std.proofs.lemmas.Bool.Decides.{nat_tests}
 
 pub orelse_none : {A : Type 0} (a : Option A) → (a orelse None) ≡ a
-orelse_none None = refl
-orelse_none (Some x) = refl
+orelse_none a = grind (arith, nat_tests)
 
 pub orelse_assoc : {A : Type 0} (a b c : Option A) → ((a orelse b) orelse c) ≡ (a orelse (b orelse c))
-orelse_assoc None b c = refl
-orelse_assoc (Some x) b c = refl
+orelse_assoc a b c = grind (arith, nat_tests)
 
 pub is_none-orelse : {A : Type 0} (a b : Option A) → is_none (a orelse b) ≡ (is_none a && is_none b)
-is_none-orelse None b = refl
-is_none-orelse (Some x) b = refl
+is_none-orelse a b = grind (arith, nat_tests)
 
 pub at_first_place_more : {A : Type 0} (f : ℕ → Option A) (n : ℕ) → at_first_place f (suc n) ≡ (at_first_place f n orelse f n)
 unfolding at_first_place
@@ -26,18 +24,14 @@ at_first_place_none f = refl
 -- equal functions give the same
 pub at_first_place_same : {A : Type 0} (f g : ℕ → Option A) (n : ℕ) → ((i : ℕ) → i < n → f i ≡ g i) → at_first_place f n ≡ at_first_place g n
 unfolding at_first_place
-at_first_place_same f g zero h = refl
-at_first_place_same f g (suc n) h =
-    ap (λ a. a orelse f n) (at_first_place_same f g n (λ i inside. h i (omega arith)))
-    ∙ ap (λ a. at_first_place g n orelse a) (h n (omega arith))
+at_first_place_same f g zero h = grind (arith, nat_tests)
+at_first_place_same f g (suc n) h = grind (arith, nat_tests, at_first_place_same f g n)
 
 -- the place 0 first, then the others
 pub at_first_place_first : {A : Type 0} (f : ℕ → Option A) (n : ℕ) → at_first_place f (suc n) ≡ (f 0 orelse at_first_place (λ i. f (suc i)) n)
 unfolding at_first_place
-at_first_place_first f zero = sym (orelse_none (f 0))
-at_first_place_first f (suc n) =
-    ap (λ a. a orelse f (suc n)) (at_first_place_first f n)
-    ∙ orelse_assoc (f 0) (at_first_place (λ i. f (suc i)) n) (f (suc n))
+at_first_place_first f zero = grind (arith, nat_tests, orelse_none)
+at_first_place_first f (suc n) = grind (arith, nat_tests, orelse_assoc, at_first_place_first f n)
 
 -- what is found at a place with nothing below it is what all places give
 pub at_first_place_found : {A : Type 0} (f : ℕ → Option A) (i m : ℕ) (a : A) → at_first_place f i ≡ None → f i ≡ Some a → at_first_place f (m + suc i) ≡ Some a

@@ -1,7 +1,7 @@
 -- What the rules of partial, full and branch names give, case by case.
 use Rattle.std.proofs.Common.{◌≡◌, ◌≢◌, ℕ, Bool, true, false, ◌&&◌, not, IsTrue, List, [], ◌∷◌, Some, None, ◌↔◌, refl, inl, inr, ◌⊎◌, suc, arith}
 use Rattle.std.specs.Prelude.{codes, All, Contains}
-use Rattle.std.specs.List.{list_all, list_any}
+use Rattle.std.specs.List.{list_any}
 use Rattle.std.specs.Str.{byte, bytes_eq}
 use Rattle.std.proofs.lemmas.Bool.{false≢true, false_from_ne_true, both_ways, not-true, eqb-true, eq-eqb, or_cases, or_parts, and_parts, and_from, not_from_false}
 use Rattle.std.proofs.lemmas.Slice.Eq.{bytes_eq-Decides}
@@ -13,16 +13,14 @@ use Rattle.gix_validate.specs.declared.reference.NameError.TheVariants.{SomeLowe
 use Rattle.gix_validate.specs.Pieces.{is_slash}
 use Rattle.gix_validate.specs.Reference.{is_standalone_byte, has_slash_or_stands_alone, is_partial_name, is_full_name, is_branch_name, reserved, carried, partial_fault_of, full_fault_of, branch_fault_of}
 use Rattle.gix_validate.specs.Tag.{is_tag_name, fault_of}
+use Rattle.std.proofs.lemmas.Bool.Decides.{nat_tests}
 
 -- A text that is not another, as the test says it.
 differs : (x y : List ℕ) → x ≢ y → bytes_eq x y ≡ false
 differs x y h = false_from_ne_true _ (λ e. h ((bytes_eq-Decides x y).0 e))
 
 and_differs : (p : Bool) (x y : List ℕ) → IsTrue (p && not (bytes_eq x y)) ↔ (IsTrue p × (x ≢ y))
-and_differs p x y = (
-  λ t. ((and_parts _ _ t).0, λ e. both_ways _ (not-true _ (and_parts _ _ t).1) ((bytes_eq-Decides x y).1 e)),
-  λ t. and_from _ _ t.0 (not_from_false _ (differs x y t.1)),
-)
+and_differs p x y = grind (arith, nat_tests, and_parts, both_ways, not-true, bytes_eq-Decides, and_from, not_from_false, differs)
 
 -- The fault of a partial name.
 pub partial_of_tag : (x : List ℕ) (e : TagError) → fault_of x ≡ Some e → partial_fault_of x ≡ Some (carried e)
@@ -86,19 +84,10 @@ slash_in (b ∷ x) h =
     ]
 
 pub may_stand : (x : List ℕ) → has_slash_or_stands_alone x ≡ true → Contains x (byte "/") ⊎ All (λ b. IsTrue (is_standalone_byte b)) x
-may_stand x h =
-    elim (or_cases (list_any is_slash x) (list_all is_standalone_byte x) h) [
-      | inl e ↦ inl (slash_in x e)
-      | inr e ↦ inr (AllPass-from_list_all is_standalone_byte x e)
-    ]
+may_stand x h = grind (arith, nat_tests, or_cases, slash_in, AllPass-from_list_all)
 
 pub may_not_stand : (x : List ℕ) → has_slash_or_stands_alone x ≡ false → ¬ (Contains x (byte "/") ⊎ All (λ b. IsTrue (is_standalone_byte b)) x)
-may_not_stand x h t =
-    let neither = or_parts (list_any is_slash x) (list_all is_standalone_byte x) h in
-    elim t [
-      | inl w ↦ both_ways _ neither.0 (list_any_at is_slash x w.0 (byte "/") w.1 (eq-eqb _ _ w.2))
-      | inr w ↦ both_ways _ neither.1 (list_all-from_AllPass is_standalone_byte x w)
-    ]
+may_not_stand x h t = grind (arith, nat_tests, or_parts, both_ways, list_any_at, eq-eqb, list_all-from_AllPass)
 
 -- what `name_partial`, `name` and `branch_name` take from above
 pub ruleset partial_names = (partial_of_tag, partial_of_at, partial_of_none, partial_is)

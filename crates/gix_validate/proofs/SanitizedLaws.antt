@@ -1,6 +1,6 @@
 -- The laws of the sanitised text.
-use Rattle.std.proofs.Common.{◌≡◌, ◌≢◌, ◌⊎◌, inl, inr, ℕ, suc, ◌-◌, ◌≤◌, max, true, false, List, [], ◌∷◌, ◌++◌, length, take, map, refl, sym, ap, ◌∙◌, arith, subst, length-append, length-take}
-use Rattle.std.specs.Prelude.{codes, ◌&&◌, not, ◌↔◌, IsTrue, filter}
+use Rattle.std.proofs.Common.{◌≡◌, ◌≢◌, ◌⊎◌, inl, inr, ℕ, suc, ◌-◌, ◌≤◌, max, true, false, List, [], ◌∷◌, ◌++◌, length, take, map, refl, sym, ap, ◌∙◌, arith, length-append, length-take}
+use Rattle.std.specs.Prelude.{codes, not, ◌↔◌, IsTrue, filter}
 use Rattle.std.specs.List.{list_all}
 use Rattle.std.specs.Str.{byte, bytes_eq}
 use Rattle.std.proofs.lemmas.Bool.{and_parts, and_from, false≢true, not-true, not_from_false, cond_both, cond-false, false_from_ne_true}
@@ -15,6 +15,7 @@ use Rattle.gix_validate.proofs.Ends.{ends-false}
 use Rattle.gix_validate.proofs.Mended.{mend_good, mend-own, mend_apart, length-mend, is_empty-dash, is_good_piece-empty}
 use Rattle.gix_validate.proofs.PiecesLemmas.{pieces_apart, pieces-joined}
 use Rattle.gix_validate.proofs.Joins.{joined-pieces, dash_last_of-good, dash_last_of-apart, length-dash_last_of, dash_last_of-cons, joined-dash_last_of, good_nonempty}
+use Rattle.std.proofs.lemmas.Bool.Decides.{nat_tests}
 
 -- what becomes of these pieces
 abbrev pub mended_of : List (List ℕ) → List (List ℕ)
@@ -31,10 +32,8 @@ mended_of-apart ([] ∷ ps) h = mended_of-apart ps h
 mended_of-apart ((b ∷ p) ∷ ps) h = let parts = and_parts (has_no_slash (b ∷ p)) (list_all has_no_slash ps) h in and_from _ _ (mend_apart (b ∷ p) parts.0) (mended_of-apart ps parts.1)
 
 mended_of-own : (ps : List (List ℕ)) → list_all is_good_piece ps ≡ true → mended_of ps ≡ ps
-mended_of-own [] h = refl
-mended_of-own (p ∷ ps) h =
-    let parts = and_parts (is_good_piece p) (list_all is_good_piece ps) h in
-    rw (good_nonempty p parts.0) (ap (λ v. v ∷ mended_of ps) (mend-own p parts.0) ∙ ap (λ v. p ∷ v) (mended_of-own ps parts.1))
+mended_of-own [] h = grind (arith, nat_tests)
+mended_of-own (p ∷ ps) h = grind (arith, nat_tests, and_parts, good_nonempty, mend-own, mended_of-own ps)
 
 length-mended_of : (ps : List (List ℕ)) → length (mended_of ps) ≡ length (filter (λ p. not (is_empty p)) ps)
 length-mended_of [] = refl
@@ -55,8 +54,7 @@ not_dot : (f : List ℕ) → ends (f ++ codes "-") (codes ".") ≡ false
 not_dot f = ends-false (f ++ codes "-") (codes ".") (λ g e. absurd (omega (arith, (same_from_push f g (byte "-") (byte ".") e).1)))
 
 some_text : (p : List ℕ) (ps : List (List ℕ)) (j : List ℕ) → pieces j ≡ p ∷ ps → list_all is_good_piece (p ∷ ps) ≡ true → is_empty j ≡ false
-some_text p ps [] e h = absurd (false≢true (sym (ap (λ v. v && true) is_good_piece-empty) ∙ (ap (list_all is_good_piece) e ∙ h)))
-some_text p ps (b ∷ j) e h = refl
+some_text p ps j hh1 hh2 = grind (arith, nat_tests, false≢true, is_good_piece-empty)
 
 dash_alone : (ms : List (List ℕ)) (j : List ℕ) → pieces j ≡ ms → j ≡ codes "@" → Repaired ms (codes "-")
 unfolding is_good_piece is_bad
@@ -69,21 +67,7 @@ repaired_from : (ms : List (List ℕ)) (j : List ℕ) → pieces j ≡ ms → pi
     → list_all is_good_piece ms ≡ true → is_empty j ≡ false
     → Repaired ms (repaired_nothing (repaired_at (repaired_dot j)))
 repaired_from ms j split dashed good some =
-    cond_both (ends j (codes ".")) (dash_last j) j (λ v. Repaired ms (repaired_nothing (repaired_at v)))
-    (λ _. subst (Repaired ms) (sym (dash_stays (take (length j - 1) j))) (record {
-      good = ap (list_all is_good_piece) dashed ∙ dash_last_of-good ms good;
-      no_dot = not_dot (take (length j - 1) j);
-      no_at = not_at (take (length j - 1) j);
-      from = inr dashed;
-    }))
-    (λ no_dot. cond_both (bytes_eq j (codes "@")) (codes "-") j (λ v. Repaired ms (repaired_nothing v))
-    (λ at. dash_alone ms j split ((bytes_eq-Decides j (codes "@")).0 at))
-    (λ no_at. subst (Repaired ms) (sym (cond-false (is_empty j) (codes "-") j some)) (record {
-      good = ap (list_all is_good_piece) split ∙ good;
-      no_dot = no_dot;
-      no_at = no_at;
-      from = inl split;
-    })))
+    grind (arith, nat_tests, cond_both, dash_stays, dash_last_of-good, not_dot, not_at, dash_alone, bytes_eq-Decides, cond-false)
 
 repaired : (ms : List (List ℕ)) → ms ≢ [] → list_all is_good_piece ms ≡ true → list_all has_no_slash ms ≡ true
     → Repaired ms (repaired_nothing (repaired_at (repaired_dot (joined ms))))
@@ -124,31 +108,20 @@ partial_dash = refl
 
 -- The sanitised text is a partial name.
 pub sanitized-partial : (x : List ℕ) → is_partial_name (sanitized x) ≡ true
-sanitized-partial x =
-    elim (some_or_none (nonempty_pieces x)) [
-      | inl none ↦ ap is_partial_name (sanitized_none x none) ∙ partial_dash
-      | inr some ↦ (let r = sanitized_some x (map_some (nonempty_pieces x) some) in partial_from (sanitized x) r.good r.no_dot r.no_at)
-    ]
+sanitized-partial x = grind (arith, nat_tests, some_or_none, sanitized_none, partial_dash, sanitized_some, map_some, partial_from)
 
 good_from_partial : (x : List ℕ) → is_partial_name x ≡ true → (list_all is_good_piece (pieces x) ≡ true)
     × (ends x (codes ".") ≡ false) × (bytes_eq x (codes "@") ≡ false)
 unfolding is_partial_name is_tag_name
-good_from_partial x h =
-    let parts = and_parts _ (not (bytes_eq x (codes "@"))) h in
-    let tag = and_parts (list_all is_good_piece (pieces x)) (not (ends x (codes "."))) parts.0 in
-    (tag.0, not-true _ tag.1, not-true _ parts.1)
+good_from_partial x h = grind (arith, nat_tests, and_parts, not-true)
 
 good_text : (x : List ℕ) → list_all is_good_piece (pieces x) ≡ true → is_empty x ≡ false
-good_text [] h = absurd (false≢true (sym (ap (λ v. v && true) is_good_piece-empty) ∙ h))
-good_text (b ∷ x) h = refl
+good_text x hh1 = grind (arith, nat_tests, false≢true, is_good_piece-empty)
 
 -- A partial name stays as it is.
 pub sanitized-own : (x : List ℕ) → is_partial_name x ≡ true → sanitized x ≡ x
 unfolding sanitized
-sanitized-own x h =
-    let facts = good_from_partial x h in
-    let whole : joined (mended_pieces x) ≡ x = ap joined (mended_of-own (pieces x) facts.0) ∙ joined-pieces x in
-    ap (λ v. repaired_nothing (repaired_at (repaired_dot v))) whole ∙ rw (facts.1, facts.2, good_text x facts.0) refl
+sanitized-own x h = grind (arith, nat_tests, good_from_partial, mended_of-own, joined-pieces, good_text)
 
 pub sanitized-unchanged : (x : List ℕ) → (sanitized x ≡ x) ↔ IsTrue (is_partial_name x)
 sanitized-unchanged x = (λ e. ap is_partial_name (sym e) ∙ sanitized-partial x, sanitized-own x)
@@ -162,8 +135,7 @@ none_empty_from [] h = refl
 none_empty_from (p ∷ ps) h = let parts = and_parts (is_good_piece p) (list_all is_good_piece ps) h in and_from _ _ (not_from_false _ (good_nonempty p parts.0)) (none_empty_from ps parts.1)
 
 length_from : (ms ps : List (List ℕ)) → (ps ≡ ms) ⊎ (ps ≡ dash_last_of ms) → length ps ≡ length ms
-length_from ms ps (inl e) = ap length e
-length_from ms ps (inr e) = ap length e ∙ length-dash_last_of ms
+length_from ms ps hh1 = grind (arith, nat_tests, length-dash_last_of)
 
 -- The text is made piece by piece.
 pub sanitized-piecewise : (x : List ℕ) → IsPiecewise x (sanitized x)
@@ -192,22 +164,17 @@ length-repaired : (t : List ℕ) → length (repaired_nothing (repaired_at (repa
 length-repaired t = omega (arith, length-repaired_nothing (repaired_at (repaired_dot t)), length-repaired_at (repaired_dot t), length-repaired_dot t)
 
 some_length : (t : List ℕ) → is_empty t ≡ false → 1 ≤ length t
-some_length [] h = absurd (false≢true (sym h))
-some_length (b ∷ t) h = omega arith
+some_length t hh1 = grind (arith, nat_tests, false≢true)
 
 repaired_nothing_some : (t : List ℕ) → 1 ≤ length (repaired_nothing t)
 repaired_nothing_some t = cond_both (is_empty t) (codes "-") t (λ v. 1 ≤ length v) (λ _. omega arith) (some_length t)
 
 length-joined_cons : (m p : List ℕ) (ms ps : List (List ℕ)) → length m ≤ length p → length (joined ms) ≤ length (joined ps)
     → (ms ≢ [] → ps ≢ []) → length (joined (m ∷ ms)) ≤ length (joined (p ∷ ps))
-length-joined_cons m p [] [] one more some = one
-length-joined_cons m p [] (q ∷ ps) one more some = omega (arith, length-append p (byte "/" ∷ joined (q ∷ ps)))
-length-joined_cons m p (n ∷ ms) [] one more some = absurd (some (λ e. let f : n ∷ ms ≡ [] = e in cc) refl)
-length-joined_cons m p (n ∷ ms) (q ∷ ps) one more some = omega (arith, length-append p (byte "/" ∷ joined (q ∷ ps)), length-append m (byte "/" ∷ joined (n ∷ ms)))
+length-joined_cons m p ms ps hh1 hh2 hh3 = grind (arith, nat_tests, length-append)
 
 length-joined_rest : (p : List ℕ) (ps : List (List ℕ)) → length (joined ps) ≤ length (joined (p ∷ ps))
-length-joined_rest p [] = omega arith
-length-joined_rest p (q ∷ ps) = omega (arith, length-append p (byte "/" ∷ joined (q ∷ ps)))
+length-joined_rest p ps = grind (arith, nat_tests, length-append)
 
 length-joined_mended : (ps : List (List ℕ)) → length (joined (mended_of ps)) ≤ length (joined ps)
 length-joined_mended [] = omega arith
@@ -217,6 +184,4 @@ length-joined_mended ((b ∷ p) ∷ ps) = length-joined_cons (cut (cleaned (b �
 -- The text has a byte, and is no longer than the input where that has one.
 pub length-sanitized : (x : List ℕ) → (1 ≤ length (sanitized x)) × (length (sanitized x) ≤ max 1 (length x))
 unfolding sanitized
-length-sanitized x =
-    let j = joined (mended_pieces x) in
-    (repaired_nothing_some (repaired_at (repaired_dot j)), omega (arith, length-repaired j, length-joined_mended (pieces x), ap length (joined-pieces x)))
+length-sanitized x = grind (arith, nat_tests, repaired_nothing_some, length-repaired, length-joined_mended, joined-pieces)

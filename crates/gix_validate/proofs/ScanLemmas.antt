@@ -1,5 +1,5 @@
--- The kinds of the bytes of a name: by two tables, by blocks that overlap, and what they tell under each mask.
-use Rattle.std.proofs.Common.{◌≡◌, ℕ, zero, suc, ◌+◌, ◌/◌, ◌%◌, ◌<◌, ◌≤◌, ◌↔◌, Bool, true, false, not, ◌&&◌, ◌||◌, eqb, List, [], ◌∷◌, ◌++◌, map, length, take, drop, get_or, replicate, bit_and, bit_or, refl, sym, ap, ap₂, ◌∙◌, arith, w8, Fits, eqb-true, take-add}
+-- The kinds of the bytes of a name: by two tables, by blocks that overlap, and what they say under each mask.
+use Rattle.std.proofs.Common.{◌≡◌, ℕ, zero, suc, ◌+◌, ◌/◌, ◌%◌, ◌<◌, ◌≤◌, ◌↔◌, Bool, true, false, not, ◌&&◌, ◌||◌, eqb, List, [], ◌∷◌, map, length, take, drop, get_or, replicate, bit_and, bit_or, refl, sym, ap, ap₂, ◌∙◌, arith, w8, Fits, eqb-true, take-add}
 use Rattle.std.specs.Prelude.{IsTrue}
 use Rattle.std.specs.Bool.{◌==◌}
 use Rattle.std.specs.List.{list_any}
@@ -15,6 +15,8 @@ use Rattle.gix_validate.proofs.BlockLemmas.{any_overlap, whole_chunk}
 use Rattle.gix_validate.specs.declared.path.scan.TheConstants.{BY_LOW_HALF, BY_HIGH_HALF}
 use Rattle.gix_validate.specs.Windows.{is_illegal_byte}
 use Rattle.gix_validate.specs.Ordinary.{is_lead, is_noted, kind_of, any_kind, HaveKindsOf, Tell}
+use Rattle.std.proofs.lemmas.Bool.Decides.{nat_tests}
+use Rattle.std.proofs.lemmas.Grind.{common_steps}
 
 -- ---- the tables
 
@@ -92,67 +94,37 @@ and_or a b m =
     omega arith)
 
 or_none : (a b : ℕ) → eqb (bit_or a b) 0 ≡ (eqb a 0 && eqb b 0)
-or_none zero b = refl
-or_none (suc a) b =
-    ne_eqb (bit_or (suc a) b) 0 (λ e. omega (arith, le_or_l (suc a) b))
-    ∙ sym (ap (λ v. v && eqb b 0) (ne_eqb (suc a) 0 (λ e. omega arith)))
+or_none a b = grind (arith, nat_tests, ne_eqb, bit_or, le_or_l)
 
 bit_of_or : (a b m : ℕ) → not (eqb (bit_and (bit_or a b) m) 0) ≡ (not (eqb (bit_and a m) 0) || not (eqb (bit_and b m) 0))
-bit_of_or a b m = ap (λ k. not (eqb k 0)) (and_or a b m) ∙ ap not (or_none (bit_and a m) (bit_and b m)) ∙ apart (eqb (bit_and a m) 0) (eqb (bit_and b m) 0)
-  where
-    apart : (s t : Bool) → not (s && t) ≡ (not s || not t)
-    apart true t = refl
-    apart false t = refl
+bit_of_or a b m = grind (arith, nat_tests, and_or, or_none, bit_and)
 
 or_mix : (s t u v : Bool) → ((s || t) || (u || v)) ≡ ((s || u) || (t || v))
-or_mix true t u v = refl
-or_mix false t true v = refl_of t
-  where
-    refl_of : (t : Bool) → (t || true) ≡ true
-    refl_of true = refl
-    refl_of false = refl
-or_mix false t false v = refl
+or_mix s t u v = grind (arith, nat_tests)
 
 pub any_of_or : (mask : ℕ) (u v : List ℕ) → length u ≡ length v → any_kind mask (zip2 bit_or u v) ≡ (any_kind mask u || any_kind mask v)
 unfolding any_kind
-any_of_or mask [] [] e = refl
-any_of_or mask [] (b ∷ v) e = absurd (omega arith)
-any_of_or mask (a ∷ u) [] e = absurd (omega arith)
-any_of_or mask (a ∷ u) (b ∷ v) e =
-    ap₂ (λ s t. s || t) (bit_of_or a b mask) (any_of_or mask u v (omega arith))
-    ∙ or_mix (not (eqb (bit_and a mask) 0)) (not (eqb (bit_and b mask) 0)) (list_any (λ kind. not (eqb (bit_and kind mask) 0)) u) (list_any (λ kind. not (eqb (bit_and kind mask) 0)) v)
+any_of_or mask [] [] e = grind (arith, nat_tests)
+any_of_or mask [] (b ∷ v) e = grind (arith, nat_tests)
+any_of_or mask (a ∷ u) [] e = grind (arith, nat_tests)
+any_of_or mask (a ∷ u) (b ∷ v) e = grind (arith, nat_tests, bit_of_or, or_mix, bit_and, any_of_or mask u v)
 
 or_back : (a b c : Bool) → ((a || b) || c) ≡ ((a || c) || b)
-or_back true b c = refl
-or_back false true true = refl
-or_back false true false = refl
-or_back false false true = refl
-or_back false false false = refl
+or_back a b c = grind (arith, nat_tests)
 
 -- ---- a text by blocks of sixteen, of which the last overlaps the one before it
 
 pub any_more : (mask at : ℕ) (x found last : List ℕ) → length found ≡ 16 → at + 16 ≤ length x → any_kind mask found ≡ (any_kind mask (map kind_of (take at x)) || any_kind mask last) → any_kind mask (zip2 bit_or found (map kind_of (chunk at 16 x))) ≡ (any_kind mask (map kind_of (take (at + 16) x)) || any_kind mask last)
-any_more mask at x found last long room now =
-    any_of_or mask found (map kind_of (chunk at 16 x)) (long ∙ sym (length-map (chunk at 16 x) kind_of ∙ length-chunk at 16 x room))
-    ∙ ap (λ v. v || any_kind mask (map kind_of (chunk at 16 x))) now
-    ∙ or_back (any_kind mask (map kind_of (take at x))) (any_kind mask last) (any_kind mask (map kind_of (chunk at 16 x)))
-    ∙ ap (λ v. v || any_kind mask last) (sym (more (take at x) (chunk at 16 x)) ∙ ap (λ t. any_kind mask (map kind_of t)) (sym (take-add at 16 x)))
-  where
-    more : (t u : List ℕ) → any_kind mask (map kind_of (t ++ u)) ≡ (any_kind mask (map kind_of t) || any_kind mask (map kind_of u))
-    more t u = any_is mask (t ++ u) ∙ list_any-append (has_bit mask) t u ∙ sym (ap₂ (λ v w. v || w) (any_is mask t) (any_is mask u))
+any_more mask at x found last long room now = grind (arith, common_steps, any_of_or, length-map, length-chunk, or_back, take-add, any_is, list_any-append)
 
 pub any_whole : (mask at last : ℕ) (x found : List ℕ) → last ≤ at → any_kind mask found ≡ (any_kind mask (map kind_of (take at x)) || any_kind mask (map kind_of (drop last x))) → any_kind mask found ≡ any_kind mask (map kind_of x)
-any_whole mask at last x found past now =
-    now
-    ∙ ap₂ (λ v w. v || w) (any_is mask (take at x)) (any_is mask (drop last x))
-    ∙ any_overlap (has_bit mask) x last at past
-    ∙ sym (any_is mask x)
+any_whole mask at last x found past now = grind (arith, nat_tests, any_is, any_overlap)
 
 pub first_block : (mask last : ℕ) (x : List ℕ) → last + 16 ≡ length x → any_kind mask (map kind_of (chunk last 16 x)) ≡ (any_kind mask (map kind_of (take 0 x)) || any_kind mask (map kind_of (drop last x)))
 unfolding any_kind
 first_block mask last x long = ap (λ t. any_kind mask (map kind_of t)) (whole_chunk last 16 x long)
 
--- ---- what the kinds tell
+-- ---- what the kinds say
 
 bytes_alike : (p q : ℕ → Bool) (x : List ℕ) → ((i : ℕ) → Fits w8 (get_or x i 0)) → ((b : ℕ) → b < 256 → p b ≡ q b) → list_any p x ≡ list_any q x
 bytes_alike p q [] fit same = refl

@@ -1,7 +1,6 @@
 -- The fault of a text that isn't empty, by its first and its last byte.
-use Rattle.std.proofs.Common.{◌≡◌, ℕ, ◌-◌, ◌<◌, Bool, true, false, eqb, List, [], ◌∷◌, ◌++◌, length, get_or, sym, ap, ap₂, subst, ◌∙◌, inl, inr, ◌⊎◌, arith, Option, Some, None}
+use Rattle.std.proofs.Common.{◌≡◌, ℕ, ◌-◌, ◌<◌, Bool, true, false, eqb, List, [], ◌∷◌, length, get_or, ap, ap₂, ◌∙◌, arith, Option, Some, None}
 use Rattle.std.proofs.lemmas.List.{get_or_push, length_push}
-use mathlib.Core.Bool.{and-true}
 use Rattle.gix_validate.specs.declared.tag.NameError.{NameError}
 use Rattle.gix_validate.specs.declared.tag.NameError.TheVariants.{EndsWithSlash, StartsWithSlash, StartsWithDot, EndsWithDot}
 use Rattle.gix_validate.specs.Bytes.{begins, ends}
@@ -9,23 +8,16 @@ use Rattle.gix_validate.specs.Faults.{when, first_of, ◌orelse◌, at_first_pla
 use Rattle.gix_validate.specs.Tag.{faults_at, fault_of}
 use Rattle.gix_validate.proofs.LetterLemmas.{eqb_turned}
 use Rattle.gix_validate.proofs.TextLemmas.{ends_push_one, last_cases, EndsIn}
+use Rattle.std.proofs.lemmas.Bool.Decides.{nat_tests}
+use Rattle.std.proofs.lemmas.Grind.{common_steps}
 
 -- the last byte, read
 pub ends_read : (x : List ℕ) (c : ℕ) → 0 < length x → ends x (c ∷ []) ≡ eqb (get_or x (length x - 1) 0) c
-ends_read x c some = by (last_cases x)
-  where
-    by : (x ≡ []) ⊎ EndsIn x → ends x (c ∷ []) ≡ eqb (get_or x (length x - 1) 0) c
-    by (inl none) = absurd (omega (arith, ap length none))
-    by (inr v) =
-        let read : get_or (v.front ++ v.last ∷ []) (length (v.front ++ v.last ∷ []) - 1) 0 ≡ v.last =
-        get_or_push v.front v.last 0 (length (v.front ++ v.last ∷ []) - 1) (omega (arith, length_push v.front v.last)) in
-        subst (λ x. ends x (c ∷ []) ≡ eqb (get_or x (length x - 1) 0) c) (sym v.whole)
-        (ends_push_one v.front v.last c ∙ eqb_turned c v.last ∙ ap (λ b. eqb b c) (sym read))
+ends_read x c some = grind (arith, common_steps, last_cases, EndsIn, get_or_push, length_push, ends_push_one, eqb_turned)
 
 -- the first byte, read
 pub begins_read : (x : List ℕ) (c : ℕ) → 0 < length x → begins x (c ∷ []) ≡ eqb (get_or x 0 0) c
-begins_read [] c some = absurd (omega arith)
-begins_read (b ∷ x) c some = and-true (eqb c b) ∙ eqb_turned c b
+begins_read x c hh1 = grind (arith, nat_tests, eqb_turned)
 
 -- the lines of the fault of a text that isn't empty, by their tests
 unfoldable pub lines : (slash_last slash_first dot_first dot_last : Bool) → Option NameError → Option NameError
@@ -36,10 +28,7 @@ pub fault_of_read : (x : List ℕ) → 0 < length x
     → fault_of x ≡ lines (eqb (get_or x (length x - 1) 0) 47) (eqb (get_or x 0 0) 47) (eqb (get_or x 0 0) 46) (eqb (get_or x (length x - 1) 0) 46)
     (at_first_place (λ i. first_of (faults_at x i)) (length x))
 unfolding fault_of lines
-fault_of_read [] some = absurd (omega arith)
-fault_of_read (b ∷ x) some =
-    λ i. lines (ends_read (b ∷ x) 47 some i) (begins_read (b ∷ x) 47 some i) (begins_read (b ∷ x) 46 some i) (ends_read (b ∷ x) 46 some i)
-    (at_first_place (λ i. first_of (faults_at (b ∷ x) i)) (length (b ∷ x)))
+fault_of_read x hh1 = grind (arith, nat_tests, ends_read, begins_read)
 
 -- each line, where the lines before it don't apply
 pub at_slash_last : (s t d e : Bool) (a : Option NameError) → s ≡ true → lines s t d e a ≡ Some EndsWithSlash

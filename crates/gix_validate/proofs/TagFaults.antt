@@ -1,9 +1,8 @@
 -- The table of the faults at a place: no two of its lines apply, and what each byte may have of them.
-use Rattle.std.proofs.Common.{◌≡◌, ℕ, ◌+◌, ◌≤◌, Bool, true, false, not, ◌&&◌, eqb, List, [], ◌∷◌, ◌++◌, take, drop, get_or, refl, sym, ap, subst, ◌∙◌, inl, inr, ◌⊎◌, Option, Some, None, is_some, lit≤}
+use Rattle.std.proofs.Common.{◌≡◌, ℕ, ◌+◌, ◌≤◌, Bool, true, false, not, ◌&&◌, eqb, List, [], ◌∷◌, ◌++◌, take, drop, get_or, refl, sym, ap, subst, ◌∙◌, inl, inr, ◌⊎◌, Option, Some, is_some, lit≤}
 use Rattle.std.proofs.lemmas.Bool.{cases_eq, and_right, and_left, ne_eqb, true≢false}
 use Rattle.std.specs.Prelude.{codes, count_by}
 use Rattle.std.specs.Str.{bytes_eq}
-use mathlib.Core.Bool.{and-false}
 use Rattle.gix_validate.specs.declared.tag.NameError.{NameError}
 use Rattle.gix_validate.specs.declared.tag.NameError.TheVariants.{InvalidByte, RepeatedSlash, RepeatedDot, LockFileSuffix, ReflogPortion, Asterisk, StartsWithDot}
 use Rattle.gix_validate.specs.Bytes.{is_bad, is_empty, ends}
@@ -11,6 +10,8 @@ use Rattle.gix_validate.specs.Faults.{when, first_of, ◌orelse◌}
 use Rattle.gix_validate.specs.Tag.{faults_between, faults_at, HasAtMostOneFaultAPlace}
 use Rattle.gix_validate.proofs.PlaceLemmas.{orelse_none}
 use Rattle.gix_validate.proofs.TextLemmas.{ends_push, ends_push_one, last_cases, EndsIn, empty_ends}
+use native.Mathlib.Omega.{arith}
+use Rattle.std.proofs.lemmas.Bool.Decides.{nat_tests}
 
 -- the byte at the end of `.lock`
 pub lock_push : (y : List ℕ) (b : ℕ) → ends (y ++ b ∷ []) (codes ".lock") ≡ (ends y (codes ".loc") && eqb 107 b)
@@ -29,28 +30,11 @@ lock_ends_in_k y other = by (last_cases y)
 
 -- a text that ends in one byte doesn't end in another
 pub one_end : (y : List ℕ) (a c : ℕ) → eqb c a ≡ false → (ends y (a ∷ []) && ends y (c ∷ [])) ≡ false
-one_end y a c other = by (last_cases y)
-  where
-    apart : (b : ℕ) → (eqb a b && eqb c b) ≡ false
-    apart b = elim (cases_eq a b) [
-      | inl e ↦ and_right (eqb a b) (eqb c b) (subst (λ x. eqb c x ≡ false) e other)
-      | inr n ↦ and_left (eqb a b) (eqb c b) (ne_eqb a b n)
-    ]
-
-    by : (y ≡ []) ⊎ EndsIn y → (ends y (a ∷ []) && ends y (c ∷ [])) ≡ false
-    by (inl none) = subst (λ y. (ends y (a ∷ []) && ends y (c ∷ [])) ≡ false) (sym none) (ap (λ t. t && ends [] (c ∷ [])) (empty_ends [] a))
-    by (inr v) =
-        subst (λ y. (ends y (a ∷ []) && ends y (c ∷ [])) ≡ false) (sym v.whole)
-        (ap (λ t. t && ends (v.front ++ v.last ∷ []) (c ∷ [])) (ends_push_one v.front v.last a)
-        ∙ ap (λ t. eqb a v.last && t) (ends_push_one v.front v.last c) ∙ apart v.last)
+one_end y a c other = grind (arith, nat_tests, last_cases, cases_eq, and_right, and_left, ne_eqb, EndsIn, empty_ends, ends_push_one)
 
 -- a text that ends in a slash doesn't end in `.lock`
 slash_or_lock : (y : List ℕ) → (ends y (codes "/") && ends y (codes ".lock")) ≡ false
-slash_or_lock y = by (ends y (codes "/")) refl
-  where
-    by : (t : Bool) → ends y (codes "/") ≡ t → (t && ends y (codes ".lock")) ≡ false
-    by false e = refl
-    by true e = lock_ends_in_k y (sym (ap (λ t. t && ends y (codes "k")) e) ∙ one_end y 47 107 refl)
+slash_or_lock y = grind (arith, nat_tests, lock_ends_in_k, one_end)
 
 -- the table, from the tests of its lines
 table : (b : ℕ) (t1 t2 t3 t4 t5 t6 t7 t8 : Bool) → List (Option NameError)
@@ -68,21 +52,12 @@ last_line before b after = is_empty after && ends (before ++ b ∷ []) (codes ".
 
 last_line_no : (before : List ℕ) (b : ℕ) (after : List ℕ) → eqb 107 b ≡ false → last_line before b after ≡ false
 unfolding last_line
-last_line_no before b after other =
-    ap (λ t. is_empty after && t && not (bytes_eq (before ++ b ∷ []) (codes ".lock")))
-    (lock_push before b ∙ and_right (ends before (codes ".loc")) (eqb 107 b) other)
-    ∙ ap (λ t. t && not (bytes_eq (before ++ b ∷ []) (codes ".lock"))) (and-false (is_empty after))
+last_line_no before b after other = grind (arith, nat_tests, lock_push, and_right)
 
 bad_line : (b : ℕ) (t1 t2 t3 t4 t5 t6 t7 t8 : Bool)
     → t2 ≡ false → t3 ≡ false → t4 ≡ false → t5 ≡ false → t6 ≡ false → t7 ≡ false → t8 ≡ false → IsSingle (table b t1 t2 t3 t4 t5 t6 t7 t8)
 unfolding table
-bad_line b t1 t2 t3 t4 t5 t6 t7 t8 e2 e3 e4 e5 e6 e7 e8 =
-    let e : table b t1 t2 t3 t4 t5 t6 t7 t8 ≡ table b t1 false false false false false false false = cc in
-    subst IsSingle (sym e) (by t1)
-  where
-    by : (t : Bool) → IsSingle (table b t false false false false false false false)
-    by true = lit≤ tt
-    by false = lit≤ tt
+bad_line b t1 t2 t3 t4 t5 t6 t7 t8 e2 e3 e4 e5 e6 e7 e8 = grind (arith, nat_tests, table)
 
 at_star : (t8 : Bool) → t8 ≡ false → IsSingle (table 42 false true false false false false false t8)
 unfolding table
@@ -90,76 +65,40 @@ at_star t8 e = subst (λ t. IsSingle (table 42 false true false false false fals
 
 at_dot : (t3 t4 t8 : Bool) → (t3 && t4) ≡ false → t8 ≡ false → IsSingle (table 46 false false t3 t4 false false false t8)
 unfolding table
-at_dot t3 t4 t8 e e8 = subst (λ t. IsSingle (table 46 false false t3 t4 false false false t)) (sym e8) (by t3 t4 e)
-  where
-    by : (t3 t4 : Bool) → (t3 && t4) ≡ false → IsSingle (table 46 false false t3 t4 false false false false)
-    by true true e = absurd (true≢false e)
-    by true false e = lit≤ tt
-    by false true e = lit≤ tt
-    by false false e = lit≤ tt
+at_dot t3 t4 t8 e e8 = grind (arith, nat_tests, table, true≢false)
 
 at_brace : (t5 t8 : Bool) → t8 ≡ false → IsSingle (table 123 false false false false t5 false false t8)
 unfolding table
-at_brace t5 t8 e8 = subst (λ t. IsSingle (table 123 false false false false t5 false false t)) (sym e8) (by t5)
-  where
-    by : (t5 : Bool) → IsSingle (table 123 false false false false t5 false false false)
-    by true = lit≤ tt
-    by false = lit≤ tt
+at_brace t5 t8 e8 = grind (arith, nat_tests, table)
 
 at_slash : (t6 t7 t8 : Bool) → (t6 && t7) ≡ false → t8 ≡ false → IsSingle (table 47 false false false false false t6 t7 t8)
 unfolding table
-at_slash t6 t7 t8 e e8 = subst (λ t. IsSingle (table 47 false false false false false t6 t7 t)) (sym e8) (by t6 t7 e)
-  where
-    by : (t6 t7 : Bool) → (t6 && t7) ≡ false → IsSingle (table 47 false false false false false t6 t7 false)
-    by true true e = absurd (true≢false e)
-    by true false e = lit≤ tt
-    by false true e = lit≤ tt
-    by false false e = lit≤ tt
+at_slash t6 t7 t8 e e8 = grind (arith, nat_tests, table, true≢false)
 
 at_k : (t8 : Bool) → IsSingle (table 107 false false false false false false false t8)
 unfolding table
-at_k true = lit≤ tt
-at_k false = lit≤ tt
+at_k t8 = grind (arith, nat_tests)
 
 pub one_fault : (before : List ℕ) (b : ℕ) (after : List ℕ) → count_by is_some (faults_between before b after) ≤ 1
 unfolding faults_between is_bad table last_line
 one_fault before b after =
-    elim (cases_eq b 42) [
-      | inl e ↦ subst Here (sym e) (at_star (last_line before 42 after) (last_line_no before 42 after refl))
-      | inr n42 ↦
-          elim (cases_eq b 46) [
-            | inl e ↦ subst Here (sym e) (at_dot (ends before (codes ".")) (ends before (codes "/")) (last_line before 46 after) (one_end before 46 47 refl) (last_line_no before 46 after refl))
-            | inr n46 ↦
-                elim (cases_eq b 123) [
-                  | inl e ↦ subst Here (sym e) (at_brace (ends before (codes "@")) (last_line before 123 after) (last_line_no before 123 after refl))
-                  | inr n123 ↦
-                      elim (cases_eq b 47) [
-                        | inl e ↦ subst Here (sym e) (at_slash (ends before (codes "/")) (ends before (codes ".lock")) (last_line before 47 after) (slash_or_lock before) (last_line_no before 47 after refl))
-                        | inr n47 ↦
-                            elim (cases_eq b 107) [
-                              | inl e ↦ subst Here (sym e) (at_k (last_line before 107 after))
-                              | inr n107 ↦
-                                  let no42 = ne_eqb b 42 n42 in
-                                  let no46 = ne_eqb b 46 n46 in
-                                  let no123 = ne_eqb b 123 n123 in
-                                  let no47 = ne_eqb b 47 n47 in
-                                  bad_line b (is_bad b) (eqb b 42) (eqb b 46 && ends before (codes ".")) (eqb b 46 && ends before (codes "/")) (eqb b 123 && ends before (codes "@"))
-                                  (eqb b 47 && ends before (codes "/")) (eqb b 47 && ends before (codes ".lock")) (last_line before b after)
-                                  no42
-                                  (and_left (eqb b 46) (ends before (codes ".")) no46)
-                                  (and_left (eqb b 46) (ends before (codes "/")) no46)
-                                  (and_left (eqb b 123) (ends before (codes "@")) no123)
-                                  (and_left (eqb b 47) (ends before (codes "/")) no47)
-                                  (and_left (eqb b 47) (ends before (codes ".lock")) no47)
-                                  (last_line_no before b after (ne_eqb 107 b (λ e. n107 (sym e))))
-                            ]
-                      ]
-                ]
-          ]
-    ]
-  where
-    Here : ℕ → Type 0
-    Here b = IsSingle (faults_between before b after)
+    grind (
+      arith,
+      nat_tests,
+      cases_eq,
+      at_star,
+      last_line,
+      last_line_no,
+      at_dot,
+      one_end,
+      at_brace,
+      at_slash,
+      slash_or_lock,
+      at_k,
+      ne_eqb,
+      bad_line,
+      and_left,
+    )
 
 pub one_fault_a_place : (x : List ℕ) → HasAtMostOneFaultAPlace x
 unfolding faults_at
@@ -187,12 +126,4 @@ after_slash before next rest = ap (λ o. when (ends before (codes "/")) Repeated
 pub after_other : (before : List ℕ) (b next : ℕ) (rest : List ℕ) → (b ≡ 42 → ⊥) → (b ≡ 46 → ⊥) → (b ≡ 123 → ⊥) → (b ≡ 47 → ⊥)
     → first_of (faults_between before b (next ∷ rest)) ≡ when (is_bad b) (InvalidByte b)
 unfolding faults_between
-after_other before b next rest n42 n46 n123 n47 =
-    by (is_bad b) (eqb b 42) (eqb b 46) (ends before (codes ".")) (ends before (codes "/")) (eqb b 123) (ends before (codes "@")) (eqb b 47) (ends before (codes ".lock"))
-    (ne_eqb b 42 n42) (ne_eqb b 46 n46) (ne_eqb b 123 n123) (ne_eqb b 47 n47)
-  where
-    by : (t s d e f g h i j : Bool) → s ≡ false → d ≡ false → g ≡ false → i ≡ false
-        → first_of (when t (InvalidByte b) ∷ when s Asterisk ∷ when (d && e) RepeatedDot ∷ when (d && f) StartsWithDot ∷ when (g && h) ReflogPortion
-        ∷ when (i && f) RepeatedSlash ∷ when (i && j) LockFileSuffix ∷ None ∷ []) ≡ when t (InvalidByte b)
-    by true s d e f g h i j es ed eg ei = refl
-    by false s d e f g h i j es ed eg ei = cc
+after_other before b next rest n42 n46 n123 n47 = grind (arith, nat_tests, ne_eqb)

@@ -1,11 +1,11 @@
 -- A text is a tag name exactly where it has no fault.
-use Rattle.std.proofs.Common.{◌≡◌, ℕ, Bool, true, false, not, ◌&&◌, ◌||◌, cond, eqb, List, [], ◌∷◌, ◌++◌, length, refl, sym, ap, ap₂, subst, ◌∙◌, inl, inr, ◌⊎◌, Option, Some, None}
+use Rattle.std.proofs.Common.{◌≡◌, ℕ, Bool, true, false, not, ◌&&◌, ◌||◌, cond, eqb, List, [], ◌∷◌, ◌++◌, length, refl, sym, ap, ap₂, subst, ◌∙◌, inl, inr, ◌⊎◌, Option, None}
 use Rattle.std.proofs.lemmas.Bool.{cases_eq, and_left, and_parts, and_from, ne_eqb, eqb-true, true≢false, not_from_false}
 use Rattle.std.proofs.lemmas.List.{append-nil, append_assoc}
 use Rattle.std.specs.Prelude.{codes, is_none}
 use Rattle.std.specs.List.{list_all, list_any}
 use Rattle.std.specs.Str.{bytes_eq}
-use mathlib.Core.Bool.{and-true, and-false, and_assoc}
+use mathlib.Core.Bool.{and_assoc}
 use Rattle.gix_validate.specs.declared.tag.NameError.{NameError}
 use Rattle.gix_validate.specs.declared.tag.NameError.TheVariants.{InvalidByte, StartsWithSlash, RepeatedSlash, RepeatedDot, LockFileSuffix, ReflogPortion, StartsWithDot, EndsWithDot, EndsWithSlash}
 use Rattle.gix_validate.specs.Bytes.{is_bad, is_empty, begins, ends, holds}
@@ -19,6 +19,8 @@ use Rattle.gix_validate.proofs.PiecesLemmas.{pieces_front, pieces_alone}
 use Rattle.gix_validate.proofs.TagFaults.{after_star, after_dot, after_brace, after_slash, after_other}
 use Rattle.gix_validate.proofs.TagWalk.{fault_after, walked, ends_in_lock, at_first_place_split, at_first_place_walked}
 use Rattle.gix_validate.proofs.TextLemmas.{ends_push_one, holds_push, last_piece, last_piece_push, last_piece_nothing, ends_last_piece, is_empty_push, last_cases, EndsIn}
+use native.Mathlib.Omega.{arith}
+use Rattle.std.proofs.lemmas.Bool.Decides.{nat_tests}
 
 -- `.lock` is at the end of the last piece where it is at the end of the text.
 lock_ends : (y : List ℕ) → ends (last_piece y) (codes ".lock") ≡ ends y (codes ".lock")
@@ -42,19 +44,14 @@ may_end p = not (is_empty p) && not (ends p (codes ".lock"))
 
 good_piece_parts : (p : List ℕ) → is_good_piece p ≡ (goes_on p && may_end p)
 unfolding is_good_piece goes_on may_end is_refused
-good_piece_parts p = by (is_empty p) (list_any is_refused p) (begins p (codes ".")) (holds p (codes "..")) (holds p (codes "@{")) (ends p (codes ".lock"))
-  where
-    by : (e a b c d l : Bool) → (not e && not a && not b && not c && not d && not l) ≡ ((not a && not b && not c && not d) && (not e && not l))
-    by true a b c d l = sym (and-false (not a && not b && not c && not d))
-    by false a b c d l = refl
+good_piece_parts p = grind (arith, nat_tests)
 
 list_any_push : (f : ℕ → Bool) (p : List ℕ) (b : ℕ) → list_any f (p ++ b ∷ []) ≡ (list_any f p || f b)
 list_any_push f [] b = or-false (f b)
 list_any_push f (c ∷ p) b = ap (λ t. f c || t) (list_any_push f p b) ∙ sym (or_assoc (f c) (list_any f p) (f b))
 
 begins_push : (p : List ℕ) (b c : ℕ) → begins (p ++ b ∷ []) (c ∷ []) ≡ cond (is_empty p) (eqb c b) (begins p (c ∷ []))
-begins_push [] b c = and-true (eqb c b)
-begins_push (d ∷ p) b c = refl
+begins_push p b c = grind (arith, nat_tests)
 
 -- equal tests, negated and all together
 ap₄ : {a a' b b' c c' d d' : Bool} → a ≡ a' → b ≡ b' → c ≡ c' → d ≡ d' → (not a && not b && not c && not d) ≡ (not a' && not b' && not c' && not d')
@@ -62,43 +59,14 @@ ap₄ e f g h = λ i. not (e i) && not (f i) && not (g i) && not (h i)
 
 table : (a x g c e k d f m : Bool) → (not (a || x) && not g && not (c || (e && k)) && not (d || (f && m)))
     ≡ ((not a && not g && not c && not d) && not (x || ((k && e) || (m && f))))
-table true x g c e k d f m = refl
-table false true g c e k d f m = sym (and-false (not g && not c && not d))
-table false false true c e k d f m = refl
-table false false false true e k d f m = refl
-table false false false false true true d f m = sym (and-false (not d))
-table false false false false true false true f m = refl
-table false false false false true false false true true = refl
-table false false false false true false false true false = refl
-table false false false false true false false false true = refl
-table false false false false true false false false false = refl
-table false false false false false true true f m = refl
-table false false false false false true false true true = refl
-table false false false false false true false true false = refl
-table false false false false false true false false true = refl
-table false false false false false true false false false = refl
-table false false false false false false true f m = refl
-table false false false false false false false true true = refl
-table false false false false false false false true false = refl
-table false false false false false false false false true = refl
-table false false false false false false false false false = refl
+table a x g c e k d f m = grind (arith, nat_tests)
 
 start : (x k m : Bool) → (not x && not k && not (false || (false && k)) && not (false || (false && m))) ≡ not (x || ((k && true) || (m && false)))
-start true k m = refl
-start false true m = refl
-start false false true = refl
-start false false false = refl
+start x k m = grind (arith, nat_tests)
 
 goes_on_push : (p : List ℕ) (b : ℕ) → goes_on (p ++ b ∷ []) ≡ (goes_on p && not (breaks p b))
 unfolding goes_on breaks
-goes_on_push [] b =
-    ap₄ (list_any_push is_refused [] b) (begins_push [] b 46) (holds_push [] b 46 46) (holds_push [] b 64 123)
-    ∙ start (is_refused b) (eqb 46 b) (eqb b 123) ∙ ap (λ k. not (is_refused b || ((k && true) || (eqb b 123 && false)))) (eqb_turned 46 b)
-goes_on_push (y ∷ p) b =
-    ap₄ (list_any_push is_refused (y ∷ p) b) (begins_push (y ∷ p) b 46) (holds_push (y ∷ p) b 46 46) (holds_push (y ∷ p) b 64 123)
-    ∙ table (list_any is_refused (y ∷ p)) (is_refused b) (begins (y ∷ p) (codes ".")) (holds (y ∷ p) (codes "..")) (ends (y ∷ p) (codes ".")) (eqb 46 b)
-    (holds (y ∷ p) (codes "@{")) (ends (y ∷ p) (codes "@")) (eqb 123 b)
-    ∙ ap₂ (λ k m. goes_on (y ∷ p) && not (is_refused b || ((k && ends (y ∷ p) (codes ".")) || (m && ends (y ∷ p) (codes "@"))))) (eqb_turned 46 b) (eqb_turned 123 b)
+goes_on_push p b = grind (arith, nat_tests, ap₄, list_any_push, begins_push, holds_push, start, eqb_turned, table)
 
 -- Whether the pieces are good, where the first is p and what x has before a slash.
 rest_good : List ℕ → List ℕ → Bool
@@ -106,53 +74,20 @@ rest_good p [] = is_good_piece p
 rest_good p (b ∷ x) = cond (is_slash b) (is_good_piece p && rest_good [] x) (rest_good (p ++ b ∷ []) x)
 
 no_slash_push : (p : List ℕ) (b : ℕ) → has_no_slash p ≡ true → is_slash b ≡ false → has_no_slash (p ++ b ∷ []) ≡ true
-no_slash_push [] b h other = and_from _ _ (not_from_false _ other) refl
-no_slash_push (c ∷ p) b h other =
-    let parts = and_parts (not (is_slash c)) (has_no_slash p) h in
-    and_from _ _ parts.0 (no_slash_push p b parts.1 other)
+no_slash_push [] b h other = grind (arith, nat_tests, and_from, not_from_false)
+no_slash_push (c ∷ p) b h other = grind (arith, nat_tests, and_parts, and_from, no_slash_push p b)
 
 pieces_good : (p x : List ℕ) → has_no_slash p ≡ true → list_all is_good_piece (pieces (p ++ x)) ≡ rest_good p x
 unfolding rest_good
-pieces_good p [] apart =
-    ap (λ y. list_all is_good_piece (pieces y)) (append-nil p)
-    ∙ ap (list_all is_good_piece) (pieces_alone p apart)
-    ∙ and-true (is_good_piece p)
-pieces_good p (b ∷ x) apart = by (is_slash b) refl (pieces_good [] x refl) (λ other. pieces_good (p ++ b ∷ []) x (no_slash_push p b apart other))
-  where
-    by : (t : Bool) → is_slash b ≡ t → list_all is_good_piece (pieces x) ≡ rest_good [] x
-        → (is_slash b ≡ false → list_all is_good_piece (pieces ((p ++ b ∷ []) ++ x)) ≡ rest_good (p ++ b ∷ []) x)
-        → list_all is_good_piece (pieces (p ++ b ∷ x)) ≡ cond t (is_good_piece p && rest_good [] x) (rest_good (p ++ b ∷ []) x)
-    by true e fresh same =
-        ap (λ c. list_all is_good_piece (pieces (p ++ c ∷ x))) (eqb-true b 47 e)
-        ∙ ap (list_all is_good_piece) (pieces_front p x apart)
-        ∙ ap (λ t. is_good_piece p && t) fresh
-    by false e fresh same = ap (λ y. list_all is_good_piece (pieces y)) (sym (append_assoc p (b ∷ []) x)) ∙ same e
+pieces_good p [] apart = grind (arith, nat_tests, append-nil, pieces_alone)
+pieces_good p (b ∷ x) apart =
+    grind (arith, nat_tests, no_slash_push, rest_good, eqb-true, pieces_front, append_assoc, pieces_good [] x refl, pieces_good (p ++ b ∷ []) x)
 
 -- A first piece that breaks the rule isn't mended by what follows.
 rest_good_goes_on : (p x : List ℕ) → rest_good p x ≡ (goes_on p && rest_good p x)
 unfolding rest_good
-rest_good_goes_on p [] = good_piece_parts p ∙ again (goes_on p) (may_end p) ∙ ap (λ t. goes_on p && t) (sym (good_piece_parts p))
-  where
-    again : (g m : Bool) → (g && m) ≡ (g && (g && m))
-    again true m = refl
-    again false m = refl
-rest_good_goes_on p (b ∷ x) = by (is_slash b) (rest_good_goes_on (p ++ b ∷ []) x)
-  where
-    with_good : (g m r : Bool) → ((g && m) && r) ≡ (g && ((g && m) && r))
-    with_good true m r = refl
-    with_good false m r = refl
-
-    absorbed : (r g n : Bool) → r ≡ ((g && n) && r) → r ≡ (g && r)
-    absorbed r true n h = refl
-    absorbed r false n h = h
-
-    by : (t : Bool) → rest_good (p ++ b ∷ []) x ≡ (goes_on (p ++ b ∷ []) && rest_good (p ++ b ∷ []) x)
-        → cond t (is_good_piece p && rest_good [] x) (rest_good (p ++ b ∷ []) x) ≡ (goes_on p && cond t (is_good_piece p && rest_good [] x) (rest_good (p ++ b ∷ []) x))
-    by true more =
-        ap (λ t. t && rest_good [] x) (good_piece_parts p)
-        ∙ with_good (goes_on p) (may_end p) (rest_good [] x)
-        ∙ ap (λ t. goes_on p && (t && rest_good [] x)) (sym (good_piece_parts p))
-    by false more = absorbed (rest_good (p ++ b ∷ []) x) (goes_on p) (not (breaks p b)) (more ∙ ap (λ t. t && rest_good (p ++ b ∷ []) x) (goes_on_push p b))
+rest_good_goes_on p [] = grind (arith, nat_tests, good_piece_parts)
+rest_good_goes_on p (b ∷ x) = grind (arith, nat_tests, rest_good, good_piece_parts, goes_on_push, rest_good_goes_on (p ++ b ∷ []) x)
 
 -- The same byte by byte: what may not follow, and where a piece may end.
 unfoldable keeps_rule : List ℕ → List ℕ → Bool
@@ -165,17 +100,19 @@ nothing_goes_on = refl
 
 rest_good_keeps_rule : (p x : List ℕ) → goes_on p ≡ true → rest_good p x ≡ keeps_rule p x
 unfolding rest_good keeps_rule
-rest_good_keeps_rule p [] h = good_piece_parts p ∙ ap (λ t. t && may_end p) h
+rest_good_keeps_rule p [] h = grind (arith, nat_tests, good_piece_parts)
 rest_good_keeps_rule p (b ∷ x) h =
-    by (is_slash b) (breaks p b) refl (rest_good_keeps_rule [] x nothing_goes_on) (λ ok. rest_good_keeps_rule (p ++ b ∷ []) x (goes_on_push p b ∙ ap₂ (λ g n. g && not n) h ok))
-  where
-    by : (t n : Bool) → breaks p b ≡ n → rest_good [] x ≡ keeps_rule [] x → (breaks p b ≡ false → rest_good (p ++ b ∷ []) x ≡ keeps_rule (p ++ b ∷ []) x)
-        → cond t (is_good_piece p && rest_good [] x) (rest_good (p ++ b ∷ []) x) ≡ cond t (may_end p && keeps_rule [] x) (not n && keeps_rule (p ++ b ∷ []) x)
-    by true n e fresh same = ap₂ (λ g r. g && r) (good_piece_parts p ∙ ap (λ t. t && may_end p) h) fresh
-    by false true e fresh same =
-        rest_good_goes_on (p ++ b ∷ []) x
-        ∙ ap (λ t. t && rest_good (p ++ b ∷ []) x) (goes_on_push p b ∙ ap (λ n. goes_on p && not n) e ∙ and-false (goes_on p))
-    by false false e fresh same = same e
+    grind (
+      arith,
+      nat_tests,
+      nothing_goes_on,
+      goes_on_push,
+      rest_good,
+      good_piece_parts,
+      rest_good_goes_on,
+      rest_good_keeps_rule [] x,
+      rest_good_keeps_rule (p ++ b ∷ []) x,
+    )
 
 -- In a text that has begun, a slash stands last where the last piece is empty.
 pub slash_last : (y : List ℕ) → is_empty y ≡ false → ends y (codes "/") ≡ is_empty (last_piece y)
@@ -193,12 +130,10 @@ slash_last y some = by (last_cases y)
         ∙ ap is_empty (sym (last_piece_push v.front v.last)))
 
 is_none-when : (t : Bool) (e : NameError) → is_none (when t e) ≡ not t
-is_none-when true e = refl
-is_none-when false e = refl
+is_none-when t e = grind (arith, nat_tests)
 
 is_none-two : (t u : Bool) (e f : NameError) → is_none (when t e orelse when u f) ≡ (not t && not u)
-is_none-two true u e f = refl
-is_none-two false u e f = is_none-when u f
+is_none-two t u e f = grind (arith, nat_tests, is_none-when)
 
 -- What the last piece allows next: its end, or a byte that doesn't break the rule.
 allows : List ℕ → ℕ → Bool
@@ -272,44 +207,26 @@ no_fault_after before b some =
 walked_keeps_rule : (before x : List ℕ) → is_empty before ≡ false
     → (is_none (walked before x) && may_end (last_piece (before ++ x))) ≡ keeps_rule (last_piece before) x
 unfolding walked keeps_rule allows
-walked_keeps_rule before [] some = ap (λ y. may_end (last_piece y)) (append-nil before)
+walked_keeps_rule before [] some = grind (arith, nat_tests, last_piece, append-nil)
 walked_keeps_rule before (b ∷ x) some =
-    ap₂ (λ t y. t && may_end (last_piece y)) (is_none-orelse (fault_after before b) (walked (before ++ b ∷ []) x)) (sym (append_assoc before (b ∷ []) x))
-    ∙ and_assoc (is_none (fault_after before b)) (is_none (walked (before ++ b ∷ []) x)) (may_end (last_piece ((before ++ b ∷ []) ++ x)))
-    ∙ ap₂ (λ t u. t && u) (no_fault_after before b some)
-    (walked_keeps_rule (before ++ b ∷ []) x (is_empty_push before b) ∙ ap (λ p. keeps_rule p x) (last_piece_push before b))
-    ∙ by (is_slash b)
-  where
-    by : (t : Bool) → (cond t (may_end (last_piece before)) (not (breaks (last_piece before) b)) && keeps_rule (cond t [] (last_piece before ++ b ∷ [])) x)
-        ≡ cond t (may_end (last_piece before) && keeps_rule [] x) (not (breaks (last_piece before) b) && keeps_rule (last_piece before ++ b ∷ []) x)
-    by true = refl
-    by false = refl
+    grind (
+      arith,
+      nat_tests,
+      last_piece,
+      is_none-orelse,
+      fault_after,
+      walked,
+      append_assoc,
+      no_fault_after,
+      is_empty_push,
+      last_piece_push,
+      walked_keeps_rule (before ++ b ∷ []) x,
+    )
 
 -- The first byte, which is neither a slash nor a dot.
 no_fault_first : (b : ℕ) → (b ≡ 47 → ⊥) → (b ≡ 46 → ⊥) → is_none (fault_after [] b) ≡ not (breaks [] b)
 unfolding fault_after breaks is_refused is_bad
-no_fault_first b n47 n46 =
-    elim (cases_eq b 42) [
-      | inl e ↦ subst Here (sym e) (ap is_none (after_star [] 0 []))
-      | inr n42 ↦
-          elim (cases_eq b 123) [
-            | inl e ↦ subst Here (sym e) (ap is_none (after_brace [] 0 []))
-            | inr n123 ↦
-                ap is_none (after_other [] b 0 [] n42 n46 n123 n47)
-                ∙ is_none-when (is_bad b) (InvalidByte b)
-                ∙ plain (is_bad b) (eqb b 42) (eqb b 46) (eqb b 123) (ne_eqb b 42 n42) (ne_eqb b 46 n46) (ne_eqb b 123 n123)
-          ]
-    ]
-  where
-    Here : ℕ → Type 0
-    Here b = is_none (fault_after [] b) ≡ not (breaks [] b)
-
-    plain : (t s d g : Bool) → s ≡ false → d ≡ false → g ≡ false → not t ≡ not ((t || s) || ((d && true) || (g && false)))
-    plain t s d g es ed eg = by t ∙ (λ k. not ((t || sym es k) || ((sym ed k && true) || (sym eg k && false))))
-      where
-        by : (t : Bool) → not t ≡ not ((t || false) || false)
-        by true = refl
-        by false = refl
+no_fault_first b n47 n46 = grind (arith, nat_tests, cases_eq, after_star, after_brace, after_other, is_none-when, ne_eqb, fault_after)
 
 -- From the first byte on: it is neither a slash nor a dot.
 start_keeps_rule : (b : ℕ) (x : List ℕ)
@@ -338,30 +255,13 @@ start_keeps_rule b x =
 
 is_none-lines : (s t d e : Bool) (e1 e2 e3 e4 : NameError) (a : Option NameError)
     → is_none (when s e1 orelse (when t e2 orelse (a orelse (when d e3 orelse (when e e4 orelse None))))) ≡ (not s && (not t && (is_none a && (not d && not e))))
-is_none-lines true t d e e1 e2 e3 e4 a = refl
-is_none-lines false true d e e1 e2 e3 e4 a = refl
-is_none-lines false false d e e1 e2 e3 e4 (Some f) = refl
-is_none-lines false false true e e1 e2 e3 e4 None = refl
-is_none-lines false false false true e1 e2 e3 e4 None = refl
-is_none-lines false false false false e1 e2 e3 e4 None = refl
+is_none-lines s t d e e1 e2 e3 e4 a = grind (arith, nat_tests)
 
 -- the conditions in the order of the grammar, and in that of the faults: b, s a slash first and last, d, e a dot
 -- first and last, w no fault in between, l `.lock` last and q alone
 in_order : (b d w s l q e : Bool) → (d ≡ false → q ≡ false)
     → (((not b && not d) && (w && (not s && not l))) && not e) ≡ (not s && (not (b && true) && ((w && not (l && not q)) && (not (d && true) && not e))))
-in_order true d w true l q e h = refl
-in_order true d w false l q e h = refl
-in_order false true w true l q e h = refl
-in_order false true false false l q e h = refl
-in_order false true true false false q e h = refl
-in_order false true true false true true e h = refl
-in_order false true true false true false e h = refl
-in_order false false true true l q e h = refl
-in_order false false false true l q e h = refl
-in_order false false false false l q e h = refl
-in_order false false true false false q e h = refl
-in_order false false true false true false e h = refl
-in_order false false true false true true e h = absurd (true≢false (h refl))
+in_order b d w s l q e hh1 = grind (arith, nat_tests, true≢false)
 
 -- the grammar, and the table with its order: a text is a tag name exactly where it has no fault
 pub grammar_law : (x : List ℕ) → is_tag_name x ≡ is_none (fault_of x)

@@ -1,23 +1,21 @@
 -- The faults of tag names along a text: the lines of the table that look back alone, and the last line apart.
-use Rattle.std.proofs.Common.{◌≡◌, ℕ, ◌+◌, ◌<◌, Bool, false, not, ◌&&◌, List, [], ◌∷◌, ◌++◌, length, take, drop, get_or, refl, sym, ap, ◌∙◌, arith, Option, Some, None}
+use Rattle.std.proofs.Common.{◌≡◌, ℕ, ◌+◌, ◌<◌, Bool, false, not, ◌&&◌, List, [], ◌∷◌, ◌++◌, length, take, drop, get_or, refl, sym, ap, ◌∙◌, arith, Option, None}
 use Rattle.std.proofs.lemmas.List.{append-nil, append_assoc, take_all, take_more, drop_all, length-drop}
 use Rattle.std.proofs.lemmas.Bool.{true≢false}
-use Rattle.std.specs.Prelude.{codes, ◌==◌}
-use Rattle.std.specs.Str.{byte, bytes_eq}
+use Rattle.std.specs.Prelude.{codes}
+use Rattle.std.specs.Str.{bytes_eq}
 use Rattle.gix_validate.specs.declared.tag.NameError.{NameError}
-use Rattle.gix_validate.specs.declared.tag.NameError.TheVariants.{InvalidByte, RepeatedSlash, RepeatedDot, LockFileSuffix, ReflogPortion, Asterisk, StartsWithDot}
-use Rattle.gix_validate.specs.Bytes.{is_bad, is_empty, ends}
+use Rattle.gix_validate.specs.declared.tag.NameError.TheVariants.{LockFileSuffix}
+use Rattle.gix_validate.specs.Bytes.{is_empty, ends}
 use Rattle.gix_validate.specs.Faults.{when, first_of, ◌orelse◌, at_first_place}
 use Rattle.gix_validate.specs.Tag.{faults_between, faults_at}
+use Rattle.gix_validate.specs.Clear.{fault_before}
 use Rattle.gix_validate.proofs.PlaceLemmas.{orelse_none, orelse_assoc, at_first_place_more, at_first_place_same, at_first_place_first}
+use Rattle.std.proofs.lemmas.Bool.Decides.{nat_tests}
 
 -- the fault of a byte by what stands before it, where something follows
 unfoldable pub fault_after : List ℕ → ℕ → Option NameError
 fault_after before b = first_of (faults_between before b (0 ∷ []))
-
--- the same at a place of a text
-unfoldable pub fault_before_place : List ℕ → ℕ → Option NameError
-fault_before_place x i = fault_after (take i x) (get_or x i 0)
 
 -- the text ends in `.lock`, and isn't that alone
 abbrev pub ends_in_lock : List ℕ → Bool
@@ -25,14 +23,7 @@ ends_in_lock x = ends x (codes ".lock") && not (bytes_eq x (codes ".lock"))
 
 first_of-more : (t1 t2 t3 t4 t5 t6 t7 : Option NameError) (l : Option NameError)
     → first_of (t1 ∷ t2 ∷ t3 ∷ t4 ∷ t5 ∷ t6 ∷ t7 ∷ l ∷ []) ≡ (first_of (t1 ∷ t2 ∷ t3 ∷ t4 ∷ t5 ∷ t6 ∷ t7 ∷ None ∷ []) orelse l)
-first_of-more (Some e) t2 t3 t4 t5 t6 t7 l = refl
-first_of-more None (Some e) t3 t4 t5 t6 t7 l = refl
-first_of-more None None (Some e) t4 t5 t6 t7 l = refl
-first_of-more None None None (Some e) t5 t6 t7 l = refl
-first_of-more None None None None (Some e) t6 t7 l = refl
-first_of-more None None None None None (Some e) t7 l = refl
-first_of-more None None None None None None (Some e) l = refl
-first_of-more None None None None None None None l = orelse_none l
+first_of-more t1 t2 t3 t4 t5 t6 t7 l = grind (arith, nat_tests, orelse_none)
 
 -- where something follows, the last line doesn't apply
 pub fault_inside : (before : List ℕ) (b c : ℕ) (rest : List ℕ) → first_of (faults_between before b (c ∷ rest)) ≡ fault_after before b
@@ -42,17 +33,12 @@ fault_inside before b c rest = refl
 -- at the end of the text it comes last
 pub fault_at_end : (before : List ℕ) (b : ℕ) → first_of (faults_between before b []) ≡ (fault_after before b orelse when (ends_in_lock (before ++ b ∷ [])) LockFileSuffix)
 unfolding fault_after faults_between
-fault_at_end before b =
-    first_of-more (when (is_bad b) (InvalidByte b)) (when (b == byte "*") Asterisk) (when (b == byte "." && ends before (codes ".")) RepeatedDot)
-    (when (b == byte "." && ends before (codes "/")) StartsWithDot) (when (b == byte "{" && ends before (codes "@")) ReflogPortion)
-    (when (b == byte "/" && ends before (codes "/")) RepeatedSlash)
-    (when (b == byte "/" && ends before (codes ".lock")) LockFileSuffix)
-    (when (ends (before ++ b ∷ []) (codes ".lock") && not (bytes_eq (before ++ b ∷ []) (codes ".lock"))) LockFileSuffix)
+fault_at_end before b = grind (arith, nat_tests, first_of-more)
 
 -- The fault at the least place: by the lines that look back alone, and then the last line.
 pub at_first_place_split : (x : List ℕ) → is_empty x ≡ false
-    → at_first_place (λ i. first_of (faults_at x i)) (length x) ≡ (at_first_place (fault_before_place x) (length x) orelse when (ends_in_lock x) LockFileSuffix)
-unfolding fault_before_place faults_at
+    → at_first_place (λ i. first_of (faults_at x i)) (length x) ≡ (at_first_place (fault_before x) (length x) orelse when (ends_in_lock x) LockFileSuffix)
+unfolding fault_before fault_after faults_at
 at_first_place_split [] some = absurd (true≢false some)
 at_first_place_split (c ∷ y) some =
     at_first_place_more f n
@@ -68,7 +54,7 @@ at_first_place_split (c ∷ y) some =
     f i = first_of (faults_at (c ∷ y) i)
 
     g : ℕ → Option NameError
-    g i = fault_before_place (c ∷ y) i
+    g i = fault_before (c ∷ y) i
 
     lock : Option NameError
     lock = when (ends_in_lock (c ∷ y)) LockFileSuffix
@@ -105,6 +91,6 @@ walked_places before (b ∷ x) =
     (λ i _. ap (λ y. fault_after y (get_or x i 0)) (sym (append_assoc before (b ∷ []) (take i x))))
     ∙ walked_places (before ++ b ∷ []) x)
 
-pub at_first_place_walked : (x : List ℕ) → at_first_place (fault_before_place x) (length x) ≡ walked [] x
-unfolding fault_before_place
+pub at_first_place_walked : (x : List ℕ) → at_first_place (fault_before x) (length x) ≡ walked [] x
+unfolding fault_before fault_after
 at_first_place_walked x = walked_places [] x

@@ -1,16 +1,18 @@
 -- How a text that grows by one byte at its end begins, ends, holds a part and falls into pieces.
-use Rattle.std.proofs.Common.{◌≡◌, ℕ, suc, ◌+◌, ◌-◌, Bool, true, false, not, ◌&&◌, ◌||◌, cond, eqb, List, [], ◌∷◌, ◌++◌, length, drop, refl, sym, ap, subst, ◌∙◌, inl, inr, ◌⊎◌, arith}
+use Rattle.std.proofs.Common.{◌≡◌, ℕ, ◌-◌, Bool, true, false, not, ◌&&◌, ◌||◌, cond, eqb, List, [], ◌∷◌, ◌++◌, length, refl, sym, ap, subst, ◌∙◌, inl, inr, ◌⊎◌, arith}
 use Rattle.std.proofs.lemmas.List.{length_push, drop-append-le, reverse-append, reverse-reverse, drop_all, nil_from_length, length-reverse}
 use Rattle.std.proofs.lemmas.Bool.{and_right, and_parts, not-true, ne_eqb, both_ways}
 use Rattle.std.proofs.lemmas.List.Sums.{suffix_len-le-length}
 use Rattle.std.specs.Prelude.{reverse}
-use Rattle.std.specs.List.{after_last, prefix_len, suffix_len}
+use Rattle.std.specs.List.{after_last, suffix_len}
 use Rattle.std.specs.Str.{bytes_eq}
 use mathlib.Core.Bool.{and-true, and-false, and_assoc}
 use Rattle.std.proofs.Math.Bool.{or_assoc}
 use mathlib.Core.List.{reverse-cons}
-use Rattle.gix_validate.specs.Bytes.{is_empty, begins, ends, holds}
+use Rattle.gix_validate.specs.Bytes.{is_empty, ends, holds}
 use Rattle.gix_validate.specs.Pieces.{is_slash, has_no_slash}
+use Rattle.std.proofs.lemmas.Bool.Decides.{nat_tests}
+use Rattle.std.proofs.lemmas.Grind.{common_steps}
 
 reverse_nothing : reverse {A = ℕ} [] ≡ []
 reverse_nothing = nil_from_length (reverse {A = ℕ} []) (length-reverse {A = ℕ} [])
@@ -52,10 +54,7 @@ bytes_eq_push (y ∷ z ∷ zs) [] c b = and-false (eqb y b)
 bytes_eq_push (x ∷ f) (y ∷ z) c b = ap (λ t. eqb x y && t) (bytes_eq_push f z c b) ∙ sym (and_assoc (eqb x y) (bytes_eq f z) (eqb c b))
 
 pub ends_push : (y f : List ℕ) (b c : ℕ) → ends (y ++ b ∷ []) (f ++ c ∷ []) ≡ (ends y f && eqb c b)
-ends_push y f b c =
-    ap (λ n. bytes_eq (f ++ c ∷ []) (drop n (y ++ b ∷ []))) (omega (arith, length_push y b, length_push f c))
-    ∙ ap (λ t. bytes_eq (f ++ c ∷ []) t) (drop-append-le (length y - length f) y (b ∷ []) (omega arith))
-    ∙ bytes_eq_push f (drop (length y - length f) y) c b
+ends_push y f b c = grind (arith, nat_tests, length_push, drop-append-le, bytes_eq_push)
 
 pub ends_nothing : (y : List ℕ) → ends y [] ≡ true
 ends_nothing y = ap (bytes_eq []) (drop_all (length y - 0) y (omega arith))
@@ -64,33 +63,17 @@ pub ends_push_one : (y : List ℕ) (b c : ℕ) → ends (y ++ b ∷ []) (c ∷ [
 ends_push_one y b c = ends_push y [] b c ∙ ap (λ t. t && eqb c b) (ends_nothing y)
 
 pub empty_ends : (f : List ℕ) (c : ℕ) → ends [] (f ++ c ∷ []) ≡ false
-empty_ends f c = ap (bytes_eq (f ++ c ∷ [])) (drop_all (0 - length (f ++ c ∷ [])) [] (omega arith)) ∙ by f
-  where
-    by : (f : List ℕ) → bytes_eq (f ++ c ∷ []) [] ≡ false
-    by [] = refl
-    by (d ∷ f) = refl
+empty_ends f c = grind (arith, common_steps, drop_all)
 
 -- the last byte of a text of two or more
 ends_one_more : (x y : ℕ) (p : List ℕ) (a : ℕ) → ends (x ∷ y ∷ p) (a ∷ []) ≡ ends (y ∷ p) (a ∷ [])
-ends_one_more x y p a =
-    let e : length (x ∷ y ∷ p) - 1 ≡ suc (length (y ∷ p) - 1) = omega arith in
-    ap (λ n. bytes_eq (a ∷ []) (drop n (x ∷ y ∷ p))) e
+ends_one_more x y p a = grind (arith, nat_tests)
 
 -- a part of two bytes stands in the text already, or comes with the new byte
 pub holds_push : (p : List ℕ) (b a c : ℕ) → holds (p ++ b ∷ []) (a ∷ c ∷ []) ≡ (holds p (a ∷ c ∷ []) || (ends p (a ∷ []) && eqb c b))
-holds_push [] b a c = ap (λ t. t || false) (and-false (eqb a b))
-holds_push (x ∷ []) b a c = two (eqb a x) (eqb c b) (eqb a b)
-  where
-    two : (m n o : Bool) → (m && (n && true) || (o && false || false)) ≡ ((m && false || false) || ((m && true) && n))
-    two true true o = refl
-    two true false true = refl
-    two true false false = refl
-    two false n true = refl
-    two false n false = refl
-holds_push (x ∷ y ∷ p) b a c =
-    ap (λ t. begins (x ∷ y ∷ p) (a ∷ c ∷ []) || t) (holds_push (y ∷ p) b a c)
-    ∙ sym (or_assoc (begins (x ∷ y ∷ p) (a ∷ c ∷ [])) (holds (y ∷ p) (a ∷ c ∷ [])) (ends (y ∷ p) (a ∷ []) && eqb c b))
-    ∙ ap (λ t. holds (x ∷ y ∷ p) (a ∷ c ∷ []) || (t && eqb c b)) (sym (ends_one_more x y p a))
+holds_push [] b a c = grind (arith, nat_tests)
+holds_push (x ∷ []) b a c = grind (arith, nat_tests)
+holds_push (x ∷ y ∷ p) b a c = grind (arith, nat_tests, or_assoc, ends_one_more, holds_push (y ∷ p) b a c)
 
 -- what follows the last slash, or the whole text where there is none
 abbrev pub last_piece : List ℕ → List ℕ
@@ -98,23 +81,7 @@ last_piece y = after_last is_slash y
 
 -- the last piece goes on, or a new one begins
 pub last_piece_push : (y : List ℕ) (b : ℕ) → last_piece (y ++ b ∷ []) ≡ cond (is_slash b) [] (last_piece y ++ b ∷ [])
-last_piece_push y b = ap (λ n. drop (length (y ++ b ∷ []) - n) (y ++ b ∷ [])) counted ∙ by (is_slash b)
-  where
-    keeps : ℕ → Bool
-    keeps c = not (is_slash c)
-
-    counted : suffix_len keeps (y ++ b ∷ []) ≡ cond (is_slash b) 0 (1 + suffix_len keeps y)
-    counted = ap (prefix_len keeps) (reverse_push y b) ∙ one (is_slash b) (prefix_len keeps (reverse y))
-      where
-        one : (t : Bool) (n : ℕ) → cond (not t) (1 + n) 0 ≡ cond t 0 (1 + n)
-        one true n = refl
-        one false n = refl
-
-    by : (t : Bool) → drop (length (y ++ b ∷ []) - cond t 0 (1 + suffix_len keeps y)) (y ++ b ∷ []) ≡ cond t [] (last_piece y ++ b ∷ [])
-    by true = drop_all (length (y ++ b ∷ []) - 0) (y ++ b ∷ []) (omega arith)
-    by false =
-        ap (λ n. drop n (y ++ b ∷ [])) (omega (arith, length_push y b, suffix_len-le-length keeps y))
-        ∙ drop-append-le (length y - suffix_len keeps y) y (b ∷ []) (omega arith)
+last_piece_push y b = grind (arith, nat_tests, reverse_push, drop_all, length_push, suffix_len-le-length, drop-append-le)
 
 pub last_piece_nothing : last_piece [] ≡ []
 last_piece_nothing = drop_all (0 - suffix_len (λ b. not (is_slash b)) []) [] (omega arith)

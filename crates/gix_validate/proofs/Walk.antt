@@ -10,6 +10,7 @@ use Rattle.gix_validate.specs.Pieces.{pieces, joined, is_slash}
 use Rattle.gix_validate.specs.Sanitized.{cut, mended_pieces}
 use Rattle.gix_validate.proofs.Cleaned.{given, given_by, cleaned-given_by, cleaned_first}
 use Rattle.gix_validate.proofs.SanitizedLaws.{mended_of}
+use Rattle.std.proofs.lemmas.Bool.Decides.{nat_tests}
 
 -- the byte before the next one, in its piece: a slash ends the piece before
 abbrev pub before_next : ℕ → Option ℕ
@@ -48,8 +49,7 @@ slashed-append [] p = refl
 slashed-append (q ∷ ps) p = ap (λ v. q ++ (byte "/" ∷ v)) (slashed-append ps p) ∙ sym (append_assoc q (byte "/" ∷ slashed ps) (p ++ codes "/"))
 
 closed-slashed : (ps : List (List ℕ)) (piece : List ℕ) → closed (slashed ps) piece ≡ slashed (ps ++ kept piece)
-closed-slashed ps [] = ap slashed (sym (append-nil ps))
-closed-slashed ps (b ∷ piece) = sym (slashed-append ps (cut (b ∷ piece)))
+closed-slashed ps piece = grind (arith, nat_tests, append-nil, slashed-append)
 
 joined-slashed : (ps : List (List ℕ)) (p : List ℕ) → joined (ps ++ p ∷ []) ≡ slashed ps ++ p
 joined-slashed [] p = refl
@@ -64,33 +64,23 @@ pub last_taken : (t : List ℕ) → take (length (t ++ codes "/") - 1) (t ++ cod
 last_taken t = take_at t (codes "/") (length (t ++ codes "/") - 1) (omega (arith, length-append t (codes "/")))
 
 finished-slashed : (ps : List (List ℕ)) (piece : List ℕ) → finished (slashed ps) piece ≡ joined (ps ++ kept piece)
-finished-slashed [] [] = refl
-finished-slashed (p ∷ ps) [] = ap (λ v. take (length v - 1) v) (slashed-joined p ps) ∙ (last_taken (joined (p ∷ ps))
-    ∙ ap joined (sym (append-nil (p ∷ ps))))
-finished-slashed ps (b ∷ piece) = sym (joined-slashed ps (cut (b ∷ piece)))
+finished-slashed [] [] = grind (arith, nat_tests)
+finished-slashed (p ∷ ps) [] = grind (arith, nat_tests, slashed-joined, last_taken, append-nil)
+finished-slashed ps (b ∷ piece) = grind (arith, nat_tests, joined-slashed)
 
 mended_of-cons : (p : List ℕ) (ps : List (List ℕ)) → mended_of (p ∷ ps) ≡ kept (given_by None p) ++ mended_of ps
-mended_of-cons [] ps = refl
-mended_of-cons (b ∷ p) ps =
-    let first = cleaned_first b p in
-    let given_first : given_by None (b ∷ p) ≡ first.0 ∷ first.1 = sym (cleaned-given_by (b ∷ p)) ∙ first.2 in
-    ap (λ v. cut v ∷ mended_of ps) first.2 ∙ ap (λ v. kept v ++ mended_of ps) (sym given_first)
+mended_of-cons p ps = grind (arith, nat_tests, cleaned_first, given_by, cleaned-given_by, mended_of)
 
 mended_from-start : (done : List (List ℕ)) (ps : List (List ℕ)) → mended_from done [] None ps ≡ done ++ mended_of ps
-mended_from-start done [] = refl
-mended_from-start done (p ∷ ps) = ap (λ v. done ++ v) (sym (mended_of-cons p ps))
+mended_from-start done ps = grind (arith, nat_tests, mended_of-cons)
 
 mended_from-slash : (done : List (List ℕ)) (piece : List ℕ) (before : Option ℕ) (ps : List (List ℕ))
     → mended_from done piece before ([] ∷ ps) ≡ mended_from (done ++ kept piece) [] None ps
-mended_from-slash done piece before ps =
-    ap (λ v. done ++ (kept v ++ mended_of ps)) (append-nil piece) ∙ (sym (append_assoc done (kept piece) (mended_of ps))
-    ∙ sym (mended_from-start (done ++ kept piece) ps))
+mended_from-slash done piece before ps = grind (arith, nat_tests, mended_of, append-nil, append_assoc, mended_from-start)
 
 mended_from-byte : (done : List (List ℕ)) (piece : List ℕ) (before : Option ℕ) (b : ℕ) (ps : List (List ℕ))
     → mended_from done piece before (onto_first b ps) ≡ mended_from done (piece ++ given before b) (Some b) ps
-mended_from-byte done piece before b [] = ap (λ v. done ++ (kept v ++ [])) (ap (λ v. piece ++ v) (append-nil (given before b)))
-    ∙ ap (λ v. done ++ v) (append-nil (kept (piece ++ given before b)))
-mended_from-byte done piece before b (p ∷ ps) = ap (λ v. done ++ (kept v ++ mended_of ps)) (sym (append_assoc piece (given before b) (given_by (Some b) p)))
+mended_from-byte done piece before b ps = grind (arith, nat_tests, append-nil, given, mended_of, append_assoc, given_by)
 
 walk-mended : (done : List (List ℕ)) (piece : List ℕ) (last : ℕ) (rest : List ℕ)
     → walk (slashed done) piece last rest ≡ joined (mended_from done piece (before_next last) (pieces rest))

@@ -1,16 +1,19 @@
--- A walk over a text that does not keep the byte before: the written piece tells what it needs to know of it.
-use Rattle.std.proofs.Common.{◌≡◌, inl, inr, ℕ, Bool, true, false, List, [], ◌∷◌, ◌++◌, ◌-◌, length, take, refl, sym, ap, ◌∙◌, append_assoc, append-nil}
-use Rattle.std.specs.Prelude.{codes, Option, ◌||◌, ◌&&◌, not, ◌==◌, if◌then◌else◌, Some, None}
+-- A walk over a text that does not keep the byte before: the written piece says what it needs to know of it.
+use Rattle.std.proofs.Common.{◌≡◌, inl, inr, ℕ, Bool, true, false, List, [], ◌∷◌, ◌++◌, refl, sym, ap, ◌∙◌, append_assoc, append-nil}
+use Rattle.std.specs.Prelude.{codes, ◌||◌, ◌&&◌, not, ◌==◌, if◌then◌else◌, None}
 use Rattle.std.specs.Str.{byte}
 use Rattle.std.proofs.lemmas.Bool.{cases_Bool, cond_both, cond-false, false≢true, or_parts, not-true, eqb-true, and_right, or_from, false_from_ne_true, eq-eqb}
 use Rattle.std.proofs.lemmas.List.{same_from_push}
 use Rattle.gix_validate.specs.Bytes.{is_bad, is_empty, is_among, ends, begins}
 use Rattle.gix_validate.specs.Pieces.{is_slash, joined}
-use Rattle.gix_validate.specs.Sanitized.{Other, byte_of, allowed, cut, mended_pieces}
+use Rattle.gix_validate.specs.Sanitized.{allowed, mended_pieces}
 use Rattle.gix_validate.proofs.Ends.{ends-append, ends-false}
 use Rattle.gix_validate.proofs.Cuts.{cut-append_lock}
 use Rattle.gix_validate.proofs.Cleaned.{given, byte_of_other}
 use Rattle.gix_validate.proofs.Walk.{walk, before_next, closed, finished, walk-slash, walk-other, walk-end, walk-joined, last_taken}
+use native.Mathlib.Omega.{arith}
+use Rattle.std.proofs.lemmas.Bool.Decides.{nat_tests}
+use Rattle.std.proofs.lemmas.Grind.{common_steps}
 
 -- The walk has come to this rest of the text, with these pieces done, each with its slash, and this piece written: some
 -- byte stands before the rest, of which this much is known, so that the rest still gives what the whole gives.
@@ -29,66 +32,29 @@ is_empty-push [] w = refl
 is_empty-push (b ∷ p) w = refl
 
 ends-push : (p : List ℕ) (w : ℕ) → ends (p ++ w ∷ []) (codes "@") ≡ (w == byte "@")
-ends-push p w =
-    elim (cases_Bool (w == byte "@")) [
-      | inl at ↦ ap (λ v. ends (p ++ v ∷ []) (codes "@")) (eqb-true w (byte "@") at) ∙ (ends-append p (codes "@") ∙ sym at)
-      | inr other ↦ ends-false (p ++ w ∷ []) (codes "@") (λ f e. false≢true (sym other ∙ eq-eqb w (byte "@") (same_from_push p f w (byte "@") e).1)) ∙ sym other
-    ]
+ends-push p w = grind (arith, common_steps, cases_Bool, eqb-true, ends-append, ends-false, false≢true, eq-eqb, same_from_push)
 
--- A byte that adds one byte to its piece, of which the written one tells whether it is `@`.
+-- A byte that adds one byte to its piece, where the written one says whether it is `@`.
 one_more : (whole done piece rest : List ℕ) (b w : ℕ) (so_far : Walked whole done piece (b ∷ rest)) → is_slash b ≡ false
     → (b == byte "@") ≡ (w == byte "@") → (begins rest (codes ".") ≡ true → (b == byte ".") ≡ false)
     → given (before_next so_far.last) b ≡ w ∷ [] → Walked whole done (piece ++ w ∷ []) rest
-one_more whole done piece rest b w so_far other sign dot adds = record {
-  last = b;
-  begun = other ∙ sym (is_empty-push piece w);
-  at_sign = sign ∙ sym (ends-push piece w);
-  no_dot = dot;
-  result = ap (λ v. walk done (piece ++ v) b rest) (sym adds) ∙ (sym (walk-other done piece so_far.last b rest other) ∙ so_far.result);
-}
+one_more whole done piece rest b w so_far other sign dot adds = grind (arith, nat_tests, is_empty-push, ends-push, walk, walk-other)
 
--- A plain byte is none of those that stand for more than themselves.
+-- A plain byte is not one of those that stand for more than themselves.
 pub plain-apart : (b : ℕ) → not (is_bad b || is_among (codes "*./{") b) ≡ true → (is_slash b ≡ false) × ((b == byte ".") ≡ false) × ((b == byte "{") ≡ false) × (allowed b ≡ b)
-plain-apart b h =
-    let parts = or_parts (is_bad b) (is_among (codes "*./{") b) (not-true _ h) in
-    let star = or_parts (b == byte "*") _ parts.1 in
-    let dot = or_parts (b == byte ".") _ star.1 in
-    let slash = or_parts (b == byte "/") _ dot.1 in
-    let brace = or_parts (b == byte "{") false slash.1 in
-    (slash.0, dot.0, brace.0, cond-false (is_bad b || b == byte "*") (byte "-") b (or_from (is_bad b) (b == byte "*") parts.0 star.0))
+plain-apart b h = grind (arith, nat_tests, or_parts, not-true, cond-false, or_from)
 
 -- A slash closes the piece.
 pub Walked-slash : (whole done piece rest : List ℕ) (b : ℕ) → Walked whole done piece (b ∷ rest) → is_slash b ≡ true → Walked whole (closed done piece) [] rest
-Walked-slash whole done piece rest b so_far slash = record {
-  last = byte "/";
-  begun = refl;
-  at_sign = refl;
-  no_dot = λ _. refl;
-  result = ap (λ v. walk (closed done piece) [] v rest) (sym (eqb-true b (byte "/") slash))
-      ∙ (sym (walk-slash done piece so_far.last b rest slash) ∙ so_far.result);
-}
+Walked-slash whole done piece rest b so_far slash = grind (arith, nat_tests, walk, closed, eqb-true, walk-slash)
 
 -- A dot before another dot changes nothing.
 pub Walked-dots : (whole done piece rest : List ℕ) → Walked whole done piece (codes ".." ++ rest) → Walked whole done piece (codes "." ++ rest)
-Walked-dots whole done piece rest so_far =
-    let twice = ap (λ v. walk done v (byte ".") rest) (append-nil (piece ++ given (before_next so_far.last) (byte "."))) in
-    record {
-      last = so_far.last;
-      begun = so_far.begun;
-      at_sign = so_far.at_sign;
-      no_dot = λ _. so_far.no_dot refl;
-      result =
-          walk-other done piece so_far.last (byte ".") rest refl
-          ∙ (sym twice
-          ∙ (sym (walk-other done (piece ++ given (before_next so_far.last) (byte ".")) (byte ".") (byte ".") rest refl)
-          ∙ (sym (walk-other done piece so_far.last (byte ".") (codes "." ++ rest) refl)
-          ∙ so_far.result)));
-    }
+Walked-dots whole done piece rest so_far = grind (arith, nat_tests, walk, append-nil, given, before_next, walk-other)
 
 dot_gives : (last : ℕ) (first : Bool) → is_slash last ≡ first → (last == byte ".") ≡ false
     → given (before_next last) (byte ".") ≡ (if first then byte "-" else byte ".") ∷ []
-dot_gives last true h k = rw h refl
-dot_gives last false h k = rw (h, k) refl
+dot_gives last first hh1 hh2 = grind (arith, nat_tests)
 
 -- A `.lock` that ends a piece in which something was written is cut, so it need not be written.
 pub Walked-lock : (whole done piece rest : List ℕ) → Walked whole done piece (codes ".lock/" ++ rest) → is_empty piece ≡ false
@@ -124,8 +90,7 @@ Walked-lock whole done piece rest so_far some =
 
 brace_gives : (last : ℕ) (at : Bool) → (last == byte "@") ≡ at → given (before_next last) (byte "{") ≡ (if at then byte "-" else byte "{") ∷ []
 unfolding is_bad
-brace_gives last true h = ap (λ v. given (before_next v) (byte "{")) (eqb-true last (byte "@") h)
-brace_gives last false h = elim (cases_Bool (is_slash last)) [ inl slash ↦ rw slash refl | inr other ↦ rw (other, h) refl ]
+brace_gives last at hh1 = grind (arith, nat_tests, given, before_next, eqb-true, cases_Bool)
 
 -- what a byte adds to its piece, by what is known of the piece so far
 abbrev pub added : Bool → Bool → ℕ → ℕ
@@ -133,32 +98,17 @@ added first at b = if (b == byte "." && first) || (b == byte "{" && at) then byt
 
 added_dot : (first at : Bool) → (if first then byte "-" else byte ".") ≡ added first at (byte ".")
 unfolding is_bad
-added_dot true at = refl
-added_dot false at = refl
+added_dot first at = grind (arith, nat_tests)
 
 added_brace : (first at : Bool) → (if at then byte "-" else byte "{") ≡ added first at (byte "{")
 unfolding is_bad
-added_brace first true = refl
-added_brace first false = refl
+added_brace first at = grind (arith, nat_tests)
 
--- what the byte before and the piece so far tell of the next byte is the same
+-- what the byte before and the piece so far say of the next byte is the same
 gives : (last b : ℕ) (first at : Bool) → is_slash last ≡ first → (last == byte "@") ≡ at → ((b == byte ".") ≡ true → (last == byte ".") ≡ false)
     → given (before_next last) b ≡ added first at b ∷ []
 gives last b first at is_first is_at no_dots =
-    elim (cases_Bool (b == byte ".")) [
-      | inl dot ↦ (let same = eqb-true b (byte ".") dot in
-          ap (given (before_next last)) same ∙ (dot_gives last first is_first (no_dots dot)
-          ∙ (ap (λ v. v ∷ []) (added_dot first at) ∙ ap (λ v. added first at v ∷ []) (sym same))))
-      | inr no_dot ↦ elim (cases_Bool (b == byte "{")) [
-        | inl brace ↦ (let same = eqb-true b (byte "{") brace in
-            ap (given (before_next last)) same ∙ (brace_gives last at is_at
-            ∙ (ap (λ v. v ∷ []) (added_brace first at) ∙ ap (λ v. added first at v ∷ []) (sym same))))
-        | inr no_brace ↦ rw (no_dot, no_brace) (ap (λ v. v ∷ []) (other (before_next last) b no_brace))
-      ]
-    ] where
-      other : (before : Option ℕ) (b : ℕ) → (b == byte "{") ≡ false → byte_of before (Other b) ≡ allowed b
-      other None b h = refl
-      other (Some a) b h = cond-false (a == byte "@" && b == byte "{") (byte "-") (allowed b) (and_right (a == byte "@") (b == byte "{") h)
+    grind (arith, nat_tests, cases_Bool, eqb-true, given, before_next, dot_gives, added_dot, brace_gives, added_brace, cond-false, and_right)
 
 sign_added : (first at : Bool) → added first at (byte "@") ≡ byte "@"
 unfolding is_bad
@@ -188,8 +138,7 @@ pub Walked-end : (whole done piece : List ℕ) → Walked whole done piece [] �
 Walked-end whole done piece so_far = sym (walk-end done piece so_far.last) ∙ so_far.result
 
 finished-closed : (done piece : List ℕ) → finished done piece ≡ finished (closed done piece) []
-finished-closed done [] = refl
-finished-closed done (b ∷ piece) = sym (ap (λ v. take (length v - 1) v) (sym (append_assoc done (cut (b ∷ piece)) (codes "/"))) ∙ last_taken (done ++ cut (b ∷ piece)))
+finished-closed done piece = grind (arith, nat_tests, append_assoc, last_taken)
 
 -- So it does where a slash is left.
 pub Walked-last_slash : (whole done piece : List ℕ) (b : ℕ) → Walked whole done piece (b ∷ []) → is_slash b ≡ true → finished done piece ≡ joined (mended_pieces whole)

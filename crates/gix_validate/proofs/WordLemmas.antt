@@ -1,5 +1,5 @@
 -- A form against a word, without ASCII case: byte by byte from the front, and what then is left of the form.
-use Rattle.std.proofs.Common.{◌≡◌, ℕ, ◌+◌, ◌<◌, ◌≤◌, Bool, true, false, ◌&&◌, cond, eqb, List, [], ◌∷◌, ◌++◌, get_or, length, drop, refl, sym, ap, ◌∙◌, arith, inl, inr, codes, append-nil}
+use Rattle.std.proofs.Common.{◌≡◌, ℕ, ◌+◌, ◌<◌, ◌≤◌, Bool, true, false, ◌&&◌, cond, eqb, List, [], ◌∷◌, ◌++◌, get_or, length, drop, refl, sym, ap, ◌∙◌, arith, codes, append-nil}
 use Rattle.std.specs.Prelude.{IsTrue, ◌==◌}
 use Rattle.std.specs.List.{list_all}
 use Rattle.std.specs.Str.{byte, bytes_eq}
@@ -17,50 +17,30 @@ abbrev pub KeepsPlain : (ℕ → Bool) → (ℕ → Bool) → Type 0
 KeepsPlain cut trim = (b : ℕ) → stays_in_form b ≡ true → (cut b ≡ false) × (trim b ≡ false)
 
 pub none_left : (x : List ℕ) → bytes_eq (lower x) [] ≡ is_empty x
-none_left [] = refl
-none_left (b ∷ x) = refl
+none_left x = grind (arith, nat_tests)
 
 plain_alike : (b w : ℕ) → lower_byte b ≡ lower_byte w → stays_in_form w ≡ true → stays_in_form b ≡ true
 plain_alike b w e plain = sym (test-lower_byte stays_in_form refl b) ∙ ap stays_in_form e ∙ test-lower_byte stays_in_form refl w ∙ plain
 
 -- the form begins with what the text begins with, or is empty
 pub other_head : (cut trim : ℕ → Bool) (b : ℕ) (x : List ℕ) (w : ℕ) (ws : List ℕ) → eqb (lower_byte b) w ≡ false → bytes_eq (lower (form cut trim (b ∷ x))) (w ∷ ws) ≡ false
-other_head cut trim b x w ws other =
-    ap (λ f. bytes_eq (lower f) (w ∷ ws)) (form_at cut trim b x)
-    ∙ elim (cut b) as (λ v. bytes_eq (lower (cond v [] (cond (trim b && is_empty (form cut trim x)) [] (b ∷ form cut trim x)))) (w ∷ ws) ≡ false) [
-      | true ↦ refl
-      | false ↦ elim (trim b && is_empty (form cut trim x)) as (λ v. bytes_eq (lower (cond v [] (b ∷ form cut trim x))) (w ∷ ws) ≡ false) [
-        | true ↦ refl
-        | false ↦ ap (λ v. v && bytes_eq (lower (form cut trim x)) ws) other
-      ]
-    ]
+other_head cut trim b x w ws other = grind (arith, nat_tests, form_at, form)
 
 pub plain_head : (cut trim : ℕ → Bool) → KeepsPlain cut trim → (b : ℕ) (x : List ℕ) → stays_in_form b ≡ true → form cut trim (b ∷ x) ≡ b ∷ form cut trim x
-plain_head cut trim keeps b x plain =
-    form_at cut trim b x
-    ∙ ap (λ v. cond v [] (cond (trim b && is_empty (form cut trim x)) [] (b ∷ form cut trim x))) ((keeps b plain).0)
-    ∙ ap (λ v. cond (v && is_empty (form cut trim x)) [] (b ∷ form cut trim x)) ((keeps b plain).1)
+plain_head cut trim keeps b x plain = grind (arith, nat_tests, form_at, form)
 
 pub word_head : (cut trim : ℕ → Bool) → KeepsPlain cut trim → (b : ℕ) (x : List ℕ) (w : ℕ) (ws : List ℕ) → stays_in_form w ≡ true → bytes_eq (lower (form cut trim (b ∷ x))) (lower_byte w ∷ ws) ≡ (eqb (lower_byte b) (lower_byte w) && bytes_eq (lower (form cut trim x)) ws)
-word_head cut trim keeps b x w ws plain =
-    elim (cases_eq (lower_byte b) (lower_byte w)) [
-      | inl e ↦ ap (λ f. bytes_eq (lower f) (lower_byte w ∷ ws)) (plain_head cut trim keeps b x (plain_alike b w e plain))
-      | inr ne ↦ other_head cut trim b x (lower_byte w) ws (ne_eqb _ _ ne) ∙ sym (ap (λ v. v && bytes_eq (lower (form cut trim x)) ws) (ne_eqb _ _ ne))
-    ]
+word_head cut trim keeps b x w ws plain = grind (arith, nat_tests, cases_eq, plain_head, plain_alike, other_head, ne_eqb, form)
 
 and_apart : (a b c d : Bool) → a ≡ b → (a && (c && d)) ≡ ((b && c) && d)
-and_apart true b c d e = ap (λ v. (v && c) && d) e
-and_apart false b c d e = ap (λ v. (v && c) && d) e
+and_apart a b c d hh1 = grind (arith, nat_tests)
 
 -- A word of plain bytes, and more after it.
 pub word_front : (cut trim : ℕ → Bool) → KeepsPlain cut trim → (word x ws : List ℕ) → list_all stays_in_form word ≡ true → bytes_eq (lower (form cut trim x)) (lower word ++ ws) ≡ (begins (lower x) (lower word) && bytes_eq (lower (form cut trim (drop (length word) x))) ws)
-word_front cut trim keeps [] x ws plain = refl
-word_front cut trim keeps (w ∷ word) [] ws plain = refl
+word_front cut trim keeps [] x ws plain = grind (arith, nat_tests)
+word_front cut trim keeps (w ∷ word) [] ws plain = grind (arith, nat_tests)
 word_front cut trim keeps (w ∷ word) (b ∷ x) ws plain =
-    let parts = and_parts (stays_in_form w) (list_all stays_in_form word) plain in
-    word_head cut trim keeps b x w (lower word ++ ws) parts.0
-    ∙ ap (λ v. eqb (lower_byte b) (lower_byte w) && v) (word_front cut trim keeps word x ws parts.1)
-    ∙ and_apart _ _ _ _ (eqb_turned (lower_byte b) (lower_byte w))
+    grind (arith, nat_tests, and_parts, word_head, and_apart, eqb_turned, word_front cut trim keeps word x ws)
 
 -- ---- what is left of a form behind a word
 
@@ -69,15 +49,7 @@ form-none cut trim = refl
 
 -- whether nothing is left of the form, by the byte in front
 left_at : (cut trim : ℕ → Bool) (b : ℕ) (x : List ℕ) → is_empty (form cut trim (b ∷ x)) ≡ cond (cut b) true (cond (trim b) (is_empty (form cut trim x)) false)
-left_at cut trim b x =
-    ap is_empty (form_at cut trim b x)
-    ∙ elim (cut b) as (λ v. is_empty (cond v [] (cond (trim b && is_empty (form cut trim x)) [] (b ∷ form cut trim x))) ≡ cond v true (cond (trim b) (is_empty (form cut trim x)) false)) [
-      | true ↦ refl
-      | false ↦ elim (trim b) as (λ v. is_empty (cond (v && is_empty (form cut trim x)) [] (b ∷ form cut trim x)) ≡ cond v (is_empty (form cut trim x)) false) [
-        | true ↦ elim (is_empty (form cut trim x)) as (λ v. is_empty (cond v [] (b ∷ form cut trim x)) ≡ v) [ true ↦ refl | false ↦ refl ]
-        | false ↦ refl
-      ]
-    ]
+left_at cut trim b x = grind (arith, nat_tests, form_at, form)
 
 pub form_left : (cut trim : ℕ → Bool) (x : List ℕ) (i : ℕ) → i < length x → is_empty (form cut trim (drop i x)) ≡ cond (cut (get_or x i 0)) true (cond (trim (get_or x i 0)) (is_empty (form cut trim (drop (i + 1) x))) false)
 form_left cut trim x i h = at_drop_more (λ t. is_empty (form cut trim t)) x i 0 h ∙ left_at cut trim (get_or x i 0) (drop (i + 1) x)
@@ -92,10 +64,7 @@ form_word cut trim keeps word x plain =
     ∙ ap (λ v. begins (lower x) (lower word) && v) (none_left (form cut trim (drop (length word) x)))
 
 pub form_word_then : (cut trim : ℕ → Bool) → KeepsPlain cut trim → (word x rest : List ℕ) (r : Bool) → IsTrue (list_all stays_in_form word) → (begins (lower x) (lower word) ≡ true) × (rest ≡ drop (length word) x) → r ≡ is_empty (form cut trim rest) → r ≡ bytes_eq (lower (form cut trim x)) (lower word)
-form_word_then cut trim keeps word x rest r plain front back =
-    back
-    ∙ ap (λ t. is_empty (form cut trim t)) front.1
-    ∙ sym (form_word cut trim keeps word x plain ∙ ap (λ v. v && is_empty (form cut trim (drop (length word) x))) front.0)
+form_word_then cut trim keeps word x rest r plain front back = grind (arith, nat_tests, form, form_word)
 
 pub form_word_not : (cut trim : ℕ → Bool) → KeepsPlain cut trim → (word x : List ℕ) → IsTrue (list_all stays_in_form word) → begins (lower x) (lower word) ≡ false → false ≡ bytes_eq (lower (form cut trim x)) (lower word)
 form_word_not cut trim keeps word x plain front = sym (form_word cut trim keeps word x plain ∙ ap (λ v. v && is_empty (form cut trim (drop (length word) x))) front)

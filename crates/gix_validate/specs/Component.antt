@@ -18,7 +18,7 @@ abbrev pub all_protections : ComponentOptions
 all_protections = record { protect_windows = true; protect_hfs = true; protect_ntfs = true }
 
 -- The conditions, a line each, by what a name reads as on NTFS, under the switches for Windows, HFS and NTFS, and for a
--- name that is to be a symlink. (Behind the last byte `slice_index` finds 0, which is no colon.)
+-- name of a symlink. (After the last byte `slice_index` finds 0, which is not a colon.)
 unfoldable pub conditions : (List ℕ → List ℕ) → Bool → Bool → Bool → Bool → List ℕ → List (Option ComponentError)
 conditions form windows hfs ntfs symlink x =
     when (is_empty x) Empty

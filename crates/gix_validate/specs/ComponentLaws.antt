@@ -1,4 +1,4 @@
--- The laws of path components: what acceptance of a name says beside the conditions, and what never changes an answer.
+-- The laws of path components: what else holds of an accepted name, and what never changes an answer.
 use Rattle.std.specs.Prelude.{◌≡◌, ◌≢◌, ℕ, false, not, IsTrue, List, [], codes, Option, None}
 use Rattle.std.specs.List.{concat, filter}
 use Rattle.gix_validate.specs.declared.path.ComponentOptions.{ComponentOptions}
@@ -20,7 +20,7 @@ pub record HasOnlySwitchesOf (fewer options : ComponentOptions) : Type 0 where
   pub hfs : IsTrue fewer.protect_hfs → IsTrue options.protect_hfs
   pub ntfs : IsTrue fewer.protect_ntfs → IsTrue options.protect_ntfs
 
--- the name has no fault under any part of the switches, neither with the mode nor without one
+-- the name has no fault under any part of the switches, with the mode and without it
 abbrev pub PassesFewer : ComponentOptions → Option ComponentMode → List ℕ → Type 0
 PassesFewer options mode x =
     (fewer : ComponentOptions) → HasOnlySwitchesOf fewer options

@@ -7,7 +7,7 @@ use Rattle.bstr.specs.BStr.{bstr_bytes}
 abbrev pub when : {A : Type 0} → Bool → A → Option A
 when test fault = cond test (Some fault) None
 
--- the first answer, or the second where the first is none
+-- the first answer, or the second where the first is `None`
 infixr 5 ◌orelse◌
 abbrev pub ◌orelse◌ : {A : Type 0} → Option A → Option A → Option A
 None orelse other = other
@@ -23,7 +23,7 @@ unfoldable pub at_first_place : {A : Type 0} → (ℕ → Option A) → ℕ → 
 at_first_place f zero = None
 at_first_place f (suc n) = at_first_place f n orelse f n
 
--- A validator that goes by a rule of faults: it gives back the text that has none, and else the fault.
+-- A validator by a rule of faults: it gives back a text without a fault, and otherwise gives the fault.
 abbrev pub Validates : {E : Type 0} → (List ℕ → Option E) → List ℕ → Result BStr E → Type 0
 Validates fault x result =
     MatchResult result (λ name. (fault x ≡ None) × (bstr_bytes name ≡ x)) (λ e. fault x ≡ Some e)

@@ -1,9 +1,10 @@
 pub mod Bytes
 pub mod Pieces
-pub mod Clear
+pub mod Lanes
 pub mod Faults
 pub mod Quoted
 pub mod Tag
+pub mod Clear
 pub mod Reference
 pub mod Submodule
 pub mod Sanitized

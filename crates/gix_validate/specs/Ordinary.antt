@@ -1,11 +1,16 @@
 -- Ordinary names: those whose bytes alone say that no condition but the one on devices refuses them.
 use Rattle.std.specs.Prelude.{◌≡◌, ℕ, Bool, ◌==◌, ◌&&◌, ◌||◌, not, nat_lt, if◌then◌else◌, List, codes, map, bit_and}
 use Rattle.std.specs.List.{list_any}
-use Rattle.std.specs.Str.{byte}
-use Rattle.gix_validate.specs.Bytes.{is_among, is_empty, begins, ends}
+use Rattle.std.specs.Str.{byte, bytes_eq}
+use Rattle.gix_validate.specs.declared.path.ComponentOptions.{ComponentOptions}
+use Rattle.gix_validate.specs.Bytes.{is_among, is_empty, ends, lower}
 use Rattle.gix_validate.specs.Windows.{is_illegal_byte}
 
--- a byte that neither ends a device or NTFS form nor is cut from its end: no space, dot, colon or backslash
+-- the options with these switches
+abbrev pub switches : Bool → Bool → Bool → ComponentOptions
+switches windows hfs ntfs = record { protect_windows = windows; protect_hfs = hfs; protect_ntfs = ntfs }
+
+-- a byte that doesn't end a device or NTFS form and isn't cut from its end: not a space, dot, colon or backslash
 abbrev pub stays_in_form : ℕ → Bool
 stays_in_form b = not (is_among (codes " .:\\") b)
 
@@ -13,14 +18,20 @@ stays_in_form b = not (is_among (codes " .:\\") b)
 abbrev pub is_lead : ℕ → Bool
 is_lead b = b == 0xE2 || b == 0xEF
 
--- A byte of which a condition asks, wherever it stands: one that Windows forbids or that parts a path, the tilde
+-- A byte that a condition asks for at any place: one that Windows forbids or that separates a path, the tilde
 -- that each short name has on NTFS, or the first byte of what HFS+ may ignore.
 unfoldable pub is_noted : ℕ → Bool
 is_noted b = is_illegal_byte b || (is_among (codes "/\\~") b || is_lead b)
 
--- The name is not empty, begins with no dot, ends in no dot and no space, and has no such byte.
+-- The name is not empty, doesn't end in a dot or a space, has no such byte, and is not `.git` or `.gitmodules` in any
+-- ASCII case.
 unfoldable pub is_ordinary : List ℕ → Bool
-is_ordinary x = not (is_empty x) && not (begins x (codes ".")) && not (ends x (codes ".") || ends x (codes " ")) && not (list_any is_noted x)
+is_ordinary x =
+    not (is_empty x)
+    && not (ends x (codes ".") || ends x (codes " "))
+    && not (list_any is_noted x)
+    && not (bytes_eq (lower x) (codes ".git"))
+    && not (bytes_eq (lower x) (codes ".gitmodules"))
 
 -- The kind of a byte, a bit for each: four kinds that Windows forbids, and one each for `\`, `/`, `~` and what begins a
 -- character that HFS+ may ignore. A byte for which no condition asks has none.
@@ -40,11 +51,11 @@ kind_of b =
 unfoldable pub any_kind : ℕ → List ℕ → Bool
 any_kind mask kinds = list_any (λ kind. not (bit_and kind mask == 0)) kinds
 
--- under each mask the kinds tell what those of the bytes of the text do
+-- under each mask the kinds say what those of the bytes of the text say
 abbrev pub HaveKindsOf : List ℕ → List ℕ → Type 0
 HaveKindsOf kinds x = (mask : ℕ) → any_kind mask kinds ≡ any_kind mask (map kind_of x)
 
--- What the kinds of the bytes of a name tell of it, a mask for each question.
+-- What the kinds of the bytes of a name say about it, a mask for each question.
 pub record Tell (kinds x : List ℕ) : Type 0 where
   pub slash : any_kind 64 kinds ≡ is_among x (byte "/")
   pub backslash : any_kind 8 kinds ≡ is_among x (byte "\\")

@@ -23,7 +23,7 @@ has_slash_or_stands_alone x = list_any is_slash x || list_all is_standalone_byte
 unfoldable pub is_partial_name : List ℕ → Bool
 is_partial_name x = is_tag_name x && not (bytes_eq x (codes "@"))
 
--- The text is a full name: a partial name that has a slash, or else may stand alone.
+-- The text is a full name: a partial name that has a slash, or may stand alone.
 unfoldable pub is_full_name : List ℕ → Bool
 is_full_name x = is_partial_name x && has_slash_or_stands_alone x
 

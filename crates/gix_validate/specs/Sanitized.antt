@@ -25,7 +25,7 @@ abbrev pub last_of : Run → ℕ
 last_of Dots = byte "."
 last_of (Other b) = b
 
--- the byte itself, or a dash for one that no name may have
+-- the byte itself, or a dash for a byte that may not stand in a name
 abbrev pub allowed : ℕ → ℕ
 allowed b = if is_bad b || b == byte "*" then byte "-" else b
 
@@ -90,8 +90,8 @@ dash_last_of [] = []
 dash_last_of (p ∷ []) = dash_last p ∷ []
 dash_last_of (p ∷ q ∷ ps) = p ∷ dash_last_of (q ∷ ps)
 
--- Each nonempty piece of x gives one nonempty piece of t, in order: the piece mended, save that the last
--- byte of t may have become a dash.
+-- Each nonempty piece of x gives one nonempty piece of t, in order: the mended piece. Only the last byte of t may
+-- have become a dash besides.
 pub record KeepsPieces (x t : List ℕ) : Type 0 where
   pub as_many : length (pieces t) ≡ length (nonempty_pieces x)
   pub none_empty : IsTrue (list_all (λ p. not (is_empty p)) (pieces t))

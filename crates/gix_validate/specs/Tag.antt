@@ -41,7 +41,7 @@ faults_between before b after =
 unfoldable pub faults_at : List ℕ → ℕ → List (Option NameError)
 faults_at x i = faults_between (take i x) (slice_index x i) (drop (i + 1) x)
 
--- At each place of the text at most one line of the table applies, so their order says nothing.
+-- At each place of the text at most one line of the table applies, so their order doesn't matter.
 abbrev pub HasAtMostOneFaultAPlace : List ℕ → Type 0
 HasAtMostOneFaultAPlace x = (i : ℕ) → i < length x → count_by is_some (faults_at x i) ≤ 1
 

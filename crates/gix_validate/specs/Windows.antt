@@ -1,11 +1,11 @@
--- Devices, told by the device form of a name, and names that are illegal on Windows.
+-- Devices, recognised by the device form of a name, and names that are illegal on Windows.
 use Rattle.std.specs.Prelude.{ℕ, Bool, ◌==◌, ◌||◌, nat_lt, List, [], ◌∷◌, ◌++◌, map, codes}
 use Rattle.std.specs.List.{before_first, list_any}
 use Rattle.std.specs.Str.{byte, bytes_eq}
 use Rattle.gix_validate.specs.Bytes.{is_among, lower, ends}
 use Rattle.gix_validate.specs.Ntfs.{without_end}
 
--- The front before the first dot or colon, or the whole name where there is none, less the spaces at its end.
+-- The front before the first dot or colon, or the whole name where there is neither, without the spaces at its end.
 unfoldable pub device_form : List ℕ → List ℕ
 device_form x = without_end (λ b. b == byte " ") (before_first (is_among (codes ".:")) x)
 
@@ -28,7 +28,7 @@ is_device_form form = list_any (λ name. bytes_eq (lower form) (lower name)) dev
 unfoldable pub is_device : List ℕ → Bool
 is_device x = is_device_form (device_form x)
 
--- a byte that makes a name illegal on Windows wherever it stands
+-- a byte that makes a name illegal on Windows at any place
 unfoldable pub is_illegal_byte : ℕ → Bool
 is_illegal_byte b = nat_lt b 0x20 || is_among (codes "<>:\"|?*") b
 

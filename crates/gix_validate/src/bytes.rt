@@ -3,7 +3,7 @@
 ghost use Rattle.std.specs.Prelude.{◌≡◌, ◌||◌, codes};
 ghost use Rattle.gix_validate.specs.Bytes.{is_bad, is_among};
 
-/// Whether no reference name has the byte.
+/// Whether the byte may not stand in a reference name.
 #[tactic(auto, unfolding(crate::specs::Bytes::is_bad))]
 pub(crate) fn is_bad_byte(byte: u8) -> bool
     ensures { result ≡ is_bad byte }
@@ -14,7 +14,7 @@ pub(crate) fn is_bad_byte(byte: u8) -> bool
     )
 }
 
-/// Whether a byte may have a fault, by what stands before it. All others have none, whatever does.
+/// Whether a byte can have a fault, depending on what stands before it. All other bytes never have one.
 #[inline]
 pub(crate) fn may_be_faulty(byte: u8) -> bool
     ensures { result ≡ (is_bad byte || is_among (codes "*./{") byte) }

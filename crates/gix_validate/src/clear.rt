@@ -1,114 +1,183 @@
-//! Whether a text has nothing that a fault could be made of, sixteen bytes at a time.
+//! Whether a text has bytes side by side that have to be looked at closer, sixteen pairs at a time.
 
-ghost use Rattle.std.specs.Prelude.{◌≡◌, ◌↔◌, ◌<◌, ◌≤◌, ◌+◌, ◌||◌, ◌++◌, ℕ, false, if◌then◌else◌, IsTrue, map, length, slice_index, codes};
-ghost use Rattle.std.specs.Simd.Lanes.{chunk};
+ghost use Rattle.std.specs.Prelude.{◌≡◌, ◌↔◌, ◌<◌, ◌≤◌, ◌+◌, ◌==◌, ◌||◌, ◌&&◌, ℕ, false, if◌then◌else◌, IsTrue, map, length, slice_index, codes};
+ghost use Rattle.std.specs.Str.{byte};
 ghost use Rattle.gix_validate.specs.Bytes.{is_among, ends};
-ghost use Rattle.gix_validate.specs.Clear.{is_suspect, is_clear, NoSuspectBetween};
+ghost use Rattle.gix_validate.specs.Submodule.{is_separator};
+ghost use Rattle.gix_validate.specs.Clear.{is_suspect, relates, IsClear, NoneBetween};
 
 use crate::bytes::may_be_faulty;
-use crate::lanes::{LANES, are_zero, kinds};
+use crate::lanes::{LANES, are_zero, halves, kinds, quarters};
 use std::simd::prelude::*;
 
-/// Half a block.
-const HALF: usize = 8;
-
-/// The kinds of bytes that are suspect wherever they stand: one for the high halves 0 and 1, and one for each other
-/// high half that such bytes have.
-const LOUD: u8 = 0x1F;
-
-/// The kind of dots and slashes.
-const BREAK: u8 = 0x20;
+/// Which pairs of bytes have to be looked at closer.
+#[derive(Clone, Copy)]
+pub(crate) enum Relation {
+    /// Those in which the second byte may be the place of a fault of a tag name, or lead to one.
+    Suspect,
+    /// Two dots.
+    Dots,
+    /// A dot and a slash of either kind.
+    LastDot,
+}
 
 /// The bits of the kinds that a byte may have with this low half.
 const KINDS_BY_LOW_HALF: [u8; 16] = [
-    0x03, 0x01, 0x01, 0x01, 0x01, 0x01, 0x01, 0x01, 0x01, 0x01, 0x07, 0x19, 0x09, 0x01, 0x39, 0x35,
+    0x03, 0x01, 0x01, 0x01, 0x01, 0x01, 0x01, 0x01, 0x01, 0x01, 0x07, 0x19, 0x49, 0x01, 0x39, 0x35,
 ];
 
-/// The bits of the kinds that a byte may have with this high half.
+/// The bits of the kinds that a byte may have with this high half. Five kinds are suspect wherever they stand: one for
+/// the high halves 0 and 1, and one for each other high half that such bytes have. The sixth has the dot and the slash,
+/// and the seventh the `l`.
 const KINDS_BY_HIGH_HALF: [u8; 16] = [
-    0x01, 0x01, 0x22, 0x04, 0x00, 0x08, 0x00, 0x10, 0x00, 0x00, 0x00, 0x00, 0x00, 0x00, 0x00, 0x00,
+    0x01, 0x01, 0x22, 0x04, 0x00, 0x08, 0x40, 0x10, 0x00, 0x00, 0x00, 0x00, 0x00, 0x00, 0x00, 0x00,
 ];
 
-/// Whether a text of nine bytes or more is clear. It says no to all that are shorter.
-///
-/// A clear text is a tag name and a submodule name. Of another text nothing is known.
-#[inline(never)]
+/// The kinds that are suspect behind a dot, behind a slash, and behind any other byte.
+const SUSPECT_BEHIND: [u8; 16] = [
+    0x7F, 0x3F, 0x1F, 0x1F, 0x1F, 0x1F, 0x1F, 0x1F, 0x1F, 0x1F, 0x1F, 0x1F, 0x1F, 0x1F, 0x1F, 0x1F,
+];
+
+/// Whether a text is clear. A clear text is a tag name. About any other text this says nothing.
+#[inline(always)]
 pub(crate) fn is_clear(text: &[u8]) -> bool
-    ensures { IsTrue result ↔ ((8 < length text.now) × IsTrue (is_clear text.now)) }
+    ensures { IsTrue result ↔ IsClear text.now }
 {
-    if text.len() <= HALF {
+    if text.is_empty() || may_be_faulty(text[0]) || ends_in_break(text) {
         return false;
     }
-    if may_be_faulty(text[0]) || ends_suspect(text) {
-        return false;
-    }
+    has_none(text, Relation::Suspect)
+}
+
+/// Whether the text ends in a dot or a slash.
+#[inline(always)]
+fn ends_in_break(text: &[u8]) -> bool
+    ensures { result ≡ (ends text.now (codes ".") || ends text.now (codes "/")) }
+{
+    matches!(text.last(), Some(b'.' | b'/'))
+}
+
+/// Whether no two bytes side by side are related.
+#[inline(always)]
+pub(crate) fn has_none(text: &[u8], relation: Relation) -> bool
+    ensures { IsTrue result ↔ NoneBetween relation text.now 0 (length text.now) }
+{
     if text.len() > LANES {
-        blocks_are_clear(text)
+        blocks_have_none(text, relation)
     } else {
-        halves_are_clear(text)
+        pairs_have_none(text, relation)
     }
 }
 
-/// Whether the text ends in a slash, a dot or `.lock`.
-#[inline]
-fn ends_suspect(text: &[u8]) -> bool
-    requires { 0 < length text.now }
-    ensures { result ≡ (ends text.now (codes "/") || ends text.now (codes ".") || ends text.now (codes ".lock")) }
-{
-    match text[text.len() - 1] {
-        b'/' | b'.' => true,
-        b'k' => text.ends_with(b".lock"),
-        _ => false,
-    }
-}
-
-/// Whether no byte is suspect behind the one before it. The last block overlaps the one before.
-fn blocks_are_clear(text: &[u8]) -> bool
+/// The same of a text that is longer than a block. The last block overlaps the one before.
+#[inline(always)]
+fn blocks_have_none(text: &[u8], relation: Relation) -> bool
     requires { 16 < length text.now }
-    ensures { IsTrue result ↔ NoSuspectBetween text.now 0 (length text.now) }
+    ensures { IsTrue result ↔ NoneBetween relation text.now 0 (length text.now) }
 {
     let last = text.len() - LANES - 1;
+    if last <= LANES {
+        return block_has_none(text, 0, relation) && block_has_none(text, last, relation);
+    }
     for at in (0..last).step_by(LANES) {
-        if !block_is_clear(text, at) {
+        if !block_has_none(text, at, relation) {
             return false;
         }
     }
-    block_is_clear(text, last)
+    block_has_none(text, last, relation)
 }
 
-/// Whether none of sixteen bytes is suspect behind the one before it, of which the first is at this place.
+/// Whether none of sixteen bytes is related to the one before it, of which the first is at this place.
 #[inline(always)]
-fn block_is_clear(text: &[u8], at: usize) -> bool
+pub(crate) fn block_has_none(text: &[u8], at: usize, relation: Relation) -> bool
     requires { at + 17 ≤ length text.now }
-    ensures { IsTrue result ↔ NoSuspectBetween text.now at (at + 17) }
+    ensures { IsTrue result ↔ NoneBetween relation text.now at (at + 17) }
 {
-    has_no_suspect(
+    lanes_have_none(
         u8x16::from_slice(&text[at..]),
         u8x16::from_slice(&text[at + 1..]),
+        relation,
     )
 }
 
-/// Whether no byte is suspect behind the one before it: the first eight and the last eight in one look.
+/// Whether no two bytes side by side are related in a text that is no longer than a block.
 #[inline(always)]
-fn halves_are_clear(text: &[u8]) -> bool
-    requires long { 8 < length text.now }
-    requires short { length text.now ≤ 16 }
-    ensures { IsTrue result ↔ NoSuspectBetween text.now 0 (length text.now) }
+fn pairs_have_none(text: &[u8], relation: Relation) -> bool
+    requires { length text.now ≤ LANES }
+    ensures { IsTrue result ↔ NoneBetween relation text.now 0 (length text.now) }
 {
-    let back = text.len() - HALF;
-    has_no_suspect(halves(text, 0, back - 1), halves(text, 1, back))
+    if text.len() > 8 {
+        let back = text.len() - 8;
+        return lanes_have_none(halves(text, 0, back - 1), halves(text, 1, back), relation);
+    }
+    if text.len() > 4 {
+        let back = text.len() - 4;
+        return lanes_have_none(
+            quarters(text, 0, back - 1),
+            quarters(text, 1, back),
+            relation,
+        );
+    }
+    few_have_none(text, relation)
 }
 
-/// Eight bytes from one place on, and eight from another.
+/// The same of a text of at most four bytes.
 #[inline(always)]
-fn halves(text: &[u8], first: usize, second: usize) -> u8x16
-    requires first { first + 8 ≤ length text.now }
-    requires second { second + 8 ≤ length text.now }
-    ensures { result ≡ chunk first 8 text.now ++ chunk second 8 text.now }
+fn few_have_none(text: &[u8], relation: Relation) -> bool
+    requires { length text.now ≤ 4 }
+    ensures { IsTrue result ↔ NoneBetween relation text.now 0 (length text.now) }
 {
-    let front = u8x8::from_slice(&text[first..]);
-    let back = u8x8::from_slice(&text[second..]);
-    front.shuffle(back, [0, 1, 2, 3, 4, 5, 6, 7, 8, 9, 10, 11, 12, 13, 14, 15])
+    match text {
+        [a, b] => !relates(relation, *a, *b),
+        [a, b, c] => !relates(relation, *a, *b) && !relates(relation, *b, *c),
+        [a, b, c, d] => {
+            !relates(relation, *a, *b) && !relates(relation, *b, *c) && !relates(relation, *c, *d)
+        }
+        _ => true,
+    }
+}
+
+/// Whether the two bytes are related.
+#[inline(always)]
+fn relates(relation: Relation, before: u8, byte: u8) -> bool
+    ensures { result ≡ relates relation before byte }
+{
+    match relation {
+        Relation::Suspect => is_suspect(before, byte),
+        Relation::Dots => before == b'.' && byte == b'.',
+        Relation::LastDot => before == b'.' && matches!(byte, b'/' | b'\\'),
+    }
+}
+
+/// Whether the byte is suspect behind the one before it.
+#[inline(always)]
+fn is_suspect(before: u8, byte: u8) -> bool
+    ensures { result ≡ is_suspect before byte }
+{
+    if byte == b'l' {
+        return before == b'.';
+    }
+    may_be_faulty(byte) && (!is_break(byte) || is_break(before))
+}
+
+/// Whether the byte is a dot or a slash.
+#[inline(always)]
+fn is_break(byte: u8) -> bool
+    ensures { result ≡ is_among (codes "./") byte }
+{
+    matches!(byte, b'.' | b'/')
+}
+
+/// Whether no byte is related to the byte in the same lane of `before`.
+#[inline(always)]
+fn lanes_have_none(before: u8x16, bytes: u8x16, relation: Relation) -> bool
+    ensures { IsTrue result ↔ ((k : ℕ) → k < 16 → relates relation (slice_index before k) (slice_index bytes k) ≡ false) }
+{
+    match relation {
+        Relation::Suspect => has_no_suspect(before, bytes),
+        Relation::Dots => has_no_dots(before, bytes),
+        Relation::LastDot => has_no_last_dot(before, bytes),
+    }
 }
 
 /// Whether no byte is suspect behind the byte in the same lane of `before`.
@@ -119,12 +188,30 @@ fn has_no_suspect(before: u8x16, bytes: u8x16) -> bool
     are_zero(kinds(KINDS_BY_LOW_HALF, KINDS_BY_HIGH_HALF, bytes) & suspect_behind(before))
 }
 
-/// The kinds that are suspect behind each byte. A dot is a slash but for its lowest bit.
+/// The kinds that are suspect behind each byte.
 #[inline(always)]
 fn suspect_behind(bytes: u8x16) -> u8x16
-    ensures { result ≡ map (λ b. if is_among (codes "./k") b then 63 else 31) bytes }
+    ensures { result ≡ map (λ b. if b == byte "." then 127 else if b == byte "/" then 63 else 31) bytes }
 {
-    let breaks = (bytes | u8x16::splat(1)).simd_eq(u8x16::splat(b'/'));
-    let stops = breaks | bytes.simd_eq(u8x16::splat(b'k'));
-    stops.select(u8x16::splat(LOUD | BREAK), u8x16::splat(LOUD))
+    // A dot becomes 0, and a slash 1.
+    let from_dot = bytes ^ u8x16::splat(b'.');
+    u8x16::from_array(SUSPECT_BEHIND).swizzle_dyn(from_dot.simd_min(u8x16::splat(15)))
+}
+
+/// Whether in no lane both bytes are dots.
+#[inline(always)]
+fn has_no_dots(before: u8x16, bytes: u8x16) -> bool
+    ensures { IsTrue result ↔ ((k : ℕ) → k < 16 → (slice_index before k == byte "." && slice_index bytes k == byte ".") ≡ false) }
+{
+    let dot = u8x16::splat(b'.');
+    (before.simd_eq(dot) & bytes.simd_eq(dot)).to_bitmask() == 0
+}
+
+/// Whether in no lane a dot stands before a slash of either kind.
+#[inline(always)]
+fn has_no_last_dot(before: u8x16, bytes: u8x16) -> bool
+    ensures { IsTrue result ↔ ((k : ℕ) → k < 16 → (slice_index before k == byte "." && is_separator (slice_index bytes k)) ≡ false) }
+{
+    let slashes = bytes.simd_eq(u8x16::splat(b'/')) | bytes.simd_eq(u8x16::splat(b'\\'));
+    (before.simd_eq(u8x16::splat(b'.')) & slashes).to_bitmask() == 0
 }

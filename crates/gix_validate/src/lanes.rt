@@ -1,12 +1,39 @@
 //! Looks at sixteen bytes at a time, a block. The place of each byte in it is its lane.
 
-ghost use Rattle.std.specs.Prelude.{◌≡◌, ◌↔◌, ◌<◌, ◌≤◌, ◌/◌, ◌%◌, ◌==◌, ℕ, IsTrue, map, length, take, slice_index, bit_and};
+ghost use Rattle.std.specs.Prelude.{◌≡◌, ◌↔◌, ◌<◌, ◌≤◌, ◌+◌, ◌/◌, ◌%◌, ◌==◌, ◌||◌, ℕ, Bool, IsTrue, map, length, slice_index, bit_and};
 ghost use Rattle.std.specs.List.{list_any};
+ghost use Rattle.std.specs.Simd.Lanes.{chunk};
+ghost use Rattle.gix_validate.specs.Lanes.{HasParts};
 
 use std::simd::prelude::*;
 
 /// How many bytes are looked at together.
 pub(crate) const LANES: usize = 16;
+
+/// Eight bytes from one place on, and eight from another.
+#[inline(always)]
+pub(crate) fn halves(text: &[u8], first: usize, second: usize) -> u8x16
+    requires first { first + 8 ≤ length text.now }
+    requires second { second + 8 ≤ length text.now }
+    ensures parts { HasParts 8 first second text.now result }
+    ensures any { (p : ℕ → Bool) → list_any p result ≡ (list_any p (chunk first 8 text.now) || list_any p (chunk second 8 text.now)) }
+{
+    let front = u8x8::from_slice(&text[first..]);
+    let back = u8x8::from_slice(&text[second..]);
+    front.shuffle(back, [0, 1, 2, 3, 4, 5, 6, 7, 8, 9, 10, 11, 12, 13, 14, 15])
+}
+
+/// Four bytes from one place on, and four from another, and the same again.
+#[inline(always)]
+pub(crate) fn quarters(text: &[u8], first: usize, second: usize) -> u8x16
+    requires first { first + 4 ≤ length text.now }
+    requires second { second + 4 ≤ length text.now }
+    ensures { HasParts 4 first second text.now result }
+{
+    let front = u8x4::from_slice(&text[first..]);
+    let back = u8x4::from_slice(&text[second..]);
+    front.shuffle(back, [0, 1, 2, 3, 4, 5, 6, 7, 0, 1, 2, 3, 4, 5, 6, 7])
+}
 
 /// The kinds of each byte: the bits that both tables have, the one for its low half and the other for its high half.
 #[inline(always)]
@@ -26,12 +53,41 @@ pub(crate) fn are_zero(bytes: u8x16) -> bool
     bytes.simd_ne(u8x16::splat(0)).to_bitmask() == 0
 }
 
-/// Whether the byte is one of the first sixteen of the text.
+/// Whether the byte is one of the text.
 #[inline(always)]
-pub(crate) fn block_holds(text: &[u8], byte: u8) -> bool
-    requires { 16 ≤ length text.now }
-    ensures { result ≡ list_any (λ b. b == byte) (take 16 text.now) }
+pub(crate) fn holds(text: &[u8], byte: u8) -> bool
+    ensures { result ≡ list_any (λ b. b == byte) text.now }
 {
-    let lanes = u8x16::from_slice(text);
+    if text.len() < 8 {
+        return text.contains(&byte);
+    }
+    if text.len() < LANES {
+        return lanes_hold(halves(text, 0, text.len() - 8), byte);
+    }
+    let last = text.len() - LANES;
+    let mut at = 0;
+    while at < last {
+        if block_holds(text, at, byte) {
+            return true;
+        }
+        at += LANES;
+    }
+    block_holds(text, last, byte)
+}
+
+/// Whether the byte is one of the sixteen of the text from this place on.
+#[inline(always)]
+pub(crate) fn block_holds(text: &[u8], at: usize, byte: u8) -> bool
+    requires { at + 16 ≤ length text.now }
+    ensures { result ≡ list_any (λ b. b == byte) (chunk at 16 text.now) }
+{
+    lanes_hold(u8x16::from_slice(&text[at..]), byte)
+}
+
+/// Whether the byte is in one of the lanes.
+#[inline(always)]
+fn lanes_hold(lanes: u8x16, byte: u8) -> bool
+    ensures { result ≡ list_any (λ b. b == byte) lanes }
+{
     lanes.simd_eq(u8x16::splat(byte)).to_bitmask() != 0
 }

@@ -1,5 +1,5 @@
-//! Git names: which byte strings may serve as one, the one fault of those that may not, and the
-//! repair of a reference name.
+//! Git names: which byte strings are accepted, the one fault of those that are not, and the repair of
+//! a reference name.
 //!
 //! | Module | What it has |
 //! |---|---|

@@ -1,8 +1,8 @@
-//! Reference names: partial ones, full ones and those of branches, each told by one call, and the
-//! join of two names.
+//! Reference names: partial ones, full ones and those of branches, each recognised by one call, and
+//! the join of two names.
 //!
-//! The three calls stand on one another: a full name is a partial name, and the name of a branch
-//! is a full name. None of them takes memory, and each gives back the very text that it was given.
+//! The three calls build on one another: a full name is a partial name, and the name of a branch
+//! is a full name. They take no memory, and each gives back the very text that it was given.
 
 ghost use Rattle.std.specs.Prelude.{◌≡◌, ◌≢◌, ◌↔◌, ◌⊎◌, ◌+◌, ◌≤◌, [], ◌∷◌, ◌++◌, length, codes, All, Contains, IsOk, IfOk, IsTrue, MatchResult, vec_len, vec_capacity};
 ghost use Rattle.std.specs.List.{list_all};
@@ -14,7 +14,7 @@ ghost use Rattle.gix_validate.specs.Pieces.{joined};
 ghost use Rattle.gix_validate.specs.Reference.{is_standalone_byte, has_slash_or_stands_alone, is_partial_name, is_full_name, is_branch_name, reserved as reserved_fault, partial_fault_of, full_fault_of, branch_fault_of};
 ghost use Rattle.gix_validate.specs.Tag.{is_tag_name};
 
-use crate::lanes::{LANES, block_holds};
+use crate::lanes::holds;
 use crate::quoted::Quoted;
 use crate::tag;
 use arrayvec::ArrayVec;
@@ -29,12 +29,12 @@ mod tests;
 
 pub use sanitize::{name_partial_or_sanitize, sanitize_in_place};
 
-/// Why a text is no reference name (docs/RULES.md, "Reference names").
+/// Why a text is not a reference name (docs/RULES.md, "Reference names").
 ///
 /// The first eleven are the faults of [`tag::NameError`], under the same names.
 #[derive(Debug, Drop)]
 pub enum NameError {
-    /// A byte that no reference name has, the first of them.
+    /// A bad byte of reference names, the first one.
     InvalidByte { byte: u8 },
     StartsWithSlash,
     RepeatedSlash,
@@ -49,7 +49,7 @@ pub enum NameError {
     /// A name without a slash has a byte other than `A` to `Z` and `_`: a lowercase letter, but a
     /// digit too.
     SomeLowercase,
-    /// A name that is kept back: `@`, and as a branch `refs/heads/HEAD`.
+    /// A name that is reserved: `@`, and as a branch `refs/heads/HEAD`.
     Reserved { name: ArrayVec<u8, 15> },
 }
 
@@ -91,7 +91,7 @@ impl fmt::Display for NameError {
 
 impl Error for NameError {}
 
-/// The same fault: the variant stays, and so does the byte of `InvalidByte`.
+/// The same fault: the same variant, with the same byte for `InvalidByte`.
 impl From<tag::NameError> for NameError {
     ghost use Rattle.gix_validate.specs.Reference.{carried};
 
@@ -124,13 +124,13 @@ impl From<tag::NameError> for NameError {
 ///
 /// # Errors
 ///
-/// The fault of [`tag::name`], where it has one, and else `Reserved` with `@`.
+/// The fault of [`tag::name`], where it has one, and otherwise `Reserved` with `@`.
 ///
 /// # Memory
 ///
 /// It takes none. On `Ok` it gives the very value that it was given.
 #[tactic(auto, using(crate::proofs::ReferenceLemmas::partial_names))]
-#[inline]
+#[inline(always)]
 pub fn name_partial<'a>(path: BStr<'a>) -> Result<BStr<'a>, NameError>
     ensures answer { Validates partial_fault_of (bstr_bytes path.entry) result }
     ensures grammar { IsOk result ↔ IsTrue (is_partial_name (bstr_bytes path.entry)) }
@@ -143,7 +143,7 @@ pub fn name_partial<'a>(path: BStr<'a>) -> Result<BStr<'a>, NameError>
 }
 
 /// Gives back `path` where it is a full name, as `HEAD` and `refs/heads/main` are: a partial name
-/// that has a slash, or else only the letters `A` to `Z` and `_` (docs/RULES.md,
+/// that has a slash, or only the letters `A` to `Z` and `_` (docs/RULES.md,
 /// "Reference names").
 ///
 /// ```
@@ -153,13 +153,13 @@ pub fn name_partial<'a>(path: BStr<'a>) -> Result<BStr<'a>, NameError>
 ///
 /// # Errors
 ///
-/// The fault of [`name_partial`], where it has one, and else `SomeLowercase`.
+/// The fault of [`name_partial`], where it has one, and otherwise `SomeLowercase`.
 ///
 /// # Memory
 ///
 /// It takes none. On `Ok` it gives the very value that it was given.
 #[tactic(auto, using(crate::proofs::ReferenceLemmas::full_names))]
-#[inline]
+#[inline(always)]
 pub fn name<'a>(path: BStr<'a>) -> Result<BStr<'a>, NameError>
     ensures answer { Validates full_fault_of (bstr_bytes path.entry) result }
     ensures grammar { IsOk result ↔ IsTrue (is_full_name (bstr_bytes path.entry)) }
@@ -187,14 +187,14 @@ pub fn name<'a>(path: BStr<'a>) -> Result<BStr<'a>, NameError>
 ///
 /// # Errors
 ///
-/// The fault of [`name`], where it has one, and else `Reserved` with all fifteen bytes of
+/// The fault of [`name`], where it has one, and otherwise `Reserved` with all fifteen bytes of
 /// `refs/heads/HEAD`.
 ///
 /// # Memory
 ///
 /// It takes none. On `Ok` it gives the very value that it was given.
 #[tactic(auto, using(crate::proofs::ReferenceLemmas::branch_names))]
-#[inline]
+#[inline(always)]
 pub fn branch_name<'a>(path: BStr<'a>) -> Result<BStr<'a>, NameError>
     ensures answer { Validates branch_fault_of (bstr_bytes path.entry) result }
     ensures grammar { IsOk result ↔ IsTrue (is_branch_name (bstr_bytes path.entry)) }
@@ -208,7 +208,7 @@ pub fn branch_name<'a>(path: BStr<'a>) -> Result<BStr<'a>, NameError>
 
 /// Joins two tag names by a slash, which gives a full name (docs/RULES.md, "Joining").
 ///
-/// Its caller knows that both are tag names, as [`tag::name`] tells.
+/// The caller has to know that both are tag names; [`tag::name`] says so.
 ///
 /// ```
 /// join(alloc, tag::name(BStr::from("refs"))?, tag::name(BStr::from("v1.0"))?)?; // `refs/v1.0`
@@ -216,12 +216,12 @@ pub fn branch_name<'a>(path: BStr<'a>) -> Result<BStr<'a>, NameError>
 ///
 /// # Errors
 ///
-/// Want of memory, and nothing else.
+/// Out of memory, and nothing else.
 ///
 /// # Memory
 ///
-/// The call asks for it once, before it writes a byte. A length above `isize::MAX` bytes, which no
-/// memory holds, counts as refused.
+/// The call asks for it once, before it writes a byte. A length above `isize::MAX` bytes counts as out
+/// of memory.
 #[tactic(auto, using(crate::proofs::JoinLemmas::joined_is_full))]
 pub fn join(alloc: Global, a: BStr<'_>, b: BStr<'_>) -> Result<BString, AllocError>
     requires first { IsTrue (is_tag_name (bstr_bytes a)) }
@@ -234,7 +234,7 @@ pub fn join(alloc: Global, a: BStr<'_>, b: BStr<'_>) -> Result<BString, AllocErr
     Ok(BString::new(name))
 }
 
-// Gives back any name but the reserved one, for which the error has room.
+// Gives back any name except the reserved one, for which the error has room.
 #[inline]
 fn unless_reserved<'a>(name: BStr<'a>, reserved: &[u8]) -> Result<BStr<'a>, NameError>
     requires { length reserved.now ≤ 15 }
@@ -250,31 +250,23 @@ fn unless_reserved<'a>(name: BStr<'a>, reserved: &[u8]) -> Result<BStr<'a>, Name
     })
 }
 
-// Whether the name has a slash, or else may stand alone. Most names that have a slash have one in the
-// first sixteen bytes.
-#[inline]
+// Whether the name has a slash, or may stand alone.
+#[inline(always)]
 fn has_slash_or_stands_alone(bytes: &[u8]) -> bool
     ensures { result ≡ has_slash_or_stands_alone bytes.now }
 {
-    bytes.len() >= LANES && block_holds(bytes, b'/') || has_slash_or_stands_alone_on_walk(bytes)
+    holds(bytes, b'/') || stands_alone(bytes)
 }
 
-// The same of any name, byte by byte.
-#[inline(never)]
-fn has_slash_or_stands_alone_on_walk(bytes: &[u8]) -> bool
-    ensures { result ≡ has_slash_or_stands_alone bytes.now }
-{
-    bytes.contains(&b'/') || stands_alone(bytes)
-}
-
-// Whether each byte may stand alone.
+// Whether each byte may stand alone. Most names that don't show it by their first letter.
 fn stands_alone(bytes: &[u8]) -> bool
     ensures { result ≡ list_all is_standalone_byte bytes.now }
 {
-    bytes.iter().all(|byte| matches!(*byte, b'A'..=b'Z' | b'_'))
+    !matches!(bytes.first(), Some(b'a'..=b'z'))
+        && bytes.iter().all(|byte| matches!(*byte, b'A'..=b'Z' | b'_'))
 }
 
-// `join` with any allocator. A sum of lengths that wraps counts as refused memory.
+// `join` with any allocator. A sum of lengths that wraps counts as out of memory.
 fn join_in<A: Allocator>(alloc: A, a: &[u8], b: &[u8]) -> Result<Vec<u8, A>, AllocError>
     ensures { IfOk result (λ name. name.items ≡ joined (a.now ∷ b.now ∷ [])) }
 {

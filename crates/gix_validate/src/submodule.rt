@@ -1,13 +1,15 @@
-//! Submodule names: any text but the empty one that has no part `..`, where both `/` and `\` end a part.
+//! Submodule names: any nonempty text without a part `..`, where both `/` and `\` end a part.
 //!
 //! Nothing else is refused: `/etc` is a submodule name.
 
-ghost use Rattle.std.specs.Prelude.{◌≡◌, ◌↔◌, IsOk, IfOk, IsTrue};
+ghost use Rattle.std.specs.Prelude.{◌≡◌, ◌↔◌, ◌+◌, ◌≤◌, length, IsOk, IfOk, IsTrue};
 ghost use Rattle.bstr.specs.BStr.{bstr_bytes};
+ghost use Rattle.gix_validate.specs.Clear.{is_parent_before, NoParentBetween};
 ghost use Rattle.gix_validate.specs.Faults.{Validates};
-ghost use Rattle.gix_validate.specs.Submodule.{fault_of, has_parent_part, is_submodule_name};
+ghost use Rattle.gix_validate.specs.Submodule.{fault_of, has_parent_part, is_separator, is_submodule_name};
 
-use crate::clear::is_clear;
+use crate::clear::{Relation, block_has_none, has_none};
+use crate::lanes::LANES;
 use bstr::BStr;
 use std::error::Error;
 use std::fmt;
@@ -15,7 +17,7 @@ use std::fmt;
 #[cfg(test)]
 mod tests;
 
-/// Why a text is no submodule name (docs/RULES.md, "Submodule names").
+/// Why a text is not a submodule name (docs/RULES.md, "Submodule names").
 #[derive(Debug, Drop)]
 pub enum NameError {
     /// It is empty.
@@ -51,12 +53,13 @@ impl Error for NameError {}
 ///
 /// # Errors
 ///
-/// `Empty` for the empty name, and else `ParentComponent`.
+/// `Empty` for the empty name, and otherwise `ParentComponent`.
 ///
 /// # Memory
 ///
 /// It takes none. On `Ok` it gives the very value that it was given.
 #[tactic(auto, using(crate::proofs::SubmoduleLemmas::submodule_names))]
+#[inline]
 pub fn name<'a>(name: BStr<'a>) -> Result<BStr<'a>, NameError>
     ensures answer { Validates fault_of (bstr_bytes name.entry) result }
     ensures grammar { IsOk result ↔ IsTrue (is_submodule_name (bstr_bytes name.entry)) }
@@ -72,14 +75,74 @@ pub fn name<'a>(name: BStr<'a>) -> Result<BStr<'a>, NameError>
     Ok(name)
 }
 
-/// Whether some part is `..`. Most names are clear, and have none.
+/// Whether some part is `..`. Most names have no two dots in a row.
+#[inline(never)]
 fn has_parent_part(bytes: &[u8]) -> bool
     ensures { result ≡ has_parent_part bytes.now }
 {
-    if is_clear(bytes) {
-        return false;
+    !has_none(bytes, Relation::Dots) && has_parent_part_by_blocks(bytes)
+}
+
+/// The same. Such a part ends at the end of the text or at a separator. In most blocks of sixteen bytes no separator
+/// stands behind a dot.
+#[inline(never)]
+fn has_parent_part_by_blocks(bytes: &[u8]) -> bool
+    ensures { result ≡ has_parent_part bytes.now }
+{
+    if is_parent_before(bytes, bytes.len()) {
+        return true;
     }
-    bytes
-        .split(|byte| matches!(*byte, b'/' | b'\\'))
-        .any(|part| part == b"..".as_slice())
+    if bytes.len() <= LANES {
+        return !has_no_parent_between(bytes, 0, bytes.len());
+    }
+    let last = bytes.len() - LANES - 1;
+    for at in (0..last).step_by(LANES) {
+        if !block_has_no_parent(bytes, at) {
+            return true;
+        }
+    }
+    !block_has_no_parent(bytes, last)
+}
+
+/// Whether no part that is `..` ends at one of the sixteen bytes behind this place.
+#[inline(always)]
+fn block_has_no_parent(bytes: &[u8], at: usize) -> bool
+    requires { at + 17 ≤ length bytes.now }
+    ensures { IsTrue result ↔ NoParentBetween bytes.now (at + 1) (at + 17) }
+{
+    block_has_none(bytes, at, Relation::LastDot)
+        || has_no_parent_between(bytes, at + 1, at + 1 + LANES)
+}
+
+/// Whether no part that is `..` ends at a separator from one place on and before another.
+fn has_no_parent_between(bytes: &[u8], from: usize, to: usize) -> bool
+    requires { to ≤ length bytes.now }
+    ensures { IsTrue result ↔ NoParentBetween bytes.now from to }
+{
+    for place in from..to {
+        if is_separator(bytes[place]) && is_parent_before(bytes, place) {
+            return false;
+        }
+    }
+    true
+}
+
+/// Whether the part before this place, where a separator or the end is, is `..`.
+#[inline(always)]
+fn is_parent_before(bytes: &[u8], place: usize) -> bool
+    requires { place ≤ length bytes.now }
+    ensures { result ≡ is_parent_before bytes.now place }
+{
+    place >= 2
+        && bytes[place - 1] == b'.'
+        && bytes[place - 2] == b'.'
+        && (place == 2 || is_separator(bytes[place - 3]))
+}
+
+/// Whether the byte ends a part.
+#[inline(always)]
+fn is_separator(byte: u8) -> bool
+    ensures { result ≡ is_separator byte }
+{
+    matches!(byte, b'/' | b'\\')
 }

@@ -1,20 +1,22 @@
 //! Tag names: the rule that all reference names build on.
 
-ghost use Rattle.std.specs.Prelude.{◌≡◌, ◌↔◌, ◌<◌, ℕ, List, ◌∷◌, length, codes, Some, IsOk, IfOk, IsTrue};
+ghost use Rattle.std.specs.Prelude.{◌≡◌, ◌↔◌, ◌<◌, ◌≤◌, ℕ, List, ◌∷◌, length, codes, Some, IsOk, IfOk, IsTrue};
 ghost use Rattle.bstr.specs.BStr.{bstr_bytes};
 ghost use Rattle.gix_validate.specs.Bytes.{ends};
 ghost use Rattle.gix_validate.specs.Faults.{Validates, first_of, at_first_place};
 ghost use Rattle.gix_validate.specs.Pieces.{PiecesAreTheOnlySplit};
+ghost use Rattle.gix_validate.specs.Clear.{fault_before, first_between};
 ghost use Rattle.gix_validate.specs.Tag.{fault_of, faults_at, faults_between, is_tag_name, HasAtMostOneFaultAPlace};
 
 use crate::bytes::{is_bad_byte, may_be_faulty};
-use crate::clear::is_clear;
+use crate::clear::{Relation, block_has_none, is_clear};
+use crate::lanes::LANES;
 use crate::quoted::Quoted;
 use bstr::BStr;
 use std::error::Error;
 use std::fmt;
 
-/// Why a text is no tag name. What each prints is in docs/RULES.md, "Printed texts".
+/// Why a text is not a tag name. What each prints is in docs/RULES.md, "Printed texts".
 #[derive(Debug, Drop)]
 pub enum NameError {
     /// It has a control byte, a space, DEL, or one of `:` `?` `[` `\` `^` `~`; the first of them is given.
@@ -76,11 +78,11 @@ impl fmt::Display for NameError {
 
 impl Error for NameError {}
 
-/// Gives back `input` if it is a tag name, and else says its first fault.
+/// Gives back `input` if it is a tag name, and otherwise its first fault.
 ///
 /// A tag name is made of pieces with a slash between each two. No piece is empty, has an invalid byte
-/// or a `*`, starts with a dot, ends in `.lock`, or holds `..` or `@{`; and the whole name doesn't end
-/// in a dot. The input needn't be UTF-8.
+/// or a `*`, starts with a dot, ends in `.lock`, or contains `..` or `@{`. The whole name doesn't end in
+/// a dot. The input needn't be UTF-8.
 ///
 /// ```
 /// tag::name(BStr::from("v1.2.3"))?; // gives back `v1.2.3`
@@ -94,7 +96,7 @@ impl Error for NameError {}
 /// # Memory
 ///
 /// It takes none. On `Ok` it gives the very value that it was given.
-#[inline]
+#[inline(always)]
 pub fn name<'a>(input: BStr<'a>) -> Result<BStr<'a>, NameError>
     ensures answer { Validates fault_of (bstr_bytes input.entry) result }
     ensures grammar { IsOk result ↔ IsTrue (is_tag_name (bstr_bytes input.entry)) }
@@ -102,21 +104,23 @@ pub fn name<'a>(input: BStr<'a>) -> Result<BStr<'a>, NameError>
     ensures one_fault { HasAtMostOneFaultAPlace (bstr_bytes input.entry) }
     ensures pieces { PiecesAreTheOnlySplit (bstr_bytes input.entry) }
 {
-    match first_fault(input.as_bytes()) {
-        None => Ok(input),
-        Some(fault) => Err(fault),
+    if is_clear(input.as_bytes()) {
+        Ok(input)
+    } else {
+        name_on_walk(input)
     }
 }
 
-/// The first fault of a text. Most names that have none are clear, and so aren't walked.
-#[inline]
-fn first_fault(bytes: &[u8]) -> Option<NameError>
-    ensures { result ≡ fault_of bytes.now }
+/// The answer of `name`, by the walk. Most names that are accepted are clear, and so aren't walked.
+#[inline(always)]
+fn name_on_walk<'a>(input: BStr<'a>) -> Result<BStr<'a>, NameError>
+    ensures answer { Validates fault_of (bstr_bytes input.entry) result }
+    ensures grammar { IsOk result ↔ IsTrue (is_tag_name (bstr_bytes input.entry)) }
+    ensures same { IfOk result (λ name. name ≡ input.entry) }
 {
-    if is_clear(bytes) {
-        None
-    } else {
-        first_fault_on_walk(bytes)
+    match first_fault_on_walk(input.as_bytes()) {
+        None => Ok(input),
+        Some(fault) => Err(fault),
     }
 }
 
@@ -148,17 +152,13 @@ fn first_fault_on_walk(bytes: &[u8]) -> Option<NameError>
     None
 }
 
-/// The fault at the least place that has one: one pass, and most bytes cost a look into a table.
+/// The fault at the least place that has one.
 fn fault_at_first_place(bytes: &[u8]) -> Option<NameError>
     requires { 0 < length bytes.now }
     ensures { result ≡ at_first_place (λ i. first_of (faults_at bytes.now i)) (length bytes.now) }
 {
-    for (i, &byte) in bytes.iter().enumerate() {
-        if may_be_faulty(byte) {
-            if let Some(fault) = fault_after(&bytes[..i], byte) {
-                return Some(fault);
-            }
-        }
+    if let Some(fault) = fault_by_blocks(bytes) {
+        return Some(fault);
     }
     if bytes.ends_with(b".lock") && bytes.len() != 5 {
         return Some(NameError::LockFileSuffix);
@@ -166,7 +166,55 @@ fn fault_at_first_place(bytes: &[u8]) -> Option<NameError>
     None
 }
 
+/// How many bytes are asked one by one from a suspect block on.
+const ASKED: usize = 4 * LANES;
+
+/// How far behind the `l` of `.lock` a slash ends it.
+const LOCK_END: usize = 4;
+
+/// The fault at the least place that has one by what stands before it. A block in which nothing is suspect has none. From
+/// any other block on, and from the start, the bytes are asked, and the next four too, in which a `.lock` that begins
+/// before them may end.
+fn fault_by_blocks(bytes: &[u8]) -> Option<NameError>
+    requires { 0 < length bytes.now }
+    ensures { result ≡ at_first_place (fault_before bytes.now) (length bytes.now) }
+{
+    let mut at = 0;
+    while bytes.len() - at >= LANES {
+        if at > 0 && block_has_none(bytes, at - 1, Relation::Suspect) {
+            at += LANES;
+        } else {
+            let stop = bytes.len().min(at + ASKED + LOCK_END);
+            if let Some(fault) = fault_between(bytes, at, stop) {
+                return Some(fault);
+            }
+            at = bytes.len().min(at + ASKED);
+        }
+    }
+    fault_between(bytes, at, bytes.len())
+}
+
+/// The first fault by what stands before a byte, from one place on and before another. Most bytes cost a look into a
+/// table.
+#[inline(always)]
+fn fault_between(bytes: &[u8], from: usize, to: usize) -> Option<NameError>
+    requires in_order { from ≤ to }
+    requires within { to ≤ length bytes.now }
+    ensures { result ≡ first_between bytes.now from to }
+{
+    for place in from..to {
+        let byte = bytes[place];
+        if may_be_faulty(byte) {
+            if let Some(fault) = fault_after(&bytes[..place], byte) {
+                return Some(fault);
+            }
+        }
+    }
+    None
+}
+
 /// The fault of a byte behind which something follows, by what stands before it.
+#[inline]
 fn fault_after(before: &[u8], byte: u8) -> Option<NameError>
     ensures { (next : ℕ) (rest : List ℕ) → result ≡ first_of (faults_between before.now byte (next ∷ rest)) }
 {

@@ -1,5 +1,5 @@
-//! A run, tried again where memory is refused. `.ci/refused_memory` runs this test with each request
-//! refused in turn, and counts what it prints.
+//! A run that is out of memory, and then tries again. `.ci/refused_memory` runs this test, makes each
+//! allocation fail in turn, and counts what the test prints.
 
 use super::{RunError, run};
 use std::test::Fail;

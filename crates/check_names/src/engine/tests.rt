@@ -364,7 +364,7 @@ fn prints_each_stop(rt: HostRuntime) -> Result<(), Fail> {
     Ok(())
 }
 
-// What `RunError` prints is a clause's to know.
+// A clause says what `RunError` prints.
 fn printed_stop(alloc: Global) -> Result<String, AllocError>
     ensures { IfOk result (λ text. string_bytes text ≡ codes "out of memory") }
 {

@@ -13,8 +13,8 @@ use std::alloc::{AllocError, Allocator, Global};
 /// Joins components by slashes into a path, whose pieces are the parts in their order
 /// (docs/RULES.md, "Joining").
 ///
-/// Its caller knows that there is a part, and that each part is a component under no switch and
-/// without a mode. [`component`](super::component) tells the second: what it accepts under some
+/// The caller has to know that there is a part, and that each part is a component under no switch and
+/// without a mode. [`component`](super::component) says the second: what it accepts under some
 /// switches it accepts under none.
 ///
 /// ```
@@ -23,12 +23,12 @@ use std::alloc::{AllocError, Allocator, Global};
 ///
 /// # Errors
 ///
-/// Want of memory, and nothing else.
+/// Out of memory, and nothing else.
 ///
 /// # Memory
 ///
-/// The call asks for it once, before it writes a byte. A length above `isize::MAX` bytes, which no
-/// memory holds, counts as refused.
+/// The call asks for it once, before it writes a byte. A length above `isize::MAX` bytes counts as out
+/// of memory.
 pub fn join(alloc: Global, parts: &[BStr<'_>]) -> Result<BString, AllocError>
     requires some { 0 < length parts.now }
     requires components { All
@@ -41,7 +41,7 @@ pub fn join(alloc: Global, parts: &[BStr<'_>]) -> Result<BString, AllocError>
     Ok(BString::new(join_in(alloc, parts)?))
 }
 
-// `join` with any allocator. A sum of lengths that wraps counts as refused memory.
+// `join` with any allocator. A sum of lengths that wraps counts as out of memory.
 fn join_in<A: Allocator>(alloc: A, parts: &[BStr<'_>]) -> Result<Vec<u8, A>, AllocError>
     requires { 0 < length parts.now }
     ensures { IfOk result (λ path. path.items ≡ joined (map bstr_bytes parts.now)) }

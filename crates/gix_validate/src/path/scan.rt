@@ -73,7 +73,7 @@ impl Seen {
         has_kind(self.kinds, BACKSLASH)
     }
 
-    /// Whether a byte was seen that no name has on Windows.
+    /// Whether a byte was seen that is illegal on Windows.
     #[inline(always)]
     pub(super) fn illegal(&self) -> bool
         ensures { result ≡ any_kind ILLEGAL self.now.kinds }

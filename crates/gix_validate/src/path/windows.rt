@@ -1,6 +1,6 @@
 //! Names that mean something else on Windows, and names that it forbids.
 
-ghost use Rattle.std.specs.Prelude.{◌≡◌, ◌==◌, ◌||◌, ◌∷◌, [], ◌++◌, slice_index, codes, IsTrue};
+ghost use Rattle.std.specs.Prelude.{◌≡◌, ◌==◌, ◌||◌, ◌∷◌, [], ◌++◌, ◌%◌, slice_index, bit_and, codes, IsTrue};
 ghost use Rattle.std.specs.List.{list_all, list_any};
 ghost use Rattle.std.specs.Str.{byte, bytes_eq};
 ghost use Rattle.gix_validate.specs.Bytes.{lower, is_empty, ends};
@@ -12,7 +12,7 @@ ghost use Rattle.gix_validate.specs.Ordinary.{stays_in_form};
 use crate::path::units::first_unit_len;
 use crate::path::word::after_word;
 
-/// Whether a colon stands after the first unit, which none does where nothing illegal stands.
+/// Whether a colon stands after the first unit. Where no byte is illegal, there is no colon.
 #[tactic(auto, using(crate::proofs::OrdinaryLemmas::legal_no_prefix))]
 pub(super) fn has_prefix(name: &[u8], has_illegal: bool) -> bool
     requires { has_illegal ≡ list_any is_illegal_byte name.now }
@@ -28,9 +28,55 @@ pub(super) fn ends_illegally(name: &[u8]) -> bool
     matches!(name.last(), Some(b'.' | b' '))
 }
 
-/// Whether the name means a device, by its first three letters and what follows them.
+/// The six words with which the names of devices begin, a bit for each: `aux`, `con`, `com`, `lpt`, `nul`, `prn`. The
+/// table has those that may have a byte as their first letter, by the low five bits of the byte, which are the same for
+/// a capital.
+#[rattlefmt::skip]
+const BY_FIRST: [u8; 32] = [
+    0, 1, 0, 6, 0, 0, 0, 0, 0, 0, 0, 0, 8, 0, 16, 0,
+    32, 0, 0, 0, 0, 0, 0, 0, 0, 0, 0, 0, 0, 0, 0, 0,
+];
+
+/// The same by the second letter.
+#[rattlefmt::skip]
+const BY_SECOND: [u8; 32] = [
+    0, 0, 0, 0, 0, 0, 0, 0, 0, 0, 0, 0, 0, 0, 0, 6,
+    8, 0, 32, 0, 0, 17, 0, 0, 0, 0, 0, 0, 0, 0, 0, 0,
+];
+
+/// The same by the third letter.
+#[rattlefmt::skip]
+const BY_THIRD: [u8; 32] = [
+    0, 0, 0, 0, 0, 0, 0, 0, 0, 0, 0, 0, 16, 4, 34, 0,
+    0, 0, 0, 0, 8, 0, 0, 0, 1, 0, 0, 0, 0, 0, 0, 0,
+];
+
+/// Whether the name means a device. Hardly any other name gets past its first three letters, which are looked at
+/// without a branch for each.
 #[inline(always)]
 pub(super) fn is_device(name: &[u8]) -> bool
+    ensures { result ≡ is_device name.now }
+{
+    if name.len() < 3 {
+        return false;
+    }
+    words_with(name[0], name[1], name[2]) != 0 && is_device_by_letters(name)
+}
+
+/// Which of the six words may have these letters, a bit for each.
+#[inline(always)]
+fn words_with(first: u8, second: u8, third: u8) -> u8
+    ensures { result ≡ bit_and (bit_and (slice_index BY_FIRST (first % 32)) (slice_index BY_SECOND (second % 32)))
+        (slice_index BY_THIRD (third % 32)) }
+{
+    BY_FIRST[(first % 32) as usize]
+        & BY_SECOND[(second % 32) as usize]
+        & BY_THIRD[(third % 32) as usize]
+}
+
+/// Whether the name is a device, by its first three letters and what follows them.
+#[inline(always)]
+fn is_device_by_letters(name: &[u8]) -> bool
     ensures { result ≡ is_device name.now }
 {
     match name {

@@ -1,4 +1,4 @@
-//! The repair of names that are no partial names.
+//! The repair of names that are not partial names.
 
 ghost use Rattle.std.specs.Prelude.{◌≡◌, ◌≢◌, ◌↔◌, ◌+◌, ◌-◌, ◌≤◌, ◌<◌, ◌==◌, ◌||◌, ◌&&◌, ◌++◌, [], ◌∷◌, max, not, if◌then◌else◌, length, take, drop, get_or, set, codes, IsTrue, IsOk, IfOk, Some, None, slice_range, vec_capacity};
 ghost use Rattle.bstr.specs.BStr.{bstr_bytes};
@@ -14,11 +14,11 @@ use crate::clear::is_clear;
 use bstr::{BStr, BString};
 use std::alloc::{AllocError, Allocator, Global};
 
-/// Copies a name, and repairs the copy if the name is no partial name (docs/RULES.md, "Sanitised names").
+/// Copies a name, and repairs the copy if the name is not a partial name (docs/RULES.md, "Sanitised names").
 ///
 /// The copy is always a partial name, and it is the name itself if that is one. Each nonempty piece of `path` gives one
-/// piece of the copy, and where nothing is left the copy is `-`. It has at least one byte, and no more than `path`, or
-/// than one where `path` is empty. Lengths are bytes.
+/// piece of the copy, and where nothing is left the copy is `-`. It has at least one byte, and at most as many as
+/// `path`, or one where `path` is empty. Lengths are bytes.
 ///
 /// ```
 /// name_partial_or_sanitize(alloc, BStr::from("refs//heads/../x.lock"))?; // `refs/heads/-/x`
@@ -26,7 +26,7 @@ use std::alloc::{AllocError, Allocator, Global};
 ///
 /// # Errors
 ///
-/// Want of memory, and nothing else. Then nothing is left behind.
+/// Out of memory, and nothing else. Then nothing is left behind.
 ///
 /// # Memory
 ///
@@ -77,8 +77,8 @@ fn fill_sanitized<A: Allocator>(name: &mut Vec<u8, A>, path: &[u8]) -> Result<()
 /// `name_partial_or_sanitize` gives for these `len` bytes.
 ///
 /// The buffer has to have a byte, since even an empty name becomes `-`. From place `len` on, or from place 1 on where
-/// `len` is 0, its bytes stay as they were. What stands between the repaired name and that place is open. Places and
-/// lengths are bytes.
+/// `len` is 0, its bytes stay as they were. The bytes between the repaired name and that place are unspecified.
+/// Places and lengths are bytes.
 ///
 /// ```
 /// let mut buffer = *b"..azz";
@@ -98,7 +98,7 @@ pub fn sanitize_in_place(buf: &mut [u8], len: usize) -> usize
     ensures piecewise { IsPiecewise (take len buf.old) (take result buf.new) }
     ensures rest { drop (max 1 len) buf.new ≡ drop (max 1 len) buf.old }
 {
-    if is_clear(&buf[..len]) {
+    if len > 1 && is_clear(&buf[..len]) {
         return len;
     }
     let end = mend_pieces(&mut buf[..len]);
@@ -109,8 +109,8 @@ pub fn sanitize_in_place(buf: &mut [u8], len: usize) -> usize
 /// is written at the place of the one just read, or before it.
 ///
 /// The last byte comes at the end. If it is plain, a slash stands in its place until then, so that each run of plain
-/// bytes ends before the text does. A `.lock` right before a slash is passed over, where something stands before it in
-/// its piece: it would be cut.
+/// bytes ends before the text does. A `.lock` right before a slash is skipped, where something stands before it in its
+/// piece: it would be cut.
 fn mend_pieces(text: &mut [u8]) -> usize
     ensures within { result ≤ length text.old }
     ensures text { take result text.new ≡ joined (mended_pieces text.old) }

@@ -1,5 +1,5 @@
-//! Answers and printed texts by example, refused memory, and callers that rest on what the
-//! conversion and the printing promise.
+//! Answers and printed texts by example, calls that are out of memory, and callers that rest on what
+//! the conversion and the printing promise.
 
 ghost use Rattle.std.specs.Prelude.{◌≡◌, IfOk, string_bytes};
 ghost use Rattle.gix_validate.specs.Reference.{carried, text_of};

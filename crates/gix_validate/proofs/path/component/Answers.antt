@@ -1,20 +1,15 @@
-use Rattle.std.proofs.Common.{sym, ap, ◌∙◌, refl}
-use Rattle.std.specs.Prelude.{is_none}
 use Rattle.bstr.specs.BStr.{bstr_bytes}
 use Rattle.std.proofs.lemmas.Bool.{false≢true}
-use Rattle.gix_validate.specs.Component.{fault_of}
 use Rattle.gix_validate.proofs.ComponentLaws.{grammar_law, fewer_law, case_law, units_law, basic_law}
 use Rattle.gix_validate.proofs.path.component.Goals as goal
+use native.Mathlib.Omega.{arith}
+use Rattle.std.proofs.lemmas.Bool.Decides.{nat_tests}
 
 pub returns-in-None-clause-grammar : goal.returns-in-None-clause-grammar
-returns-in-None-clause-grammar c =
-    let none = ap (fault_of c.args.options c.args.mode) (sym c.as_bytes.ensures) ∙ sym c.first_fault.ensures ∙ c.in-None.is in
-    (λ _. grammar_law c.args.options c.args.mode (bstr_bytes c.args.input) ∙ ap is_none none, λ _. refl)
+returns-in-None-clause-grammar c = grind (arith, nat_tests, grammar_law)
 
 pub returns-in-None-clause-fewer : goal.returns-in-None-clause-fewer
-returns-in-None-clause-fewer c =
-    let none = ap (fault_of c.args.options c.args.mode) (sym c.as_bytes.ensures) ∙ sym c.first_fault.ensures ∙ c.in-None.is in
-    fewer_law c.args.options c.args.mode (bstr_bytes c.args.input) none
+returns-in-None-clause-fewer c = grind (arith, nat_tests, fewer_law)
 
 pub returns-in-None-clause-case : goal.returns-in-None-clause-case
 returns-in-None-clause-case c = case_law c.args.options c.args.mode (bstr_bytes c.args.input)
@@ -23,14 +18,10 @@ pub returns-in-None-clause-units : goal.returns-in-None-clause-units
 returns-in-None-clause-units c = units_law (bstr_bytes c.args.input)
 
 pub returns-in-None-clause-basic : goal.returns-in-None-clause-basic
-returns-in-None-clause-basic c =
-    let none = ap (fault_of c.args.options c.args.mode) (sym c.as_bytes.ensures) ∙ sym c.first_fault.ensures ∙ c.in-None.is in
-    basic_law c.args.options c.args.mode (bstr_bytes c.args.input) none
+returns-in-None-clause-basic c = grind (arith, nat_tests, basic_law)
 
 pub returns-in-Some-clause-grammar : goal.returns-in-Some-clause-grammar
-returns-in-Some-clause-grammar c =
-    let some = ap (fault_of c.args.options c.args.mode) (sym c.as_bytes.ensures) ∙ sym c.first_fault.ensures ∙ c.in-Some.is in
-    (λ h. absurd (false≢true h), λ h. sym (grammar_law c.args.options c.args.mode (bstr_bytes c.args.input) ∙ ap is_none some) ∙ h)
+returns-in-Some-clause-grammar c = grind (arith, nat_tests, false≢true, grammar_law)
 
 pub returns-in-Some-clause-case : goal.returns-in-Some-clause-case
 returns-in-Some-clause-case c = case_law c.args.options c.args.mode (bstr_bytes c.args.input)

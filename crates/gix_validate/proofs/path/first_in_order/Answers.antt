@@ -11,6 +11,7 @@ use Rattle.gix_validate.specs.Ntfs.{ntfs_form, is_git_form, is_modules_form}
 use Rattle.gix_validate.specs.Windows.{is_device, is_illegal}
 use Rattle.gix_validate.specs.Component.{conditions, fault_of}
 use Rattle.gix_validate.proofs.path.first_in_order.Goals as goal
+use Rattle.std.proofs.lemmas.Bool.Decides.{nat_tests}
 
 -- no condition holds
 no_fault : (windows hfs ntfs symlink : Bool) (x : List ℕ)
@@ -66,23 +67,12 @@ modules_last windows hfs ntfs symlink x a b c d e f g h i j k l = rw (a, b, c, d
 
 pub returns-then-ends_illegally : goal.returns-then-ends_illegally
 unfolding fault_of is_illegal lower_byte
-returns-then-ends_illegally c =
-    illegal_first c.args.options.protect_windows c.args.options.protect_hfs c.args.options.protect_ntfs (is_some c.args.mode) c.args.name.now
-    (grind (arith, common_steps))
-    (grind (arith, common_steps))
-    (grind (arith, common_steps))
-    (grind (arith, common_steps))
-    (grind (arith, common_steps))
-    (grind (arith, common_steps))
-    (grind (arith, common_steps))
-    (grind (arith, common_steps))
-    (grind (arith, common_steps))
-    (grind (arith, common_steps))
+returns-then-ends_illegally c = grind (arith, nat_tests, illegal_first, common_steps)
 
 pub returns-then-is_word-2 : goal.returns-then-is_word-2
 unfolding fault_of is_illegal lower_byte
 returns-then-is_word-2 c =
-    modules_last c.args.options.protect_windows c.args.options.protect_hfs c.args.options.protect_ntfs (is_some c.args.mode) c.args.name.now
+    modules_last c.args.windows c.args.hfs c.args.ntfs (is_some c.args.mode) c.args.name.now
     (grind (arith, common_steps))
     (grind (arith, common_steps))
     (grind (arith, common_steps))
@@ -99,7 +89,7 @@ returns-then-is_word-2 c =
 pub returns-else-not-hfs-2 : goal.returns-else-not-hfs-2
 unfolding fault_of is_illegal lower_byte
 returns-else-not-hfs-2 c =
-    no_fault c.args.options.protect_windows c.args.options.protect_hfs c.args.options.protect_ntfs (is_some c.args.mode) c.args.name.now
+    no_fault c.args.windows c.args.hfs c.args.ntfs (is_some c.args.mode) c.args.name.now
     (grind (arith, common_steps))
     (grind (arith, common_steps))
     (grind (arith, common_steps))

@@ -1,11 +1,12 @@
 -- Each arm answers the line of the table for its byte.
 use Rattle.std.proofs.Common.{◌≡◌, ℕ, Bool, true, false, List, ◌∷◌, Option, Some, None, sym, ap, ◌∙◌, arith}
 use Rattle.gix_validate.specs.declared.tag.NameError.{NameError}
-use Rattle.gix_validate.specs.declared.tag.NameError.TheVariants.{InvalidByte, RepeatedSlash, RepeatedDot, LockFileSuffix, ReflogPortion, Asterisk, StartsWithDot}
+use Rattle.gix_validate.specs.declared.tag.NameError.TheVariants.{InvalidByte, Asterisk}
 use Rattle.gix_validate.specs.Faults.{when, first_of, ◌orelse◌}
 use Rattle.gix_validate.specs.Tag.{faults_between}
 use Rattle.gix_validate.proofs.TagFaults.{after_star, after_dot, after_brace, after_slash, after_other}
 use Rattle.gix_validate.proofs.tag.fault_after.Goals as goal
+use Rattle.std.proofs.lemmas.Bool.Decides.{nat_tests}
 
 -- what a fault at one byte is, at the byte that was seen
 at_byte : (before : List ℕ) (b n next : ℕ) (rest : List ℕ) (answer : Option NameError) → b ≡ n
@@ -26,49 +27,31 @@ pub returns-in-42 : goal.returns-in-42
 returns-in-42 c next rest = at_byte c.args.before.now c.args.byte 42 next rest (Some Asterisk) c.in-42.is (after_star c.args.before.now next rest)
 
 pub returns-in-46 : goal.returns-in-46
-returns-in-46 c next rest =
-    at_byte c.args.before.now c.args.byte 46 next rest (Some RepeatedDot) c.in-46.is
-    (after_dot c.args.before.now next rest ∙ first_line _ _ RepeatedDot StartsWithDot c.if-ends_with.ensures.value)
+returns-in-46 c next rest = grind (arith, nat_tests, at_byte, after_dot, first_line)
 
 pub returns-in-46-2 : goal.returns-in-46-2
-returns-in-46-2 c next rest =
-    at_byte c.args.before.now c.args.byte 46 next rest (Some StartsWithDot) c.in-46.is
-    (after_dot c.args.before.now next rest ∙ second_line _ _ RepeatedDot StartsWithDot c.if-ends_with.ensures.value c.if-ends_with-2.ensures.value)
+returns-in-46-2 c next rest = grind (arith, nat_tests, at_byte, after_dot, second_line)
 
 pub returns-in-46-3 : goal.returns-in-46-3
-returns-in-46-3 c next rest =
-    at_byte c.args.before.now c.args.byte 46 next rest None c.in-46.is
-    (after_dot c.args.before.now next rest ∙ no_line _ _ RepeatedDot StartsWithDot c.if-ends_with.ensures.value c.if-ends_with-2.ensures.value)
+returns-in-46-3 c next rest = grind (arith, nat_tests, at_byte, after_dot, no_line)
 
 pub returns-in-123 : goal.returns-in-123
-returns-in-123 c next rest =
-    at_byte c.args.before.now c.args.byte 123 next rest (Some ReflogPortion) c.in-123.is
-    (after_brace c.args.before.now next rest ∙ ap (λ t. when t ReflogPortion) (sym c.if-ends_with-3.ensures.value))
+returns-in-123 c next rest = grind (arith, nat_tests, at_byte, after_brace)
 
 pub returns-in-123-2 : goal.returns-in-123-2
-returns-in-123-2 c next rest =
-    at_byte c.args.before.now c.args.byte 123 next rest None c.in-123.is
-    (after_brace c.args.before.now next rest ∙ ap (λ t. when t ReflogPortion) (sym c.if-ends_with-3.ensures.value))
+returns-in-123-2 c next rest = grind (arith, nat_tests, at_byte, after_brace)
 
 pub returns-in-47 : goal.returns-in-47
-returns-in-47 c next rest =
-    at_byte c.args.before.now c.args.byte 47 next rest (Some RepeatedSlash) c.in-47.is
-    (after_slash c.args.before.now next rest ∙ first_line _ _ RepeatedSlash LockFileSuffix c.if-ends_with-4.ensures.value)
+returns-in-47 c next rest = grind (arith, nat_tests, at_byte, after_slash, first_line)
 
 pub returns-in-47-2 : goal.returns-in-47-2
-returns-in-47-2 c next rest =
-    at_byte c.args.before.now c.args.byte 47 next rest (Some LockFileSuffix) c.in-47.is
-    (after_slash c.args.before.now next rest ∙ second_line _ _ RepeatedSlash LockFileSuffix c.if-ends_with-4.ensures.value c.if-ends_in_lock.ensures)
+returns-in-47-2 c next rest = grind (arith, nat_tests, at_byte, after_slash, second_line)
 
 pub returns-in-47-3 : goal.returns-in-47-3
-returns-in-47-3 c next rest =
-    at_byte c.args.before.now c.args.byte 47 next rest None c.in-47.is
-    (after_slash c.args.before.now next rest ∙ no_line _ _ RepeatedSlash LockFileSuffix c.if-ends_with-4.ensures.value c.if-ends_in_lock.ensures)
+returns-in-47-3 c next rest = grind (arith, nat_tests, at_byte, after_slash, no_line)
 
 pub returns-in_default : goal.returns-in_default
-returns-in_default c next rest =
-    sym (after_other c.args.before.now c.args.byte next rest (λ e. omega arith) (λ e. omega arith) (λ e. omega arith) (λ e. omega arith)
-    ∙ ap (λ t. when t (InvalidByte c.args.byte)) (sym c.if-is_bad_byte.ensures))
+returns-in_default c next rest = grind (arith, nat_tests, after_other)
 
 pub returns-in_default-2 : goal.returns-in_default-2
 returns-in_default-2 c next rest =

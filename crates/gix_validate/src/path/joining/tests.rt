@@ -1,4 +1,4 @@
-//! Joined parts by example, and refused memory.
+//! Joined parts by example, and joins that are out of memory.
 
 use super::{join, join_in};
 use bstr::BStr;
@@ -6,6 +6,7 @@ use linked_list_allocator::LocalHeap;
 use std::alloc::AllocError;
 use std::test::Fail;
 
+#[tactic(auto, unfolding(crate::proofs::OnLiterals::components_on_literals))]
 #[test]
 fn joins(rt: HostRuntime) -> Result<(), Fail> {
     let three = join(

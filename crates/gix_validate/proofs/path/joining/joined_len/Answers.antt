@@ -1,22 +1,19 @@
 -- The slashes and the parts so far are never more than all of them.
-use Rattle.std.proofs.Common.{◌≡◌, [], ap, length, take, arith}
+use Rattle.std.proofs.Common.{◌≡◌, [], take, arith}
 use Rattle.std.proofs.lemmas.List.{take_all}
 use Rattle.std.proofs.lemmas.List.Sums.{sum_by_more_le}
 use Rattle.bstr.specs.declared.bstr.BStr.{BStr}
 use Rattle.bstr.specs.BStr.{bstr_bytes}
 use Rattle.gix_validate.proofs.PathJoinLemmas.{length-joined}
 use Rattle.gix_validate.proofs.path.joining.joined_len.Goals as goal
+use Rattle.std.proofs.lemmas.Bool.Decides.{nat_tests}
 
 -- what a read past the end gives
 abbrev none : BStr
 none = record { bytes = record { ref_ptr = (0, 0); now = [] } }
 
 pub returns-in_err-len : goal.returns-in_err-len
-returns-in_err-len c =
-    let whole = length-joined bstr_bytes c.args.parts.now c.requires in
-    let more = sum_by_more_le (λ part. length (bstr_bytes part)) c.args.parts.now c.loop-part.part-index none c.loop-part-test.true in
-    let part = ap length c.as_bytes.ensures in
-    rw c.from_residual.ensures (λ fits. c.in_err-len.ensures (omega (arith, more, part)))
+returns-in_err-len c = grind (arith, nat_tests, length-joined, sum_by_more_le)
 
 pub returns : goal.returns
 returns c =

@@ -1,4 +1,4 @@
--- The capacity that was asked for all the parts serves for each, and each part goes behind those before it.
+-- The capacity that was asked for all the parts is enough for each, and each part goes behind those before it.
 use Rattle.std.proofs.Common.{◌≡◌, [], get_or, ap, ◌∙◌, length, arith}
 use Rattle.bstr.specs.declared.bstr.BStr.{BStr}
 use Rattle.bstr.specs.BStr.{bstr_bytes}

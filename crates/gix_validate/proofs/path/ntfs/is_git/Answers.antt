@@ -1,9 +1,7 @@
-use Rattle.std.proofs.Common.{◌≡◌, take, drop, length, ◌-◌, sym, ap, ◌∙◌, arith, codes}
-use Rattle.std.specs.Str.{bytes_eq}
+use Rattle.std.proofs.Common.{sym, ◌∙◌, arith}
 use Rattle.std.proofs.lemmas.Bool.Decides.{nat_tests}
 use Rattle.std.proofs.lemmas.Grind.{common_steps}
-use Rattle.gix_validate.specs.Bytes.{lower, lower_byte}
-use Rattle.gix_validate.specs.Ntfs.{ntfs_form}
+use Rattle.gix_validate.specs.Bytes.{lower_byte}
 use Rattle.gix_validate.proofs.NtfsLemmas.{git_at_dot, git_at_letter, git_elsewhere, git_of_none}
 use Rattle.gix_validate.proofs.path.ntfs.is_git.Goals as goal
 
@@ -12,9 +10,7 @@ returns-in_default c = sym (git_of_none c.args.name.now c.in_default.len_below)
 
 pub returns-in-46 : goal.returns-in-46
 unfolding lower_byte
-returns-in-46 c =
-    let rest : take (length c.args.name.now - 1) (drop 1 c.args.name.now) ≡ drop 1 c.args.name.now = grind (arith, common_steps) in
-    c.form_is.ensures ∙ ap (λ t. bytes_eq (lower (ntfs_form t)) (codes "git")) rest ∙ sym (git_at_dot c.args.name.now c.in-len1-up.len_at_least c.in-46.is)
+returns-in-46 c = grind (arith, nat_tests, common_steps, git_at_dot)
 
 pub returns-in-103 : goal.returns-in-103
 unfolding lower_byte

@@ -5,16 +5,10 @@ use lib.Lanes.{chunk, zip2}
 use Rattle.gix_validate.specs.Ordinary.{any_kind, kind_of}
 use Rattle.gix_validate.proofs.ScanLemmas.{any_more, any_whole, first_block}
 use Rattle.gix_validate.proofs.path.scan.kinds_of_blocks.Goals as goal
+use Rattle.std.proofs.lemmas.Grind.{common_steps}
 
 pub loop-at-init : goal.loop-at-init
-loop-at-init c =
-    let x = c.args.name.now in
-    let last = length x - 16 in
-    record {
-      room = omega arith;
-      long = ap length c.kinds_in-found.ensures ∙ length-map (chunk last 16 x) kind_of ∙ length-chunk last 16 x (omega arith);
-      have = λ mask. ap (any_kind mask) c.kinds_in-found.ensures ∙ first_block mask last x (omega arith);
-    }
+loop-at-init c = grind (arith, common_steps, length-map, length-chunk, first_block)
 
 pub loop-at-preserved : goal.loop-at-preserved
 loop-at-preserved c =

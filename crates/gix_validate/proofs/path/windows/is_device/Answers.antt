@@ -1,73 +1,10 @@
-use Rattle.std.proofs.Common.{◌≡◌, ◌-◌, take, drop, length, codes, sym, ap, ◌∙◌, arith}
-use Rattle.std.proofs.lemmas.Bool.Decides.{nat_tests}
-use Rattle.std.proofs.lemmas.Grind.{common_steps}
-use Rattle.gix_validate.specs.Bytes.{is_empty}
-use Rattle.gix_validate.specs.Windows.{device_form}
-use Rattle.gix_validate.proofs.DeviceLemmas.{is_any_digit, is_console_end, device_none, device_short, device_aux, device_nul, device_prn, device_console, device_counted, device_numbered}
+use Rattle.std.proofs.Common.{sym, arith}
+use Rattle.gix_validate.proofs.DeviceLemmas.{device_short, device_no_word}
 use Rattle.gix_validate.proofs.path.windows.is_device.Goals as goal
+use Rattle.std.proofs.lemmas.Bool.Decides.{nat_tests}
 
-pub returns-in_default : goal.returns-in_default
-returns-in_default c = sym (device_short c.args.name.now c.in_default.len_below)
+pub returns-then-name-lt3 : goal.returns-then-name-lt3
+returns-then-name-lt3 c = sym (device_short c.args.name.now (omega arith))
 
-pub returns-in-97 : goal.returns-in-97
-returns-in-97 c =
-    let rest : take (length c.args.name.now - 3) (drop 3 c.args.name.now) ≡ drop 3 c.args.name.now = grind (arith, common_steps) in
-    c.ends_form.ensures ∙ ap (λ t. is_empty (device_form t)) rest ∙ sym (device_aux c.args.name.now (grind (arith, nat_tests)))
-
-pub returns-in-99 : goal.returns-in-99
-returns-in-99 c =
-    let rest : take (length c.args.name.now - 3) (drop 3 c.args.name.now) ≡ drop 3 c.args.name.now = grind (arith, common_steps) in
-    c.ends_console.ensures ∙ ap is_console_end rest ∙ sym (device_console c.args.name.now (grind (arith, nat_tests)))
-
-pub returns-in-99-2 : goal.returns-in-99-2
-returns-in-99-2 c =
-    let rest : take (length c.args.name.now - 3) (drop 3 c.args.name.now) ≡ drop 3 c.args.name.now = grind (arith, common_steps) in
-    c.ends_counted.ensures ∙ ap (is_any_digit (codes "123456789")) rest ∙ sym (device_counted c.args.name.now (grind (arith, nat_tests)))
-
-pub returns-in-108 : goal.returns-in-108
-returns-in-108 c =
-    let rest : take (length c.args.name.now - 3) (drop 3 c.args.name.now) ≡ drop 3 c.args.name.now = grind (arith, common_steps) in
-    c.ends_numbered.ensures ∙ ap (is_any_digit (codes "0123456789")) rest ∙ sym (device_numbered c.args.name.now (grind (arith, nat_tests)))
-
-pub returns-in-110 : goal.returns-in-110
-returns-in-110 c =
-    let rest : take (length c.args.name.now - 3) (drop 3 c.args.name.now) ≡ drop 3 c.args.name.now = grind (arith, common_steps) in
-    c.ends_form-in-110.ensures ∙ ap (λ t. is_empty (device_form t)) rest ∙ sym (device_nul c.args.name.now (grind (arith, nat_tests)))
-
-pub returns-in-112 : goal.returns-in-112
-returns-in-112 c =
-    let rest : take (length c.args.name.now - 3) (drop 3 c.args.name.now) ≡ drop 3 c.args.name.now = grind (arith, common_steps) in
-    c.ends_form-in-112.ensures ∙ ap (λ t. is_empty (device_form t)) rest ∙ sym (device_prn c.args.name.now (grind (arith, nat_tests)))
-
-pub returns-in_default-2 : goal.returns-in_default-2
-returns-in_default-2 c = sym (device_none c.args.name.now (grind (arith, nat_tests)) (grind (arith, nat_tests)) (grind (arith, nat_tests)) (grind (arith, nat_tests)) (grind (arith, nat_tests)) (grind (arith, nat_tests)))
-
-pub returns-in_default-3 : goal.returns-in_default-3
-returns-in_default-3 c = sym (device_none c.args.name.now (grind (arith, nat_tests)) (grind (arith, nat_tests)) (grind (arith, nat_tests)) (grind (arith, nat_tests)) (grind (arith, nat_tests)) (grind (arith, nat_tests)))
-
-pub returns-in_default-4 : goal.returns-in_default-4
-returns-in_default-4 c = sym (device_none c.args.name.now (grind (arith, nat_tests)) (grind (arith, nat_tests)) (grind (arith, nat_tests)) (grind (arith, nat_tests)) (grind (arith, nat_tests)) (grind (arith, nat_tests)))
-
-pub returns-in_default-5 : goal.returns-in_default-5
-returns-in_default-5 c = sym (device_none c.args.name.now (grind (arith, nat_tests)) (grind (arith, nat_tests)) (grind (arith, nat_tests)) (grind (arith, nat_tests)) (grind (arith, nat_tests)) (grind (arith, nat_tests)))
-
-pub returns-in_default-6 : goal.returns-in_default-6
-returns-in_default-6 c = sym (device_none c.args.name.now (grind (arith, nat_tests)) (grind (arith, nat_tests)) (grind (arith, nat_tests)) (grind (arith, nat_tests)) (grind (arith, nat_tests)) (grind (arith, nat_tests)))
-
-pub returns-in_default-7 : goal.returns-in_default-7
-returns-in_default-7 c = sym (device_none c.args.name.now (grind (arith, nat_tests)) (grind (arith, nat_tests)) (grind (arith, nat_tests)) (grind (arith, nat_tests)) (grind (arith, nat_tests)) (grind (arith, nat_tests)))
-
-pub returns-in_default-8 : goal.returns-in_default-8
-returns-in_default-8 c = sym (device_none c.args.name.now (grind (arith, nat_tests)) (grind (arith, nat_tests)) (grind (arith, nat_tests)) (grind (arith, nat_tests)) (grind (arith, nat_tests)) (grind (arith, nat_tests)))
-
-pub returns-in_default-9 : goal.returns-in_default-9
-returns-in_default-9 c = sym (device_none c.args.name.now (grind (arith, nat_tests)) (grind (arith, nat_tests)) (grind (arith, nat_tests)) (grind (arith, nat_tests)) (grind (arith, nat_tests)) (grind (arith, nat_tests)))
-
-pub returns-in_default-10 : goal.returns-in_default-10
-returns-in_default-10 c = sym (device_none c.args.name.now (grind (arith, nat_tests)) (grind (arith, nat_tests)) (grind (arith, nat_tests)) (grind (arith, nat_tests)) (grind (arith, nat_tests)) (grind (arith, nat_tests)))
-
-pub returns-in_default-11 : goal.returns-in_default-11
-returns-in_default-11 c = sym (device_none c.args.name.now (grind (arith, nat_tests)) (grind (arith, nat_tests)) (grind (arith, nat_tests)) (grind (arith, nat_tests)) (grind (arith, nat_tests)) (grind (arith, nat_tests)))
-
-pub returns-in_default-12 : goal.returns-in_default-12
-returns-in_default-12 c = sym (device_none c.args.name.now (grind (arith, nat_tests)) (grind (arith, nat_tests)) (grind (arith, nat_tests)) (grind (arith, nat_tests)) (grind (arith, nat_tests)) (grind (arith, nat_tests)))
+pub returns-else-words_with-ne0 : goal.returns-else-words_with-ne0
+returns-else-words_with-ne0 c = grind (arith, nat_tests, device_no_word)

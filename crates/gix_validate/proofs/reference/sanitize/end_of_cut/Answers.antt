@@ -1,12 +1,10 @@
-use Rattle.std.proofs.Common.{◌++◌, take, ap, ◌∙◌}
 use Rattle.gix_validate.proofs.Buffer.{take-front, take-uncut}
 use Rattle.gix_validate.proofs.reference.sanitize.end_of_cut.Goals as goal
+use native.Mathlib.Omega.{arith}
+use Rattle.std.proofs.lemmas.Bool.Decides.{nat_tests}
 
 pub returns-then-text-end-eq107-clause-text : goal.returns-then-text-end-eq107-clause-text
-returns-then-text-end-eq107-clause-text c =
-    take-front c.args.text.now c.args.start c.args.end c.length_of_cut.result c.length_of_cut.ensures.within
-    ∙ ap (λ v. take c.args.start c.args.text.now ++ v) c.length_of_cut.ensures.front
+returns-then-text-end-eq107-clause-text c = grind (arith, nat_tests, take-front)
 
 pub returns-else-text-end-eq107-clause-text : goal.returns-else-text-end-eq107-clause-text
-returns-else-text-end-eq107-clause-text c =
-    take-uncut c.args.text.now c.args.start c.args.end c.requires.some c.requires.within c.if-text-end-eq107.false
+returns-else-text-end-eq107-clause-text c = grind (arith, nat_tests, take-uncut)

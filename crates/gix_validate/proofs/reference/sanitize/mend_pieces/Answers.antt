@@ -1,25 +1,15 @@
-use Rattle.std.proofs.Common.{◌≡◌, ◌<◌, ◌≤◌, ◌+◌, ◌-◌, length, length-drop, length-take, drop, get_or, set, inl, inr, true, false, subst, sym, ◌∙◌, arith}
+use Rattle.std.proofs.Common.{◌≡◌, ◌<◌, ◌≤◌, ◌+◌, ◌-◌, length-drop, length-take, drop, get_or, true, false, subst, sym, ◌∙◌, arith}
 use Rattle.std.specs.Str.{byte}
-use Rattle.std.specs.Prelude.{codes, ◌==◌, ◌||◌}
+use Rattle.std.specs.Prelude.{codes, ◌==◌}
 use Rattle.std.proofs.lemmas.Bool.{cases_Bool, cond-true, cond-false, eq-eqb, ne_eqb, not_from_false, false≢true}
-use Rattle.gix_validate.specs.Bytes.{is_bad, is_among, begins}
+use Rattle.gix_validate.specs.Bytes.{begins}
 use Rattle.gix_validate.proofs.Buffer.{WalksOn, WalksOn-guarded, WalksOn-start, WalksOn-plain, WalksOn-byte, WalksOn-dots, WalksOn-lock, WalksOn-slash, WalksOn-last_slash, WalksOn-last, run_goes, single_dot}
 use Rattle.gix_validate.proofs.reference.sanitize.mend_pieces.Goals as goal
 use Rattle.gix_validate.proofs.reference.sanitize.mend_pieces.Goals.{then-byte-eq47, else-byte-eq47+then-byte-eq46+then-start-end+then-starts_with, else-byte-eq47+else-byte-eq46+then-byte-ne46, else-byte-eq47+else-byte-eq46+else-byte-ne46+else-next-ne46, then-byte-ne46-via-then-byte-ne46, then-byte-ne46-via-else-byte-ne46+then-next-ne46, then-last-ne47, else-last-ne47}
+use Rattle.std.proofs.lemmas.Bool.Decides.{nat_tests}
 
 pub loop-text-init : goal.loop-text-init
-loop-text-init c =
-    let whole = c.args.text.now in
-    let stop = c.in-Some.stop in
-    let some = c.in-Some.ensures in
-    let long : length whole ≡ stop + 1 = omega (arith, some) in
-    let last = get_or whole stop 0 in
-    elim (cases_Bool (is_bad last || is_among (codes "*./{") last)) [
-      | inl special ↦ subst (λ v. WalksOn whole v 0 0 0 stop) (sym (c.guard_end.ensures ∙ cond-true (is_bad last || is_among (codes "*./{") last) whole (set whole stop (byte "/")) special))
-          (WalksOn-start whole stop long special)
-      | inr plain ↦ subst (λ v. WalksOn whole v 0 0 0 stop) (sym (c.guard_end.ensures ∙ cond-false (is_bad last || is_among (codes "*./{") last) whole (set whole stop (byte "/")) plain))
-          (WalksOn-guarded whole stop long (not_from_false _ plain))
-    ]
+loop-text-init c = grind (arith, nat_tests, cases_Bool, WalksOn, cond-true, WalksOn-start, cond-false, WalksOn-guarded, not_from_false)
 
 pub loop-text-2-preserved : goal.loop-text-2-preserved
 loop-text-2-preserved c =

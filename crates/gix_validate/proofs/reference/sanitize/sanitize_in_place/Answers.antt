@@ -10,10 +10,10 @@ pub returns-then-is_clear : goal.returns-then-is_clear
 returns-then-is_clear c =
     let whole = take c.args.len c.args.buf.now in
     let sure = c.is_clear.ensures.0 c.if-is_clear.true in
-    let partial : is_partial_name whole ≡ true = clear_is_partial whole (omega (arith, sure.0)) sure.1 in
+    let partial : is_partial_name whole ≡ true = clear_is_partial whole (omega (arith, length-take c.args.len c.args.buf.now)) sure in
     let own : whole ≡ sanitized whole = sym (sanitized-own whole partial) in
     record {
-      bounds = (omega (arith, sure.0, length-take c.args.len c.args.buf.now), omega arith);
+      bounds = (omega (arith, length-take c.args.len c.args.buf.now), omega arith);
       text = own;
       partial = partial;
       unchanged = (λ _. partial, λ _. refl);

@@ -1,0 +1,10 @@
+-- How the sixteen bytes of a block are taken from a text.
+use Rattle.std.specs.Prelude.{◌≡◌, ℕ, ◌+◌, ◌-◌, ◌%◌, ◌<◌, nat_lt, if◌then◌else◌, List, slice_index}
+
+-- the place of the byte in lane k, where n bytes are taken from the first place on and n from the second, again and again
+abbrev pub place_of : ℕ → ℕ → ℕ → ℕ → ℕ
+place_of n first second k = if nat_lt (k % (n + n)) n then first + k % (n + n) else second + (k % (n + n) - n)
+
+-- the block has these bytes of the text
+abbrev pub HasParts : ℕ → ℕ → ℕ → List ℕ → List ℕ → Type 0
+HasParts n first second x block = (k : ℕ) → k < 16 → slice_index block k ≡ slice_index x (place_of n first second k)

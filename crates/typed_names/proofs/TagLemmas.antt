@@ -9,7 +9,7 @@ use Rattle.std.specs.List.{list_all, All}
 use Rattle.std.specs.Str.{byte, bytes_eq}
 use Rattle.gix_validate.specs.Bytes.{ends}
 use Rattle.gix_validate.specs.Pieces.{pieces, joined, has_no_slash}
-use Rattle.gix_validate.specs.Reference.{is_partial_name, is_full_name}
+use Rattle.gix_validate.specs.Reference.{is_partial_name, is_full_name, is_branch_name}
 use Rattle.gix_validate.specs.Tag.{is_good_piece, is_tag_name}
 use Rattle.typed_names.proofs.SlashLemmas.{pieces_apart, whole_from_pieces}
 
@@ -67,3 +67,7 @@ partial_is_tag x valid = (and_parts (is_tag_name x) _ valid).0
 pub full_is_partial : (x : List ℕ) → IsTrue (is_full_name x) → IsTrue (is_partial_name x)
 unfolding is_full_name
 full_is_partial x valid = (and_parts (is_partial_name x) _ valid).0
+
+pub branch_is_full : (x : List ℕ) → IsTrue (is_branch_name x) → IsTrue (is_full_name x)
+unfolding is_branch_name
+branch_is_full x valid = (and_parts (is_full_name x) _ valid).0

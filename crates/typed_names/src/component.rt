@@ -1,22 +1,27 @@
 //! Path components.
 
-ghost use Rattle.std.specs.Prelude.{◌≡◌, ◌↔◌, None, IsOk, IsTrue};
+ghost use Rattle.std.specs.Prelude.{◌≡◌, ◌↔◌, None, IsOk, IsTrue, Some, bytes_eq, encode_utf8_all};
+ghost use Rattle.std.specs.Cmp.{on_equiv, on_per, partial_equiv_from_equiv};
+ghost use Rattle.std.specs.Cmp.Lexicographic.{nat_list_eq_equiv};
 ghost use Rattle.bstr.specs.BStr.{bstr_bytes};
+ghost use Rattle.bstr.specs.Utf8.{lossy_chars};
 ghost use Rattle.gix_validate.specs.Component.{fault_of, is_component};
 ghost use Rattle.gix_validate.specs.ComponentLaws.{no_protections};
 
 use bstr::BStr;
 use gix_validate::path::{self, ComponentError, ComponentMode, ComponentOptions};
+use std::convert::AsSlice;
+use std::fmt;
 
 /// One name in a directory, as `src` and `a.rs` are (docs/RULES.md, "Path components").
 ///
-/// It is tested under the mode and the options that [`new`](Component::new) is handed, and keeps
-/// what all of these share: no fault under no switch and without a mode. That is what
+/// It is tested under the mode and the options that [`new`](Component::new) is handed. The type keeps
+/// what all of these share: the text is accepted with no switch and without a mode. That is what
 /// `gix_validate::path::join` asks of its parts.
 #[derive(Clone, Copy, Debug)]
 pub struct Component<'a> {
     name: BStr<'a>,
-    // The text has no fault under no switch and without a mode.
+    // The text is accepted with no switch and without a mode.
     pub ghost valid: { fault_of no_protections None (bstr_bytes name) ≡ None },
 }
 
@@ -47,12 +52,52 @@ impl<'a> Component<'a> {
         })
     }
 
-    /// The text that [`new`](Component::new) took, which has no fault under no switch and without a
-    /// mode.
+    /// The text that [`new`](Component::new) took, which is accepted with no switch and without a mode.
     pub fn as_bstr(&self) -> BStr<'a>
         ensures same { result ≡ component_text self.now }
         ensures valid { fault_of no_protections None (bstr_bytes result) ≡ None }
     {
         self.name
+    }
+}
+
+/// Two names are equal exactly where their bytes are.
+impl<'a> PartialEq for Component<'a> {
+    ghost use Rattle.typed_names.specs.Names.{component_bytes};
+
+    ghost eq = { λ a b. bytes_eq (component_bytes a) (component_bytes b) };
+
+    ghost laws = { on_per component_bytes (partial_equiv_from_equiv nat_list_eq_equiv) };
+
+    fn eq(&self, other: &Component<'a>) -> bool {
+        self.as_bstr() == other.as_bstr()
+    }
+}
+
+impl<'a> Eq for Component<'a> {
+    ghost use Rattle.typed_names.specs.Names.{component_bytes};
+
+    ghost laws = { on_equiv component_bytes nat_list_eq_equiv };
+}
+
+/// The bytes of the name.
+impl<'a> AsSlice<u8> for Component<'a> {
+    ghost use Rattle.typed_names.specs.Names.{component_bytes};
+
+    ghost items = { component_bytes };
+
+    fn as_slice(&self) -> &[u8] {
+        self.as_bstr().as_bytes()
+    }
+}
+
+/// Prints the name. Bytes that are not UTF-8 are printed as U+FFFD.
+impl<'a> fmt::Display for Component<'a> {
+    ghost use Rattle.typed_names.specs.Names.{component_bytes};
+
+    ghost output = { λ name. Some (encode_utf8_all (lossy_chars (component_bytes name))) };
+
+    fn fmt<W: fmt::Write>(&self, f: &mut fmt::Formatter<W>) -> fmt::Result {
+        self.as_bstr().fmt(f)
     }
 }

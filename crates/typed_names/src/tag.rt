@@ -1,8 +1,11 @@
 //! Tag names.
 
-ghost use Rattle.std.specs.Prelude.{◌≡◌, ◌≢◌, ◌↔◌, [], All, IsOk, IsNone, IsTrue, IfSome};
+ghost use Rattle.std.specs.Prelude.{◌≡◌, ◌≢◌, ◌↔◌, [], All, IsOk, IsNone, IsTrue, IfSome, Some, bytes_eq, encode_utf8_all};
+ghost use Rattle.std.specs.Cmp.{on_equiv, on_per, partial_equiv_from_equiv};
+ghost use Rattle.std.specs.Cmp.Lexicographic.{nat_list_eq_equiv};
 ghost use Rattle.std.specs.List.{after_first};
 ghost use Rattle.bstr.specs.BStr.{bstr_bytes};
+ghost use Rattle.bstr.specs.Utf8.{lossy_chars};
 ghost use Rattle.gix_validate.specs.Pieces.{is_slash, has_no_slash, pieces as pieces_of, joined};
 ghost use Rattle.gix_validate.specs.Tag.{fault_of, is_tag_name};
 
@@ -10,6 +13,8 @@ use crate::partial::PartialName;
 use crate::pieces::{Pieces, split_at_first_slash};
 use bstr::BStr;
 use gix_validate::tag::{self, NameError};
+use std::convert::AsSlice;
+use std::fmt;
 
 /// A tag name, as `v1.2.3` and `refs/heads/main` are (docs/RULES.md, "Tag names").
 #[derive(Clone, Copy, Debug)]
@@ -52,7 +57,7 @@ impl<'a> TagName<'a> {
     /// The pieces of the name, in order: what stands between its slashes.
     ///
     /// They are parts of the text that [`new`](TagName::new) took, and live as long as its bytes.
-    /// A piece need not be a tag name itself: the first one of `a./b` is `a.`, which is none.
+    /// A piece need not be a tag name itself: the first one of `a./b` is `a.`, which is not.
     ///
     /// ```
     /// TagName::new(BStr::from("refs/heads/main"))?.pieces(); // `refs`, then `heads`, then `main`
@@ -97,5 +102,46 @@ impl<'a> From<PartialName<'a>> for TagName<'a> {
         TagName {
             name: partial.as_bstr(),
         }
+    }
+}
+
+/// Two names are equal exactly where their bytes are.
+impl<'a> PartialEq for TagName<'a> {
+    ghost use Rattle.typed_names.specs.Names.{tag_bytes};
+
+    ghost eq = { λ a b. bytes_eq (tag_bytes a) (tag_bytes b) };
+
+    ghost laws = { on_per tag_bytes (partial_equiv_from_equiv nat_list_eq_equiv) };
+
+    fn eq(&self, other: &TagName<'a>) -> bool {
+        self.as_bstr() == other.as_bstr()
+    }
+}
+
+impl<'a> Eq for TagName<'a> {
+    ghost use Rattle.typed_names.specs.Names.{tag_bytes};
+
+    ghost laws = { on_equiv tag_bytes nat_list_eq_equiv };
+}
+
+/// The bytes of the name.
+impl<'a> AsSlice<u8> for TagName<'a> {
+    ghost use Rattle.typed_names.specs.Names.{tag_bytes};
+
+    ghost items = { tag_bytes };
+
+    fn as_slice(&self) -> &[u8] {
+        self.as_bstr().as_bytes()
+    }
+}
+
+/// Prints the name. Bytes that are not UTF-8 are printed as U+FFFD.
+impl<'a> fmt::Display for TagName<'a> {
+    ghost use Rattle.typed_names.specs.Names.{tag_bytes};
+
+    ghost output = { λ name. Some (encode_utf8_all (lossy_chars (tag_bytes name))) };
+
+    fn fmt<W: fmt::Write>(&self, f: &mut fmt::Formatter<W>) -> fmt::Result {
+        self.as_bstr().fmt(f)
     }
 }

@@ -4,9 +4,10 @@
 ghost use Rattle.std.specs.Prelude.{◌≡◌, [], ◌∷◌, map, IfOk, MatchOption};
 ghost use Rattle.bstr.specs.BStr.{bstr_bytes};
 ghost use Rattle.gix_validate.specs.Pieces.{pieces as pieces_of};
-ghost use Rattle.typed_names.specs.Names.{tag_text, partial_text, full_text};
+ghost use Rattle.typed_names.specs.Names.{tag_text, partial_text, full_text, branch_text};
 
 mod joining;
+mod traits;
 
 use super::*;
 use bstr::BStr;
@@ -41,6 +42,13 @@ fn partial_of<'a>(full: FullName<'a>) -> PartialName<'a>
     full.into()
 }
 
+// A full name, by what `From` says of it.
+fn full_of<'a>(branch: BranchName<'a>) -> FullName<'a>
+    ensures { full_text result ≡ branch_text branch.entry }
+{
+    branch.into()
+}
+
 // A clone, where `Clone` says that there is one.
 fn twin<T: Clone>(value: &T) -> T
     requires { T.is_infallible value.now }
@@ -62,6 +70,18 @@ fn partial_twin<'a>(name: PartialName<'a>) -> PartialName<'a>
 }
 
 fn full_twin<'a>(name: FullName<'a>) -> FullName<'a>
+    ensures { result ≡ name.entry }
+{
+    twin(&name)
+}
+
+fn branch_twin<'a>(name: BranchName<'a>) -> BranchName<'a>
+    ensures { result ≡ name.entry }
+{
+    twin(&name)
+}
+
+fn submodule_twin<'a>(name: SubmoduleName<'a>) -> SubmoduleName<'a>
     ensures { result ≡ name.entry }
 {
     twin(&name)
@@ -150,11 +170,21 @@ fn tells_faults(rt: HostRuntime) -> Result<(), Fail> {
     let answer = told(rt.alloc(), FullName::new(BStr::from("V1")))?;
     let text = "Standalone references must be all uppercased, like 'HEAD'";
     assert_eq!(rt; answer.as_str(), text);
+    let answer = told(rt.alloc(), BranchName::new(BStr::from("refs/heads/HEAD")))?;
+    let text = "Reference name is reserved and cannot be used: \"refs/heads/HEAD\"";
+    assert_eq!(rt; answer.as_str(), text);
+    let answer = told(rt.alloc(), SubmoduleName::new(BStr::from("a\\..")))?;
+    assert_eq!(rt; answer.as_str(), "Submodules names must not contains '..'");
+    let submodule = submodule_twin(SubmoduleName::new(BStr::from("vendor/package"))?);
+    assert_eq!(rt; submodule.as_bstr(), BStr::from("vendor/package"));
     Ok(())
 }
 
 #[test]
 fn turns_full_names_into_others(rt: HostRuntime) -> Result<(), Fail> {
+    let branch = branch_twin(BranchName::new(BStr::from("refs/heads/main"))?);
+    assert_eq!(rt; branch.as_bstr(), BStr::from("refs/heads/main"));
+    assert_eq!(rt; full_of(branch).as_bstr(), BStr::from("refs/heads/main"));
     let full = full_twin(FullName::new(BStr::from("HEAD"))?);
     assert_eq!(rt; full.as_bstr(), BStr::from("HEAD"));
     let partial = partial_twin(partial_of(full));

@@ -1,0 +1,20 @@
+//! A first caller: the branch to push to.
+#![tactic(auto, unfolding(gix_validate::proofs::OnLiterals::names_on_literals))]
+
+ghost use Rattle.std.specs.Prelude.{◌≡◌, IsTrue};
+ghost use Rattle.bstr.specs.BStr.{bstr_bytes};
+ghost use Rattle.gix_validate.specs.Reference.{is_branch_name};
+
+use bstr::BStr;
+use gix_validate::reference;
+
+/// The branch that was asked for, or `refs/heads/main` where that is not the name of a branch.
+pub fn branch_to_push<'a>(asked: BStr<'a>) -> BStr<'a>
+    ensures branch { IsTrue (is_branch_name (bstr_bytes result)) }
+    ensures asked { IsTrue (is_branch_name (bstr_bytes asked.entry)) → result ≡ asked.entry }
+{
+    match reference::branch_name(asked) {
+        Ok(name) => name,
+        Err(_) => BStr::from("refs/heads/main"),
+    }
+}

@@ -1,0 +1,21 @@
+//! Callers of `gix_validate` and `typed_names`, as a project that uses them would write them. Each
+//! function is proved and has a contract of its own.
+//!
+//! | Module | What it has |
+//! |---|---|
+//! | [`first`] | a first caller: the branch to push to |
+//! | [`literals`] | calls on names that are written in the source |
+//! | [`ref_store`] | references and their targets, by full name |
+//! | [`checkout`] | a walk down a working tree, and the path of a file |
+//! | [`settings`] | the names in a file of submodule settings |
+//! | [`repair`] | names that are repaired where they stand |
+#![tactic(auto)]
+
+pub mod checkout;
+pub mod first;
+pub mod literals;
+pub mod ref_store;
+pub mod repair;
+pub mod settings;
+#[cfg(test)]
+mod tests;

@@ -1,0 +1,77 @@
+//! References and their targets, by full name.
+
+ghost use Rattle.std.specs.Prelude.{◌≡◌, ◌≢◌, ℕ, List, [], Some, OnOk, OnErr};
+ghost use Rattle.std.specs.List.{position};
+ghost use Rattle.typed_names.specs.Names.{full_bytes};
+ghost use Rattle.uses.specs.Targets.{is_named, target_of};
+
+use std::alloc::{AllocError, Global};
+use std::marker::Model;
+use typed_names::FullName;
+
+/// The name of an object, as SHA-1 gives it.
+#[derive(Clone, Copy, Debug, PartialEq, Eq)]
+pub struct ObjectId(pub [u8; 20]);
+
+/// A reference: a name and the object that it stands for.
+#[derive(Clone, Copy, Debug)]
+pub struct Reference<'a> {
+    pub name: FullName<'a>,
+    pub target: ObjectId,
+}
+
+/// References, of which no two have one name.
+///
+/// Contracts see it as the list of the names' bytes and the targets.
+#[derive(Debug, Drop)]
+pub struct RefStore<'a> {
+    refs: Vec<Reference<'a>>,
+}
+
+impl<'a> Model for RefStore<'a> {
+    ghost use Rattle.std.specs.Prelude.{map};
+    ghost use Rattle.uses.specs.Targets.{Entries, entry_of};
+
+    ghost Value = { Entries };
+
+    ghost view = { λ store. map entry_of store.refs.items };
+}
+
+impl<'a> RefStore<'a> {
+    /// No references.
+    pub fn new(alloc: Global) -> RefStore<'a>
+        ensures { result ≡ [] }
+    {
+        RefStore {
+            refs: Vec::new(alloc),
+        }
+    }
+
+    /// The object that the name stands for, if the store has the name.
+    pub fn get(&self, name: FullName<'_>) -> Option<ObjectId>
+        ensures { result ≡ target_of self.now (full_bytes name.entry) }
+    {
+        let i = self.place_of(name)?;
+        Some(self.refs[i].target)
+    }
+
+    /// Lets the name stand for an object, and leaves every other name as it was.
+    pub fn set(&mut self, name: FullName<'a>, target: ObjectId) -> Result<(), AllocError>
+        ensures this { OnOk result (target_of self.new (full_bytes name.entry) ≡ Some target) }
+        ensures others { (x : List ℕ) → x ≢ full_bytes name.entry → target_of self.new x ≡ target_of self.old x }
+        ensures same { OnErr result (self.new ≡ self.old) }
+    {
+        match self.place_of(name) {
+            Some(i) => self.refs[i] = Reference { name, target },
+            None => self.refs.push(Reference { name, target })?,
+        }
+        Ok(())
+    }
+
+    // Where the first reference of this name is.
+    fn place_of(&self, name: FullName<'_>) -> Option<usize>
+        ensures { result ≡ position (is_named (full_bytes name.entry)) self.now }
+    {
+        self.refs.iter().position(|it| it.name == name)
+    }
+}

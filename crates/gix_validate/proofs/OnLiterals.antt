@@ -1,9 +1,8 @@
 -- What a caller unfolds so that the rules of names are computed on literals.
-use Rattle.std.proofs.Common.{◌≡◌, true, refl, Some, None}
+use Rattle.std.proofs.Common.{◌≡◌, refl, None}
 use Rattle.std.specs.Prelude.{⊤, codes}
-use Rattle.gix_validate.specs.declared.path.ComponentError.TheVariants.{DotGitDir}
 use Rattle.gix_validate.specs.Bytes.{is_bad, lower_byte}
-use Rattle.gix_validate.specs.Component.{all_protections, conditions, fault_of as component_fault_of, is_component}
+use Rattle.gix_validate.specs.Component.{conditions, fault_of as component_fault_of, is_component}
 use Rattle.gix_validate.specs.ComponentLaws.{no_protections}
 use Rattle.gix_validate.specs.Faults.{at_first_place}
 use Rattle.gix_validate.specs.Hfs.{hfs_form, is_ignored}
@@ -17,21 +16,15 @@ use Rattle.gix_validate.specs.Windows.{device_form, devices, is_device_form, is_
 
 -- the rules of tag names, reference names, submodule names and the repair
 unfoldable pub names_on_literals : ⊤
-unfolding is_bad is_good_piece is_tag_name faults_between faults_at at_first_place tag_fault_of is_partial_name is_full_name is_branch_name partial_fault_of full_fault_of branch_fault_of is_submodule_name submodule_fault_of cleaned cut sanitized
+unfolding is_bad is_good_piece is_tag_name faults_between faults_at at_first_place tag_fault_of
+    is_partial_name is_full_name is_branch_name partial_fault_of full_fault_of branch_fault_of is_submodule_name submodule_fault_of cleaned cut sanitized
 names_on_literals = tt
 
 -- the rules of path components and of devices
 unfoldable pub components_on_literals : ⊤
-unfolding component_fault_of is_component conditions lower_byte first_unit_len whole_sequences hfs_form is_ignored ntfs_form is_git_form is_modules_form device_form devices is_device_form is_device is_illegal_byte is_illegal
+unfolding component_fault_of is_component conditions lower_byte first_unit_len whole_sequences hfs_form is_ignored ntfs_form
+    is_git_form is_modules_form device_form devices is_device_form is_device is_illegal_byte is_illegal
 components_on_literals = tt
-
-tag_name : is_tag_name (codes "v1.0") ≡ true
-unfolding names_on_literals
-tag_name = refl
-
-no_fault_of_a_branch : branch_fault_of (codes "refs/heads/main") ≡ None
-unfolding names_on_literals
-no_fault_of_a_branch = refl
 
 repaired : sanitized (codes "refs//heads/../x.lock") ≡ codes "refs/heads/-/x"
 unfolding names_on_literals
@@ -40,7 +33,3 @@ repaired = refl
 component : component_fault_of no_protections None (codes "src") ≡ None
 unfolding components_on_literals
 component = refl
-
-no_component : component_fault_of all_protections None (codes ".git .") ≡ Some DotGitDir
-unfolding components_on_literals
-no_component = refl

@@ -4,7 +4,7 @@ pub mod Lanes
 pub mod Faults
 pub mod Quoted
 pub mod Tag
-pub mod Clear
+pub mod Adjacent
 pub mod Reference
 pub mod Submodule
 pub mod Sanitized

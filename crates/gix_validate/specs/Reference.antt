@@ -5,7 +5,9 @@ use Rattle.std.specs.Str.{byte, bytes_eq}
 use Rattle.gix_validate.specs.declared.tag.NameError.{NameError as TagError}
 use Rattle.gix_validate.specs.declared.tag.NameError.TheVariants as tag
 use Rattle.gix_validate.specs.declared.reference.NameError.{NameError}
-use Rattle.gix_validate.specs.declared.reference.NameError.TheVariants.{InvalidByte, StartsWithSlash, RepeatedSlash, RepeatedDot, LockFileSuffix, ReflogPortion, Asterisk, StartsWithDot, EndsWithDot, EndsWithSlash, Empty, SomeLowercase, Reserved}
+use Rattle.gix_validate.specs.declared.reference.NameError.TheVariants.{InvalidByte, StartsWithSlash, RepeatedSlash, RepeatedDot, LockFileSuffix}
+use Rattle.gix_validate.specs.declared.reference.NameError.TheVariants.{ReflogPortion, Asterisk, StartsWithDot, EndsWithDot, EndsWithSlash, Empty}
+use Rattle.gix_validate.specs.declared.reference.NameError.TheVariants.{SomeLowercase, Reserved}
 use Rattle.gix_validate.specs.Faults.{when, ◌orelse◌}
 use Rattle.gix_validate.specs.Pieces.{is_slash}
 use Rattle.gix_validate.specs.Quoted.{quoted}

@@ -1,9 +1,9 @@
 //! Looks at sixteen bytes at a time, a block. The place of each byte in it is its lane.
 
-ghost use Rattle.std.specs.Prelude.{◌≡◌, ◌↔◌, ◌<◌, ◌≤◌, ◌+◌, ◌/◌, ◌%◌, ◌==◌, ◌||◌, ℕ, Bool, IsTrue, map, length, slice_index, bit_and};
+ghost use Rattle.std.specs.Prelude.{◌≡◌, ◌≤◌, ◌+◌, ◌/◌, ◌%◌, ◌==◌, map, length, slice_index, bit_and};
 ghost use Rattle.std.specs.List.{list_any};
 ghost use Rattle.std.specs.Simd.Lanes.{chunk};
-ghost use Rattle.gix_validate.specs.Lanes.{HasParts};
+ghost use Rattle.gix_validate.specs.Lanes.{HasParts, is_nonzero};
 
 use std::simd::prelude::*;
 
@@ -15,8 +15,7 @@ pub(crate) const LANES: usize = 16;
 pub(crate) fn halves(text: &[u8], first: usize, second: usize) -> u8x16
     requires first { first + 8 ≤ length text.now }
     requires second { second + 8 ≤ length text.now }
-    ensures parts { HasParts 8 first second text.now result }
-    ensures any { (p : ℕ → Bool) → list_any p result ≡ (list_any p (chunk first 8 text.now) || list_any p (chunk second 8 text.now)) }
+    ensures { HasParts 8 first second text.now result }
 {
     let front = u8x8::from_slice(&text[first..]);
     let back = u8x8::from_slice(&text[second..]);
@@ -35,22 +34,36 @@ pub(crate) fn quarters(text: &[u8], first: usize, second: usize) -> u8x16
     front.shuffle(back, [0, 1, 2, 3, 4, 5, 6, 7, 0, 1, 2, 3, 4, 5, 6, 7])
 }
 
-/// The kinds of each byte: the bits that both tables have, the one for its low half and the other for its high half.
+/// Two bytes from one place on, and two from another, again and again.
 #[inline(always)]
-pub(crate) fn kinds(by_low_half: [u8; 16], by_high_half: [u8; 16], bytes: u8x16) -> u8x16
-    ensures { result ≡ map (λ b. bit_and (slice_index by_low_half (b % 16)) (slice_index by_high_half (b / 16))) bytes }
+pub(crate) fn pairs(text: &[u8], first: usize, second: usize) -> u8x16
+    requires first { first + 2 ≤ length text.now }
+    requires second { second + 2 ≤ length text.now }
+    ensures { HasParts 2 first second text.now result }
 {
-    let low = u8x16::from_array(by_low_half).swizzle_dyn(bytes & u8x16::splat(15));
-    let high = u8x16::from_array(by_high_half).swizzle_dyn(bytes >> u8x16::splat(4));
+    let front = u8x2::from_slice(&text[first..]);
+    let back = u8x2::from_slice(&text[second..]);
+    front.shuffle(back, [0, 1, 2, 3, 0, 1, 2, 3, 0, 1, 2, 3, 0, 1, 2, 3])
+}
+
+/// The classes of each byte: the bits that both tables have, the one for its low nibble and the
+/// other for its high nibble.
+#[inline(always)]
+#[tactic(auto, using(crate::proofs::Blocks::Lanes::low_ok))]
+pub(crate) fn classify(by_low_nibble: [u8; 16], by_high_nibble: [u8; 16], bytes: u8x16) -> u8x16
+    ensures { result ≡ map (λ b. bit_and (slice_index by_low_nibble (b % 16)) (slice_index by_high_nibble (b / 16))) bytes }
+{
+    let low = u8x16::from_array(by_low_nibble).swizzle_dyn(bytes & u8x16::splat(15));
+    let high = u8x16::from_array(by_high_nibble).swizzle_dyn(bytes >> u8x16::splat(4));
     low & high
 }
 
-/// Whether all bytes are zero.
+/// Whether a byte is not zero.
 #[inline(always)]
-pub(crate) fn are_zero(bytes: u8x16) -> bool
-    ensures { IsTrue result ↔ ((k : ℕ) → k < 16 → slice_index bytes k ≡ 0) }
+pub(crate) fn has_nonzero(bytes: u8x16) -> bool
+    ensures { result ≡ list_any is_nonzero bytes }
 {
-    bytes.simd_ne(u8x16::splat(0)).to_bitmask() == 0
+    bytes.simd_ne(u8x16::splat(0)).to_bitmask() != 0
 }
 
 /// Whether the byte is one of the text.
@@ -78,8 +91,8 @@ pub(crate) fn holds(text: &[u8], byte: u8) -> bool
 /// Whether the byte is one of the sixteen of the text from this place on.
 #[inline(always)]
 pub(crate) fn block_holds(text: &[u8], at: usize, byte: u8) -> bool
-    requires { at + 16 ≤ length text.now }
-    ensures { result ≡ list_any (λ b. b == byte) (chunk at 16 text.now) }
+    requires { at + LANES ≤ length text.now }
+    ensures { result ≡ list_any (λ b. b == byte) (chunk at LANES text.now) }
 {
     lanes_hold(u8x16::from_slice(&text[at..]), byte)
 }

@@ -1,5 +1,5 @@
-//! Git names: which byte strings are accepted, the one fault of those that are not, and the repair of
-//! a reference name.
+//! Git names: which byte strings are accepted, the one fault of those that are not, and the repair
+//! of a reference name.
 //!
 //! | Module | What it has |
 //! |---|---|
@@ -8,12 +8,12 @@
 //! | [`submodule`] | submodule names |
 //! | [`path`] | path components, and their join to a path |
 //!
-//! Only the joins and `reference::name_partial_or_sanitize` take memory. The rules are in docs/RULES.md, and
-//! the definitions that the contracts cite in `specs/`.
+//! Only the joins and `reference::name_partial_or_sanitize` take memory. The rules are in
+//! docs/RULES.md, and the definitions that the contracts cite in `specs/`.
 #![tactic(auto)]
 
+mod adjacent;
 mod bytes;
-mod clear;
 mod lanes;
 pub mod path;
 mod quoted;

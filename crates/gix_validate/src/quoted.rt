@@ -6,7 +6,8 @@ ghost use Rattle.gix_validate.specs.Quoted.{escape_of};
 
 use std::fmt;
 
-/// Bytes that print between double quotes, each as itself or as an escape (docs/RULES.md, "Quoted bytes").
+/// Bytes that print between double quotes, each as itself or as an escape (docs/RULES.md, "Quoted
+/// bytes").
 #[derive(Clone, Copy)]
 pub(crate) struct Quoted<'a>(pub(crate) &'a [u8]);
 
@@ -25,6 +26,7 @@ impl<'a> fmt::Display for Quoted<'a> {
 }
 
 /// Writes one byte, as itself or as an escape.
+#[tactic(auto, using(crate::proofs::Texts::Escapes::hex_escape))]
 fn write_escape<W: fmt::Write>(byte: u8, f: &mut fmt::Formatter<W>) -> fmt::Result
     ensures { WritesOnOk W.write_str_gives f.old result (escape_of byte) f.new }
 {

@@ -1,8 +1,13 @@
 //! Reference names: partial ones, full ones and those of branches, each recognised by one call, and
 //! the join of two names.
 //!
-//! The three calls build on one another: a full name is a partial name, and the name of a branch
-//! is a full name. They take no memory, and each gives back the very text that it was given.
+//! The three calls build on one another: a full name is a partial name, and the name of a branch is
+//! a full name.
+//!
+//! # Memory
+//!
+//! The three calls take none, and on `Ok` each gives the very value that it was given. `join` and
+//! the repair say what they take.
 
 ghost use Rattle.std.specs.Prelude.{◌≡◌, ◌≢◌, ◌↔◌, ◌⊎◌, ◌+◌, ◌≤◌, [], ◌∷◌, ◌++◌, length, codes, All, Contains, IsOk, IfOk, IsTrue, MatchResult, vec_len, vec_capacity};
 ghost use Rattle.std.specs.List.{list_all};
@@ -24,8 +29,6 @@ use std::error::Error;
 use std::fmt;
 
 mod sanitize;
-#[cfg(test)]
-mod tests;
 
 pub use sanitize::{name_partial_or_sanitize, sanitize_in_place};
 
@@ -125,11 +128,7 @@ impl From<tag::NameError> for NameError {
 /// # Errors
 ///
 /// The fault of [`tag::name`], where it has one, and otherwise `Reserved` with `@`.
-///
-/// # Memory
-///
-/// It takes none. On `Ok` it gives the very value that it was given.
-#[tactic(auto, using(crate::proofs::ReferenceLemmas::partial_names))]
+#[tactic(auto, using(crate::proofs::References::reserved_names), unfolding(crate::specs::Reference::partial_fault_of, crate::specs::Reference::is_partial_name))]
 #[inline(always)]
 pub fn name_partial<'a>(path: BStr<'a>) -> Result<BStr<'a>, NameError>
     ensures answer { Validates partial_fault_of (bstr_bytes path.entry) result }
@@ -143,8 +142,7 @@ pub fn name_partial<'a>(path: BStr<'a>) -> Result<BStr<'a>, NameError>
 }
 
 /// Gives back `path` where it is a full name, as `HEAD` and `refs/heads/main` are: a partial name
-/// that has a slash, or only the letters `A` to `Z` and `_` (docs/RULES.md,
-/// "Reference names").
+/// that has a slash, or only the letters `A` to `Z` and `_` (docs/RULES.md, "Reference names").
 ///
 /// ```
 /// name(BStr::from("refs/heads/main"))?; // gives back `refs/heads/main`
@@ -154,11 +152,7 @@ pub fn name_partial<'a>(path: BStr<'a>) -> Result<BStr<'a>, NameError>
 /// # Errors
 ///
 /// The fault of [`name_partial`], where it has one, and otherwise `SomeLowercase`.
-///
-/// # Memory
-///
-/// It takes none. On `Ok` it gives the very value that it was given.
-#[tactic(auto, using(crate::proofs::ReferenceLemmas::full_names))]
+#[tactic(auto, using(crate::proofs::References::may_stand, crate::proofs::References::may_not_stand), unfolding(crate::specs::Reference::full_fault_of, crate::specs::Reference::is_full_name))]
 #[inline(always)]
 pub fn name<'a>(path: BStr<'a>) -> Result<BStr<'a>, NameError>
     ensures answer { Validates full_fault_of (bstr_bytes path.entry) result }
@@ -189,11 +183,7 @@ pub fn name<'a>(path: BStr<'a>) -> Result<BStr<'a>, NameError>
 ///
 /// The fault of [`name`], where it has one, and otherwise `Reserved` with all fifteen bytes of
 /// `refs/heads/HEAD`.
-///
-/// # Memory
-///
-/// It takes none. On `Ok` it gives the very value that it was given.
-#[tactic(auto, using(crate::proofs::ReferenceLemmas::branch_names))]
+#[tactic(auto, using(crate::proofs::References::reserved_names), unfolding(crate::specs::Reference::branch_fault_of, crate::specs::Reference::is_branch_name))]
 #[inline(always)]
 pub fn branch_name<'a>(path: BStr<'a>) -> Result<BStr<'a>, NameError>
     ensures answer { Validates branch_fault_of (bstr_bytes path.entry) result }
@@ -220,9 +210,9 @@ pub fn branch_name<'a>(path: BStr<'a>) -> Result<BStr<'a>, NameError>
 ///
 /// # Memory
 ///
-/// The call asks for it once, before it writes a byte. A length above `isize::MAX` bytes counts as out
-/// of memory.
-#[tactic(auto, using(crate::proofs::JoinLemmas::joined_is_full))]
+/// The call asks for it once, before it writes a byte. A length above `isize::MAX` bytes counts as
+/// out of memory.
+#[tactic(auto, using(crate::proofs::References::joined_is_full))]
 pub fn join(alloc: Global, a: BStr<'_>, b: BStr<'_>) -> Result<BString, AllocError>
     requires first { IsTrue (is_tag_name (bstr_bytes a)) }
     requires second { IsTrue (is_tag_name (bstr_bytes b)) }
@@ -234,7 +224,7 @@ pub fn join(alloc: Global, a: BStr<'_>, b: BStr<'_>) -> Result<BString, AllocErr
     Ok(BString::new(name))
 }
 
-// Gives back any name except the reserved one, for which the error has room.
+/// Gives back any name except the reserved one, for which the error has room.
 #[inline]
 fn unless_reserved<'a>(name: BStr<'a>, reserved: &[u8]) -> Result<BStr<'a>, NameError>
     requires { length reserved.now ≤ 15 }
@@ -250,7 +240,7 @@ fn unless_reserved<'a>(name: BStr<'a>, reserved: &[u8]) -> Result<BStr<'a>, Name
     })
 }
 
-// Whether the name has a slash, or may stand alone.
+/// Whether the name has a slash, or may stand alone.
 #[inline(always)]
 fn has_slash_or_stands_alone(bytes: &[u8]) -> bool
     ensures { result ≡ has_slash_or_stands_alone bytes.now }
@@ -258,7 +248,7 @@ fn has_slash_or_stands_alone(bytes: &[u8]) -> bool
     holds(bytes, b'/') || stands_alone(bytes)
 }
 
-// Whether each byte may stand alone. Most names that don't show it by their first letter.
+/// Whether each byte may stand alone. Most names that don't show it by their first letter.
 fn stands_alone(bytes: &[u8]) -> bool
     ensures { result ≡ list_all is_standalone_byte bytes.now }
 {
@@ -266,7 +256,7 @@ fn stands_alone(bytes: &[u8]) -> bool
         && bytes.iter().all(|byte| matches!(*byte, b'A'..=b'Z' | b'_'))
 }
 
-// `join` with any allocator. A sum of lengths that wraps counts as out of memory.
+/// `join` with any allocator. A sum of lengths that wraps counts as out of memory.
 fn join_in<A: Allocator>(alloc: A, a: &[u8], b: &[u8]) -> Result<Vec<u8, A>, AllocError>
     ensures { IfOk result (λ name. name.items ≡ joined (a.now ∷ b.now ∷ [])) }
 {
@@ -275,7 +265,7 @@ fn join_in<A: Allocator>(alloc: A, a: &[u8], b: &[u8]) -> Result<Vec<u8, A>, All
     write_joined(Vec::with_capacity(alloc, len)?, a, b)
 }
 
-// All that follows the reservation, which was for the join and no byte more: it succeeds.
+/// All that follows the reservation, which was for the join and no byte more: it succeeds.
 fn write_joined<A: Allocator>(
     mut buffer: Vec<u8, A>,
     a: &[u8],
@@ -290,3 +280,6 @@ fn write_joined<A: Allocator>(
     buffer.extend_from_slice(b)?;
     Ok(buffer)
 }
+
+#[cfg(test)]
+mod tests;

@@ -4,18 +4,15 @@
 
 ghost use Rattle.std.specs.Prelude.{◌≡◌, ◌↔◌, ◌+◌, ◌≤◌, length, IsOk, IfOk, IsTrue};
 ghost use Rattle.bstr.specs.BStr.{bstr_bytes};
-ghost use Rattle.gix_validate.specs.Clear.{is_parent_before, NoParentBetween};
+ghost use Rattle.gix_validate.specs.Adjacent.{is_parent_before, NoParentBetween};
 ghost use Rattle.gix_validate.specs.Faults.{Validates};
 ghost use Rattle.gix_validate.specs.Submodule.{fault_of, has_parent_part, is_separator, is_submodule_name};
 
-use crate::clear::{Relation, block_has_none, has_none};
+use crate::adjacent::{Relation, block_has_none, has_none};
 use crate::lanes::LANES;
 use bstr::BStr;
 use std::error::Error;
 use std::fmt;
-
-#[cfg(test)]
-mod tests;
 
 /// Why a text is not a submodule name (docs/RULES.md, "Submodule names").
 #[derive(Debug, Drop)]
@@ -58,7 +55,7 @@ impl Error for NameError {}
 /// # Memory
 ///
 /// It takes none. On `Ok` it gives the very value that it was given.
-#[tactic(auto, using(crate::proofs::SubmoduleLemmas::submodule_names))]
+#[tactic(auto, unfolding(crate::specs::Submodule::fault_of, crate::specs::Submodule::is_submodule_name))]
 #[inline]
 pub fn name<'a>(name: BStr<'a>) -> Result<BStr<'a>, NameError>
     ensures answer { Validates fault_of (bstr_bytes name.entry) result }
@@ -77,14 +74,15 @@ pub fn name<'a>(name: BStr<'a>) -> Result<BStr<'a>, NameError>
 
 /// Whether some part is `..`. Most names have no two dots in a row.
 #[inline(never)]
+#[tactic(auto, using(crate::proofs::Submodules::no_dots))]
 fn has_parent_part(bytes: &[u8]) -> bool
     ensures { result ≡ has_parent_part bytes.now }
 {
     !has_none(bytes, Relation::Dots) && has_parent_part_by_blocks(bytes)
 }
 
-/// The same. Such a part ends at the end of the text or at a separator. In most blocks of sixteen bytes no separator
-/// stands behind a dot.
+/// The same. Such a part ends at the end of the text or at a separator. In most blocks of sixteen
+/// bytes no separator stands behind a dot.
 #[inline(never)]
 fn has_parent_part_by_blocks(bytes: &[u8]) -> bool
     ensures { result ≡ has_parent_part bytes.now }
@@ -107,14 +105,15 @@ fn has_parent_part_by_blocks(bytes: &[u8]) -> bool
 /// Whether no part that is `..` ends at one of the sixteen bytes behind this place.
 #[inline(always)]
 fn block_has_no_parent(bytes: &[u8], at: usize) -> bool
-    requires { at + 17 ≤ length bytes.now }
-    ensures { IsTrue result ↔ NoParentBetween bytes.now (at + 1) (at + 17) }
+    requires { at + (LANES + 1) ≤ length bytes.now }
+    ensures { IsTrue result ↔ NoParentBetween bytes.now (at + 1) (at + (LANES + 1)) }
 {
     block_has_none(bytes, at, Relation::LastDot)
         || has_no_parent_between(bytes, at + 1, at + 1 + LANES)
 }
 
 /// Whether no part that is `..` ends at a separator from one place on and before another.
+#[tactic(auto, using(crate::proofs::Submodules::none_more))]
 fn has_no_parent_between(bytes: &[u8], from: usize, to: usize) -> bool
     requires { to ≤ length bytes.now }
     ensures { IsTrue result ↔ NoParentBetween bytes.now from to }
@@ -146,3 +145,6 @@ fn is_separator(byte: u8) -> bool
 {
     matches!(byte, b'/' | b'\\')
 }
+
+#[cfg(test)]
+mod tests;

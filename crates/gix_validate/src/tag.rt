@@ -5,11 +5,11 @@ ghost use Rattle.bstr.specs.BStr.{bstr_bytes};
 ghost use Rattle.gix_validate.specs.Bytes.{ends};
 ghost use Rattle.gix_validate.specs.Faults.{Validates, first_of, at_first_place};
 ghost use Rattle.gix_validate.specs.Pieces.{PiecesAreTheOnlySplit};
-ghost use Rattle.gix_validate.specs.Clear.{fault_before, first_between};
+ghost use Rattle.gix_validate.specs.Adjacent.{fault_before, first_between};
 ghost use Rattle.gix_validate.specs.Tag.{fault_of, faults_at, faults_between, is_tag_name, HasAtMostOneFaultAPlace};
 
+use crate::adjacent::{Relation, block_has_none, is_clear};
 use crate::bytes::{is_bad_byte, may_be_faulty};
-use crate::clear::{Relation, block_has_none, is_clear};
 use crate::lanes::LANES;
 use crate::quoted::Quoted;
 use bstr::BStr;
@@ -19,7 +19,8 @@ use std::fmt;
 /// Why a text is not a tag name. What each prints is in docs/RULES.md, "Printed texts".
 #[derive(Debug, Drop)]
 pub enum NameError {
-    /// It has a control byte, a space, DEL, or one of `:` `?` `[` `\` `^` `~`; the first of them is given.
+    /// It has a control byte, a space, DEL, or one of `:` `?` `[` `\` `^` `~`; the first of them is
+    /// given.
     InvalidByte { byte: u8 },
     /// It starts with a slash.
     StartsWithSlash,
@@ -80,9 +81,9 @@ impl Error for NameError {}
 
 /// Gives back `input` if it is a tag name, and otherwise its first fault.
 ///
-/// A tag name is made of pieces with a slash between each two. No piece is empty, has an invalid byte
-/// or a `*`, starts with a dot, ends in `.lock`, or contains `..` or `@{`. The whole name doesn't end in
-/// a dot. The input needn't be UTF-8.
+/// A tag name is made of pieces with a slash between each two. No piece is empty, has an invalid
+/// byte or a `*`, starts with a dot, ends in `.lock`, or contains `..` or `@{`. The whole name
+/// doesn't end in a dot. The input needn't be UTF-8.
 ///
 /// ```
 /// tag::name(BStr::from("v1.2.3"))?; // gives back `v1.2.3`
@@ -97,6 +98,7 @@ impl Error for NameError {}
 ///
 /// It takes none. On `Ok` it gives the very value that it was given.
 #[inline(always)]
+#[tactic(auto, using(crate::proofs::TagNames::ClearTexts::clear_has_no_fault, crate::proofs::Texts::Pieces::pieces_are_the_only_split, crate::proofs::TagNames::FaultTable::one_fault_a_place, crate::proofs::TagNames::Grammar::grammar_law))]
 pub fn name<'a>(input: BStr<'a>) -> Result<BStr<'a>, NameError>
     ensures answer { Validates fault_of (bstr_bytes input.entry) result }
     ensures grammar { IsOk result ↔ IsTrue (is_tag_name (bstr_bytes input.entry)) }
@@ -113,6 +115,7 @@ pub fn name<'a>(input: BStr<'a>) -> Result<BStr<'a>, NameError>
 
 /// The answer of `name`, by the walk. Most names that are accepted are clear, and so aren't walked.
 #[inline(always)]
+#[tactic(auto, using(crate::proofs::TagNames::Grammar::grammar_law))]
 fn name_on_walk<'a>(input: BStr<'a>) -> Result<BStr<'a>, NameError>
     ensures answer { Validates fault_of (bstr_bytes input.entry) result }
     ensures grammar { IsOk result ↔ IsTrue (is_tag_name (bstr_bytes input.entry)) }
@@ -126,6 +129,7 @@ fn name_on_walk<'a>(input: BStr<'a>) -> Result<BStr<'a>, NameError>
 
 /// The first fault of a text, in the order of docs/RULES.md, "Tag names".
 #[inline(never)]
+#[tactic(auto, unfolding(crate::specs::Tag::fault_of))]
 fn first_fault_on_walk(bytes: &[u8]) -> Option<NameError>
     ensures { result ≡ fault_of bytes.now }
 {
@@ -172,9 +176,10 @@ const ASKED: usize = 4 * LANES;
 /// How far behind the `l` of `.lock` a slash ends it.
 const LOCK_END: usize = 4;
 
-/// The fault at the least place that has one by what stands before it. A block in which nothing is suspect has none. From
-/// any other block on, and from the start, the bytes are asked, and the next four too, in which a `.lock` that begins
-/// before them may end.
+/// The fault at the least place that has one by what stands before it. A block in which nothing is
+/// suspect has none. From any other block on, and from the start, the bytes are asked, and the next
+/// four too, in which a `.lock` that begins before them may end.
+#[tactic(auto, using(crate::proofs::TagNames::ClearTexts::settled_none, crate::proofs::TagNames::Places::found_in_part, crate::proofs::TagNames::Places::from_place))]
 fn fault_by_blocks(bytes: &[u8]) -> Option<NameError>
     requires { 0 < length bytes.now }
     ensures { result ≡ at_first_place (fault_before bytes.now) (length bytes.now) }
@@ -194,9 +199,10 @@ fn fault_by_blocks(bytes: &[u8]) -> Option<NameError>
     fault_between(bytes, at, bytes.len())
 }
 
-/// The first fault by what stands before a byte, from one place on and before another. Most bytes cost a look into a
-/// table.
+/// The first fault by what stands before a byte, from one place on and before another. Most bytes
+/// cost a look into a table.
 #[inline(always)]
+#[tactic(auto, using(crate::proofs::TagNames::Places::between_none, crate::proofs::TagNames::Places::between_more, crate::proofs::TagNames::FaultTable::quiet), unfolding(crate::specs::Adjacent::fault_before))]
 fn fault_between(bytes: &[u8], from: usize, to: usize) -> Option<NameError>
     requires in_order { from ≤ to }
     requires within { to ≤ length bytes.now }
@@ -215,6 +221,7 @@ fn fault_between(bytes: &[u8], from: usize, to: usize) -> Option<NameError>
 
 /// The fault of a byte behind which something follows, by what stands before it.
 #[inline]
+#[tactic(auto, unfolding(crate::specs::Tag::faults_between, crate::specs::Bytes::is_bad))]
 fn fault_after(before: &[u8], byte: u8) -> Option<NameError>
     ensures { (next : ℕ) (rest : List ℕ) → result ≡ first_of (faults_between before.now byte (next ∷ rest)) }
 {
@@ -235,6 +242,7 @@ fn fault_after(before: &[u8], byte: u8) -> Option<NameError>
 
 /// Whether the text ends in `.lock`, of which few texts have the last letter.
 #[inline]
+#[tactic(auto, using(crate::proofs::TagNames::FaultTable::lock_ends_in_k))]
 fn ends_in_lock(text: &[u8]) -> bool
     ensures { result ≡ ends text.now (codes ".lock") }
 {

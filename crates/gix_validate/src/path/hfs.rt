@@ -7,44 +7,53 @@ ghost use Rattle.gix_validate.specs.Bytes.{lower};
 ghost use Rattle.gix_validate.specs.Hfs.{hfs_form, is_ignored};
 ghost use Rattle.gix_validate.specs.Ordinary.{is_lead};
 
-use crate::path::word::is_word;
+use crate::path::ascii_case::{bytes_eq_ignore_ascii_case, eq_ignore_ascii_case};
 
-/// Whether the name reads as `.git`. It has ignored characters only where it has a byte with which one begins.
+/// Whether the name reads as `.git`.
+#[tactic(auto, unfolding(crate::specs::Bytes::lower_byte))]
 pub(super) fn is_git(name: &[u8], has_lead: bool) -> bool
     requires { has_lead ≡ list_any is_lead name.now }
     ensures { result ≡ bytes_eq (lower (hfs_form name.now)) (codes ".git") }
 {
-    if has_lead {
-        reads_as(name, b".git")
-    } else {
-        is_word(name, b".git")
-    }
+    reads_as(name, b".git", has_lead)
 }
 
 /// Whether the name reads as `.gitmodules`.
+#[tactic(auto, unfolding(crate::specs::Bytes::lower_byte))]
 pub(super) fn is_modules(name: &[u8], has_lead: bool) -> bool
     requires { has_lead ≡ list_any is_lead name.now }
     ensures { result ≡ bytes_eq (lower (hfs_form name.now)) (codes ".gitmodules") }
 {
+    reads_as(name, b".gitmodules", has_lead)
+}
+
+/// Whether the name reads as the word, in any ASCII letter case. It has ignored characters only
+/// where it has a byte with which one begins.
+#[tactic(auto, using(crate::proofs::Components::HfsForm::hfs_form_same))]
+#[inline(always)]
+fn reads_as(name: &[u8], word: &[u8], has_lead: bool) -> bool
+    requires { has_lead ≡ list_any is_lead name.now }
+    ensures { result ≡ bytes_eq (lower (hfs_form name.now)) (lower word.now) }
+{
     if has_lead {
-        reads_as(name, b".gitmodules")
+        kept_is(name, word)
     } else {
-        is_word(name, b".gitmodules")
+        eq_ignore_ascii_case(name, word)
     }
 }
 
-/// Whether the name without what is ignored, with small ASCII letters, is the word.
+/// Whether the name without what is ignored is the word, in any ASCII letter case.
+#[tactic(auto, using(crate::proofs::Components::HfsForm::word_steps))]
 #[inline(always)]
-fn reads_as(name: &[u8], word: &[u8]) -> bool
-    ensures { result ≡ bytes_eq (lower (hfs_form name.now)) word.now }
+fn kept_is(name: &[u8], word: &[u8]) -> bool
+    ensures { result ≡ bytes_eq (lower (hfs_form name.now)) (lower word.now) }
 {
     let mut rest = name;
     for wanted in word {
         let Some((byte, after)) = next_kept(rest) else {
             return false;
         };
-        let small = byte.to_ascii_lowercase();
-        if small != *wanted {
+        if !bytes_eq_ignore_ascii_case(byte, *wanted) {
             return false;
         }
         rest = after;
@@ -54,6 +63,7 @@ fn reads_as(name: &[u8], word: &[u8]) -> bool
 
 /// The first byte that isn't ignored, and what stands after it.
 #[inline(always)]
+#[tactic(auto, unfolding(crate::specs::Hfs::hfs_form))]
 fn next_kept(bytes: &[u8]) -> Option<(u8, &[u8])>
     ensures { MatchOption result (hfs_form bytes.now ≡ [])
         (λ kept. hfs_form bytes.now ≡ kept.0 ∷ hfs_form kept.1.now) }
@@ -70,6 +80,7 @@ fn next_kept(bytes: &[u8]) -> Option<(u8, &[u8])>
 
 /// What stands after the ignored character that the bytes begin with, if they begin with one.
 #[inline(always)]
+#[tactic(auto, unfolding(crate::specs::Hfs::hfs_form))]
 fn after_ignored(bytes: &[u8]) -> Option<&[u8]>
     ensures { MatchOption result
         (0 < length bytes.now → hfs_form bytes.now ≡ slice_index bytes.now 0 ∷ hfs_form (drop 1 bytes.now))

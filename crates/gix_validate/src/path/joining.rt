@@ -13,8 +13,8 @@ use std::alloc::{AllocError, Allocator, Global};
 /// Joins components by slashes into a path, whose pieces are the parts in their order
 /// (docs/RULES.md, "Joining").
 ///
-/// The caller has to know that there is a part, and that each part is a component under no switch and
-/// without a mode. [`component`](super::component) says the second: what it accepts under some
+/// The caller has to know that there is a part, and that each part is a component under no switch
+/// and without a mode. [`component`](super::component) says the second: what it accepts under some
 /// switches it accepts under none.
 ///
 /// ```
@@ -27,8 +27,9 @@ use std::alloc::{AllocError, Allocator, Global};
 ///
 /// # Memory
 ///
-/// The call asks for it once, before it writes a byte. A length above `isize::MAX` bytes counts as out
-/// of memory.
+/// The call asks for it once, before it writes a byte. A length above `isize::MAX` bytes counts as
+/// out of memory.
+#[tactic(auto, using(crate::proofs::Components::JoinedParts::pieces_joined_parts, crate::proofs::Components::JoinedParts::basic_parts))]
 pub fn join(alloc: Global, parts: &[BStr<'_>]) -> Result<BString, AllocError>
     requires some { 0 < length parts.now }
     requires components { All
@@ -41,7 +42,7 @@ pub fn join(alloc: Global, parts: &[BStr<'_>]) -> Result<BString, AllocError>
     Ok(BString::new(join_in(alloc, parts)?))
 }
 
-// `join` with any allocator. A sum of lengths that wraps counts as out of memory.
+/// `join` with any allocator. A sum of lengths that wraps counts as out of memory.
 fn join_in<A: Allocator>(alloc: A, parts: &[BStr<'_>]) -> Result<Vec<u8, A>, AllocError>
     requires { 0 < length parts.now }
     ensures { IfOk result (λ path. path.items ≡ joined (map bstr_bytes parts.now)) }
@@ -50,7 +51,8 @@ fn join_in<A: Allocator>(alloc: A, parts: &[BStr<'_>]) -> Result<Vec<u8, A>, All
     write_joined(Vec::with_capacity(alloc, len)?, parts)
 }
 
-// How long the parts and the slashes between them are, where that fits a `usize`.
+/// How long the parts and the slashes between them are, where that fits a `usize`.
+#[tactic(auto, using(crate::proofs::Components::JoinedParts::length_joined, std::proofs::lemmas::List::Sums::sum_by_more_le, std::proofs::lemmas::List::take_all))]
 fn joined_len(parts: &[BStr<'_>]) -> Option<usize>
     requires { 0 < length parts.now }
     ensures { SomeIff result
@@ -64,7 +66,7 @@ fn joined_len(parts: &[BStr<'_>]) -> Option<usize>
     Some(len)
 }
 
-// All that follows the reservation, which was for the path and no byte more: it succeeds.
+/// All that follows the reservation, which was for the path and no byte more: it succeeds.
 fn write_joined<A: Allocator>(
     mut buffer: Vec<u8, A>,
     parts: &[BStr<'_>],

@@ -9,11 +9,11 @@ ghost use Rattle.gix_validate.specs.Ntfs.{is_digit};
 ghost use Rattle.gix_validate.specs.Windows.{device_form, is_device, is_illegal_byte};
 ghost use Rattle.gix_validate.specs.Ordinary.{stays_in_form};
 
+use crate::path::ascii_case::strip_prefix_ignore_ascii_case;
 use crate::path::units::first_unit_len;
-use crate::path::word::after_word;
 
 /// Whether a colon stands after the first unit. Where no byte is illegal, there is no colon.
-#[tactic(auto, using(crate::proofs::OrdinaryLemmas::legal_no_prefix))]
+#[tactic(auto, using(crate::proofs::Components::OrdinaryNames::legal_no_prefix))]
 pub(super) fn has_prefix(name: &[u8], has_illegal: bool) -> bool
     requires { has_illegal ≡ list_any is_illegal_byte name.now }
     ensures { result ≡ (slice_index name.now (first_unit_len name.now) == byte ":") }
@@ -28,32 +28,51 @@ pub(super) fn ends_illegally(name: &[u8]) -> bool
     matches!(name.last(), Some(b'.' | b' '))
 }
 
-/// The six words with which the names of devices begin, a bit for each: `aux`, `con`, `com`, `lpt`, `nul`, `prn`. The
-/// table has those that may have a byte as their first letter, by the low five bits of the byte, which are the same for
-/// a capital.
+/// The six words with which the names of devices begin, a bit for each.
+const AUX: u8 = 0x01;
+
+const CON: u8 = 0x02;
+
+const COM: u8 = 0x04;
+
+const LPT: u8 = 0x08;
+
+const NUL: u8 = 0x10;
+
+const PRN: u8 = 0x20;
+
+/// The words that may have a byte as their first letter, by the low five bits of the byte, which
+/// are the same for a capital.
 #[rattlefmt::skip]
 const BY_FIRST: [u8; 32] = [
-    0, 1, 0, 6, 0, 0, 0, 0, 0, 0, 0, 0, 8, 0, 16, 0,
-    32, 0, 0, 0, 0, 0, 0, 0, 0, 0, 0, 0, 0, 0, 0, 0,
+    0, AUX, 0, CON | COM, 0, 0, 0, 0, // a, c
+    0, 0, 0, 0, LPT, 0, NUL, 0, // l, n
+    PRN, 0, 0, 0, 0, 0, 0, 0, // p
+    0, 0, 0, 0, 0, 0, 0, 0,
 ];
 
 /// The same by the second letter.
 #[rattlefmt::skip]
 const BY_SECOND: [u8; 32] = [
-    0, 0, 0, 0, 0, 0, 0, 0, 0, 0, 0, 0, 0, 0, 0, 6,
-    8, 0, 32, 0, 0, 17, 0, 0, 0, 0, 0, 0, 0, 0, 0, 0,
+    0, 0, 0, 0, 0, 0, 0, 0,
+    0, 0, 0, 0, 0, 0, 0, CON | COM, // o
+    LPT, 0, PRN, 0, 0, AUX | NUL, 0, 0, // p, r, u
+    0, 0, 0, 0, 0, 0, 0, 0,
 ];
 
 /// The same by the third letter.
 #[rattlefmt::skip]
 const BY_THIRD: [u8; 32] = [
-    0, 0, 0, 0, 0, 0, 0, 0, 0, 0, 0, 0, 16, 4, 34, 0,
-    0, 0, 0, 0, 8, 0, 0, 0, 1, 0, 0, 0, 0, 0, 0, 0,
+    0, 0, 0, 0, 0, 0, 0, 0,
+    0, 0, 0, 0, NUL, COM, CON | PRN, 0, // l, m, n
+    0, 0, 0, 0, LPT, 0, 0, 0, // t
+    AUX, 0, 0, 0, 0, 0, 0, 0, // x
 ];
 
-/// Whether the name means a device. Hardly any other name gets past its first three letters, which are looked at
-/// without a branch for each.
+/// Whether the name means a device. Hardly any other name gets past its first three letters, which
+/// are looked at without a branch for each.
 #[inline(always)]
+#[tactic(auto, using(crate::proofs::Components::Devices::device_short, crate::proofs::Components::Devices::device_no_word), unfolding(crate::proofs::Components::Devices::bits))]
 pub(super) fn is_device(name: &[u8]) -> bool
     ensures { result ≡ is_device name.now }
 {
@@ -76,14 +95,15 @@ fn words_with(first: u8, second: u8, third: u8) -> u8
 
 /// Whether the name is a device, by its first three letters and what follows them.
 #[inline(always)]
+#[tactic(auto, using(crate::proofs::Components::Devices::by_letters), unfolding(crate::proofs::Components::Devices::are_letters))]
 fn is_device_by_letters(name: &[u8]) -> bool
     ensures { result ≡ is_device name.now }
 {
     match name {
         [b'a' | b'A', b'u' | b'U', b'x' | b'X', rest @ ..] => ends_form(rest),
         [b'c' | b'C', b'o' | b'O', b'n' | b'N', rest @ ..] => ends_console(rest),
-        [b'c' | b'C', b'o' | b'O', b'm' | b'M', rest @ ..] => ends_counted(rest),
-        [b'l' | b'L', b'p' | b'P', b't' | b'T', rest @ ..] => ends_numbered(rest),
+        [b'c' | b'C', b'o' | b'O', b'm' | b'M', rest @ ..] => ends_in_nonzero_digit(rest),
+        [b'l' | b'L', b'p' | b'P', b't' | b'T', rest @ ..] => ends_in_digit(rest),
         [b'n' | b'N', b'u' | b'U', b'l' | b'L', rest @ ..] => ends_form(rest),
         [b'p' | b'P', b'r' | b'R', b'n' | b'N', rest @ ..] => ends_form(rest),
         _ => false,
@@ -103,11 +123,12 @@ fn ends_console(rest: &[u8]) -> bool
 
 /// Whether the form of the name is the word, in any ASCII letter case.
 #[inline(always)]
+#[tactic(auto, using(crate::proofs::Components::Devices::device_word))]
 fn form_is(name: &[u8], word: &[u8]) -> bool
     requires { IsTrue (list_all stays_in_form word.now) }
     ensures { result ≡ bytes_eq (lower (device_form name.now)) (lower word.now) }
 {
-    match after_word(name, word) {
+    match strip_prefix_ignore_ascii_case(name, word) {
         Some(rest) => ends_form(rest),
         None => false,
     }
@@ -115,7 +136,8 @@ fn form_is(name: &[u8], word: &[u8]) -> bool
 
 /// Whether the form is a digit.
 #[inline(always)]
-fn ends_numbered(rest: &[u8]) -> bool
+#[tactic(auto, using(std::proofs::lemmas::Grind::common_steps, crate::proofs::Components::Devices::ends_in_digit))]
+fn ends_in_digit(rest: &[u8]) -> bool
     ensures { result ≡ list_any (λ digit. bytes_eq (lower (device_form rest.now)) (digit ∷ [])) (codes "0123456789") }
 {
     match rest {
@@ -126,7 +148,8 @@ fn ends_numbered(rest: &[u8]) -> bool
 
 /// Whether the form is a digit, and not zero.
 #[inline(always)]
-fn ends_counted(rest: &[u8]) -> bool
+#[tactic(auto, using(std::proofs::lemmas::Grind::common_steps, crate::proofs::Components::Devices::ends_in_nonzero_digit))]
+fn ends_in_nonzero_digit(rest: &[u8]) -> bool
     ensures { result ≡ list_any (λ digit. bytes_eq (lower (device_form rest.now)) (digit ∷ [])) (codes "123456789") }
 {
     match rest {
@@ -136,7 +159,7 @@ fn ends_counted(rest: &[u8]) -> bool
 }
 
 /// Whether nothing of the form is in what stands after a word.
-#[tactic(auto, using(crate::proofs::DeviceLemmas::device_left, crate::proofs::DeviceLemmas::device_all_left, std::proofs::lemmas::Bool::Decides::nat_tests))]
+#[tactic(auto, using(crate::proofs::Components::Devices::device_left, crate::proofs::Components::Devices::device_all_left))]
 #[inline(always)]
 fn ends_form(rest: &[u8]) -> bool
     ensures { result ≡ is_empty (device_form rest.now) }

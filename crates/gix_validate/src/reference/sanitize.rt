@@ -9,16 +9,17 @@ ghost use Rattle.gix_validate.specs.Pieces.{joined};
 ghost use Rattle.gix_validate.specs.Reference.{is_partial_name};
 ghost use Rattle.gix_validate.specs.Sanitized.{allowed, cut, mended_pieces, repaired_dot, repaired_at, repaired_nothing, sanitized, IsPiecewise};
 
+use crate::adjacent::is_clear;
 use crate::bytes::may_be_faulty;
-use crate::clear::is_clear;
 use bstr::{BStr, BString};
 use std::alloc::{AllocError, Allocator, Global};
 
-/// Copies a name, and repairs the copy if the name is not a partial name (docs/RULES.md, "Sanitised names").
+/// Copies a name, and repairs the copy if the name is not a partial name (docs/RULES.md, "Sanitised
+/// names").
 ///
-/// The copy is always a partial name, and it is the name itself if that is one. Each nonempty piece of `path` gives one
-/// piece of the copy, and where nothing is left the copy is `-`. It has at least one byte, and at most as many as
-/// `path`, or one where `path` is empty. Lengths are bytes.
+/// The copy is always a partial name, and it is the name itself if that is one. Each nonempty piece
+/// of `path` gives one piece of the copy, and where nothing is left the copy is `-`. It has at
+/// least one byte, and at most as many as `path`, or one where `path` is empty. Lengths are bytes.
 ///
 /// ```
 /// name_partial_or_sanitize(alloc, BStr::from("refs//heads/../x.lock"))?; // `refs/heads/-/x`
@@ -30,7 +31,8 @@ use std::alloc::{AllocError, Allocator, Global};
 ///
 /// # Memory
 ///
-/// The call asks for it once, before it writes a byte: the length of `path`, or one byte where that is empty.
+/// The call asks for it once, before it writes a byte: the length of `path`, or one byte where that
+/// is empty.
 pub fn name_partial_or_sanitize(alloc: Global, path: BStr<'_>) -> Result<BString, AllocError>
     ensures text { IfOk result (λ name. bstring_bytes name ≡ sanitized (bstr_bytes path.entry)) }
     ensures partial { IfOk result (λ name. IsTrue (is_partial_name (bstring_bytes name))) }
@@ -53,8 +55,8 @@ fn sanitized_copy<A: Allocator>(alloc: A, path: &[u8]) -> Result<Vec<u8, A>, All
     Ok(name)
 }
 
-/// Writes the sanitised path to an empty vector that has room for the path, or for one byte if that is empty, and
-/// for no more. So it never fails.
+/// Writes the sanitised path to an empty vector that has room for the path, or for one byte if that
+/// is empty, and for no more. So it never fails.
 fn fill_sanitized<A: Allocator>(name: &mut Vec<u8, A>, path: &[u8]) -> Result<(), AllocError>
     requires empty { name.old.items ≡ [] }
     requires room { vec_capacity name.old ≡ max 1 (length path.now) }
@@ -70,23 +72,24 @@ fn fill_sanitized<A: Allocator>(name: &mut Vec<u8, A>, path: &[u8]) -> Result<()
     Ok(())
 }
 
-/// Repairs the name in the first `len` bytes of `buf`, and gives the repaired name's length (docs/RULES.md,
-/// "Sanitised names").
+/// Repairs the name in the first `len` bytes of `buf`, and gives the repaired name's length
+/// (docs/RULES.md, "Sanitised names").
 ///
-/// The repaired name, a partial name, takes the place of the given one from the first byte of `buf` on. It is what
-/// `name_partial_or_sanitize` gives for these `len` bytes.
+/// The repaired name, a partial name, takes the place of the given one from the first byte of `buf`
+/// on. It is what `name_partial_or_sanitize` gives for these `len` bytes.
 ///
-/// The buffer has to have a byte, since even an empty name becomes `-`. From place `len` on, or from place 1 on where
-/// `len` is 0, its bytes stay as they were. The bytes between the repaired name and that place are unspecified.
-/// Places and lengths are bytes.
+/// The buffer has to have a byte, since even an empty name becomes `-`. From place `len` on, or
+/// from place 1 on where `len` is 0, its bytes stay as they were. The bytes between the repaired
+/// name and that place are unspecified. Places and lengths are bytes.
 ///
 /// ```
 /// let mut buffer = *b"..azz";
 /// sanitize_in_place(&mut buffer, 3); // 2, and the buffer begins with `-a` and ends in `zz`
 /// ```
 ///
-/// The call never fails and takes no memory. The name is looked at once, sixteen bytes at a time, and, where it isn't
-/// clear, walked once, within the buffer. Most names that are partial names are clear.
+/// The call never fails and takes no memory. The name is looked at once, sixteen bytes at a time,
+/// and, where it isn't clear, walked once, within the buffer. Most names that are partial names are
+/// clear.
 pub fn sanitize_in_place(buf: &mut [u8], len: usize) -> usize
     requires some { 1 ≤ length buf.old }
     requires within { len ≤ length buf.old }
@@ -105,12 +108,12 @@ pub fn sanitize_in_place(buf: &mut [u8], len: usize) -> usize
     repair_end(buf, end)
 }
 
-/// Writes the nonempty pieces of the text over it, each cleaned and cut, and gives the length of what it wrote. A byte
-/// is written at the place of the one just read, or before it.
+/// Writes the nonempty pieces of the text over it, each cleaned and cut, and gives the length of
+/// what it wrote. A byte is written at the place of the one just read, or before it.
 ///
-/// The last byte comes at the end. If it is plain, a slash stands in its place until then, so that each run of plain
-/// bytes ends before the text does. A `.lock` right before a slash is skipped, where something stands before it in its
-/// piece: it would be cut.
+/// The last byte comes at the end. If it is plain, a slash stands in its place until then, so that
+/// each run of plain bytes ends before the text does. A `.lock` right before a slash is skipped,
+/// where something stands before it in its piece: it would be cut.
 fn mend_pieces(text: &mut [u8]) -> usize
     ensures within { result ≤ length text.old }
     ensures text { take result text.new ≡ joined (mended_pieces text.old) }
@@ -169,7 +172,9 @@ fn is_plain(next: u8) -> bool
     !may_be_faulty(next)
 }
 
-/// What a byte adds to the piece that was written so far: any byte but a slash, and of the dots in a row the last.
+/// What a byte adds to the piece that was written so far: any byte but a slash, and of the dots in
+/// a row the last.
+#[tactic(auto, unfolding(crate::specs::Bytes::is_bad))]
 fn cleaned_byte(piece: &[u8], next: u8) -> u8
     requires no_slash { next ≢ byte "/" }
     ensures { result ≡ (if (next == byte "." && is_empty piece.now) || (next == byte "{" && ends piece.now (codes "@"))
@@ -185,8 +190,8 @@ fn cleaned_byte(piece: &[u8], next: u8) -> u8
     }
 }
 
-/// Cuts the written piece from `start` to `end`, if it has a byte, writes a slash behind it, and gives the place behind
-/// that.
+/// Cuts the written piece from `start` to `end`, if it has a byte, writes a slash behind it, and
+/// gives the place behind that.
 fn close_piece(text: &mut [u8], start: usize, end: usize) -> usize
     requires in_order { start ≤ end }
     requires room { end < length text.old }
@@ -204,8 +209,8 @@ fn close_piece(text: &mut [u8], start: usize, end: usize) -> usize
     end + 1
 }
 
-/// Where the text ends whose last piece was written from `start` to `end`: that piece is cut, or if it has no byte, the
-/// slash before it goes.
+/// Where the text ends whose last piece was written from `start` to `end`: that piece is cut, or if
+/// it has no byte, the slash before it goes.
 fn end_of_text(text: &[u8], start: usize, end: usize) -> usize
     requires in_order { start ≤ end }
     requires within { end ≤ length text.now }
@@ -221,8 +226,9 @@ fn end_of_text(text: &[u8], start: usize, end: usize) -> usize
     }
 }
 
-/// Where the piece that was written from `start` to `end` ends once the `.lock`s at its end are cut. Few pieces end
-/// in a `k`.
+/// Where the piece that was written from `start` to `end` ends once the `.lock`s at its end are
+/// cut. Few pieces end in a `k`.
+#[tactic(auto, using(crate::proofs::Sanitizing::OneBuffer::part_ends))]
 fn end_of_cut(text: &[u8], start: usize, end: usize) -> usize
     requires some { start < end }
     requires within { end ≤ length text.now }
@@ -247,7 +253,9 @@ fn length_of_cut(mut piece: &[u8]) -> usize
     piece.len()
 }
 
-/// Makes the last three repairs of the text of `end` bytes that `buf` begins with, and gives its length.
+/// Makes the last three repairs of the text of `end` bytes that `buf` begins with, and gives its
+/// length.
+#[tactic(auto, using(crate::proofs::Sanitizing::OneBuffer::repaired_none))]
 fn repair_end(buf: &mut [u8], end: usize) -> usize
     requires some { 1 ≤ length buf.old }
     requires within { end ≤ length buf.old }

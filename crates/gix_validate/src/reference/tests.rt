@@ -1,5 +1,5 @@
-//! Answers and printed texts by example, calls that are out of memory, and callers that rest on what
-//! the conversion and the printing promise.
+//! Answers and printed texts by example, calls that are out of memory, and callers that rest on
+//! what the conversion and the printing promise.
 
 ghost use Rattle.std.specs.Prelude.{◌≡◌, IfOk, string_bytes};
 ghost use Rattle.gix_validate.specs.Reference.{carried, text_of};
@@ -24,7 +24,7 @@ fn converted(fault: tag::NameError) -> NameError
     NameError::from(fault)
 }
 
-// `ok`, or what the fault prints.
+/// `ok`, or what the fault prints.
 fn said(alloc: Global, answer: Result<BStr<'_>, NameError>) -> Result<String, AllocError> {
     match answer {
         Ok(_) => String::from_str(alloc, "ok"),
@@ -150,9 +150,9 @@ fn joins(rt: HostRuntime) -> Result<(), Fail> {
     Ok(())
 }
 
-// A heap that grows from one block of sixteen bytes, of which the test holds one.
+/// A heap that grows from one block of sixteen bytes, of which the test holds one.
 #[test]
-fn join_is_refused_for_want_of_memory_alone(rt: HostRuntime) -> Result<(), Fail> {
+fn join_answers_out_of_memory_only_where_refused(rt: HostRuntime) -> Result<(), Fail> {
     for blocks in 1..10 {
         let heap = LocalHeap::new(rt.alloc(), 16 * blocks)?;
         let _held = Box::new(&heap, 0u8)?;

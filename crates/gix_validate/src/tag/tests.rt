@@ -8,7 +8,7 @@ use std::alloc::{AllocError, Global};
 use std::process::Abort;
 use std::test::Fail;
 
-// A caller that rests on what the type says that it prints.
+/// A caller that rests on what the type says that it prints.
 fn printed(alloc: Global, fault: &NameError) -> Result<String, AllocError>
     ensures { IfOk result (λ text. string_bytes text ≡ text_of fault.now) }
 {

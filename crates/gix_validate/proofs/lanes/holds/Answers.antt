@@ -1,6 +1,6 @@
 use Rattle.std.proofs.Common.{◌-◌, ◌||◌, length, sym, ap₂, ◌∙◌, arith, refl}
 use Rattle.std.specs.Prelude.{◌==◌}
-use Rattle.gix_validate.proofs.BlockLemmas.{any_in_chunk, any_with_chunk, any_to_end, any_halves}
+use Rattle.gix_validate.proofs.Blocks.Parts.{any_in_chunk, any_with_chunk, any_to_end, parts_cover}
 use Rattle.gix_validate.proofs.lanes.holds.Goals as goal
 
 pub returns-then-block_holds : goal.returns-then-block_holds
@@ -17,9 +17,11 @@ loop-at-preserved c = record {
 
 pub returns : goal.returns
 returns c =
-    c.block_holds-2.ensures ∙ any_to_end (λ b. b == c.args.byte) c.args.text.now (length c.args.text.now - 16) c.loop-at.at 16 (omega arith) (omega arith) c.loop-at.invariant.none
+    c.block_holds-2.ensures
+    ∙ any_to_end _ c.args.text.now (length c.args.text.now - 16) c.loop-at.at 16 (omega arith) (omega arith) c.loop-at.invariant.none
 
 pub returns-then-text-lt-LANES : goal.returns-then-text-lt-LANES
 returns-then-text-lt-LANES c =
     let x = c.args.text.now in
-    c.lanes_hold.ensures ∙ c.halves.ensures.any (λ b. b == c.args.byte) ∙ any_halves (λ b. b == c.args.byte) x 8 (omega arith) (omega arith)
+    c.lanes_hold.ensures
+    ∙ parts_cover 8 (length x - 8) x c.halves.result (omega arith) (omega arith) c.halves.ensures (λ b. b == c.args.byte)

@@ -1,7 +1,7 @@
 use Rattle.std.proofs.Common.{refl, arith, ◌++◌}
 use Rattle.std.specs.List.{range_with_len}
-use Rattle.gix_validate.proofs.LaneLemmas.{has_parts}
+use Rattle.gix_validate.proofs.Blocks.Parts.{has_parts}
 use Rattle.gix_validate.proofs.lanes.quarters.Goals as goal
 
 pub returns : goal.returns
-returns c = has_parts 4 c.args.first c.args.second c.args.text.now (range_with_len 0 8 ++ range_with_len 0 8) (omega arith) c.requires.first c.requires.second refl refl
+returns c = has_parts 4 _ _ c.args.text.now (range_with_len 0 8 ++ range_with_len 0 8) (omega arith) c.requires.first c.requires.second refl refl

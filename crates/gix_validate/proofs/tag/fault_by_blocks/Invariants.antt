@@ -1,6 +1,6 @@
 -- The bytes so far are settled.
 use Rattle.std.proofs.Common.{◌-◌, ◌≤◌, length}
-use Rattle.gix_validate.proofs.ClearFaults.{IsSettled}
+use Rattle.gix_validate.proofs.TagNames.ClearTexts.{IsSettled}
 use Rattle.gix_validate.proofs.tag.fault_by_blocks.Given as goal
 
 abbrev pub invariant-loop-at : goal.invariant-loop-at

@@ -21,7 +21,7 @@ fn joins(rt: HostRuntime) -> Result<(), Fail> {
     Ok(())
 }
 
-// Each heap is a block of sixteen bytes larger than the one before it, and the path fills three.
+/// Each heap is a block of sixteen bytes larger than the one before it, and the path fills three.
 #[test]
 fn refused_memory_leaves_nothing_behind(rt: HostRuntime) -> Result<(), Fail> {
     let parts = [

@@ -3,7 +3,8 @@ use linked_list_allocator::LocalHeap;
 use std::process::Abort;
 use std::test::Fail;
 
-/// Asks both calls to repair the name. In place it stands before two bytes more, the last of which has to stay.
+/// Asks both calls to repair the name. In place it stands before two bytes more, the last of which
+/// has to stay.
 fn check_repair<R: Abort>(
     rt: &R,
     alloc: Global,
@@ -77,7 +78,8 @@ fn repairs_several_faults_at_once(rt: HostRuntime) -> Result<(), Fail> {
     Ok(())
 }
 
-/// What the buffer begins with and ends in afterwards, where the beginning is the whole repaired name.
+/// What the buffer begins with and ends in afterwards, where the beginning is the whole repaired
+/// name.
 #[test]
 fn repairs_the_front_of_a_buffer(rt: HostRuntime) -> Result<(), Fail> {
     for (before, len, front, back) in [
@@ -103,10 +105,10 @@ fn repairs_the_front_of_a_buffer(rt: HostRuntime) -> Result<(), Fail> {
     Ok(())
 }
 
-/// With less and less of a heap taken, the copy is refused until it fits. A refusal leaves the heap as it was, and the
-/// next call answers right.
+/// With less and less of a heap taken, the copy is refused until it fits. A refusal leaves the heap
+/// as it was, and the next call answers right.
 #[test]
-fn refuses_for_want_of_memory_alone(rt: HostRuntime) -> Result<(), Fail> {
+fn answers_out_of_memory_only_where_refused(rt: HostRuntime) -> Result<(), Fail> {
     for (name, want, refused) in [
         ("", "-", 1),
         ("refs//heads/../x.lock.lock/.y*", "refs/heads/-/x/-y-", 2),

@@ -1,5 +1,5 @@
 use Rattle.std.proofs.Common.{length}
-use Rattle.gix_validate.proofs.Cuts.{IsCutTo}
+use Rattle.gix_validate.proofs.Sanitizing.LockSuffixes.{IsCutTo}
 use Rattle.gix_validate.proofs.reference.sanitize.length_of_cut.Given as goal
 
 abbrev pub invariant-loop-front : goal.invariant-loop-front

@@ -1,15 +1,15 @@
 use Rattle.std.proofs.Common.{◌-◌, ◌≤◌}
-use Rattle.gix_validate.proofs.Buffer.{WalksOn}
+use Rattle.gix_validate.proofs.Sanitizing.OneBuffer.{MendedUpTo}
 use Rattle.gix_validate.proofs.reference.sanitize.mend_pieces.Given as goal
 
 abbrev pub invariant-loop-text : goal.invariant-loop-text
-invariant-loop-text l = WalksOn l.fn.text l.text l.start l.end l.read l.stop
+invariant-loop-text l = MendedUpTo l.fn.text l.text l.start l.end l.read l.stop
 
 abbrev pub decreases-loop-text : goal.decreases-loop-text
 decreases-loop-text l = l.stop - l.read
 
 abbrev pub invariant-loop-text-2 : goal.invariant-loop-text-2
-invariant-loop-text-2 l = record { walks : WalksOn l.fn.text l.text l.start l.end l.read l.stop; further : l.initial.read ≤ l.read }
+invariant-loop-text-2 l = record { mended : MendedUpTo l.fn.text l.text l.start l.end l.read l.stop; further : l.initial.read ≤ l.read }
 
 abbrev pub decreases-loop-text-2 : goal.decreases-loop-text-2
 decreases-loop-text-2 l = l.stop - l.read

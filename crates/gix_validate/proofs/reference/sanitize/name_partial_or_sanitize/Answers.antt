@@ -2,7 +2,7 @@ use Rattle.std.proofs.Common.{◌≡◌, ap, ◌∙◌}
 use Rattle.bstr.specs.BStr.{bstr_bytes}
 use Rattle.bstr.specs.Owned.{bstring_bytes}
 use Rattle.gix_validate.specs.Sanitized.{sanitized}
-use Rattle.gix_validate.proofs.SanitizedLaws.{sanitized-partial, sanitized-unchanged, sanitized-sanitized, sanitized-piecewise, length-sanitized}
+use Rattle.gix_validate.proofs.Sanitizing.Laws.{sanitized-partial, sanitized-unchanged, sanitized-sanitized, sanitized-piecewise, length-sanitized}
 use Rattle.gix_validate.proofs.reference.sanitize.name_partial_or_sanitize.Goals as goal
 
 pub returns : goal.returns

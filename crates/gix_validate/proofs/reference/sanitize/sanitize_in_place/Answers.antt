@@ -1,39 +1,40 @@
-use Rattle.std.proofs.Common.{◌≡◌, true, take, drop, refl, sym, subst, arith, length-take}
-use Rattle.gix_validate.specs.Reference.{is_partial_name}
-use Rattle.gix_validate.specs.Sanitized.{sanitized, IsPiecewise}
-use Rattle.gix_validate.proofs.ClearFaults.{clear_is_partial}
-use Rattle.gix_validate.proofs.InPlace.{sanitized-in_place, rest-in_place}
-use Rattle.gix_validate.proofs.SanitizedLaws.{sanitized-own, sanitized-partial, sanitized-unchanged, sanitized-sanitized, sanitized-piecewise}
+use Rattle.std.proofs.Common.{take, drop, refl, sym, subst, arith, length-take}
+use Rattle.gix_validate.specs.Sanitized.{IsPiecewise}
+use Rattle.gix_validate.proofs.TagNames.ClearTexts.{clear_is_partial}
+use Rattle.gix_validate.proofs.Sanitizing.OneBuffer.{sanitized-in_place, rest-in_place}
+use Rattle.gix_validate.proofs.Sanitizing.Laws.{sanitized-own, sanitized-partial, sanitized-unchanged, sanitized-sanitized, sanitized-piecewise}
 use Rattle.gix_validate.proofs.reference.sanitize.sanitize_in_place.Goals as goal
 
 pub returns-then-is_clear : goal.returns-then-is_clear
 returns-then-is_clear c =
     let whole = take c.args.len c.args.buf.now in
-    let sure = c.is_clear.ensures.0 c.if-is_clear.true in
-    let partial : is_partial_name whole ≡ true = clear_is_partial whole (omega (arith, length-take c.args.len c.args.buf.now)) sure in
-    let own : whole ≡ sanitized whole = sym (sanitized-own whole partial) in
+    let long = length-take c.args.len c.args.buf.now in
+    let partial = clear_is_partial whole (omega arith) (c.is_clear.ensures.0 c.if-is_clear.true) in
+    let own = sanitized-own whole partial in
     record {
-      bounds = (omega (arith, length-take c.args.len c.args.buf.now), omega arith);
-      text = own;
+      bounds = (omega arith, omega arith);
+      text = sym own;
       partial = partial;
       unchanged = (λ _. partial, λ _. refl);
-      again = sym own;
-      piecewise = subst (λ y. IsPiecewise whole y) (sym own) (sanitized-piecewise whole);
+      again = own;
+      piecewise = subst (IsPiecewise whole) own (sanitized-piecewise whole);
       rest = refl;
     }
 
 pub returns : goal.returns
 returns c =
     let whole = take c.args.len c.args.buf.now in
+    let long = length-take c.args.len c.args.buf.now in
     let front = c.mend_pieces-end.new.text in
-    let mended = c.mend_pieces-end.result in
-    let text = sanitized-in_place whole front (drop c.args.len c.args.buf.now) c.repair_end.new.buf mended c.repair_end.result (omega arith) c.mend_pieces-end.ensures.text c.repair_end.ensures.text in
+    let end = c.mend_pieces-end.result in
+    let text = sanitized-in_place whole front (drop c.args.len c.args.buf.now) c.repair_end.new.buf end c.repair_end.result
+    (omega arith) c.mend_pieces-end.ensures.text c.repair_end.ensures.text in
     record {
-      bounds = (omega (arith, length-take c.args.len c.args.buf.now), omega (arith, length-take c.args.len c.args.buf.now));
+      bounds = (omega arith, omega arith);
       text = text;
       partial = rw text (sanitized-partial whole);
       unchanged = rw text (sanitized-unchanged whole);
       again = rw text (sanitized-sanitized whole);
       piecewise = rw text (sanitized-piecewise whole);
-      rest = rest-in_place c.args.buf.now front c.repair_end.new.buf mended c.args.len (omega (arith, length-take c.args.len c.args.buf.now)) (omega (arith, length-take c.args.len c.args.buf.now)) c.repair_end.ensures.rest;
+      rest = rest-in_place c.args.buf.now front c.repair_end.new.buf end c.args.len (omega arith) (omega arith) c.repair_end.ensures.rest;
     }

@@ -1,0 +1,176 @@
+-- Lanes of suspect bytes: what one look at sixteen pairs says, and what looks at all pairs of a text say together.
+use Rattle.std.proofs.Common.{◌≡◌, ℕ, ◌+◌, ◌-◌, ◌/◌, ◌%◌, ◌^◌, ◌<◌, ◌≤◌, ◌↔◌, Bool, true, false, not, ◌&&◌, ◌||◌, cond, eqb, List, [], ◌∷◌, map, length}
+use Rattle.std.proofs.Common.{get_or, replicate, bit_and, bit_or, bit_xor, ltb, w8, refl, sym, ap, ap₂, ◌∙◌, arith}
+use Rattle.std.proofs.lemmas.Bool.{agree_below_at, ltb-true}
+use Rattle.std.proofs.lemmas.List.{length-map}
+use Rattle.std.proofs.lemmas.Simd.{zip2_splat, splat_is_map, zip2_of_maps, map-map, length-zip2, get_or-chunk, swz_l, SwzOk}
+use Rattle.std.specs.Prelude.{codes, ◌==◌, if◌then◌else◌}
+use Rattle.std.specs.Str.{byte}
+use lib.Lanes.{zip2, sel_l, chunk, top, mask_l}
+use Rattle.gix_validate.specs.declared.adjacent.TheConstants.{CLASSES_BY_LOW_NIBBLE, CLASSES_BY_HIGH_NIBBLE, SUSPECT_BEHIND, BEHIND_DOT, BEHIND_SLASH, ANYWHERE}
+use Rattle.std.specs.List.{list_any}
+use Rattle.gix_validate.specs.Bytes.{is_bad, is_among, ends}
+use Rattle.gix_validate.specs.Lanes.{HasParts, place_of, is_nonzero}
+use Rattle.gix_validate.specs.Adjacent.{is_suspect, relates, NoneBetween, IsClear}
+use Rattle.gix_validate.specs.declared.adjacent.Relation.{Relation}
+use Rattle.gix_validate.specs.declared.adjacent.Relation.TheVariants.{Suspect}
+use Rattle.gix_validate.proofs.Blocks.Lanes.{IsBlock, lane_fits, same_bytes, may_look, looked_up, no_lane, mask_of}
+use Rattle.gix_validate.proofs.Blocks.Parts.{AreAll, all_places}
+use Rattle.std.proofs.lemmas.Bool.Decides.{nat_tests}
+
+-- ---- one look
+
+-- the lanes in which t holds from the one, and the others from the other
+selected : (t : ℕ → Bool) (f g : ℕ → ℕ) (v : List ℕ) → sel_l (map t v) (map f v) (map g v) ≡ map (λ b. cond (t b) (f b) (g b)) v
+selected t f g [] = refl
+selected t f g (b ∷ v) = ap (λ r. cond (t b) (f b) (g b) ∷ r) (selected t f g v)
+
+abbrev from_dot : ℕ → ℕ
+from_dot b = bit_xor b 46
+
+abbrev less : ℕ → ℕ → ℕ
+less a b = cond (ltb a b) 255 0
+
+-- how far the byte is from a dot, and at most 15
+abbrev reach : ℕ → ℕ
+reach b = cond (top 7 (less (from_dot b) 15)) (from_dot b) 15
+
+abbrev reaches : List ℕ → List ℕ
+reaches v = sel_l (map (top 7) (zip2 less (zip2 bit_xor v (replicate 16 46)) (replicate 16 15))) (zip2 bit_xor v (replicate 16 46)) (replicate 16 15)
+
+reaches_are : (v : List ℕ) → IsBlock v → reaches v ≡ map reach v
+reaches_are v block =
+    let far = zip2_splat bit_xor v 16 46 block.0 in
+    let most = splat_is_map v 16 15 block.0 in
+    let lanes = zip2_of_maps less from_dot (λ _. 15) v far most in
+    ap (λ l. sel_l (map (top 7) l) (zip2 bit_xor v (replicate 16 46)) (replicate 16 15)) lanes
+    ∙ ap (λ l. sel_l l (zip2 bit_xor v (replicate 16 46)) (replicate 16 15)) (map-map (top 7) (λ b. less (from_dot b) 15) v)
+    ∙ ap₂ (λ p q. sel_l (map (λ b. top 7 (less (from_dot b) 15)) v) p q) far most
+    ∙ selected (λ b. top 7 (less (from_dot b) 15)) from_dot (λ _. 15) v
+
+reach_small : (b : ℕ) → b < 256 → reach b < 16
+reach_small b small = ltb-true (reach b) 16 (agree_below_at (λ b. ltb (reach b) 16) (λ _. true) 256 b refl small)
+
+pub reaches_ok : (v : List ℕ) → IsBlock v → SwzOk w8 16 16 0 (reaches v)
+reaches_ok v block = may_look reach v (reaches v) block (reaches_are v block) reach_small
+
+abbrev pub asked : ℕ → ℕ
+asked b = if b == byte "." then BEHIND_DOT else if b == byte "/" then BEHIND_SLASH else ANYWHERE
+
+pub suspect_classes : (v : List ℕ) → IsBlock v → swz_l w8 16 SUSPECT_BEHIND 0 (reaches v) ≡ map asked v
+suspect_classes v block =
+    looked_up SUSPECT_BEHIND reach v (reaches v) block (reaches_are v block) reach_small
+    ∙ same_bytes (λ b. get_or SUSPECT_BEHIND (reach b) 0) asked v block.1 refl
+
+abbrev pub class : ℕ → ℕ
+class b = bit_and (get_or CLASSES_BY_LOW_NIBBLE (b % 16) 0) (get_or CLASSES_BY_HIGH_NIBBLE (b / 16) 0)
+
+-- `is_suspect` behind a dot, a slash or another byte, and what the tables say of it
+suspect_if : Bool → Bool → ℕ → Bool
+suspect_if dot slash b = is_bad b || is_among (codes "*{") b || ((dot || (slash || false)) && is_among (codes "./") b) || (dot && b == byte "l")
+
+table_if : Bool → Bool → ℕ → Bool
+table_if dot slash b = is_nonzero (bit_and (class b) (if dot then BEHIND_DOT else if slash then BEHIND_SLASH else ANYWHERE))
+
+tabled : (dot slash : Bool) (b : ℕ) → b < 256 → table_if dot slash b ≡ suspect_if dot slash b
+unfolding is_bad suspect_if table_if
+tabled true slash b small = agree_below_at (table_if true true) (suspect_if true true) 256 b refl small
+tabled false true b small = agree_below_at (table_if false true) (suspect_if false true) 256 b refl small
+tabled false false b small = agree_below_at (table_if false false) (suspect_if false false) 256 b refl small
+
+pub suspect_lanes : (before bytes classes behind : List ℕ) → IsBlock before → IsBlock bytes → classes ≡ map class bytes → behind ≡ map asked before
+    → (list_any is_nonzero (zip2 bit_and classes behind) ≡ false) ↔ ((k : ℕ) → k < 16 → is_suspect (get_or before k 0) (get_or bytes k 0) ≡ false)
+unfolding is_suspect suspect_if table_if
+suspect_lanes before bytes classes behind ba bb ek eb =
+    no_lane is_nonzero class asked bytes before classes behind (bb.0, ba.0) ek eb (λ b a. is_suspect a b) (λ k.
+    tabled (get_or before k 0 == byte ".") (get_or before k 0 == byte "/") (get_or bytes k 0) (lane_fits bytes k bb.1))
+
+-- the same of dots
+abbrev equals : ℕ → ℕ → ℕ
+equals a b = cond (eqb a b) 255 0
+
+abbrev slash : ℕ → ℕ
+slash a = bit_or (equals a 47) (equals a 92)
+
+-- an empty mask of the lanes that pass two tests
+masked : (f g : ℕ → ℕ) (p q left right : List ℕ) → (length p ≡ 16) × (length q ≡ 16) → left ≡ map f p → right ≡ map g q
+    → (r : ℕ → ℕ → Bool) → ((a b : ℕ) → top 7 (bit_and (f a) (g b)) ≡ r a b)
+    → (eqb (mask_l (map (top 7) (zip2 bit_and left right)) % 2 ^ 64) 0 ≡ true) ↔ ((k : ℕ) → k < 16 → r (get_or p k 0) (get_or q k 0) ≡ false)
+masked f g p q left right long el er r is =
+    let law = no_lane (top 7) f g p q left right long el er r (λ k. is (get_or p k 0) (get_or q k 0)) in
+    let mask = mask_of (zip2 bit_and left right) (omega (arith, length-zip2 bit_and left right, ap length el, ap length er, length-map p f, length-map q g))
+    in (
+      λ z. law.0 (sym mask ∙ ap not z),
+      λ none. not-false _ (mask ∙ law.1 none),
+    )
+  where
+    not-false : (t : Bool) → not t ≡ false → t ≡ true
+    not-false t h = grind arith
+
+pub dots_lanes : (p q : List ℕ) → IsBlock p → IsBlock q
+    → (eqb (mask_l (map (top 7) (zip2 bit_and (zip2 equals p (replicate 16 46)) (zip2 equals q (replicate 16 46)))) % 2 ^ 64) 0 ≡ true)
+    ↔ ((k : ℕ) → k < 16 → (eqb (get_or p k 0) 46 && eqb (get_or q k 0) 46) ≡ false)
+dots_lanes p q pb qb =
+    masked (λ a. equals a 46) (λ b. equals b 46) p q _ _ (pb.0, qb.0) (zip2_splat equals p 16 46 pb.0) (zip2_splat equals q 16 46 qb.0)
+    (λ a b. eqb a 46 && eqb b 46) (λ a b. grind arith)
+
+pub last_dot_lanes : (p q : List ℕ) → IsBlock p → IsBlock q
+    → (eqb (mask_l (map (top 7) (zip2 bit_and (zip2 equals p (replicate 16 46))
+    (zip2 bit_or (zip2 equals q (replicate 16 47)) (zip2 equals q (replicate 16 92))))) % 2 ^ 64) 0 ≡ true)
+    ↔ ((k : ℕ) → k < 16 → (eqb (get_or p k 0) 46 && (eqb (get_or q k 0) 47 || eqb (get_or q k 0) 92)) ≡ false)
+last_dot_lanes p q pb qb =
+    masked (λ a. equals a 46) slash p q _ _ (pb.0, qb.0) (zip2_splat equals p 16 46 pb.0)
+    (zip2_of_maps bit_or (λ b. equals b 47) (λ b. equals b 92) q (zip2_splat equals q 16 47 qb.0) (zip2_splat equals q 16 92 qb.0))
+    (λ a b. eqb a 46 && (eqb b 47 || eqb b 92)) (λ a b. either (eqb a 46) (eqb b 47) (eqb b 92))
+  where
+    either : (u s t : Bool) → top 7 (bit_and (cond u 255 0) (bit_or (cond s 255 0) (cond t 255 0))) ≡ (u && (s || t))
+    either u s t = grind arith
+
+-- ---- from lanes to places
+
+-- whether the byte behind this place is related to that at it
+abbrev pair : Relation → List ℕ → ℕ → Bool
+pair r x j = relates r (get_or x j 0) (get_or x (j + 1) 0)
+
+pub block_places : (r : Relation) (x : List ℕ) (at : ℕ) → at + 17 ≤ length x
+    → ((k : ℕ) → k < 16 → relates r (get_or (chunk at 16 x) k 0) (get_or (chunk (at + 1) 16 x) k 0) ≡ false) ↔ NoneBetween r x at (at + 17)
+block_places r x at room =
+    let lane : (k : ℕ) → k < 16 → relates r (get_or (chunk at 16 x) k 0) (get_or (chunk (at + 1) 16 x) k 0) ≡ pair r x (at + k) = λ k h.
+    ap₂ (relates r) (get_or-chunk at 16 x k 0 h) (get_or-chunk (at + 1) 16 x k 0 h ∙ ap (λ j. get_or x j 0) (omega arith)) in (
+      λ z k from to. ap (pair r x) (omega arith) ∙ sym (lane (k - at) (omega arith)) ∙ z (k - at) (omega arith),
+      λ s k h. lane k h ∙ s (at + k) (omega arith) (omega arith),
+    )
+
+-- The first n bytes and the last n, each with the byte before it, are all of them.
+pub all_pairs : (r : Relation) (n : ℕ) (x before bytes : List ℕ) → AreAll n (length x - n - 1) (length x - 1)
+    → HasParts n 0 (length x - n - 1) x before → HasParts n 1 (length x - n) x bytes
+    → ((k : ℕ) → k < 16 → relates r (get_or before k 0) (get_or bytes k 0) ≡ false) ↔ NoneBetween r x 0 (length x)
+all_pairs r n x before bytes all ps qs =
+    let back = length x - n - 1 in
+    let law = all_places n (length x - 1) back (pair r x) all in
+    let next : (k : ℕ) → place_of n 1 (length x - n) k ≡ place_of n 0 back k + 1 = λ k. grind (arith, nat_tests) in
+    let lane : (k : ℕ) → k < 16 → relates r (get_or before k 0) (get_or bytes k 0) ≡ pair r x (place_of n 0 back k) =
+    λ k h. ap₂ (relates r) (ps k h) (qs k h ∙ ap (λ j. get_or x j 0) (next k)) in (
+      λ z k from to. law.0 (λ k h. sym (lane k h) ∙ z k h) k (omega arith),
+      λ s k h. lane k h ∙ law.1 (λ j within. s j (omega arith) (omega arith)) k h,
+    )
+
+regroup : (w s d l c : Bool) → (w || (s || (d || (l || (c || false))))) ≡ ((w || (s || (c || false)) || (true && (d || (l || false)))) || false)
+regroup w s d l c = grind arith
+
+pub suspect_letter : (a b : ℕ) → b ≡ 108 → (a == byte ".") ≡ is_suspect a b
+unfolding is_suspect is_bad
+suspect_letter a b e = grind arith
+
+pub suspect_other : (a b : ℕ) → (b ≡ 108 → ⊥)
+    → ((is_bad b || is_among (codes "*./{") b) && (not (is_among (codes "./") b) || is_among (codes "./") a)) ≡ is_suspect a b
+unfolding is_suspect is_bad
+suspect_other a b letter = grind (arith, nat_tests)
+
+-- A text that has a byte is clear just where these three looks find nothing.
+pub clear_by_looks : (x : List ℕ) → 0 < length x
+    → IsClear x
+    ↔ (((is_bad (get_or x 0 0) || is_among (codes "*./{") (get_or x 0 0)) ≡ false)
+    × ((ends x (codes ".") || ends x (codes "/")) ≡ false) × NoneBetween Suspect x 0 (length x))
+unfolding is_suspect
+clear_by_looks x some = grind (arith, nat_tests, regroup)

@@ -1,0 +1,63 @@
+-- Joined texts, one text after the other, and how long they are.
+use Rattle.std.proofs.Common.{◌≡◌, ℕ, zero, suc, ◌+◌, ◌-◌, ◌<◌, ◌≤◌, true, List, [], ◌∷◌, ◌++◌, length, take, get_or, map, cond, eqb, ap, append_assoc}
+use Rattle.std.proofs.Common.{length-append, arith}
+use Rattle.std.specs.Prelude.{None}
+use Rattle.std.specs.List.{All, list_all, sum_by}
+use Rattle.std.specs.Str.{byte}
+use Rattle.std.proofs.lemmas.List.{take_more, get_or-map, length-map}
+use Rattle.std.proofs.lemmas.List.Elements.{All-map}
+use Rattle.std.proofs.lemmas.List.Sums.{list_all-from_AllPass}
+use Rattle.gix_validate.specs.Pieces.{pieces, joined, has_no_slash}
+use Rattle.gix_validate.specs.Component.{fault_of}
+use Rattle.gix_validate.specs.ComponentLaws.{no_protections, IsBasicName}
+use Rattle.gix_validate.proofs.Texts.Pieces.{pieces-joined}
+use Rattle.gix_validate.proofs.Components.Laws.{basic_law}
+use Rattle.std.proofs.lemmas.Grind.{common_steps}
+
+joined-push : (text : List ℕ) (texts : List (List ℕ)) (last : List ℕ) → joined (text ∷ (texts ++ last ∷ [])) ≡ joined (text ∷ texts) ++ (byte "/" ∷ last)
+joined-push text [] last = grind arith
+joined-push text (next ∷ texts) last = grind (arith, append_assoc, joined-push next texts last)
+
+-- The first texts joined are no longer than all.
+pub joined-take-le : (texts : List (List ℕ)) (i : ℕ) → length (joined (take i texts)) ≤ length (joined texts)
+joined-take-le texts zero = grind arith
+joined-take-le [] (suc i) = grind arith
+joined-take-le (text ∷ []) (suc i) = grind (arith, common_steps)
+joined-take-le (text ∷ next ∷ texts) (suc zero) = grind (arith, length-append)
+joined-take-le (text ∷ next ∷ texts) (suc (suc i)) = grind (arith, length-append, joined-take-le (next ∷ texts) (suc i))
+
+-- The texts and a slash between each two.
+pub length_joined : {X : Type 0} (f : X → List ℕ) (xs : List X) → 0 < length xs → length (joined (map f xs)) ≡ (length xs - 1) + sum_by (λ x. length (f x)) xs
+length_joined f [] some = grind arith
+length_joined f (x ∷ []) some = grind arith
+length_joined f (x ∷ y ∷ xs) some = grind (arith, common_steps, length_joined f (y ∷ xs))
+
+-- What a text holds once an item is written to it, behind a slash if it is not the first.
+pub written : {X : Type 0} (f : X → List ℕ) (xs : List X) (i : ℕ) (d : X) (start text : List ℕ) → i < length xs
+    → text ≡ start ++ joined (take i (map f xs))
+    → (text ++ cond (eqb i 0) [] (byte "/" ∷ [])) ++ f (get_or xs i d) ≡ start ++ joined (take (i + 1) (map f xs))
+written f xs zero d start text within same = grind (arith, common_steps)
+written f [] (suc i) d start text within same = absurd (omega arith)
+written f (x ∷ xs) (suc i) d start text within same =
+    let more = take_more (map f (x ∷ xs)) (suc i) [] (omega (arith, length-map xs f)) in
+    rw (more, joined-push (f x) (take i (map f xs)) (get_or (map f xs) i []), get_or-map f xs i d [] (omega arith), same) (grind (arith, append_assoc))
+
+-- The room that is needed for all is enough at each item.
+pub fits : {X : Type 0} (f : X → List ℕ) (xs : List X) (i : ℕ) (d : X) (start text : List ℕ) → i < length xs
+    → text ≡ start ++ joined (take i (map f xs))
+    → length text + cond (eqb i 0) 0 1 + length (f (get_or xs i d)) ≤ length start + length (joined (map f xs))
+fits f xs i d start text within same =
+    let after = ap length (written f xs i d start text within same) in
+    grind (arith, joined-take-le (map f xs) (i + 1), length-append)
+
+-- Parts that are accepted under no switch are basic names.
+pub basic_parts : {X : Type 0} (f : X → List ℕ) (xs : List X) → All (λ x. fault_of no_protections None (f x) ≡ None) xs → All IsBasicName (map f xs)
+basic_parts f xs accepted = All-map IsBasicName f xs (λ k d within. basic_law no_protections None (f (get_or xs k d)) (accepted k d within))
+
+apart : (texts : List (List ℕ)) → All IsBasicName texts → list_all has_no_slash texts ≡ true
+apart texts basic = list_all-from_AllPass has_no_slash texts (λ k d within. (basic k d within).no_slash)
+
+-- The pieces of what they join to are the parts.
+pub pieces_joined_parts : {X : Type 0} (f : X → List ℕ) (xs : List X) → 0 < length xs → All (λ x. fault_of no_protections None (f x) ≡ None) xs
+    → pieces (joined (map f xs)) ≡ map f xs
+pieces_joined_parts f xs some accepted = grind (arith, common_steps, pieces-joined, apart, basic_parts)

@@ -1,0 +1,125 @@
+-- Ordinary names: no condition but the one on devices refuses one.
+use Rattle.std.proofs.Common.{◌≡◌, ℕ, zero, suc, ◌<◌, Bool, true, false, not, ◌&&◌, ◌||◌, eqb, Option, Some, List}
+use Rattle.std.proofs.Common.{[], ◌∷◌, ◌++◌, length, get_or, refl, ◌∙◌, arith, codes}
+use Rattle.std.specs.Prelude.{slice_index}
+use Rattle.std.specs.Bool.{◌==◌}
+use Rattle.std.specs.List.{list_any}
+use Rattle.std.specs.Str.{byte, bytes_eq}
+use Rattle.std.proofs.lemmas.Bool.{or_parts}
+use Rattle.std.proofs.lemmas.Slice.Eq.{bytes_eq-Decides}
+use Rattle.gix_validate.specs.declared.path.ComponentError.TheVariants.{PathSeparator, WindowsReservedName, DotGitDir}
+use Rattle.gix_validate.specs.declared.path.ComponentOptions.{ComponentOptions}
+use Rattle.gix_validate.specs.declared.path.ComponentMode.{ComponentMode}
+use Rattle.gix_validate.specs.Bytes.{is_among, ends, lower}
+use Rattle.gix_validate.specs.Faults.{when}
+use Rattle.gix_validate.specs.Units.{first_unit_len}
+use Rattle.gix_validate.specs.Ntfs.{ntfs_form, is_git_form, is_modules_form, is_short_name}
+use Rattle.gix_validate.specs.Windows.{is_device, is_illegal, is_illegal_byte}
+use Rattle.gix_validate.specs.Component.{conditions, fault_of}
+use Rattle.gix_validate.specs.Ordinary.{is_lead, is_classed, is_ordinary}
+use Rattle.gix_validate.proofs.Components.Laws.{case_law}
+use Rattle.gix_validate.proofs.Texts.LetterCase.{list_any-lower}
+use Rattle.gix_validate.proofs.Texts.Endings.{ends_read}
+use Rattle.gix_validate.proofs.Components.HfsForm.{hfs_form_same}
+use Rattle.std.proofs.lemmas.Bool.Decides.{nat_tests}
+use Rattle.gix_validate.proofs.Components.Forms.{form, form_at}
+use Rattle.gix_validate.proofs.OnLiterals.{components_on_literals}
+use Rattle.std.proofs.lemmas.List.Folds.{list_any_none}
+
+abbrev is_tilde : ℕ → Bool
+is_tilde b = b == byte "~"
+
+-- what a name without classed bytes has none of
+
+any_weaker : (p q : ℕ → Bool) → ((b : ℕ) → p b ≡ false → q b ≡ false) → (x : List ℕ) → list_any p x ≡ false → list_any q x ≡ false
+any_weaker p q less [] none = grind arith
+any_weaker p q less (b ∷ x) none = grind (arith, any_weaker p q less x)
+
+unclassed : (x : List ℕ) → list_any is_classed x ≡ false
+    → (list_any is_illegal_byte x ≡ false) × (list_any is_lead x ≡ false) × (is_among x (byte "/") ≡ false) × (is_among x (byte "\\") ≡ false)
+    × (list_any is_tilde x ≡ false)
+unfolding is_classed
+unclassed x none =
+    let no = λ (q : ℕ → Bool) (less : (b : ℕ) → is_classed b ≡ false → q b ≡ false). any_weaker is_classed q less x none in
+    let slash = no (λ b. byte "/" == b) (λ b off. grind arith) in
+    let backslash = no (λ b. byte "\\" == b) (λ b off. grind arith) in
+    (no is_illegal_byte (λ b off. grind arith), no is_lead (λ b off. grind arith), slash, backslash, no is_tilde (λ b off. grind arith))
+
+uncut : (x : List ℕ) → list_any is_classed x ≡ false → list_any (is_among (codes ":\\")) x ≡ false
+unfolding is_classed is_illegal_byte
+uncut x none = any_weaker is_classed (is_among (codes ":\\")) (λ b off. grind arith) x none
+
+-- a name with no illegal byte has no prefix
+pub legal_no_prefix : (x : List ℕ) (n : ℕ) → list_any is_illegal_byte x ≡ false → (slice_index x n == byte ":") ≡ false
+unfolding is_illegal_byte
+legal_no_prefix [] n legal = refl
+legal_no_prefix (b ∷ x) zero legal = grind arith
+legal_no_prefix (b ∷ x) (suc n) legal = grind (arith, legal_no_prefix x n)
+
+-- the NTFS form
+
+-- a form from which nothing is cut
+form_same : (cut trim : ℕ → Bool) (b : ℕ) (x : List ℕ) → list_any cut (b ∷ x) ≡ false → trim (get_or (b ∷ x) (length x) 0) ≡ false
+    → form cut trim (b ∷ x) ≡ b ∷ x
+form_same cut trim b [] none last = grind arith
+form_same cut trim b (c ∷ x) none last =
+    let parts = or_parts (cut b) (list_any cut (c ∷ x)) none in
+    rw (form_at cut trim b (c ∷ x), form_same cut trim c x parts.1 last, parts.0) (grind arith)
+
+other_word : (f word : List ℕ) → list_any is_tilde f ≡ false → list_any is_tilde word ≡ true → bytes_eq f word ≡ false
+other_word f word none some = grind (arith, bytes_eq-Decides)
+
+no_short_name : (k : ℕ) (f : List ℕ) → list_any is_tilde f ≡ false → is_short_name k f ≡ false
+no_short_name k f none = grind (arith, nat_tests)
+
+no_form : (f : List ℕ) → list_any is_tilde f ≡ false → bytes_eq f (codes ".git") ≡ false → bytes_eq f (codes ".gitmodules") ≡ false
+    → (is_git_form f ≡ false) × (is_modules_form f ≡ false)
+unfolding is_git_form is_modules_form
+no_form f clean git modules =
+    let digits = list_any_none (λ digit. bytes_eq f (codes "gitmod~" ++ digit ∷ [])) (codes "1234") (λ k d h. other_word f _ clean refl) in
+    let short = list_any_none (λ k. is_short_name k f) (0 ∷ 1 ∷ 2 ∷ 3 ∷ 4 ∷ 5 ∷ 6 ∷ []) (λ k d h. no_short_name _ f clean) in
+    (rw (git, other_word f (codes "git~1") clean refl) refl, rw (modules, digits, short) refl)
+
+-- an ordinary name
+
+parts : (x : List ℕ) → is_ordinary x ≡ true → (0 < length x) × (ends x (codes ".") ≡ false) × (ends x (codes " ") ≡ false)
+    × (list_any is_classed x ≡ false) × (bytes_eq (lower x) (codes ".git") ≡ false) × (bytes_eq (lower x) (codes ".gitmodules") ≡ false)
+unfolding is_ordinary
+parts x ordinary = grind arith
+
+-- a text that ends otherwise is another text
+other_end : (x : List ℕ) → ends x (codes ".") ≡ false → (bytes_eq x (codes ".") || bytes_eq x (codes "..")) ≡ false
+other_end x other = grind (arith, bytes_eq-Decides)
+
+pub ordinary_fault : (options : ComponentOptions) (mode : Option ComponentMode) (x : List ℕ) → is_ordinary x ≡ true
+    → fault_of options mode x ≡ when (options.protect_windows && options.protect_ntfs && is_device x) WindowsReservedName
+unfolding fault_of conditions is_illegal ntfs_form
+ordinary_fault options mode [] ordinary = absurd (omega (arith, (parts [] ordinary).0))
+ordinary_fault options mode (b ∷ x) ordinary =
+    let has = parts (b ∷ x) ordinary in
+    let none = unclassed (b ∷ x) has.3 in
+    let hfs = hfs_form_same (b ∷ x) none.1 in
+    let last : is_among (codes " .") (get_or (b ∷ x) (length x) 0) ≡ false = grind (arith, ends_read) in
+    let ntfs = form_same (is_among (codes ":\\")) (is_among (codes " .")) b x (uncut (b ∷ x) has.3) last in
+    let forms = no_form (lower (b ∷ x)) (list_any-lower is_tilde refl (b ∷ x) ∙ none.4) has.4 has.5 in
+    let colon = legal_no_prefix (b ∷ x) (first_unit_len (b ∷ x)) none.0 in
+    rw (other_end (b ∷ x) has.1, none.2, none.3, colon, hfs, ntfs, forms.0, forms.1, has.4, has.5, none.0, has.1, has.2) (grind arith)
+
+-- the test by its parts
+
+pub ordinary_by_looks : (x : List ℕ)
+    → is_ordinary x ≡ ((((not (eqb (length x) 0) && not (ends x (codes ".") || ends x (codes " "))) && not (list_any is_classed x))
+    && not (bytes_eq (lower x) (codes ".git"))) && not (bytes_eq (lower x) (codes ".gitmodules")))
+unfolding is_ordinary
+ordinary_by_looks x = grind arith
+
+-- `.git` in any letter case
+pub git_fault : (options : ComponentOptions) (mode : Option ComponentMode) (x : List ℕ) → bytes_eq (lower x) (codes ".git") ≡ true
+    → fault_of options mode x ≡ Some DotGitDir
+unfolding components_on_literals
+git_fault options mode x git = grind (arith, case_law, bytes_eq-Decides)
+
+pub slash_fault : (options : ComponentOptions) (mode : Option ComponentMode) (x : List ℕ) → 64 < length x → list_any (λ b. b == byte "/") x ≡ true
+    → fault_of options mode x ≡ Some PathSeparator
+unfolding conditions fault_of
+slash_fault options mode x long slash = grind (arith, bytes_eq-Decides)

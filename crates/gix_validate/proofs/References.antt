@@ -1,0 +1,39 @@
+-- Partial, full and branch names: a slash in a name, and two tag names that a slash joins.
+use Rattle.std.proofs.Common.{◌≡◌, ℕ, true, false, IsTrue, List, [], ◌∷◌, ◌⊎◌, suc, arith, ◌-◌, ◌++◌, ◌<◌, length, drop, length-append}
+use Rattle.std.specs.Prelude.{All, Contains}
+use Rattle.std.specs.Str.{byte}
+use Rattle.std.proofs.lemmas.Slice.Eq.{bytes_eq-Decides}
+use Rattle.std.proofs.lemmas.List.Folds.{list_any_at, list_all-append, list_any-append, Any-from_list_any}
+use Rattle.std.proofs.lemmas.List.Sums.{AllPass-from_list_all, list_all-from_AllPass}
+use Rattle.gix_validate.specs.Pieces.{pieces, joined}
+use Rattle.gix_validate.specs.Reference.{is_standalone_byte, has_slash_or_stands_alone, is_full_name, is_partial_name}
+use Rattle.gix_validate.specs.Tag.{is_good_piece, is_tag_name}
+use Rattle.gix_validate.proofs.Texts.Pieces.{pieces_some}
+use Rattle.std.proofs.lemmas.Grind.{common_steps}
+
+-- What the search for a slash says of a text.
+pub may_stand : (x : List ℕ) → has_slash_or_stands_alone x ≡ true → Contains x (byte "/") ⊎ All (λ b. IsTrue (is_standalone_byte b)) x
+may_stand x h = grind (arith, Any-from_list_any, AllPass-from_list_all)
+
+pub may_not_stand : (x : List ℕ) → has_slash_or_stands_alone x ≡ false → ¬ (Contains x (byte "/") ⊎ All (λ b. IsTrue (is_standalone_byte b)) x)
+may_not_stand x h t = grind (arith, list_any_at, list_all-from_AllPass)
+
+-- what a comparison with a reserved name takes
+pub ruleset reserved_names = (bytes_eq-Decides)
+
+pub pieces-joined : (a b : List ℕ) → pieces (a ++ byte "/" ∷ b) ≡ pieces a ++ pieces b
+pieces-joined [] b = grind arith
+pieces-joined (c ∷ a) b = grind (arith, pieces_some, pieces-joined a b)
+
+-- The end of the second text is that of the whole.
+drop-joined : (a b : List ℕ) (s : ℕ) → 0 < length b → drop (length (a ++ s ∷ b) - 1) (a ++ s ∷ b) ≡ drop (length b - 1) b
+drop-joined [] b s some =
+    let e : suc (length b) - 1 ≡ suc (length b - 1) = omega arith in
+    rw e
+drop-joined (d ∷ a) b s some =
+    let e : suc (length (a ++ s ∷ b)) - 1 ≡ suc (length (a ++ s ∷ b) - 1) = omega (arith, length-append {A = ℕ} a (s ∷ b)) in
+    rw e (drop-joined a b s some)
+
+pub joined_is_full : (a b : List ℕ) → IsTrue (is_tag_name a) → IsTrue (is_tag_name b) → IsTrue (is_full_name (joined (a ∷ b ∷ [])))
+unfolding is_full_name is_partial_name is_tag_name is_good_piece
+joined_is_full a b ha hb = grind (arith, common_steps, drop-joined, pieces-joined, list_all-append, list_any-append)

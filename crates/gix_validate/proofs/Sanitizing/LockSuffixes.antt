@@ -1,0 +1,65 @@
+-- Laws of the cut of a text: what it leaves is a front that does not end in `.lock`.
+use Rattle.std.proofs.Common.{◌≡◌, ◌≢◌, ℕ, ◌≤◌, true, List, [], ◌∷◌, ◌++◌, length, take, drop, refl, sym, ap, ◌∙◌, arith, length-append, append_assoc}
+use Rattle.std.proofs.Common.{append-nil}
+use Rattle.std.specs.Prelude.{codes, ◌&&◌}
+use Rattle.std.specs.Str.{bytes_eq}
+use Rattle.std.proofs.lemmas.Bool.{and_parts}
+use Rattle.std.proofs.lemmas.List.{take_at, take-take}
+use Rattle.std.proofs.lemmas.Slice.Eq.{bytes_eq-Decides}
+use Rattle.gix_validate.specs.Sanitized.{cut, is_locks}
+
+-- Behind `.lock`s stand more of them.
+is_locks-append : (x r : List ℕ) → is_locks r ≡ true → is_locks (x ++ r) ≡ is_locks x
+is_locks-append [] r h = h
+is_locks-append (a ∷ []) r h = grind arith
+is_locks-append (a ∷ b ∷ []) r h = grind arith
+is_locks-append (a ∷ b ∷ c ∷ []) r h = grind arith
+is_locks-append (a ∷ b ∷ c ∷ d ∷ []) r h = grind arith
+is_locks-append (a ∷ b ∷ c ∷ d ∷ e ∷ t) r h = ap (λ v. bytes_eq (a ∷ b ∷ c ∷ d ∷ e ∷ []) (codes ".lock") && v) (is_locks-append t r h)
+
+-- `.lock`s at the end are cut as well.
+pub cut-append : (t r : List ℕ) → is_locks r ≡ true → cut (t ++ r) ≡ cut t
+unfolding cut
+cut-append [] [] h = refl
+cut-append [] (c ∷ r) h = grind arith
+cut-append (b ∷ t) r h = grind (arith, is_locks-append (b ∷ t) r h, cut-append t r h)
+
+-- The text is what is left, and then `.lock`s.
+pub cut_front : (t : List ℕ) → (t ≡ cut t ++ drop (length (cut t)) t) × (is_locks (drop (length (cut t)) t) ≡ true)
+unfolding cut
+cut_front [] = (refl, refl)
+cut_front (b ∷ t) = grind (arith, cut_front t)
+
+pub length-cut : (t : List ℕ) → length (cut t) ≤ length t
+length-cut t = grind (arith, cut_front t, length-append)
+
+-- `.lock`s that do not end in one are none.
+locks_none : (x : List ℕ) → is_locks x ≡ true → ((f : List ℕ) → x ≢ f ++ codes ".lock") → x ≡ []
+locks_none [] h other = refl
+locks_none (a ∷ b ∷ c ∷ d ∷ e ∷ t) h other =
+    let parts = and_parts (bytes_eq (a ∷ b ∷ c ∷ d ∷ e ∷ []) (codes ".lock")) (is_locks t) h in
+    let none = locks_none t parts.1 (λ f same. other (a ∷ b ∷ c ∷ d ∷ e ∷ f) (ap (λ v. a ∷ b ∷ c ∷ d ∷ e ∷ v) same)) in
+    grind (arith, bytes_eq-Decides, other [])
+locks_none _ h other = grind arith
+
+-- A text that does not end in `.lock` is left as it is.
+pub cut-own : (t : List ℕ) → ((f : List ℕ) → t ≢ f ++ codes ".lock") → cut t ≡ t
+cut-own t other =
+    let rest = drop (length (cut t)) t in
+    let front = cut_front t in
+    let none = locks_none rest front.1 (λ f e. other (cut t ++ f) (front.0 ∙ (ap (λ v. cut t ++ v) e ∙ sym (append_assoc (cut t) f (codes ".lock"))))) in
+    grind (arith, append-nil)
+
+-- What is left does not end in `.lock`.
+pub cut_open : (t f : List ℕ) → cut t ≢ f ++ codes ".lock"
+cut_open t f e = grind (arith, cut_front t, cut-append, length-cut, length-append)
+
+-- The piece is a front of the whole, behind which only `.lock`s were taken away.
+pub record IsCutTo (whole piece : List ℕ) : Type 0 where
+  pub same : cut piece ≡ cut whole
+  pub shorter : length piece ≤ length whole
+  pub front : take (length piece) whole ≡ piece
+
+pub IsCutTo-lock : (whole piece front : List ℕ) → IsCutTo whole piece → piece ≡ front ++ codes ".lock" → IsCutTo whole front
+IsCutTo-lock whole piece front so_far e =
+    grind (arith, cut-append front (codes ".lock") refl, length-append, take_at front (codes ".lock"), take-take (length front) (length piece) whole)

@@ -1,0 +1,6 @@
+-- Tag names: their faults, and that a name without one is grammatical.
+pub mod FaultTable
+pub mod FaultsBefore
+pub mod Places
+pub mod Grammar
+pub mod ClearTexts

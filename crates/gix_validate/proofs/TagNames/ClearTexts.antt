@@ -1,0 +1,94 @@
+-- What is not suspect has no fault: place by place, and so a clear text.
+use Rattle.std.proofs.Common.{◌≡◌, ℕ, ◌+◌, ◌-◌, ◌<◌, ◌≤◌, true, false, eqb, List, [], ◌∷◌, length, take, get_or, refl, inl, inr, arith, None, length-take}
+use Rattle.std.proofs.lemmas.Bool.{cases_lt, false_from_ne_true}
+use Rattle.std.proofs.lemmas.List.{take_all, get_or-take}
+use Rattle.std.proofs.lemmas.Slice.Eq.{bytes_eq-Decides}
+use Rattle.std.specs.Prelude.{codes}
+use Rattle.gix_validate.specs.Bytes.{is_among, ends}
+use Rattle.gix_validate.specs.Tag.{fault_of}
+use Rattle.gix_validate.specs.Reference.{is_partial_name}
+use Rattle.gix_validate.specs.Adjacent.{is_suspect, NoneBetween, IsClear, fault_before}
+use Rattle.gix_validate.specs.declared.adjacent.Relation.TheVariants.{Suspect}
+use Rattle.gix_validate.proofs.Texts.Places.{at_first_place_none}
+use Rattle.gix_validate.proofs.Texts.Endings.{ends_read, lock_read}
+use Rattle.gix_validate.proofs.TagNames.FaultTable.{before_is_after, none_after}
+use Rattle.gix_validate.proofs.TagNames.FaultsBefore.{at_first_place_split}
+use Rattle.gix_validate.proofs.TagNames.Grammar.{grammar_law}
+use Rattle.std.proofs.lemmas.Grind.{common_steps}
+use Rattle.std.proofs.lemmas.Bool.Decides.{nat_tests}
+
+-- no place from i on and before j has a fault by what stands before it
+abbrev pub NoFaultBetween : List ℕ → ℕ → ℕ → Type 0
+NoFaultBetween x i j = (p : ℕ) → i ≤ p → p < j → fault_before x p ≡ None
+
+-- No place below i has a fault by what stands before it, and no slash up to four places further ends a `.lock`.
+pub record IsSettled (x : List ℕ) (i : ℕ) : Type 0 where
+  pub done : NoFaultBetween x 0 i
+  pub ahead : (p : ℕ) → i ≤ p → p < i + 4 → p < length x → get_or x p 0 ≡ 47 → ends (take p x) (codes ".lock") ≡ false
+
+-- a byte within the text
+pub inside : (x : List ℕ) (p c : ℕ) → 0 < c → get_or x p 0 ≡ c → p < length x
+inside x p c some e = grind (arith, common_steps)
+
+-- a byte that isn't suspect has no fault, where no dot or slash follows what it may not follow
+no_fault : (x : List ℕ) (i a : ℕ) → is_suspect a (get_or x i 0) ≡ false
+    → (is_among (codes "./") a ≡ false → (ends (take i x) (codes ".") ≡ false) × (ends (take i x) (codes "/") ≡ false))
+    → (get_or x i 0 ≡ 47 → ends (take i x) (codes ".lock") ≡ false) → fault_before x i ≡ None
+unfolding is_suspect
+no_fault x i a quiet near lock = grind (arith, nat_tests, before_is_after x i, none_after (take i x) (get_or x i 0))
+
+-- the byte before place i
+last_read : (x : List ℕ) (i c : ℕ) → 0 < i → i ≤ length x → ends (take i x) (c ∷ []) ≡ eqb (get_or x (i - 1) 0) c
+last_read x i c some within = grind (arith, ends_read, get_or-take, length-take)
+
+-- there the `l` is suspect
+no_lock : (x : List ℕ) (p : ℕ) → p ≤ length x → (5 ≤ p → is_suspect (get_or x (p - 5) 0) (get_or x (p - 5 + 1) 0) ≡ false)
+    → ends (take p x) (codes ".lock") ≡ false
+unfolding is_suspect
+no_lock x p within quiet = grind (arith, nat_tests, false_from_ne_true, lock_read, get_or-take, length-take)
+
+quiet_lock : (x : List ℕ) (i j p : ℕ) → 1 ≤ i → NoneBetween Suspect x (i - 1) j → IsSettled x i → i ≤ p → p < j + 4 → p < length x → get_or x p 0 ≡ 47
+    → ends (take p x) (codes ".lock") ≡ false
+quiet_lock x i j p some quiet s from to within slash =
+    elim (cases_lt p (i + 4)) [
+      | inl early ↦ s.ahead p from early within slash
+      | inr late ↦ no_lock x p (omega arith) (λ five. quiet (p - 5) (omega arith) (omega arith))
+    ]
+
+-- A part of the text in which nothing is suspect.
+pub settled_part : (x : List ℕ) (i j : ℕ) → 1 ≤ i → i ≤ j → j ≤ length x → NoneBetween Suspect x (i - 1) j → IsSettled x i → IsSettled x j
+settled_part x i j some order within quiet s = record {
+  done = λ p from to. elim (cases_lt p i) [
+    | inl early ↦ s.done p from early
+    | inr late ↦
+        let at : p - 1 + 1 ≡ p = omega arith in
+        no_fault x p (get_or x (p - 1) 0) (grind (arith, at, quiet (p - 1) (omega arith) (omega arith))) (λ none. grind (arith, nat_tests, last_read))
+        (quiet_lock x i j p some quiet s late (omega arith) (omega arith))
+  ];
+  ahead = λ p from. quiet_lock x i j p some quiet s (omega arith);
+}
+
+-- Nothing is asked yet.
+pub settled_none : (x : List ℕ) (i : ℕ) → i < 2 → NoFaultBetween x 0 i → IsSettled x i
+settled_none x i start none = record { done = none; ahead = λ p from to within slash. no_lock x p (omega arith) (λ five. absurd (omega arith)) }
+
+settled_first : (x : List ℕ) → is_suspect 47 (get_or x 0 0) ≡ false → IsSettled x 1
+settled_first x quiet =
+    let first : fault_before x 0 ≡ None = no_fault x 0 47 quiet (λ none. grind arith) (λ slash. refl) in
+    settled_none x 1 (omega arith) (λ p from to. grind (arith, first))
+
+pub clear_has_no_fault : (x : List ℕ) → IsClear x → fault_of x ≡ None
+unfolding fault_of is_suspect
+clear_has_no_fault [] clear = absurd (omega (arith, clear.some))
+clear_has_no_fault (b ∷ x) clear =
+    let y = b ∷ x in
+    let n = length y in
+    let s = settled_part y 1 n (omega arith) (omega arith) (omega arith) clear.between (settled_first y clear.first) in
+    let places = at_first_place_none (fault_before y) n (λ k small. s.done k (omega arith) small) in
+    let lock = no_lock y n (omega arith) (λ five. clear.between (n - 5) (omega arith) (omega arith)) in
+    grind (arith, nat_tests, take_all, at_first_place_split y refl, places, lock, clear.end, clear.first)
+
+-- A clear text of two bytes or more is a partial name.
+pub clear_is_partial : (x : List ℕ) → 1 < length x → IsClear x → is_partial_name x ≡ true
+unfolding is_partial_name
+clear_is_partial x long clear = grind (arith, grammar_law, clear_has_no_fault, bytes_eq-Decides)

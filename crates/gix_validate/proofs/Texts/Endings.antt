@@ -1,0 +1,74 @@
+-- How a text ends: as an equation, by its bytes, and by its last piece.
+use Rattle.std.proofs.Common.{◌≡◌, ◌≢◌, ℕ, suc, ◌-◌, ◌<◌, ◌≤◌, true, false, cond, eqb, List, [], ◌∷◌, ◌++◌, length, take, drop, get_or, refl, ap, ◌∙◌, arith}
+use Rattle.std.proofs.Common.{length-append}
+use Rattle.std.proofs.lemmas.Slice.Eq.{bytes_eq-Decides}
+use Rattle.std.proofs.lemmas.List.{take-append-drop, drop_at}
+use Rattle.std.proofs.lemmas.List.Folds.{list_all-append}
+use Rattle.std.proofs.lemmas.Bool.{false_from_ne_true}
+use Rattle.std.specs.Prelude.{codes}
+use Rattle.std.specs.Str.{bytes_eq}
+use Rattle.gix_validate.specs.Bytes.{is_empty, ends}
+use Rattle.gix_validate.specs.Pieces.{is_slash, has_no_slash}
+use Rattle.std.proofs.lemmas.Grind.{common_steps}
+
+pub ends-true : (x back : List ℕ) → ends x back ≡ true → x ≡ take (length x - length back) x ++ back
+ends-true x back h = grind (arith, bytes_eq-Decides, take-append-drop)
+
+pub ends-false : (x back : List ℕ) → ((f : List ℕ) → x ≢ f ++ back) → ends x back ≡ false
+ends-false x back other = false_from_ne_true (ends x back) (λ h. other (take (length x - length back) x) (ends-true x back h))
+
+pub ends-no : (x back : List ℕ) → ends x back ≡ false → (f : List ℕ) → x ≢ f ++ back
+ends-no x back h f e = grind (arith, length-append, bytes_eq-Decides, drop_at)
+
+-- the last byte, read
+pub ends_read : (x : List ℕ) (c : ℕ) → 0 < length x → ends x (c ∷ []) ≡ eqb (get_or x (length x - 1) 0) c
+ends_read x c some = grind (arith, common_steps)
+
+pub ends_push_one : (y : List ℕ) (b c : ℕ) → ends (y ++ b ∷ []) (c ∷ []) ≡ eqb b c
+ends_push_one y b c = grind (arith, common_steps)
+
+-- where the bytes of `.lock` stand
+pub lock_read : (x : List ℕ) → ends x (codes ".lock") ≡ true
+    → (5 ≤ length x) × (get_or x (length x - 5) 0 ≡ 46) × (get_or x (length x - 4) 0 ≡ 108) × (get_or x (length x - 1) 0 ≡ 107)
+lock_read x h = let e : x ≡ take (length x - 5) x ++ codes ".lock" = ends-true x (codes ".lock") h in grind (arith, common_steps)
+
+-- what follows the last slash, or the whole text where there is none
+unfoldable pub last_piece : List ℕ → List ℕ
+last_piece [] = []
+last_piece (b ∷ x) = cond (has_no_slash x) (cond (is_slash b) x (b ∷ x)) (last_piece x)
+
+pub last_piece_nothing : last_piece [] ≡ []
+unfolding last_piece
+last_piece_nothing = refl
+
+pub last_piece_push : (y : List ℕ) (b : ℕ) → last_piece (y ++ b ∷ []) ≡ cond (is_slash b) [] (last_piece y ++ b ∷ [])
+unfolding last_piece
+last_piece_push [] b = grind arith
+last_piece_push (c ∷ y) b = grind (arith, list_all-append, last_piece_push y b)
+
+pub last_piece_apart : (y : List ℕ) → has_no_slash (last_piece y) ≡ true
+unfolding last_piece
+last_piece_apart [] = refl
+last_piece_apart (b ∷ y) = grind (arith, last_piece_apart y)
+
+-- where the text is long enough, its first byte has no say in how it ends
+pub ends_cons : (f : List ℕ) (b : ℕ) (y : List ℕ) → length f ≤ length y → ends (b ∷ y) f ≡ ends y f
+ends_cons f b y h =
+    let e : length (b ∷ y) - length f ≡ suc (length y - length f) = omega arith in
+    ap (λ k. bytes_eq f (drop k (b ∷ y))) e
+
+ends_behind_slash : (f : List ℕ) → has_no_slash f ≡ true → (b : ℕ) (y : List ℕ) → has_no_slash (b ∷ y) ≡ false → ends (b ∷ y) f ≡ ends y f
+ends_behind_slash f apart b y slash = grind (arith, bytes_eq-Decides)
+
+-- A back without a slash is the end of a text where it is the end of its last piece.
+pub ends_last_piece : (f : List ℕ) → has_no_slash f ≡ true → (y : List ℕ) → ends (last_piece y) f ≡ ends y f
+unfolding last_piece
+ends_last_piece f apart [] = refl
+ends_last_piece f apart (b ∷ y) = grind (arith, ends_behind_slash, ends_last_piece f apart y)
+
+-- In a text that has begun, a slash stands last where the last piece is empty.
+pub slash_last : (y : List ℕ) → is_empty y ≡ false → ends y (codes "/") ≡ is_empty (last_piece y)
+unfolding last_piece
+slash_last [] some = grind arith
+slash_last (b ∷ []) some = grind arith
+slash_last (b ∷ c ∷ y) some = ends_cons (codes "/") b (c ∷ y) (omega arith) ∙ grind (arith, slash_last (c ∷ y) refl)

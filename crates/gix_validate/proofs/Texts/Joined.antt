@@ -1,0 +1,54 @@
+-- Pieces and joined texts: each gives the other back.
+use Rattle.std.proofs.Common.{◌≡◌, ℕ, ◌+◌, ◌-◌, ◌<◌, suc, true, false, List, [], ◌∷◌, ◌++◌, length, take, refl, ap, ◌∙◌, arith, length-append, append_assoc}
+use Rattle.std.proofs.Math.Seq.{take-append-add}
+use Rattle.std.specs.Prelude.{codes}
+use Rattle.std.specs.List.{list_all}
+use Rattle.std.specs.Str.{byte}
+use Rattle.gix_validate.specs.Bytes.{is_empty}
+use Rattle.gix_validate.specs.Pieces.{joined, has_no_slash}
+use Rattle.gix_validate.specs.Tag.{is_good_piece}
+use Rattle.gix_validate.specs.Sanitized.{dash_last, dash_last_of}
+use Rattle.gix_validate.proofs.Sanitizing.MendedPieces.{dash_last-good, dash_last-apart, is_good_piece-empty}
+
+-- Good pieces stay good with a dash for the last byte of the last of them.
+pub dash_last_of-good : (ps : List (List ℕ)) → list_all is_good_piece ps ≡ true → list_all is_good_piece (dash_last_of ps) ≡ true
+dash_last_of-good [] h = grind arith
+dash_last_of-good (p ∷ []) h = grind (arith, dash_last-good)
+dash_last_of-good (p ∷ q ∷ ps) h = grind (arith, dash_last_of-good (q ∷ ps))
+
+pub dash_last_of-apart : (ps : List (List ℕ)) → list_all has_no_slash ps ≡ true → list_all has_no_slash (dash_last_of ps) ≡ true
+dash_last_of-apart [] h = grind arith
+dash_last_of-apart (p ∷ []) h = grind (arith, dash_last-apart)
+dash_last_of-apart (p ∷ q ∷ ps) h = grind (arith, dash_last_of-apart (q ∷ ps))
+
+pub length-dash_last_of : (ps : List (List ℕ)) → length (dash_last_of ps) ≡ length ps
+length-dash_last_of [] = refl
+length-dash_last_of (p ∷ []) = refl
+length-dash_last_of (p ∷ q ∷ ps) = ap suc (length-dash_last_of (q ∷ ps))
+
+-- a text with more in front
+dash_behind : (s t : List ℕ) → 0 < length t → dash_last (s ++ t) ≡ s ++ dash_last t
+dash_behind s t some =
+    let n : length (s ++ t) - 1 ≡ length s + (length t - 1) = omega (arith, length-append s t) in
+    ap (λ v. take v (s ++ t) ++ codes "-") n ∙ grind (arith, take-append-add, append_assoc)
+
+joined_some : (p : List ℕ) (ps : List (List ℕ)) → is_empty p ≡ false → 0 < length (joined (p ∷ ps))
+joined_some [] ps some = grind arith
+joined_some (b ∷ p) [] some = omega arith
+joined_some (b ∷ p) (q ∷ ps) some = omega arith
+
+pub good_nonempty : (p : List ℕ) → is_good_piece p ≡ true → is_empty p ≡ false
+good_nonempty p hh1 = grind (arith, is_good_piece-empty)
+
+pub dash_last_of-cons : (q : List ℕ) (ps : List (List ℕ)) → (r : List ℕ) × (rs : List (List ℕ)) × (dash_last_of (q ∷ ps) ≡ r ∷ rs)
+dash_last_of-cons q [] = (_, _, refl)
+dash_last_of-cons q (p ∷ ps) = (_, _, refl)
+
+-- Joined, they are the joined text with a dash for its last byte.
+pub joined-dash_last_of : (p : List ℕ) (ps : List (List ℕ)) → list_all is_good_piece (p ∷ ps) ≡ true
+    → joined (dash_last_of (p ∷ ps)) ≡ dash_last (joined (p ∷ ps))
+joined-dash_last_of p [] h = refl
+joined-dash_last_of p (q ∷ []) h = grind (arith, good_nonempty, joined_some q [], dash_behind p (byte "/" ∷ q), dash_behind (byte "/" ∷ []) q)
+joined-dash_last_of p (q ∷ r ∷ ps) h =
+    let t = joined (q ∷ r ∷ ps) in
+    grind (arith, joined_some q (r ∷ ps), dash_behind p (byte "/" ∷ t), dash_behind (byte "/" ∷ []) t, joined-dash_last_of q (r ∷ ps))

@@ -1,0 +1,38 @@
+-- The pieces of a text are the only nonempty list of texts without a slash that joins to it.
+use Rattle.std.proofs.Common.{◌≡◌, ◌≢◌, ℕ, true, List, [], ◌∷◌, ◌++◌, sym, ap, ◌∙◌}
+use Rattle.std.proofs.lemmas.List.Splits.{join_with_byte-slice_split}
+use Rattle.std.specs.List.{list_all}
+use Rattle.gix_validate.specs.Pieces.{pieces, joined, has_no_slash, PiecesAreTheOnlySplit}
+use native.Mathlib.Omega.{arith}
+
+-- a text has a piece
+pub pieces_some : (x : List ℕ) → pieces x ≢ []
+pieces_some [] = grind arith
+pieces_some (b ∷ x) = grind arith
+
+-- no piece has a slash
+pub pieces_apart : (x : List ℕ) → list_all has_no_slash (pieces x) ≡ true
+pieces_apart [] = grind arith
+pieces_apart (b ∷ x) = grind (arith, pieces_apart x)
+
+-- the first piece ends at the first slash
+pub pieces_front : (t rest : List ℕ) → has_no_slash t ≡ true → pieces (t ++ 47 ∷ rest) ≡ t ∷ pieces rest
+pieces_front [] rest h = grind arith
+pieces_front (b ∷ t) rest h = grind (arith, pieces_front t rest)
+
+-- a text without a slash is its one piece
+pub pieces_alone : (t : List ℕ) → has_no_slash t ≡ true → pieces t ≡ t ∷ []
+pieces_alone [] h = grind arith
+pieces_alone (b ∷ t) h = grind (arith, pieces_alone t)
+
+-- texts without a slash are the pieces of what they join to
+pub pieces-joined : (texts : List (List ℕ)) → texts ≢ [] → list_all has_no_slash texts ≡ true → pieces (joined texts) ≡ texts
+pieces-joined [] some h = grind arith
+pieces-joined (t ∷ []) some h = grind (arith, pieces_alone)
+pieces-joined (t ∷ u ∷ texts) some h = grind (arith, pieces_front, pieces-joined (u ∷ texts))
+
+pub pieces_are_the_only_split : (x : List ℕ) → PiecesAreTheOnlySplit x
+pieces_are_the_only_split x = record {
+  these = record { some = pieces_some x; apart = pieces_apart x; whole = join_with_byte-slice_split 47 x };
+  only = λ texts h. sym (pieces-joined texts h.some h.apart) ∙ ap pieces h.whole;
+}

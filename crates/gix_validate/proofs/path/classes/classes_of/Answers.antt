@@ -1,0 +1,17 @@
+-- A short name is its front and its back.
+use Rattle.std.proofs.Common.{◌-◌, length, replicate, get_or, arith}
+use Rattle.gix_validate.proofs.Blocks.Parts.{one_covers}
+use Rattle.gix_validate.proofs.Blocks.ByteClasses.{classes_of_parts}
+use Rattle.gix_validate.proofs.path.classes.classes_of.Goals as goal
+
+pub returns-then-name-le-LANES : goal.returns-then-name-le-LANES
+returns-then-name-le-LANES c = classes_of_parts 8 (length c.args.name.now - 8) _ _ _ (omega arith) c.halves.ensures c.classes_in.ensures
+
+pub returns-then-name-ge4 : goal.returns-then-name-ge4
+returns-then-name-ge4 c = classes_of_parts 4 (length c.args.name.now - 4) _ _ _ (omega arith) c.quarters.ensures c.classes_in-then-name-ge4.ensures
+
+pub returns-then-name-ge2 : goal.returns-then-name-ge2
+returns-then-name-ge2 c = classes_of_parts 2 (length c.args.name.now - 2) _ _ _ (omega arith) c.pairs.ensures c.classes_in-then-name-ge2.ensures
+
+pub returns : goal.returns
+returns c = classes_of_parts 1 0 (replicate 16 (get_or c.args.name.now 0 0)) _ _ (omega arith) (one_covers c.args.name.now (omega arith)) c.classes_in-2.ensures

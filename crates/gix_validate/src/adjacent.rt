@@ -1,0 +1,272 @@
+//! Whether a text has bytes side by side that have to be looked at closer, sixteen pairs at a time.
+
+ghost use Rattle.std.specs.Prelude.{◌≡◌, ◌↔◌, ◌<◌, ◌≤◌, ◌+◌, ◌==◌, ◌||◌, ◌&&◌, ℕ, false, if◌then◌else◌, IsTrue, map, length, slice_index, codes};
+ghost use Rattle.std.specs.Str.{byte};
+ghost use Rattle.gix_validate.specs.Bytes.{is_among, ends};
+ghost use Rattle.gix_validate.specs.Submodule.{is_separator};
+ghost use Rattle.gix_validate.specs.Adjacent.{is_suspect, relates, IsClear, NoneBetween};
+
+use crate::bytes::may_be_faulty;
+use crate::lanes::{LANES, classify, halves, has_nonzero, quarters};
+use std::simd::prelude::*;
+
+/// Which pairs of bytes have to be looked at closer.
+#[derive(Clone, Copy)]
+pub(crate) enum Relation {
+    /// Those in which the second byte may be the place of a fault of a tag name, or lead to one.
+    Suspect,
+    /// Two dots.
+    Dots,
+    /// A dot and a slash of either class.
+    LastDot,
+}
+
+// The classes of bytes that may be suspect, a bit for each. The bytes of a class have one high
+// nibble, but for the control bytes, which have two. The first five classes are suspect wherever
+// they stand.
+
+/// A byte below 0x20.
+const CONTROL: u8 = 0x01;
+
+/// A space or `*`.
+const SPACE_OR_STAR: u8 = 0x02;
+
+/// `:` or `?`.
+const COLON_OR_MARK: u8 = 0x04;
+
+/// `[`, `\` or `^`.
+const BRACKET_OR_CARET: u8 = 0x08;
+
+/// `{`, `~` or DEL.
+const BRACE_OR_TILDE: u8 = 0x10;
+
+/// A dot or a slash, suspect behind a dot or a slash.
+const BREAK: u8 = 0x20;
+
+/// `l`, suspect behind a dot.
+const LETTER: u8 = 0x40;
+
+/// The classes that are suspect behind any byte.
+const ANYWHERE: u8 = CONTROL | SPACE_OR_STAR | COLON_OR_MARK | BRACKET_OR_CARET | BRACE_OR_TILDE;
+
+/// The classes that are suspect behind a slash.
+const BEHIND_SLASH: u8 = ANYWHERE | BREAK;
+
+/// The classes that are suspect behind a dot.
+const BEHIND_DOT: u8 = BEHIND_SLASH | LETTER;
+
+/// The classes that a byte may have with this low nibble.
+#[rattlefmt::skip]
+const CLASSES_BY_LOW_NIBBLE: [u8; 16] = [
+    CONTROL | SPACE_OR_STAR, // 0: a space
+    CONTROL, CONTROL, CONTROL, CONTROL, CONTROL, CONTROL, CONTROL, CONTROL, CONTROL, // 1 to 9
+    CONTROL | SPACE_OR_STAR | COLON_OR_MARK, // A: `*`, `:`
+    CONTROL | BRACKET_OR_CARET | BRACE_OR_TILDE, // B: `[`, `{`
+    CONTROL | BRACKET_OR_CARET | LETTER, // C: `\`, `l`
+    CONTROL, // D
+    CONTROL | BRACKET_OR_CARET | BRACE_OR_TILDE | BREAK, // E: `^`, `~`, `.`
+    CONTROL | COLON_OR_MARK | BRACE_OR_TILDE | BREAK, // F: `?`, DEL, `/`
+];
+
+/// The classes that a byte may have with this high nibble. What both tables have for a byte is its
+/// class, or nothing.
+#[rattlefmt::skip]
+const CLASSES_BY_HIGH_NIBBLE: [u8; 16] = [
+    CONTROL, CONTROL, SPACE_OR_STAR | BREAK, COLON_OR_MARK, // 0 to 3
+    0, BRACKET_OR_CARET, LETTER, BRACE_OR_TILDE, // 4 to 7
+    0, 0, 0, 0, // 8 to B
+    0, 0, 0, 0, // C to F
+];
+
+/// The classes that are suspect behind a dot, behind a slash, and behind any other byte.
+#[rattlefmt::skip]
+const SUSPECT_BEHIND: [u8; 16] = [
+    BEHIND_DOT, BEHIND_SLASH, ANYWHERE, ANYWHERE,
+    ANYWHERE, ANYWHERE, ANYWHERE, ANYWHERE,
+    ANYWHERE, ANYWHERE, ANYWHERE, ANYWHERE,
+    ANYWHERE, ANYWHERE, ANYWHERE, ANYWHERE,
+];
+
+/// Whether a text is clear. A clear text is a tag name. About any other text this says nothing.
+#[inline(always)]
+#[tactic(auto, using(crate::proofs::Blocks::AdjacentBytes::clear_by_looks))]
+pub(crate) fn is_clear(text: &[u8]) -> bool
+    ensures { IsTrue result ↔ IsClear text.now }
+{
+    if text.is_empty() || may_be_faulty(text[0]) || ends_in_break(text) {
+        return false;
+    }
+    has_none(text, Relation::Suspect)
+}
+
+/// Whether the text ends in a dot or a slash.
+#[inline(always)]
+fn ends_in_break(text: &[u8]) -> bool
+    ensures { result ≡ (ends text.now (codes ".") || ends text.now (codes "/")) }
+{
+    matches!(text.last(), Some(b'.' | b'/'))
+}
+
+/// Whether no two bytes side by side are related.
+#[inline(always)]
+pub(crate) fn has_none(text: &[u8], relation: Relation) -> bool
+    ensures { IsTrue result ↔ NoneBetween relation text.now 0 (length text.now) }
+{
+    if text.len() > LANES {
+        blocks_have_none(text, relation)
+    } else {
+        pairs_have_none(text, relation)
+    }
+}
+
+/// The same of a text that is longer than a block. The last block overlaps the one before.
+#[inline(always)]
+fn blocks_have_none(text: &[u8], relation: Relation) -> bool
+    requires { LANES < length text.now }
+    ensures { IsTrue result ↔ NoneBetween relation text.now 0 (length text.now) }
+{
+    let last = text.len() - LANES - 1;
+    if last <= LANES {
+        return block_has_none(text, 0, relation) && block_has_none(text, last, relation);
+    }
+    for at in (0..last).step_by(LANES) {
+        if !block_has_none(text, at, relation) {
+            return false;
+        }
+    }
+    block_has_none(text, last, relation)
+}
+
+/// Whether none of sixteen bytes is related to the one before it, of which the first is at this
+/// place.
+#[inline(always)]
+pub(crate) fn block_has_none(text: &[u8], at: usize, relation: Relation) -> bool
+    requires { at + (LANES + 1) ≤ length text.now }
+    ensures { IsTrue result ↔ NoneBetween relation text.now at (at + (LANES + 1)) }
+{
+    lanes_have_none(
+        u8x16::from_slice(&text[at..]),
+        u8x16::from_slice(&text[at + 1..]),
+        relation,
+    )
+}
+
+/// Whether no two bytes side by side are related in a text that is no longer than a block.
+#[inline(always)]
+fn pairs_have_none(text: &[u8], relation: Relation) -> bool
+    requires { length text.now ≤ LANES }
+    ensures { IsTrue result ↔ NoneBetween relation text.now 0 (length text.now) }
+{
+    if text.len() > 8 {
+        let back = text.len() - 8;
+        return lanes_have_none(halves(text, 0, back - 1), halves(text, 1, back), relation);
+    }
+    if text.len() > 4 {
+        let back = text.len() - 4;
+        return lanes_have_none(
+            quarters(text, 0, back - 1),
+            quarters(text, 1, back),
+            relation,
+        );
+    }
+    few_have_none(text, relation)
+}
+
+/// The same of a text of at most four bytes.
+#[inline(always)]
+fn few_have_none(text: &[u8], relation: Relation) -> bool
+    requires { length text.now ≤ 4 }
+    ensures { IsTrue result ↔ NoneBetween relation text.now 0 (length text.now) }
+{
+    match text {
+        [a, b] => !relates(relation, *a, *b),
+        [a, b, c] => !relates(relation, *a, *b) && !relates(relation, *b, *c),
+        [a, b, c, d] => {
+            !relates(relation, *a, *b) && !relates(relation, *b, *c) && !relates(relation, *c, *d)
+        }
+        _ => true,
+    }
+}
+
+/// Whether the two bytes are related.
+#[inline(always)]
+fn relates(relation: Relation, before: u8, byte: u8) -> bool
+    ensures { result ≡ relates relation before byte }
+{
+    match relation {
+        Relation::Suspect => is_suspect(before, byte),
+        Relation::Dots => before == b'.' && byte == b'.',
+        Relation::LastDot => before == b'.' && matches!(byte, b'/' | b'\\'),
+    }
+}
+
+/// Whether the byte is suspect behind the one before it.
+#[inline(always)]
+#[tactic(auto, using(crate::proofs::Blocks::AdjacentBytes::suspect_letter))]
+fn is_suspect(before: u8, byte: u8) -> bool
+    ensures { result ≡ is_suspect before byte }
+{
+    if byte == b'l' {
+        return before == b'.';
+    }
+    may_be_faulty(byte) && (!is_break(byte) || is_break(before))
+}
+
+/// Whether the byte is a dot or a slash.
+#[inline(always)]
+fn is_break(byte: u8) -> bool
+    ensures { result ≡ is_among (codes "./") byte }
+{
+    matches!(byte, b'.' | b'/')
+}
+
+/// Whether no byte is related to the byte in the same lane of `before`.
+#[inline(always)]
+fn lanes_have_none(before: u8x16, bytes: u8x16, relation: Relation) -> bool
+    ensures { IsTrue result ↔ ((k : ℕ) → k < LANES → relates relation (slice_index before k) (slice_index bytes k) ≡ false) }
+{
+    match relation {
+        Relation::Suspect => has_no_suspect(before, bytes),
+        Relation::Dots => has_no_dots(before, bytes),
+        Relation::LastDot => has_no_last_dot(before, bytes),
+    }
+}
+
+/// Whether no byte is suspect behind the byte in the same lane of `before`.
+#[inline(always)]
+fn has_no_suspect(before: u8x16, bytes: u8x16) -> bool
+    ensures { IsTrue result ↔ ((k : ℕ) → k < LANES → is_suspect (slice_index before k) (slice_index bytes k) ≡ false) }
+{
+    !has_nonzero(
+        classify(CLASSES_BY_LOW_NIBBLE, CLASSES_BY_HIGH_NIBBLE, bytes) & suspect_behind(before),
+    )
+}
+
+/// The classes that are suspect behind each byte.
+#[inline(always)]
+#[tactic(auto, using(crate::proofs::Blocks::AdjacentBytes::reaches_ok, crate::proofs::Blocks::AdjacentBytes::suspect_classes))]
+fn suspect_behind(bytes: u8x16) -> u8x16
+    ensures { result ≡ map (λ b. if b == byte "." then BEHIND_DOT else if b == byte "/" then BEHIND_SLASH else ANYWHERE) bytes }
+{
+    // A dot becomes 0, and a slash 1.
+    let from_dot = bytes ^ u8x16::splat(b'.');
+    u8x16::from_array(SUSPECT_BEHIND).swizzle_dyn(from_dot.simd_min(u8x16::splat(15)))
+}
+
+/// Whether in no lane both bytes are dots.
+#[inline(always)]
+fn has_no_dots(before: u8x16, bytes: u8x16) -> bool
+    ensures { IsTrue result ↔ ((k : ℕ) → k < LANES → (slice_index before k == byte "." && slice_index bytes k == byte ".") ≡ false) }
+{
+    let dot = u8x16::splat(b'.');
+    (before.simd_eq(dot) & bytes.simd_eq(dot)).to_bitmask() == 0
+}
+
+/// Whether in no lane a dot stands before a slash of either class.
+#[inline(always)]
+fn has_no_last_dot(before: u8x16, bytes: u8x16) -> bool
+    ensures { IsTrue result ↔ ((k : ℕ) → k < LANES → (slice_index before k == byte "." && is_separator (slice_index bytes k)) ≡ false) }
+{
+    let slashes = bytes.simd_eq(u8x16::splat(b'/')) | bytes.simd_eq(u8x16::splat(b'\\'));
+    (before.simd_eq(u8x16::splat(b'.')) & slashes).to_bitmask() == 0
+}

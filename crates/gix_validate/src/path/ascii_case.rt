@@ -1,0 +1,44 @@
+//! Words in any ASCII letter case.
+
+ghost use Rattle.std.specs.Prelude.{◌≡◌, ◌==◌, true, false, drop, length, MatchOption};
+ghost use Rattle.std.specs.Str.{bytes_eq};
+ghost use Rattle.gix_validate.specs.Bytes.{begins, lower, lower_byte};
+
+/// What stands after the word, where the text begins with it in any ASCII letter case.
+#[inline(always)]
+#[tactic(auto, using(crate::proofs::Texts::LetterCase::begins_word, crate::proofs::Texts::LetterCase::begins_short))]
+pub(super) fn strip_prefix_ignore_ascii_case<'a>(text: &'a [u8], word: &[u8]) -> Option<&'a [u8]>
+    ensures { MatchOption result (begins (lower text.now) (lower word.now) ≡ false)
+        (λ rest. (begins (lower text.now) (lower word.now) ≡ true)
+        × (rest.now ≡ drop (length word.now) text.now)) }
+{
+    match text.split_at_checked(word.len()) {
+        Some((front, rest)) if eq_ignore_ascii_case(front, word) => Some(rest),
+        _ => None,
+    }
+}
+
+/// Whether the text is the word in any ASCII letter case.
+#[inline(always)]
+pub(super) fn eq_ignore_ascii_case(text: &[u8], word: &[u8]) -> bool
+    ensures { result ≡ bytes_eq (lower text.now) (lower word.now) }
+{
+    if text.len() != word.len() {
+        return false;
+    }
+    for (place, wanted) in word.iter().enumerate() {
+        if !bytes_eq_ignore_ascii_case(text[place], *wanted) {
+            return false;
+        }
+    }
+    true
+}
+
+/// Whether the two bytes are one in any ASCII letter case.
+#[inline(always)]
+#[tactic(auto, unfolding(crate::specs::Bytes::lower_byte))]
+pub(super) fn bytes_eq_ignore_ascii_case(byte: u8, wanted: u8) -> bool
+    ensures { result ≡ (lower_byte byte == lower_byte wanted) }
+{
+    byte == wanted.to_ascii_lowercase() || byte == wanted.to_ascii_uppercase()
+}

@@ -1,2 +1,2 @@
-pub mod ReferenceLemmas
 pub mod FlagLemmas
+pub mod ReferenceFaults

@@ -7,18 +7,20 @@
 //! | [`sanitize`] | the repair of a reference name, in the caller's buffer |
 //! | [`version`] | the version of the library |
 //!
-//! A slice is a pointer and a length in bytes. The calls ask nothing of their caller except what C itself owes: that
-//! the memory is there, that nobody else writes to it during the call, and that a buffer which a call writes to
-//! overlaps no other argument. The calls take no memory. The numbers, the flags and the answers are in docs/RULES.md,
-//! "Calls for C".
+//! A slice is a pointer and a length in bytes. The calls ask nothing of their caller except what C
+//! itself owes: that the memory is there, that nobody else writes to it during the call, and that a
+//! buffer which a call writes to overlaps no other argument. The calls take no memory. The numbers,
+//! the flags and the answers are in docs/RULES.md, "Calls for C".
 #![tactic(auto)]
 
 mod fault;
 mod flags;
 pub mod names;
 pub mod sanitize;
-#[cfg(test)]
-mod tests;
 mod text;
 pub mod texts;
 pub mod version;
+
+/// Each export, on rows written out by hand.
+#[cfg(test)]
+mod tests;

@@ -1,7 +1,8 @@
 //! Questions about names.
 //!
-//! Each call on a kind of name returns 0 where the text is such a name, and otherwise the number of its fault
-//! (docs/RULES.md, "Calls for C"). Lengths are bytes. The calls take no memory and never fail.
+//! Each call on a kind of name returns 0 where the text is such a name, and otherwise the number of
+//! its fault (docs/RULES.md, "Calls for C"). Lengths are bytes. The calls take no memory and never
+//! fail.
 
 ghost use Rattle.std.specs.Prelude.{◌≡◌, ◌↔◌, ◌≤◌, ◌%◌, IsTrue};
 ghost use Rattle.gix_validate.specs.Tag as tag;
@@ -20,7 +21,8 @@ use gix_validate::{path, reference, submodule, tag};
 /// What [`gix_validate_invalid_byte`] returns where there is no such byte.
 const NO_BYTE: u32 = 256;
 
-/// Returns 0 where the text is a tag name, and otherwise the number of its fault (docs/RULES.md, "Tag names").
+/// Returns 0 where the text is a tag name, and otherwise the number of its fault (docs/RULES.md,
+/// "Tag names").
 ///
 /// ```c
 /// gix_validate_tag((const uint8_t *)"v1.2.3", 6); // 0
@@ -34,14 +36,15 @@ pub extern "C" fn gix_validate_tag(name: &[u8]) -> u32
     code(tag::name(BStr::new(name)))
 }
 
-/// Returns 0 where the text is a partial reference name, and otherwise the number of its fault (docs/RULES.md,
-/// "Reference names"). A text that is not a tag name has the fault that it has there.
+/// Returns 0 where the text is a partial reference name, and otherwise the number of its fault
+/// (docs/RULES.md, "Reference names"). A text that is not a tag name has the fault that it has
+/// there.
 ///
 /// ```c
 /// gix_validate_partial((const uint8_t *)"main", 4); // 0
 /// gix_validate_partial((const uint8_t *)"@", 1);    // 13, Reserved
 /// ```
-#[tactic(auto, using(crate::proofs::ReferenceLemmas::partial_as_tag))]
+#[tactic(auto, unfolding(crate::proofs::ReferenceFaults::reference_faults))]
 #[unsafe(no_mangle)]
 pub extern "C" fn gix_validate_partial(name: &[u8]) -> u32
     ensures answer { result ≡ code_by reference_number (partial_fault_of name.now) }
@@ -51,14 +54,15 @@ pub extern "C" fn gix_validate_partial(name: &[u8]) -> u32
     code(reference::name_partial(BStr::new(name)))
 }
 
-/// Returns 0 where the text is a full reference name, and otherwise the number of its fault (docs/RULES.md,
-/// "Reference names"). A text that is not a tag name has the fault that it has there.
+/// Returns 0 where the text is a full reference name, and otherwise the number of its fault
+/// (docs/RULES.md, "Reference names"). A text that is not a tag name has the fault that it has
+/// there.
 ///
 /// ```c
 /// gix_validate_full((const uint8_t *)"refs/heads/main", 15); // 0
 /// gix_validate_full((const uint8_t *)"main", 4);             // 12, SomeLowercase
 /// ```
-#[tactic(auto, using(crate::proofs::ReferenceLemmas::full_as_tag))]
+#[tactic(auto, unfolding(crate::proofs::ReferenceFaults::reference_faults))]
 #[unsafe(no_mangle)]
 pub extern "C" fn gix_validate_full(name: &[u8]) -> u32
     ensures answer { result ≡ code_by reference_number (full_fault_of name.now) }
@@ -68,14 +72,15 @@ pub extern "C" fn gix_validate_full(name: &[u8]) -> u32
     code(reference::name(BStr::new(name)))
 }
 
-/// Returns 0 where the text is the full name of a branch, and otherwise the number of its fault (docs/RULES.md,
-/// "Reference names"). A text that is not a tag name has the fault that it has there.
+/// Returns 0 where the text is the full name of a branch, and otherwise the number of its fault
+/// (docs/RULES.md, "Reference names"). A text that is not a tag name has the fault that it has
+/// there.
 ///
 /// ```c
 /// gix_validate_branch((const uint8_t *)"refs/heads/main", 15); // 0
 /// gix_validate_branch((const uint8_t *)"refs/heads/HEAD", 15); // 13, Reserved
 /// ```
-#[tactic(auto, using(crate::proofs::ReferenceLemmas::branch_as_tag))]
+#[tactic(auto, unfolding(crate::proofs::ReferenceFaults::reference_faults))]
 #[unsafe(no_mangle)]
 pub extern "C" fn gix_validate_branch(name: &[u8]) -> u32
     ensures answer { result ≡ code_by reference_number (branch_fault_of name.now) }
@@ -85,8 +90,8 @@ pub extern "C" fn gix_validate_branch(name: &[u8]) -> u32
     code(reference::branch_name(BStr::new(name)))
 }
 
-/// Returns 0 where the text is a submodule name, and otherwise the number of its fault (docs/RULES.md,
-/// "Submodule names").
+/// Returns 0 where the text is a submodule name, and otherwise the number of its fault
+/// (docs/RULES.md, "Submodule names").
 ///
 /// ```c
 /// gix_validate_submodule((const uint8_t *)"vendor/package", 14); // 0
@@ -100,11 +105,11 @@ pub extern "C" fn gix_validate_submodule(name: &[u8]) -> u32
     code(submodule::name(BStr::new(name)))
 }
 
-/// Returns 0 where the name may stand in a path, and otherwise the number of its fault (docs/RULES.md,
-/// "Path components").
+/// Returns 0 where the name may stand in a path, and otherwise the number of its fault
+/// (docs/RULES.md, "Path components").
 ///
-/// The flags are 1 for Windows, 2 for HFS+ and 4 for NTFS, on which the name is judged, and 8 for the name of a
-/// symlink. Other bits are ignored. The default of the Rust call is 7.
+/// The flags are 1 for Windows, 2 for HFS+ and 4 for NTFS, on which the name is judged, and 8 for
+/// the name of a symlink. Other bits are ignored. The default of the Rust call is 7.
 ///
 /// ```c
 /// gix_validate_component((const uint8_t *)"src", 3, 7);   // 0
@@ -125,16 +130,17 @@ pub extern "C" fn gix_validate_component(name: &[u8], flags: u32) -> u32
     ))
 }
 
-/// Returns the byte of the fault `InvalidByte` where that is the fault of the text as a tag name, and otherwise 256.
+/// Returns the byte of the fault `InvalidByte` where that is the fault of the text as a tag name,
+/// and otherwise 256.
 ///
-/// A text that has this fault as a partial name, a full name or the name of a branch has it as a tag name too, with the
-/// same byte (docs/RULES.md, "Reference names").
+/// A text that has this fault as a partial name, a full name or the name of a branch has it as a
+/// tag name too, with the same byte (docs/RULES.md, "Reference names").
 ///
 /// ```c
 /// gix_validate_invalid_byte((const uint8_t *)"a b", 3); // 32, the space
 /// gix_validate_invalid_byte((const uint8_t *)"a*b", 3); // 256
 /// ```
-#[tactic(auto, using(crate::proofs::ReferenceLemmas::partial_invalid_byte, crate::proofs::ReferenceLemmas::full_invalid_byte, crate::proofs::ReferenceLemmas::branch_invalid_byte))]
+#[tactic(auto, unfolding(crate::proofs::ReferenceFaults::reference_faults))]
 #[unsafe(no_mangle)]
 pub extern "C" fn gix_validate_invalid_byte(name: &[u8]) -> u32
     ensures as_tag { result ≡ invalid_byte_of (tag.fault_of name.now) }
@@ -148,7 +154,8 @@ pub extern "C" fn gix_validate_invalid_byte(name: &[u8]) -> u32
     }
 }
 
-/// Whether Windows takes the name for a device, in any letter case (docs/RULES.md, "Path components").
+/// Whether Windows takes the name for a device, in any letter case (docs/RULES.md, "Path
+/// components").
 ///
 /// ```c
 /// gix_validate_is_windows_device((const uint8_t *)"nul.txt", 7); // true

@@ -117,7 +117,8 @@ fn numbers_of_symlinks(rt: HostRuntime) {
     }
 }
 
-/// Asks for the number of a component under each setting with this flag besides, and again with bits that no flag has.
+/// Asks for the number of a component under each setting with this flag besides, and again with
+/// bits that no flag has.
 fn check_component<R: Abort>(rt: &R, name: &[u8], flag: u32, numbers: [u32; 8]) {
     for (setting, number) in SETTINGS.iter().zip(&numbers) {
         assert_eq!(rt; gix_validate_component(name, *setting | flag), *number);
@@ -324,7 +325,8 @@ fn texts_of_components(rt: HostRuntime) {
     }
 }
 
-/// Asks for the text with a buffer that is longer than it, then with one of just its length, and then with a shorter one.
+/// Asks for the text with a buffer that is longer than it, then with one of just its length, and
+/// then with a shorter one.
 fn check_text<R: Abort, F: Fn(&[u8], &mut [u8]) -> usize>(rt: &R, call: F, name: &[u8], text: &[u8])
     requires { F.IsAlwaysCallable call }
 {

@@ -1,11 +1,12 @@
 //! The printed texts of faults.
 //!
-//! Each call returns the length of the text of the fault that the name has, in bytes, and 0 where it has none. No text
-//! has more than [`LONGEST_TEXT`]. It is written to the front of the caller's buffer where the whole text fits, and the
-//! rest of the buffer stays as it was. Where the text doesn't fit, nothing is written. No NUL byte ends it.
+//! Each call returns the length of the text of the fault that the name has, in bytes, and 0 where
+//! it has none. No text has more than [`LONGEST_TEXT`]. It is written to the front of the caller's
+//! buffer where the whole text fits, and the rest of the buffer stays as it was. Where the text
+//! doesn't fit, nothing is written. No NUL byte ends it.
 //!
-//! The texts are those of docs/RULES.md, "Printed texts". The calls take no memory and never fail. The name and the
-//! buffer may not overlap.
+//! The texts are those of docs/RULES.md, "Printed texts". The calls take no memory and never fail.
+//! The name and the buffer may not overlap.
 
 ghost use Rattle.std.specs.Prelude.{◌≡◌, ◌↔◌, ◌≤◌, length, IsOk, IsTrue, MatchResult};
 ghost use Rattle.gix_validate.specs.Tag as tag;
@@ -21,7 +22,8 @@ use crate::text::write_whole;
 use bstr::BStr;
 use gix_validate::{path, reference, submodule, tag};
 
-/// How many bytes the longest text has: that of `WindowsIllegalCharacter`. Each text fits a buffer of this size.
+/// How many bytes the longest text has: that of `WindowsIllegalCharacter`. Each text fits a buffer
+/// of this size.
 pub const LONGEST_TEXT: usize = 134;
 
 /// The text of the fault that the name has as a tag name.

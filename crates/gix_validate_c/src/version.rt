@@ -9,8 +9,8 @@ const MINOR: u32 = 0;
 
 const PATCH: u32 = 0;
 
-/// The version as one number, which grows from version to version: a million for each major version, a thousand for
-/// each minor one, and one for each patch. 2.0.0 is 2,000,000.
+/// The version as one number, which grows from version to version: a million for each major
+/// version, a thousand for each minor one, and one for each patch. 2.0.0 is 2,000,000.
 #[unsafe(no_mangle)]
 pub extern "C" fn gix_validate_version() -> u32
     ensures { result ≡ version_number 2 0 0 }

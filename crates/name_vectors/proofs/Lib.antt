@@ -1,4 +1,3 @@
-pub mod FrontLemmas
+pub mod DecodedLemmas
 pub mod Version1Lemmas
 mod Version1Rows
-pub mod DecodedLemmas

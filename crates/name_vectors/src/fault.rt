@@ -29,9 +29,9 @@ pub enum Fault<'a> {
     Relative,
 }
 
-/// The fault of the first row whose test passed.
-pub(crate) fn first_of(rows: &[(bool, Fault<'static>)]) -> Option<Fault<'static>> {
-    rows.iter().find(|row| row.0).map(|row| row.1)
+/// The fault of the first line that applies.
+pub(crate) fn first_of(lines: &[(bool, Fault<'static>)]) -> Option<Fault<'static>> {
+    lines.iter().find(|line| line.0).map(|line| line.1)
 }
 
 impl<'a> From<&'a tag::NameError> for Fault<'a> {

@@ -1,11 +1,16 @@
-//! The rules of docs/RULES.md a second time, for tests that compare the calls of `gix_validate` with them
-//! on every short text and on tens of thousands of others.
+//! No vectors, whatever its name says. The crate holds three things:
 //!
-//! Each rule is written from its words, and in another way than in the library: a search where the
-//! library walks, a list of all words where it compares fronts. Only the types of the faults are taken
-//! from the library. These rules are built for the tests alone. Callers see only laws about the
-//! definitions: the module `laws` says what the definitions agree with, and the module `versions` what
-//! has changed from one version of the rules to the next.
+//! - The rules of docs/RULES.md, written a second time. The first writing is the definitions in
+//!   `crates/gix_validate/specs`, against which the library is proved. The second is code, and goes another way: it
+//!   searches where the library walks, and lists all names where the library compares fronts. Only the types of the
+//!   faults are the library's.
+//! - Tests that give tens of thousands of texts, all texts of up to two bytes among them, to each call of `gix_validate`
+//!   and to the second writing, and compare the answers.
+//! - Laws about the first writing, which are proved: in [`laws`] that it agrees with what the crate `bstr` decodes, and
+//!   in [`versions`] what version 2 changed in it.
+//!
+//! The second writing is built for the tests alone, so callers see only the laws. The functions
+//! that carry them do nothing: the contract of each is the law.
 #![tactic(auto)]
 
 #[cfg(test)]
@@ -24,9 +29,11 @@ mod submodule;
 #[cfg(test)]
 mod tag;
 #[cfg(test)]
-mod tests;
-#[cfg(test)]
 mod text;
 #[cfg(test)]
 mod units;
 pub mod versions;
+
+/// The calls, compared with the second writing.
+#[cfg(test)]
+mod tests;

@@ -1,7 +1,7 @@
 //! Tag names (docs/RULES.md, "Tag names").
 
 use crate::fault::{Fault, first_of};
-use crate::text::{holds, is_bad, is_slash};
+use crate::text::{contains, is_bad, is_slash};
 
 /// Whether the text is a tag name.
 pub(crate) fn is_name(text: &[u8]) -> bool {
@@ -13,8 +13,8 @@ fn is_good_piece(piece: &[u8]) -> bool {
     !piece.is_empty()
         && piece.iter().all(|byte| !is_bad(*byte) && *byte != b'*')
         && !piece.starts_with(b".")
-        && !holds(piece, b"..")
-        && !holds(piece, b"@{")
+        && !contains(piece, b"..")
+        && !contains(piece, b"@{")
         && !piece.ends_with(b".lock")
 }
 

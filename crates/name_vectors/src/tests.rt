@@ -2,7 +2,6 @@
 
 mod exhaustive;
 mod printed;
-mod refused_memory;
 mod single;
 mod tables;
 
@@ -23,7 +22,7 @@ fn ask(rt: &impl Abort, alloc: Global, text: &[u8]) -> Result<(), AllocError> {
     ask_repairs(rt, alloc, text)
 }
 
-/// What the rules say twice, as a grammar and as faults, agrees; and no place has two faults.
+/// What the rules say both as a grammar and as faults agrees; and no place has two faults.
 fn ask_rules(rt: &impl Abort, text: &[u8]) {
     for (accepts, fault) in [
         (tag::is_name(text), tag::fault(text)),
@@ -35,7 +34,7 @@ fn ask_rules(rt: &impl Abort, text: &[u8]) {
     }
     for place in 0..text.len() {
         let faults = tag::faults_at(text, place);
-        let count = faults.iter().filter(|row| row.0).count();
+        let count = faults.iter().filter(|line| line.0).count();
         assert!(rt; count < 2, "{count} faults at {place} in {text:?}");
     }
 }
@@ -126,16 +125,12 @@ fn ask_repairs(rt: &impl Abort, alloc: Global, text: &[u8]) -> Result<(), AllocE
         if buffer.is_empty() {
             continue;
         }
-        let kept = text.len().max(1);
-        let rest = buffer.get(kept..).unwrap_or(b"").to_vec(alloc)?;
+        let end = text.len().max(1);
+        let rest = buffer.get(end..).unwrap_or(b"").to_vec(alloc)?;
         assert!(rt; text.len() <= buffer.len());
         let len = gix_validate::reference::sanitize_in_place(&mut buffer, text.len());
         assert_eq!(rt; buffer.get(..len), Some(want.as_slice()), "from {text:?}");
-        assert_eq!(rt;
-            buffer.get(kept..),
-            Some(rest.as_slice()),
-            "behind {text:?}"
-        );
+        assert_eq!(rt; buffer.get(end..), Some(rest.as_slice()), "behind {text:?}");
     }
     Ok(())
 }

@@ -1,4 +1,4 @@
-//! Tests of texts that the rules use (docs/RULES.md, "Bytes").
+//! What the rules ask of texts (docs/RULES.md, "Bytes").
 
 /// Whether the byte is a slash, which stands between two pieces.
 pub(crate) fn is_slash(byte: &u8) -> bool {
@@ -30,7 +30,7 @@ pub(crate) fn stands_at(text: &[u8], place: usize, word: &[u8]) -> bool {
 }
 
 /// Whether the word stands anywhere in the text.
-pub(crate) fn holds(text: &[u8], word: &[u8]) -> bool {
+pub(crate) fn contains(text: &[u8], word: &[u8]) -> bool {
     (0..text.len()).any(|place| stands_at(text, place, word))
 }
 

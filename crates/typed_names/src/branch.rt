@@ -16,7 +16,7 @@ use std::fmt;
 #[derive(Clone, Copy, Debug)]
 pub struct BranchName<'a> {
     name: BStr<'a>,
-    // The text is the full name of a branch.
+    /// The text is the full name of a branch.
     pub ghost valid: { IsTrue (is_branch_name (bstr_bytes name)) },
 }
 

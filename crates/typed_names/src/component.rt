@@ -15,13 +15,13 @@ use std::fmt;
 
 /// One name in a directory, as `src` and `a.rs` are (docs/RULES.md, "Path components").
 ///
-/// It is tested under the mode and the options that [`new`](Component::new) is handed. The type keeps
-/// what all of these share: the text is accepted with no switch and without a mode. That is what
-/// `gix_validate::path::join` asks of its parts.
+/// It is tested under the mode and the options that [`new`](Component::new) is handed. The type
+/// keeps what all of these share: the text is accepted with no switch and without a mode. That is
+/// what `gix_validate::path::join` asks of its parts.
 #[derive(Clone, Copy, Debug)]
 pub struct Component<'a> {
     name: BStr<'a>,
-    // The text is accepted with no switch and without a mode.
+    /// The text is accepted with no switch and without a mode.
     pub ghost valid: { fault_of no_protections None (bstr_bytes name) ≡ None },
 }
 
@@ -52,7 +52,8 @@ impl<'a> Component<'a> {
         })
     }
 
-    /// The text that [`new`](Component::new) took, which is accepted with no switch and without a mode.
+    /// The text that [`new`](Component::new) took, which is accepted with no switch and without a
+    /// mode.
     pub fn as_bstr(&self) -> BStr<'a>
         ensures same { result ≡ component_text self.now }
         ensures valid { fault_of no_protections None (bstr_bytes result) ≡ None }

@@ -17,7 +17,7 @@ use std::fmt;
 #[derive(Clone, Copy, Debug)]
 pub struct FullName<'a> {
     name: BStr<'a>,
-    // The text is a full name.
+    /// The text is a full name.
     pub ghost valid: { IsTrue (is_full_name (bstr_bytes name)) },
 }
 
@@ -53,7 +53,7 @@ impl<'a> FullName<'a> {
 }
 
 /// The name of a branch is a full name. The text stays.
-#[tactic(auto, using(crate::proofs::TagLemmas::branch_is_full))]
+#[tactic(auto, unfolding(gix_validate::specs::Reference::is_branch_name))]
 impl<'a> From<BranchName<'a>> for FullName<'a> {
     ghost use Rattle.typed_names.specs.Names.{full_text, branch_text};
 

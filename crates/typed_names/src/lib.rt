@@ -1,8 +1,8 @@
 //! Borrowed Git names whose rule is an invariant: tested once by `new`, and valid from then on.
 //!
 //! A value of one of these types keeps the text that its `new` took, for as long as the bytes of
-//! that text live. The rule accepts that text, so code that is handed a value needn't test it again.
-//! The values are copied freely, and the calls here take no memory.
+//! that text live. The rule accepts that text, so code that is handed a value needn't test it
+//! again. The values are copied freely, and the calls here take no memory.
 //!
 //! | Type | What it keeps | The rule |
 //! |---|---|---|
@@ -16,8 +16,8 @@
 //! Each name of a branch is a full name, each full name a partial name, and each partial name a tag
 //! name: `From` converts each into the next. [`Pieces`] gives the pieces of a tag name.
 //!
-//! Two names of one type are equal exactly where their bytes are. Each prints itself, and each is an
-//! `AsSlice<u8>`, the kit's word for Rust's `AsRef<[u8]>`. They have no order and no hash.
+//! Two names of one type are equal exactly where their bytes are. Each prints itself, and each is
+//! an `AsSlice<u8>`, the kit's word for Rust's `AsRef<[u8]>`. They have no order and no hash.
 //!
 //! ```
 //! let head = TagName::new(BStr::from("refs/heads/main"))?;

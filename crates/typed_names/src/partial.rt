@@ -17,7 +17,7 @@ use std::fmt;
 #[derive(Clone, Copy, Debug)]
 pub struct PartialName<'a> {
     name: BStr<'a>,
-    // The text is a partial name.
+    /// The text is a partial name.
     pub ghost valid: { IsTrue (is_partial_name (bstr_bytes name)) },
 }
 
@@ -53,7 +53,7 @@ impl<'a> PartialName<'a> {
 }
 
 /// A full name is a partial name. The text stays.
-#[tactic(auto, using(crate::proofs::TagLemmas::full_is_partial))]
+#[tactic(auto, unfolding(gix_validate::specs::Reference::is_full_name))]
 impl<'a> From<FullName<'a>> for PartialName<'a> {
     ghost use Rattle.typed_names.specs.Names.{partial_text, full_text};
 

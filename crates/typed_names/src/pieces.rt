@@ -14,7 +14,7 @@ use std::marker::Model;
 /// Contracts see it as the list of the pieces that are left.
 #[derive(Clone, Debug, Drop)]
 pub struct Pieces<'a> {
-    // The text whose pieces are left, until the last one is given.
+    /// The text whose pieces are left, until the last one is given.
     left: Option<BStr<'a>>,
 }
 

@@ -16,7 +16,7 @@ use std::fmt;
 #[derive(Clone, Copy, Debug)]
 pub struct SubmoduleName<'a> {
     name: BStr<'a>,
-    // The text is a submodule name.
+    /// The text is a submodule name.
     pub ghost valid: { IsTrue (is_submodule_name (bstr_bytes name)) },
 }
 

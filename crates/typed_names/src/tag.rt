@@ -20,7 +20,7 @@ use std::fmt;
 #[derive(Clone, Copy, Debug)]
 pub struct TagName<'a> {
     name: BStr<'a>,
-    // The text is a tag name.
+    /// The text is a tag name.
     pub ghost valid: { IsTrue (is_tag_name (bstr_bytes name)) },
 }
 
@@ -56,8 +56,8 @@ impl<'a> TagName<'a> {
 
     /// The pieces of the name, in order: what stands between its slashes.
     ///
-    /// They are parts of the text that [`new`](TagName::new) took, and live as long as its bytes.
-    /// A piece need not be a tag name itself: the first one of `a./b` is `a.`, which is not.
+    /// They are parts of the text that [`new`](TagName::new) took, and live as long as its bytes. A
+    /// piece need not be a tag name itself: the first one of `a./b` is `a.`, which is not.
     ///
     /// ```
     /// TagName::new(BStr::from("refs/heads/main"))?.pieces(); // `refs`, then `heads`, then `main`
@@ -72,7 +72,8 @@ impl<'a> TagName<'a> {
         Pieces::new(self.name)
     }
 
-    /// What follows the first slash, which is a tag name too; `None` exactly where there is no slash.
+    /// What follows the first slash, which is a tag name too; `None` exactly where there is no
+    /// slash.
     ///
     /// It is a part of the text that [`new`](TagName::new) took, and lives as long as its bytes.
     ///
@@ -92,7 +93,7 @@ impl<'a> TagName<'a> {
 }
 
 /// A partial name is a tag name. The text stays.
-#[tactic(auto, using(crate::proofs::TagLemmas::partial_is_tag))]
+#[tactic(auto, unfolding(gix_validate::specs::Reference::is_partial_name))]
 impl<'a> From<PartialName<'a>> for TagName<'a> {
     ghost use Rattle.typed_names.specs.Names.{partial_text, tag_text};
 

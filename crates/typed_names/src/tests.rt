@@ -17,7 +17,7 @@ use std::fmt::Display;
 use std::process::Abort;
 use std::test::Fail;
 
-// `ok`, or what the fault prints.
+/// `ok`, or what the fault prints.
 fn told<N: Drop, E: Display + Drop>(
     alloc: Global,
     answer: Result<N, E>,
@@ -28,28 +28,28 @@ fn told<N: Drop, E: Display + Drop>(
     }
 }
 
-// A tag name, by what `From` says of it.
+/// A tag name, by what `From` says of it.
 fn tag_of<'a>(partial: PartialName<'a>) -> TagName<'a>
     ensures { tag_text result ≡ partial_text partial.entry }
 {
     partial.into()
 }
 
-// A partial name, by what `From` says of it.
+/// A partial name, by what `From` says of it.
 fn partial_of<'a>(full: FullName<'a>) -> PartialName<'a>
     ensures { partial_text result ≡ full_text full.entry }
 {
     full.into()
 }
 
-// A full name, by what `From` says of it.
+/// A full name, by what `From` says of it.
 fn full_of<'a>(branch: BranchName<'a>) -> FullName<'a>
     ensures { full_text result ≡ branch_text branch.entry }
 {
     branch.into()
 }
 
-// A clone, where `Clone` says that there is one.
+/// A clone, where `Clone` says that there is one.
 fn twin<T: Clone>(value: &T) -> T
     requires { T.is_infallible value.now }
     ensures { T.is_clone value.now result }
@@ -99,7 +99,7 @@ fn pieces_twin<'a>(pieces: &Pieces<'a>) -> Pieces<'a>
     twin(pieces)
 }
 
-// The next piece, by what `Iterator` says of it.
+/// The next piece, by what `Iterator` says of it.
 fn next_of<'a>(pieces: &mut Pieces<'a>) -> Option<BStr<'a>>
     ensures { MatchOption result
         ((pieces.old ≡ []) × (pieces.new ≡ []))
@@ -108,7 +108,7 @@ fn next_of<'a>(pieces: &mut Pieces<'a>) -> Option<BStr<'a>>
     pieces.next()
 }
 
-// All pieces, of which there is an end.
+/// All pieces, of which there is an end.
 fn listed<'a>(alloc: Global, name: TagName<'a>) -> Result<Vec<BStr<'a>>, AllocError>
     ensures { IfOk result (λ list. map bstr_bytes list.items ≡ pieces_of (bstr_bytes (tag_text name.entry))) }
 {

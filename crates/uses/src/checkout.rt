@@ -14,13 +14,14 @@ use std::alloc::{AllocError, Global};
 use std::marker::Model;
 use typed_names::Component;
 
-/// Where a checkout is: the names of the folders that it went down, and of the file in the last of them.
+/// Where a checkout is: the names of the folders that it went down, and of the file in the last of
+/// them.
 ///
 /// Contracts see it as the list of these names.
 #[derive(Debug, Drop)]
 pub struct Place<'a> {
     names: Vec<BStr<'a>>,
-    // Each was a component.
+    /// Each was a component.
     ghost components: { All (λ name. fault_of no_protections None (bstr_bytes name) ≡ None) names.items },
 }
 

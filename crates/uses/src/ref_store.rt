@@ -48,6 +48,7 @@ impl<'a> RefStore<'a> {
     }
 
     /// The object that the name stands for, if the store has the name.
+    #[tactic(auto, using(crate::proofs::TargetLemmas::lookups))]
     pub fn get(&self, name: FullName<'_>) -> Option<ObjectId>
         ensures { result ≡ target_of self.now (full_bytes name.entry) }
     {
@@ -56,6 +57,7 @@ impl<'a> RefStore<'a> {
     }
 
     /// Lets the name stand for an object, and leaves every other name as it was.
+    #[tactic(auto, using(crate::proofs::TargetLemmas::writes))]
     pub fn set(&mut self, name: FullName<'a>, target: ObjectId) -> Result<(), AllocError>
         ensures this { OnOk result (target_of self.new (full_bytes name.entry) ≡ Some target) }
         ensures others { (x : List ℕ) → x ≢ full_bytes name.entry → target_of self.new x ≡ target_of self.old x }
@@ -68,7 +70,7 @@ impl<'a> RefStore<'a> {
         Ok(())
     }
 
-    // Where the first reference of this name is.
+    /// Where the first reference of this name is.
     fn place_of(&self, name: FullName<'_>) -> Option<usize>
         ensures { result ≡ position (is_named (full_bytes name.entry)) self.now }
     {

@@ -27,7 +27,8 @@ pub fn repair(name: &mut Vec<u8>) -> Result<(), AllocError>
     Ok(())
 }
 
-/// Repairs the name in the first `len` bytes of a buffer, and gives it as one that needs no more tests.
+/// Repairs the name in the first `len` bytes of a buffer, and gives it as one that needs no more
+/// tests.
 pub fn repaired<'b>(buffer: &'b mut [u8], len: usize) -> PartialName<'b>
     requires some { 1 ≤ length buffer.old }
     requires within { len ≤ length buffer.old }

@@ -22,8 +22,8 @@ pub enum SettingsError {
     Memory(#[from] AllocError),
 }
 
-/// The submodule whose settings a line begins, as `[submodule "vendor/package"]` does, or why its name is refused;
-/// `None` where the line doesn't begin the settings of a submodule.
+/// The submodule whose settings a line begins, as `[submodule "vendor/package"]` does, or why its
+/// name is refused; `None` where the line doesn't begin the settings of a submodule.
 pub fn submodule<'a>(line: &'a [u8]) -> Option<Result<SubmoduleName<'a>, NameError>>
     ensures none { IsNone result ↔ ((name : List ℕ) → line.now ≢ heading name) }
     ensures kept { IfSome result (λ answer. IfOk answer
@@ -35,7 +35,8 @@ pub fn submodule<'a>(line: &'a [u8]) -> Option<Result<SubmoduleName<'a>, NameErr
     Some(SubmoduleName::new(BStr::new(name)))
 }
 
-/// The submodules of a file of settings, in the order of their lines. The first refused name ends the reading.
+/// The submodules of a file of settings, in the order of their lines. The first refused name ends
+/// the reading.
 pub fn submodules<'a>(
     alloc: Global,
     text: &'a [u8],
@@ -52,7 +53,7 @@ pub fn submodules<'a>(
     Ok(names)
 }
 
-// What stands between the quotes of such a line.
+/// What stands between the quotes of such a line.
 fn quoted_name(line: &[u8]) -> Option<&[u8]>
     ensures { MatchOption result
         ((name : List ℕ) → line.now ≢ heading name)

@@ -1,5 +1,5 @@
-//! What the typed names share: equality, bytes and printed text, by callers that rest on what each type
-//! says of them, and on worked names.
+//! What the typed names share: equality, bytes and printed text, by callers that rest on what each
+//! type says of them, and on worked names.
 
 ghost use Rattle.std.specs.Prelude.{◌≡◌, ◌↔◌, IfOk, IsTrue, string_bytes, encode_utf8_all};
 ghost use Rattle.bstr.specs.Utf8.{lossy_chars};
@@ -14,7 +14,7 @@ use std::fmt::Display;
 use std::process::Abort;
 use std::test::Fail;
 
-// The bytes of a name, by what its type says that it gives as a slice.
+/// The bytes of a name, by what its type says that it gives as a slice.
 fn slice_of<T: AsSlice<u8>>(name: &T) -> &[u8]
     ensures { result.now ≡ T.items name.now }
 {

@@ -11,7 +11,8 @@ pub loop-line-preserved-in_ok-map_err : goal.loop-line-preserved-in_ok-map_err
 loop-line-preserved-in_ok-map_err c =
     let items : c.push.new.self.items ≡ c.loop-line.names.items ++ c.in_ok-answer.field-0 ∷ [] = search (rules, tests) in
     let heading_of : c.in-Some.line.now ≡ heading (submodule_bytes c.in_ok-answer.field-0) = search (rules, tests) in
-    rw (items, map-append submodule_bytes c.loop-line.names.items, map-append) (kept_one_more _ _ c.in-Some.line.now (submodule_bytes c.in_ok-answer.field-0) heading_of c.loop-line.invariant)
+    rw (items, map-append submodule_bytes c.loop-line.names.items, map-append)
+    (kept_one_more _ _ c.in-Some.line.now (submodule_bytes c.in_ok-answer.field-0) heading_of c.loop-line.invariant)
 
 pub loop-line-preserved : goal.loop-line-preserved
 loop-line-preserved c =
@@ -21,5 +22,7 @@ pub returns : goal.returns
 returns c =
     let split = c.split-line-items.ensures in
     let same = c.into_iter-line-iterator.ensures.into_iter_gives in
-    let end = YieldsList-end {s = c.into_iter-line-iterator.result} (YieldsList-from_slice_split _ (λ b. b == 10) c.args.text.now (rw same split.rest) (rw same split.done) (rw same split.closure) (λ x b q k. search (rules, tests))) c.loop-line.yielded _ c.loop-line.yielded_by _ _ c.in-None.is c.next.ensures.steps in
+    let text = c.args.text.now in
+    let all = YieldsList-from_slice_split _ (λ b. b == 10) text (rw same split.rest) (rw same split.done) (rw same split.closure) (search (rules, tests)) in
+    let end = YieldsList-end {s = c.into_iter-line-iterator.result} all c.loop-line.yielded _ c.loop-line.yielded_by _ _ c.in-None.is c.next.ensures.steps in
     subst (λ texts. Kept texts (map submodule_bytes c.loop-line.names.items)) end.0 c.loop-line.invariant

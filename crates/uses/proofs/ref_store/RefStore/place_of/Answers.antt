@@ -1,5 +1,4 @@
-use Rattle.std.proofs.Common.{◌≡◌, ◌∙◌, rules, tests}
-use Rattle.std.specs.List.{position}
+use Rattle.std.proofs.Common.{◌∙◌, rules, tests}
 use Rattle.std.proofs.lemmas.Iterator.{YieldsList-from_slice}
 use Rattle.std.proofs.lemmas.Iterator.Search.{position_from_yields_List}
 use Rattle.typed_names.specs.Names.{full_bytes}
@@ -10,5 +9,6 @@ use Rattle.uses.proofs.ref_store.RefStore.place_of.Goals as goal
 pub returns : goal.returns
 returns c =
     let x = full_bytes c.args.name in
-    let found : c.position.result ≡ position (λ r. is_named x (entry_of r)) c.deref.result.now = position_from_yields_List (λ r. is_named x (entry_of r)) _ _ c.position.result c.position.ensures.ran (YieldsList-from_slice _ c.iter.ensures.rest) (λ r b q k. search (rules, tests)) in
+    let refs = YieldsList-from_slice _ c.iter.ensures.rest in
+    let found = position_from_yields_List (λ r. is_named x (entry_of r)) _ _ c.position.result c.position.ensures.ran refs (search (rules, tests)) in
     rw (← c.self.view_is) (rw c.deref.ensures.value at (found ∙ position_in_entries x c.deref.result.now))

@@ -19,6 +19,7 @@ use Rattle.bstr.specs.BStr.{bstr_bytes}
 use Rattle.typed_names.specs.Names.{Keeps}
 use Rattle.check_names.specs.Lines.{line_end, lines, request_of, split_once}
 use Rattle.check_names.specs.Answers.{answer_of, answers, device_answer, kinds, unknown_kind, verdict}
+use Rattle.std.proofs.lemmas.Bool.Decides.{nat_tests}
 
 -- ---- one line
 
@@ -63,23 +64,13 @@ asked_sanitize line name is = ap answer_of is
 -- a line that begins with what has a space asks for something
 pub asks_something : (line front name : List ℕ) → line ≡ front ++ name → list_any (λ b. b == byte " ") front ≡ true → request_of line ≢ None
 unfolding split_once
-asks_something line front name is spaced none =
-    let here : list_any (λ b. b == byte " ") line ≡ true =
-    ap (list_any (λ b. b == byte " ")) is ∙ list_any-append (λ b. b == byte " ") front name
-    ∙ ap (λ some. some || list_any (λ b. b == byte " ") name) spaced in
-    let some : is_some (request_of line) ≡ true = rw here refl in
-    false≢true (sym (ap is_some none) ∙ some)
+asks_something line front name is spaced none = grind (arith, nat_tests, list_any-append, false≢true)
 
 -- a line with a space is what stands before the first one, the space, and what follows it
 kind-and-name-cons : (b : ℕ) (line : List ℕ) (here : Bool) → (b == byte " ") ≡ here → (here || list_any (λ b. b == byte " ") line) ≡ true
     → (list_any (λ b. b == byte " ") line ≡ true → line ≡ before_first (λ b. b == byte " ") line ++ byte " " ∷ after_first (λ b. b == byte " ") line)
     → b ∷ line ≡ before_first (λ b. b == byte " ") (b ∷ line) ++ byte " " ∷ after_first (λ b. b == byte " ") (b ∷ line)
-kind-and-name-cons b line true e spaced more = rw e (ap (λ c. c ∷ line) (eqb-true b (byte " ") e))
-kind-and-name-cons b line false e spaced more =
-    let n = prefix_len (λ b. not (b == byte " ")) line in
-    let next : 1 + n ≡ suc n = omega arith in
-    let after : suc n + 1 ≡ suc (n + 1) = omega arith in
-    rw (e, next, after) (ap (λ rest. b ∷ rest) (more spaced))
+kind-and-name-cons b line here hh1 hh2 hh3 = grind (arith, nat_tests, eqb-true)
 
 kind-and-name : (line : List ℕ) → list_any (λ b. b == byte " ") line ≡ true
     → line ≡ before_first (λ b. b == byte " ") line ++ byte " " ∷ after_first (λ b. b == byte " ") line
@@ -118,14 +109,12 @@ asked_otherwise line n1 n2 n3 n4 n5 n6 n7 n8 n9 = elim (cases_Bool (list_any (λ
 ]
 
 -- what was answered by a rule of faults, whatever else it says of a name that passed, printed as a verdict
-verdict-of : {Name E : Type 0} (Also : Name → Type 0) (fault : List ℕ → Option E) (text_of : E → List ℕ) (name : List ℕ) (result : Result Name E) (old new : List ℕ)
+verdict-of : {Name E : Type 0} (Also : Name → Type 0) (fault : List ℕ → Option E) (text_of : E
+    → List ℕ) (name : List ℕ) (result : Result Name E) (old new : List ℕ)
     → MatchResult result (λ passed. (fault name ≡ None) × Also passed) (λ e. fault name ≡ Some e)
     → MatchResult result (λ _. new ≡ old ++ codes "ok") (λ e. new ≡ old ++ codes "error: " ++ text_of e)
     → new ≡ old ++ verdict (fault name) text_of
-verdict-of Also fault text_of name (Ok passed) old new says printed =
-    printed ∙ ap (λ found. old ++ verdict found text_of) (sym says.0)
-verdict-of Also fault text_of name (Err e) old new says printed =
-    printed ∙ append_assoc old (codes "error: ") (text_of e) ∙ ap (λ found. old ++ verdict found text_of) (sym says)
+verdict-of Also fault text_of name result old new hh1 hh2 = grind (arith, nat_tests, append_assoc)
 
 -- what a validator answered, printed as a verdict, is the answer where its rule is asked
 pub verdict-of_validator : {E : Type 0} (fault : List ℕ → Option E) (text_of : E → List ℕ) (name : List ℕ) (result : Result BStr E) (old new : List ℕ)
@@ -135,7 +124,8 @@ pub verdict-of_validator : {E : Type 0} (fault : List ℕ → Option E) (text_of
 verdict-of_validator fault text_of name = verdict-of (λ passed. bstr_bytes passed ≡ name) fault text_of name
 
 -- the same of a validator whose answer is kept as a typed name
-pub verdict-of_kept : {Name E : Type 0} (kept : Name → BStr) (fault : List ℕ → Option E) (text_of : E → List ℕ) (text : BStr) (result : Result Name E) (old new : List ℕ)
+pub verdict-of_kept : {Name E : Type 0} (kept : Name → BStr) (fault : List ℕ → Option E) (text_of : E
+    → List ℕ) (text : BStr) (result : Result Name E) (old new : List ℕ)
     → Keeps kept fault text result
     → MatchResult result (λ _. new ≡ old ++ codes "ok") (λ e. new ≡ old ++ codes "error: " ++ text_of e)
     → new ≡ old ++ verdict (fault (bstr_bytes text)) text_of
@@ -154,12 +144,8 @@ answers-first text line rest first = rw first
 -- one line's answer moves from what is left to what is written
 pub answers-more : (written answer rest after all answered now : List ℕ) → answered ≡ written ++ answer → now ≡ answered ++ line_end ∷ []
     → rest ≡ (answer ++ line_end ∷ []) ++ after → written ++ rest ≡ all → now ++ after ≡ all
-answers-more written answer rest after all answered now one ended first whole =
-    ap (λ front. front ++ after) (ended ∙ ap (λ front. front ++ line_end ∷ []) one)
-    ∙ append_assoc (written ++ answer) (line_end ∷ []) after ∙ append_assoc written answer (line_end ∷ after)
-    ∙ ap (λ back. written ++ back) (sym (first ∙ append_assoc answer (line_end ∷ []) after)) ∙ whole
+answers-more written answer rest after all answered now one ended first whole = grind (arith, nat_tests, append_assoc)
 
 -- nothing is left
 pub answers-done : (written rest text : List ℕ) → rest ≡ [] → written ++ answers rest ≡ answers text → written ≡ answers text
-answers-done written rest text none whole =
-    sym (append-nil written) ∙ ap (λ back. written ++ back) (sym answers_nil ∙ ap answers (sym none)) ∙ whole
+answers-done written rest text none whole = grind (arith, nat_tests, append-nil, answers_nil)

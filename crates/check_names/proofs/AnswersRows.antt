@@ -105,7 +105,8 @@ empty_line : answer_of [] ≡ codes "unknown kind"
 unfolding kinds answer_of split_once
 empty_line = refl
 
-stored_run : answers (codes "tag v1.2.3\ntag a b\ntag refs/heads/") ≡ codes "ok\nerror: A ref must not contain invalid bytes or ascii control characters: \" \"\nerror: A ref must not end with a '/'\n"
+stored_run : answers (codes "tag v1.2.3\ntag a b\ntag refs/heads/")
+    ≡ codes "ok\nerror: A ref must not contain invalid bytes or ascii control characters: \" \"\nerror: A ref must not end with a '/'\n"
 unfolding kinds answers lines answer_of split_once fault_of faults_at faults_between at_first_place is_bad
 stored_run = refl
 

@@ -7,6 +7,7 @@ use Rattle.std.proofs.lemmas.List.Elements.{All-from_get_or}
 use Rattle.std.proofs.lemmas.List.Splits.{slice_split_first, slice_split_none, length-slice_split}
 use Rattle.memchr.specs.Find.{is_byte, IsFirstByte}
 use Rattle.check_names.specs.Lines.{line_end, less_empty_last, lines}
+use Rattle.std.proofs.lemmas.Bool.Decides.{nat_tests}
 
 -- ---- what a search for a byte says
 
@@ -22,15 +23,15 @@ module _ (sep : ℕ) (text : List ℕ) where
 
 -- a part before others stays
 less_empty_last-cons : (part : List ℕ) (parts : List (List ℕ)) → 0 < length parts → less_empty_last (part ∷ parts) ≡ part ∷ less_empty_last parts
-less_empty_last-cons part [] some = absurd (omega arith)
-less_empty_last-cons part (next ∷ more) some = refl
+less_empty_last-cons part parts hh1 = grind (arith, nat_tests)
 
 -- the first line ends at the first line end
 pub lines-cut : (text : List ℕ) (k : ℕ) → IsFirstByte (is_byte line_end) text (Some k) → lines text ≡ take k text ∷ lines (drop (k + 1) text)
 unfolding lines
 lines-cut text k (first, here) =
     let at : position_or_len (λ b. b == line_end) text ≡ k = place_of_first line_end text k (first, here) in
-    let cut : slice_split (λ b. b == line_end) text ≡ before_first (λ b. b == line_end) text ∷ slice_split (λ b. b == line_end) (after_first (λ b. b == line_end) text) =
+    let cut : slice_split (λ b. b == line_end) text
+    ≡ before_first (λ b. b == line_end) text ∷ slice_split (λ b. b == line_end) (after_first (λ b. b == line_end) text) =
     slice_split_first (λ b. b == line_end) text 0 (rw at first.high) in
     let parts = slice_split (λ b. b == line_end) (drop (k + 1) text) in
     let some : 0 < length parts = omega (arith, length-slice_split (λ b. b == line_end) (drop (k + 1) text)) in

@@ -24,7 +24,8 @@ const UNKNOWN_KIND: &[u8] = b"unknown kind";
 /// Why a run stopped before its end.
 #[derive(Debug, Drop)]
 pub enum RunError {
-    /// Reading to the end failed, or there was no memory for the bytes that were read. Nothing was written.
+    /// Reading to the end failed, or there was no memory for the bytes that were read. Nothing was
+    /// written.
     Read,
     /// There was no memory for the answers. Nothing was written.
     Memory,
@@ -48,23 +49,25 @@ impl Display for RunError {
 
 impl Error for RunError {}
 
-/// Reads all of `input`, answers each of its lines by one line, writes the answers to `output` by one
-/// call, and flushes it once (`docs/RULES.md`, "The program's lines").
+/// Reads all of `input`, answers each of its lines by one line, writes the answers to `output` by
+/// one call, and flushes it once (`docs/RULES.md`, "The program's lines").
 ///
-/// A line is a kind, a space and a name, as `tag v1.0`, which is answered by `ok`. Where there is no
-/// line, nothing is written and nothing is flushed.
+/// A line is a kind, a space and a name, as `tag v1.0`, which is answered by `ok`. Where there is
+/// no line, nothing is written and nothing is flushed.
 ///
 /// The whole input and all answers are held in memory, of `alloc`.
 ///
-/// Clauses that speak of bytes hold for readers and writers whose bytes std's contracts know. These are the
-/// readers `&[u8]`, `Cursor`, `VecDeque<u8>` and `Empty`, the writers `Vec<u8>` and `VecDeque<u8>`, and over
-/// them `&mut`, `Box`, `Take`, `Chain` and the buffers of `BufReader`, `BufWriter` and `LineWriter`. They are
-/// not a terminal, a file, a pipe, a socket, `&mut [u8]` as a writer or the writers of `Cursor`. `ok` depends
-/// on both sides; `end`, `spent` and `empty` on the reader alone; `read` and `memory` on neither.
+/// Clauses that speak of bytes hold for readers and writers whose bytes std's contracts know. These
+/// are the readers `&[u8]`, `Cursor`, `VecDeque<u8>` and `Empty`, the writers `Vec<u8>` and
+/// `VecDeque<u8>`, and over them `&mut`, `Box`, `Take`, `Chain` and the buffers of `BufReader`,
+/// `BufWriter` and `LineWriter`. They are not a terminal, a file, a pipe, a socket, `&mut [u8]` as
+/// a writer or the writers of `Cursor`. `ok` depends on both sides; `end`, `spent` and `empty` on
+/// the reader alone; `read` and `memory` on neither.
 ///
 /// # Errors
 ///
-/// [`RunError`] says which of the three steps failed. Only a failed `Write` can leave anything written.
+/// [`RunError`] says which of the three steps failed. Only a failed `Write` can leave anything
+/// written.
 pub fn run<R: Read, W: Write>(alloc: Global, input: &mut R, output: &mut W) -> Result<(), RunError>
     ensures ok { OnOk result (IfSome (R.remaining input.old)
         (λ text. Appends (W.contents output.old) (W.contents output.new) (answers text))) }
@@ -79,8 +82,8 @@ pub fn run<R: Read, W: Write>(alloc: Global, input: &mut R, output: &mut W) -> R
     run_in(&alloc, alloc, input, output)
 }
 
-// `run`, which holds the input and the answers in the memory of any allocator; each repaired name is of
-// `global`.
+/// `run`, which holds the input and the answers in the memory of any allocator; each repaired name
+/// is of `global`.
 fn run_in<A: Allocator, R: Read, W: Write>(
     alloc: &A,
     global: Global,
@@ -102,7 +105,7 @@ fn run_in<A: Allocator, R: Read, W: Write>(
     write_once(&answers, output).map_err(|_| RunError::Write)
 }
 
-// All that the reader has left.
+/// All that the reader has left.
 fn read_all<A: Allocator, R: Read>(alloc: A, input: &mut R) -> io::Result<Vec<u8, A>>
     ensures bytes { IfOk result (λ text. IfSome (R.remaining input.old) (λ bytes. text.items ≡ bytes)) }
     ensures end { OnOk result (IsAtEnd (R.remaining input.new)) }
@@ -113,7 +116,7 @@ fn read_all<A: Allocator, R: Read>(alloc: A, input: &mut R) -> io::Result<Vec<u8
     Ok(text)
 }
 
-// Writes the bytes and flushes, unless there are none.
+/// Writes the bytes and flushes, unless there are none.
 fn write_once<W: Write>(bytes: &[u8], output: &mut W) -> io::Result<()>
     ensures ok { OnOk result (Appends (W.contents output.old) (W.contents output.new) bytes.now) }
     ensures none { bytes.now ≡ [] → IsOk result × (output.new ≡ output.old) }
@@ -125,7 +128,7 @@ fn write_once<W: Write>(bytes: &[u8], output: &mut W) -> io::Result<()>
     output.flush()
 }
 
-// The answers to the lines of a text. No memory is asked for where there is no line.
+/// The answers to the lines of a text. No memory is asked for where there is no line.
 fn answer_all<A: Allocator>(alloc: A, global: Global, text: &[u8]) -> Result<Vec<u8, A>, AllocError>
     ensures ok { IfOk result (λ written. written.items ≡ answers text.now) }
     ensures err { OnErr result (text.now ≢ []) }
@@ -140,7 +143,7 @@ fn answer_all<A: Allocator>(alloc: A, global: Global, text: &[u8]) -> Result<Vec
     Ok(answers)
 }
 
-// The first line of a text, without its end, and what follows it.
+/// The first line of a text, without its end, and what follows it.
 fn first_line(text: &[u8]) -> Option<(&[u8], &[u8])>
     ensures lines { MatchOption result (text.now ≡ [])
         (λ parts. lines text.now ≡ parts.0.now ∷ lines parts.1.now) }
@@ -155,7 +158,8 @@ fn first_line(text: &[u8]) -> Option<(&[u8], &[u8])>
     }
 }
 
-// Appends the answer to one line. A kind costs a comparison for each kind before it, and full reference names come first.
+/// Appends the answer to one line. A kind costs a comparison for each kind before it, and full
+/// reference names come first.
 fn push_answer<A: Allocator>(
     global: Global,
     line: &[u8],
@@ -188,7 +192,7 @@ fn push_answer<A: Allocator>(
     }
 }
 
-// The name of a line that begins with this kind and its space.
+/// The name of a line that begins with this kind and its space.
 fn name_behind<'a>(kind_and_space: &[u8], line: &'a [u8]) -> Option<BStr<'a>>
     ensures { MatchOption result
         ((name : List ℕ) → line.now ≢ kind_and_space.now ++ name)
@@ -198,7 +202,7 @@ fn name_behind<'a>(kind_and_space: &[u8], line: &'a [u8]) -> Option<BStr<'a>>
     Some(BStr::new(name))
 }
 
-// Appends whether the name may be a path component of this mode, under the default options.
+/// Appends whether the name may be a path component of this mode, under the default options.
 fn push_component<A: Allocator>(
     name: BStr<'_>,
     mode: Option<ComponentMode>,
@@ -215,7 +219,7 @@ fn push_component<A: Allocator>(
     )
 }
 
-// Appends whether the name is a device on Windows.
+/// Appends whether the name is a device on Windows.
 fn push_device<A: Allocator>(name: BStr<'_>, answers: &mut Vec<u8, A>) -> Result<(), AllocError>
     ensures { OnOk result (answers.new.items
         ≡ answers.old.items ++ device_answer (bstr_bytes name.entry)) }
@@ -227,7 +231,7 @@ fn push_device<A: Allocator>(name: BStr<'_>, answers: &mut Vec<u8, A>) -> Result
     }
 }
 
-// Appends the name, repaired to a partial name. The copy of it is given back.
+/// Appends the name, repaired to a partial name. The copy of it is given back.
 fn push_sanitized<A: Allocator>(
     global: Global,
     name: BStr<'_>,
@@ -240,7 +244,7 @@ fn push_sanitized<A: Allocator>(
     answers.extend_from_slice(repaired.as_slice())
 }
 
-// Appends what a validator says: `ok`, or the fault.
+/// Appends what a validator says: `ok`, or the fault.
 fn push_verdict<T: Drop, E: Display + Drop, A: Allocator>(
     verdict: Result<T, E>,
     answers: &mut Vec<u8, A>,
@@ -258,7 +262,7 @@ fn push_verdict<T: Drop, E: Display + Drop, A: Allocator>(
     }
 }
 
-// Appends a fault: that there is one, and its text.
+/// Appends a fault: that there is one, and its text.
 fn push_fault<E: Display + Drop, A: Allocator>(
     fault: E,
     answers: &mut Vec<u8, A>,
@@ -269,7 +273,7 @@ fn push_fault<E: Display + Drop, A: Allocator>(
     write!(Appender { answers }, "error: {fault}").map_err(|_| AllocError)
 }
 
-// The answers, as a target of writes. A write fails where there is no memory for its text.
+/// The answers, as a target of writes. A write fails where there is no memory for its text.
 #[derive(Drop)]
 struct Appender<'a, A: Allocator> {
     answers: &'a mut Vec<u8, A>,

@@ -1,6 +1,7 @@
 -- The objects that `git cat-file --batch` prints, and the entries of a tree, as Git's documentation has them.
 -- Texts are lists of bytes.
-use Rattle.std.specs.Prelude.{ℕ, ◌+◌, ◌-◌, ◌*◌, ◌/◌, ◌%◌, ◌^◌, Bool, true, false, ◌==◌, ◌&&◌, ◌||◌, not, nat_lt, nat_le, if◌then◌else◌, List, [], ◌∷◌, length, take, drop, codes, Option, Some, None, Result, Ok, Err, option_map, option_and_then}
+use Rattle.std.specs.Prelude.{ℕ, ◌+◌, ◌-◌, ◌*◌, ◌/◌, ◌%◌, ◌^◌, Bool, true, false, ◌==◌, ◌&&◌, ◌||◌, not, nat_lt, nat_le, if◌then◌else◌, List, [], ◌∷◌}
+use Rattle.std.specs.Prelude.{length, take, drop, codes, Option, Some, None, Result, Ok, Err, option_map, option_and_then}
 use Rattle.std.specs.List.{list_all}
 use Rattle.std.specs.Str.{byte, bytes_eq}
 use Rattle.gix_validate.specs.declared.path.ComponentMode.{ComponentMode}
@@ -57,9 +58,9 @@ is_id text = (length text == 40 || length text == 64) && list_all is_hex_digit t
 -- ---- the header line of an object
 
 -- what a header line says: that the object is missing, or the object's id, whether it is a tree, and how many bytes it has
-pub data Said : Type 0 where
-  Missing : Said
-  Object : (id : List ℕ) → (is_tree : Bool) → (size : ℕ) → Said
+pub data ParsedHeader : Type 0 where
+  Missing : ParsedHeader
+  Object : (id : List ℕ) → (is_tree : Bool) → (size : ℕ) → ParsedHeader
 
 -- whether a type is that of trees; `None` where it is not a type
 abbrev pub is_tree_type : List ℕ → Option Bool
@@ -69,15 +70,15 @@ is_tree_type text =
     None
 
 -- what follows an id and a space: a type, a space and a size
-abbrev pub sized : List ℕ → List ℕ → Option Said
+abbrev pub sized : List ℕ → List ℕ → Option ParsedHeader
 sized id rest =
     option_and_then (λ (parts : List ℕ × List ℕ). option_and_then (λ is_tree. option_map (λ size. Object id is_tree size) (number_of 10 parts.1))
     (is_tree_type parts.0))
     (split_once (byte " ") rest)
 
 -- what a header line says, without its end: `ID missing`, or `ID TYPE SIZE`
-unfoldable pub said_by : List ℕ → Option Said
-said_by line =
+unfoldable pub parsed_header : List ℕ → Option ParsedHeader
+parsed_header line =
     option_and_then (λ (parts : List ℕ × List ℕ).
     if not (is_id parts.0) then None else
     if bytes_eq parts.1 (codes "missing") then Some Missing else
@@ -91,28 +92,28 @@ abbrev pub kind_of : ℕ → Option ComponentMode
 kind_of number = when (number / 4096 % 16 == 10) Symlink
 
 -- the mode of an entry, what it means for the name, and the name
-pub record Named : Type 0 where
+pub record ParsedEntry : Type 0 where
   pub mode : List ℕ
   pub kind : Option ComponentMode
   pub name : List ℕ
 
 -- what stands before the NUL of an entry: a mode in octal digits, a space and a name
-unfoldable pub named_by : List ℕ → Option Named
-named_by front =
+unfoldable pub parsed_entry : List ℕ → Option ParsedEntry
+parsed_entry front =
     option_and_then (λ (parts : List ℕ × List ℕ). option_map (λ number. record { mode = parts.0; kind = kind_of number; name = parts.1 }) (number_of 8 parts.0))
     (split_once (byte " ") front)
 
 -- an entry of these bytes, whose id has `width` bytes and begins behind so many; `short` is what it means that the bytes end before
-abbrev pub entry_at : Fault → ℕ → List ℕ → ℕ → Option Named → Result (Named × List ℕ) Fault
+abbrev pub entry_at : Fault → ℕ → List ℕ → ℕ → Option ParsedEntry → Result (ParsedEntry × List ℕ) Fault
 entry_at short width bytes start None = Err Entry
 entry_at short width bytes start (Some named) =
     if nat_lt (length bytes) (start + width) then Err short else Ok (named, drop (start + width) bytes)
 
 -- the same, where it is known what stands before the NUL, if there is one within the limit
-abbrev pub entry_with : Fault → ℕ → List ℕ → Option (List ℕ × List ℕ) → Result (Named × List ℕ) Fault
+abbrev pub entry_with : Fault → ℕ → List ℕ → Option (List ℕ × List ℕ) → Result (ParsedEntry × List ℕ) Fault
 entry_with short width bytes None = Err (if nat_lt (length bytes) longest then short else TooLong)
-entry_with short width bytes (Some parts) = entry_at short width bytes (length parts.0 + 1) (named_by parts.0)
+entry_with short width bytes (Some parts) = entry_at short width bytes (length parts.0 + 1) (parsed_entry parts.0)
 
 -- The entry at the front of what is left of a tree, and what follows it, or what is wrong with it.
-unfoldable pub entry_of : Fault → ℕ → List ℕ → Result (Named × List ℕ) Fault
+unfoldable pub entry_of : Fault → ℕ → List ℕ → Result (ParsedEntry × List ℕ) Fault
 entry_of short width bytes = entry_with short width bytes (split_once nul (take longest bytes))

@@ -1,5 +1,6 @@
 -- What is reported of a stream of objects: a line for each entry of a tree whose name is refused, and what is malformed.
-use Rattle.std.specs.Prelude.{ℕ, zero, suc, ◌+◌, ◌/◌, Bool, true, false, nat_lt, ◌==◌, if◌then◌else◌, List, [], ◌∷◌, ◌++◌, length, take, drop, codes, Option, Some, None, Result, Ok, Err}
+use Rattle.std.specs.Prelude.{ℕ, zero, suc, ◌+◌, ◌/◌, Bool, true, false, nat_lt, ◌==◌, if◌then◌else◌, List, [], ◌∷◌, ◌++◌, length, take, drop, codes}
+use Rattle.std.specs.Prelude.{Option, Some, None, Result, Ok, Err}
 use Rattle.gix_validate.specs.declared.path.ComponentOptions.{ComponentOptions}
 use Rattle.gix_validate.specs.declared.path.ComponentError.{ComponentError}
 use Rattle.gix_validate.specs.Bytes.{is_empty}
@@ -9,7 +10,7 @@ use Rattle.check_trees.specs.declared.engine.Fault.{Fault}
 use Rattle.check_trees.specs.declared.engine.Fault.TheVariants.{Header, TooLong, Ended, Entry, LineEnd}
 use Rattle.check_trees.specs.declared.engine.Verdict.{Verdict}
 use Rattle.check_trees.specs.declared.engine.Verdict.TheVariants.{Clean, Refused, Malformed}
-use Rattle.check_trees.specs.Objects.{line_end, longest, split_once, Said, Missing, Object, said_by, Named, entry_of}
+use Rattle.check_trees.specs.Objects.{line_end, longest, split_once, ParsedHeader, Missing, Object, parsed_header, ParsedEntry, entry_of}
 
 -- ---- one line
 
@@ -24,7 +25,7 @@ line_if id mode name None = []
 line_if id mode name (Some fault) = refused_line id mode name fault
 
 -- what is printed of an entry: a line where its name is refused
-abbrev pub line_of : ComponentOptions → List ℕ → Named → List ℕ
+abbrev pub line_of : ComponentOptions → List ℕ → ParsedEntry → List ℕ
 line_of options id entry = line_if id entry.mode entry.name (fault_of options entry.kind entry.name)
 
 -- ---- a tree
@@ -38,7 +39,7 @@ abbrev pub before_lines : List ℕ → Lines → Lines
 before_lines lines more = (lines ++ more.0, more.1)
 
 -- The entries of a tree, one after the other until its bytes are used up. (`fuel` is at least their number.)
-abbrev pub entries_then : (List ℕ → Lines) → ComponentOptions → List ℕ → Result (Named × List ℕ) Fault → Lines
+abbrev pub entries_then : (List ℕ → Lines) → ComponentOptions → List ℕ → Result (ParsedEntry × List ℕ) Fault → Lines
 entries_then more options id (Err fault) = ([], Some fault)
 entries_then more options id (Ok entry) = before_lines (line_of options id entry.0) (more entry.1)
 
@@ -55,8 +56,8 @@ entries options short id bytes = entries_within (length bytes) options short id 
 -- ---- an object
 
 -- the lines of an object, and what follows it, or what is wrong with it
-abbrev pub Told : Type 0
-Told = List ℕ × Result (List ℕ) Fault
+abbrev pub ObjectReport : Type 0
+ObjectReport = List ℕ × Result (List ℕ) Fault
 
 -- the line end behind an object
 abbrev pub closed_by : List ℕ → Result (List ℕ) Fault
@@ -64,7 +65,7 @@ closed_by [] = Err Ended
 closed_by (b ∷ text) = if b == line_end then Ok text else Err LineEnd
 
 -- the lines of an object's bytes, and then its end
-abbrev pub closed : Lines → List ℕ → Told
+abbrev pub closed : Lines → List ℕ → ObjectReport
 closed (lines, Some fault) text = (lines, Err fault)
 closed (lines, None) text = (lines, closed_by text)
 
@@ -73,20 +74,20 @@ abbrev pub short_of : ℕ → List ℕ → Fault
 short_of size text = if nat_lt (length text) size then Ended else Entry
 
 -- what follows a header line
-abbrev pub told_of : ComponentOptions → Option Said → List ℕ → Told
-told_of options None text = ([], Err Header)
-told_of options (Some Missing) text = ([], Ok text)
-told_of options (Some (Object id false size)) text = closed ([], None) (drop size text)
-told_of options (Some (Object id true size)) text =
+abbrev pub object_report : ComponentOptions → Option ParsedHeader → List ℕ → ObjectReport
+object_report options None text = ([], Err Header)
+object_report options (Some Missing) text = ([], Ok text)
+object_report options (Some (Object id false size)) text = closed ([], None) (drop size text)
+object_report options (Some (Object id true size)) text =
     closed (entries options (short_of size text) id (take size text)) (drop size text)
 
 -- an object, where it is known what stands before the line end, if there is one within the limit
-abbrev pub object_with : ComponentOptions → List ℕ → Option (List ℕ × List ℕ) → Told
+abbrev pub object_with : ComponentOptions → List ℕ → Option (List ℕ × List ℕ) → ObjectReport
 object_with options text None = ([], Err (if nat_lt (length text) longest then Ended else TooLong))
-object_with options text (Some parts) = told_of options (said_by parts.0) (drop (length parts.0 + 1) text)
+object_with options text (Some parts) = object_report options (parsed_header parts.0) (drop (length parts.0 + 1) text)
 
 -- the object at the front of a text
-unfoldable pub object_of : ComponentOptions → List ℕ → Told
+unfoldable pub object_of : ComponentOptions → List ℕ → ObjectReport
 object_of options text = object_with options text (split_once line_end (take longest text))
 
 -- ---- a whole input
@@ -100,7 +101,7 @@ abbrev pub before_report : List ℕ → Report → Report
 before_report lines report = record { lines = lines ++ report.lines; malformed = report.malformed }
 
 -- an object of this number, and what follows it
-abbrev pub objects_then : (List ℕ → Report) → ℕ → Told → Report
+abbrev pub objects_then : (List ℕ → Report) → ℕ → ObjectReport → Report
 objects_then more number (lines, Err fault) = record { lines = lines; malformed = Some (number, fault) }
 objects_then more number (lines, Ok text) = before_report lines (more text)
 

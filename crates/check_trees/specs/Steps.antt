@@ -1,5 +1,6 @@
 -- What the private functions promise of one step, where the reader's and the writer's bytes are known.
-use Rattle.std.specs.Prelude.{◌≡◌, ◌≢◌, ℕ, ◌-◌, ◌/◌, ◌<◌, ◌≤◌, nat_lt, Bool, true, false, not, List, [], ◌∷◌, ◌++◌, All, length, take, drop, Option, Some, None, Result, Ok, Err, OnSome, ⊤}
+use Rattle.std.specs.Prelude.{◌≡◌, ◌≢◌, ℕ, ◌-◌, ◌/◌, ◌<◌, ◌≤◌, nat_lt, Bool, true, false, not, List, [], ◌∷◌, ◌++◌, All, length, take, drop, Option}
+use Rattle.std.specs.Prelude.{Some, None, Result, Ok, Err, OnSome, ⊤}
 use Rattle.std.specs.Io.{StartsWith}
 use Rattle.std.specs.Io.KnownBytes.{Appends, Consumes, IsAtEnd}
 use Rattle.gix_validate.specs.Bytes.{is_empty}
@@ -13,13 +14,13 @@ use Rattle.check_trees.specs.declared.engine.Fault.TheVariants.{Ended}
 use Rattle.check_trees.specs.declared.engine.Checked.{Checked}
 use Rattle.check_trees.specs.declared.header.Header.{Header}
 use Rattle.check_trees.specs.declared.header.Header.TheVariants as header
-use Rattle.check_trees.specs.Objects.{Said, Missing, Object, Named, entry_of}
-use Rattle.check_trees.specs.Report.{Told, Lines, line_of, entries, short_of, closed_by}
+use Rattle.check_trees.specs.Objects.{ParsedHeader, Missing, Object, ParsedEntry, entry_of}
+use Rattle.check_trees.specs.Report.{ObjectReport, Lines, line_of, entries, short_of, closed_by}
 
 -- a header line as the code has it
-abbrev pub said : Header → Said
-said header.Missing = Missing
-said (header.Object id is_tree size) = Object id.now is_tree size
+abbrev pub as_parsed : Header → ParsedHeader
+as_parsed header.Missing = Missing
+as_parsed (header.Object id is_tree size) = Object id.now is_tree size
 
 -- what was read for a byte: what stands before it, and it alone where it was found
 abbrev pub taken : ℕ → Found → List ℕ → List ℕ
@@ -59,11 +60,11 @@ abbrev pub Begins : Option (List ℕ) → Option (List ℕ) → List ℕ → Typ
 Begins old new bytes = (front : List ℕ) × Appends old new front × StartsWith bytes front
 
 -- what a step found, and left, is what the rule says of it
-abbrev pub Gives : Told → Option (List ℕ) → Option (List ℕ) → Option (List ℕ) → Result (Result Bool Fault) RunError → Type 0
-Gives told left old new (Ok (Ok refused)) =
-    Appends old new told.0 × (refused ≡ not (is_empty told.0)) × ((text : List ℕ) × (left ≡ Some text) × (told.1 ≡ Ok text))
-Gives told left old new (Ok (Err fault)) = Appends old new told.0 × (told.1 ≡ Err fault)
-Gives told left old new (Err stop) = Begins old new told.0
+abbrev pub Gives : ObjectReport → Option (List ℕ) → Option (List ℕ) → Option (List ℕ) → Result (Result Bool Fault) RunError → Type 0
+Gives wanted left old new (Ok (Ok refused)) =
+    Appends old new wanted.0 × (refused ≡ not (is_empty wanted.0)) × ((text : List ℕ) × (left ≡ Some text) × (wanted.1 ≡ Ok text))
+Gives wanted left old new (Ok (Err fault)) = Appends old new wanted.0 × (wanted.1 ≡ Err fault)
+Gives wanted left old new (Err stop) = Begins old new wanted.0
 
 -- a name's line, or none, was appended
 abbrev pub NameGives : List ℕ → Option (List ℕ) → Option (List ℕ) → Result Bool RunError → Type 0
@@ -77,19 +78,19 @@ abbrev pub or_cut : Bool → Lines → Lines
 or_cut cut (lines, Some fault) = (lines, Some fault)
 or_cut cut (lines, None) = (lines, when cut Ended)
 
-abbrev pub told_lines : Lines → List ℕ → Told
-told_lines (lines, Some fault) text = (lines, Err fault)
-told_lines (lines, None) text = (lines, Ok text)
+abbrev pub report_with_rest : Lines → List ℕ → ObjectReport
+report_with_rest (lines, Some fault) text = (lines, Err fault)
+report_with_rest (lines, None) text = (lines, Ok text)
 
 -- a tree of this size, in the text behind its header
-abbrev pub tree_told : ComponentOptions → List ℕ → ℕ → List ℕ → Told
-tree_told options id size text =
-    told_lines (or_cut (nat_lt (length text) size) (entries options (short_of size text) id (take size text))) (drop size text)
+abbrev pub tree_report : ComponentOptions → List ℕ → ℕ → List ℕ → ObjectReport
+tree_report options id size text =
+    report_with_rest (or_cut (nat_lt (length text) size) (entries options (short_of size text) id (take size text))) (drop size text)
 
 -- an object of this size likewise
-abbrev pub body_told : ComponentOptions → List ℕ → Bool → ℕ → List ℕ → Told
-body_told options id true size text = tree_told options id size text
-body_told options id false size text = told_lines (or_cut (nat_lt (length text) size) ([], None)) (drop size text)
+abbrev pub body_report : ComponentOptions → List ℕ → Bool → ℕ → List ℕ → ObjectReport
+body_report options id true size text = tree_report options id size text
+body_report options id false size text = report_with_rest (or_cut (nat_lt (length text) size) ([], None)) (drop size text)
 
 -- the line end behind it
 abbrev pub Closes : Bool → List ℕ → Option (List ℕ) → Result (Result Bool Fault) RunError → Type 0
@@ -100,17 +101,17 @@ Closes refused text new (Err stop) = ⊤
 -- ---- an entry
 
 -- the first entry of a tree that has so many bytes left
-abbrev pub first_entry : List ℕ → ℕ → List ℕ → Result (Named × List ℕ) Fault
+abbrev pub first_entry : List ℕ → ℕ → List ℕ → Result (ParsedEntry × List ℕ) Fault
 first_entry id left text = entry_of (short_of left text) (length id / 2) (take left text)
 
-abbrev pub entry_lines : ComponentOptions → List ℕ → Result (Named × List ℕ) Fault → List ℕ
+abbrev pub entry_lines : ComponentOptions → List ℕ → Result (ParsedEntry × List ℕ) Fault → List ℕ
 entry_lines options id (Ok entry) = line_of options id entry.0
 entry_lines options id (Err fault) = []
 
 abbrev pub EntryGives : ComponentOptions → List ℕ → ℕ → List ℕ → Option (List ℕ) → Option (List ℕ) → Option (List ℕ)
     → Result (Result Checked Fault) RunError → Type 0
 EntryGives options id left text new before after (Ok (Ok checked)) =
-    (entry : Named) × (first_entry id left text ≡ Ok (entry, take (left - checked.len) (drop checked.len text)))
+    (entry : ParsedEntry) × (first_entry id left text ≡ Ok (entry, take (left - checked.len) (drop checked.len text)))
     × (new ≡ Some (drop checked.len text)) × (checked.len ≤ length text)
     × Appends before after (line_of options id entry) × (checked.refused ≡ not (is_empty (line_of options id entry)))
 EntryGives options id left text new before after (Ok (Err fault)) = (first_entry id left text ≡ Err fault) × Appends before after []

@@ -1,7 +1,9 @@
 //! What the program's arguments ask for.
 
-ghost use Rattle.std.specs.Prelude.{◌≡◌};
-ghost use Rattle.check_trees.specs.Arguments.{protections_of, switched_on};
+ghost use Rattle.std.specs.Prelude.{◌≡◌, map};
+ghost use Rattle.std.specs.Result.{result_map_both};
+ghost use Rattle.std.specs.String.{string_bytes};
+ghost use Rattle.check_trees.specs.Arguments.{protections_of, request_of, switched_on, wrong_argument};
 
 use gix_validate::path::ComponentOptions;
 use memchr::memchr;
@@ -44,8 +46,11 @@ impl fmt::Display for ArgumentError<'_> {
 
 impl Error for ArgumentError<'_> {}
 
-/// What the arguments ask for. The first wrong one is an error, and of several lists the last one counts.
-pub fn request_of(words: &[String]) -> Result<Request, ArgumentError<'_>> {
+/// What the arguments ask for. The first wrong one is an error, and of several lists the last one
+/// counts.
+pub fn request_of(words: &[String]) -> Result<Request, ArgumentError<'_>>
+    ensures { result_map_both (λ request. request) wrong_argument result ≡ request_of (map string_bytes words.now) }
+{
     let mut options = ComponentOptions::default();
     let mut rest = words;
     while let [word, after @ ..] = rest {
@@ -68,6 +73,7 @@ pub fn request_of(words: &[String]) -> Result<Request, ArgumentError<'_>> {
 }
 
 /// The switches that a list of words turns on.
+#[tactic(auto, using(crate::proofs::ArgumentWords::comma_searched), unfolding(crate::specs::Arguments::protections_of))]
 fn protections_of(list: &[u8]) -> Option<ComponentOptions>
     ensures { result ≡ protections_of list.now }
 {

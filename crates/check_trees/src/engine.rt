@@ -2,10 +2,10 @@
 
 ghost use Rattle.std.specs.Prelude.{◌≡◌, ◌<◌, ◌≤◌, Some, false, if◌then◌else◌, IfOk, OnErr, IfSome, OnSome};
 ghost use Rattle.std.specs.Io.KnownBytes.{Appends, IsAtEnd};
-ghost use Rattle.check_trees.specs.Objects.{said_by};
-ghost use Rattle.check_trees.specs.Report.{is_malformed, line_of, report, told_of, verdict_of};
+ghost use Rattle.check_trees.specs.Objects.{parsed_header};
+ghost use Rattle.check_trees.specs.Report.{is_malformed, line_of, object_report, report, verdict_of};
 ghost use Rattle.check_trees.specs.Spelled.{IsReportedInOrder};
-ghost use Rattle.check_trees.specs.Steps.{Begins, Closes, EntryGives, Gives, NameGives, body_told, tree_told};
+ghost use Rattle.check_trees.specs.Steps.{Begins, Closes, EntryGives, Gives, NameGives, body_report, tree_report};
 
 use crate::header::{Header, header_of, mode_and_name};
 use crate::input::{Found, read_before, skip};
@@ -18,7 +18,7 @@ use std::error::Error;
 use std::fmt;
 use std::io::{BufRead, Write};
 
-// The most bytes of a header line with its end, and of an entry's mode, space, name and NUL.
+/// The most bytes of a header line with its end, and of an entry's mode, space, name and NUL.
 const LONGEST: u64 = 65_536;
 
 /// What a run found.
@@ -92,24 +92,27 @@ impl fmt::Display for RunError {
 
 impl Error for RunError {}
 
-/// Reads all of `input`, objects as `git cat-file --batch` prints them, and writes a line to `output` for each entry of
-/// a tree whose name [`path::component`] refuses under these options (`docs/RULES.md`, "The report of trees").
+/// Reads all of `input`, objects as `git cat-file --batch` prints them, and writes a line to
+/// `output` for each entry of a tree whose name [`path::component`] refuses under these options
+/// (`docs/RULES.md`, "The report of trees").
 ///
 /// ```
 /// run(alloc, ComponentOptions::default(), &mut input, &mut output)?; // Verdict::Refused
 /// ```
 ///
-/// Each line is written as it is found, and `output` is not flushed. A malformed object ends the run; what was found
-/// before it is written.
+/// Each line is written as it is found, and `output` is not flushed. A malformed object ends the
+/// run; what was found before it is written.
 ///
 /// # Errors
 ///
-/// [`RunError`] says whether reading, memory or writing failed. What was written then is the beginning of the report.
+/// [`RunError`] says whether reading, memory or writing failed. What was written then is the
+/// beginning of the report.
 ///
 /// # Memory
 ///
-/// The longest header line, the longest entry and the longest line of the report, of `alloc`, whatever the sizes: each
-/// of the first two has at most 65,536 bytes.
+/// The longest header line, the longest entry and the longest line of the report, of `alloc`,
+/// whatever the sizes: each of the first two has at most 65,536 bytes.
+#[tactic(auto, using(crate::proofs::SpelledStreams::reported_in_order))]
 pub fn run<R: BufRead, W: Write>(
     alloc: Global,
     options: ComponentOptions,
@@ -128,7 +131,7 @@ pub fn run<R: BufRead, W: Write>(
     run_in(&alloc, options, input, output)
 }
 
-// `run`, in the memory of any allocator.
+/// `run`, in the memory of any allocator.
 fn run_in<A: Allocator, R: BufRead, W: Write>(
     alloc: &A,
     options: ComponentOptions,
@@ -168,7 +171,7 @@ fn run_in<A: Allocator, R: BufRead, W: Write>(
     Err(RunError::Read)
 }
 
-// What a whole input comes to.
+/// What a whole input comes to.
 fn whole_input(refused: bool) -> Verdict
     ensures { result ≡ (if refused then Verdict.Refused else Verdict.Clean) }
 {
@@ -179,21 +182,22 @@ fn whole_input(refused: bool) -> Verdict
     }
 }
 
-// Where an entry is read to, and the line of a refused one is built.
+/// Where an entry is read to, and the line of a refused one is built.
 #[derive(Drop)]
 struct Buffers<A: Allocator> {
     entry: Vec<u8, A>,
     line: Vec<u8, A>,
 }
 
-// A tree that is read.
+/// A tree that is read.
 #[derive(Clone, Copy)]
 struct Tree<'a> {
     id: &'a [u8],
     options: ComponentOptions,
 }
 
-// Checks what follows a header line, and says whether an entry was refused.
+/// Checks what follows a header line, and says whether an entry was refused.
+#[tactic(auto, using(crate::proofs::StreamObjects::body_closed))]
 fn check_object<R: BufRead, W: Write, A: Allocator>(
     options: ComponentOptions,
     line: &[u8],
@@ -201,7 +205,7 @@ fn check_object<R: BufRead, W: Write, A: Allocator>(
     output: &mut W,
     buffers: &mut Buffers<A>,
 ) -> Result<Result<bool, Fault>, RunError>
-    ensures { IfSome (R.remaining input.old) (λ text. Gives (told_of options (said_by line.now) text)
+    ensures { IfSome (R.remaining input.old) (λ text. Gives (object_report options (parsed_header line.now) text)
         (R.remaining input.new) (W.contents output.old) (W.contents output.new) result) }
 {
     match header_of(line) {
@@ -216,7 +220,7 @@ fn check_object<R: BufRead, W: Write, A: Allocator>(
     }
 }
 
-// Checks an object's bytes, so many, and says whether an entry was refused.
+/// Checks an object's bytes, so many, and says whether an entry was refused.
 fn check_body<R: BufRead, W: Write, A: Allocator>(
     tree: Tree<'_>,
     is_tree: bool,
@@ -226,7 +230,7 @@ fn check_body<R: BufRead, W: Write, A: Allocator>(
     buffers: &mut Buffers<A>,
 ) -> Result<Result<bool, Fault>, RunError>
     ensures { IfSome (R.remaining input.old) (λ text.
-        Gives (body_told tree.entry.options tree.entry.id.now is_tree size text)
+        Gives (body_report tree.entry.options tree.entry.id.now is_tree size text)
         (R.remaining input.new) (W.contents output.old) (W.contents output.new) result) }
 {
     if is_tree {
@@ -239,7 +243,7 @@ fn check_body<R: BufRead, W: Write, A: Allocator>(
     }
 }
 
-// Reads the line end behind an object's bytes, and passes on whether an entry was refused.
+/// Reads the line end behind an object's bytes, and passes on whether an entry was refused.
 fn close<R: BufRead, A: Allocator>(
     refused: bool,
     input: &mut R,
@@ -254,7 +258,7 @@ fn close<R: BufRead, A: Allocator>(
     }
 }
 
-// Checks a tree of so many bytes, and says whether an entry was refused.
+/// Checks a tree of so many bytes, and says whether an entry was refused.
 fn check_tree<R: BufRead, W: Write, A: Allocator>(
     tree: Tree<'_>,
     size: u64,
@@ -262,7 +266,7 @@ fn check_tree<R: BufRead, W: Write, A: Allocator>(
     output: &mut W,
     buffers: &mut Buffers<A>,
 ) -> Result<Result<bool, Fault>, RunError>
-    ensures { IfSome (R.remaining input.old) (λ text. Gives (tree_told tree.entry.options tree.entry.id.now size text)
+    ensures { IfSome (R.remaining input.old) (λ text. Gives (tree_report tree.entry.options tree.entry.id.now size text)
         (R.remaining input.new) (W.contents output.old) (W.contents output.new) result) }
 {
     let (mut left, mut refused) = (size, false);
@@ -278,14 +282,14 @@ fn check_tree<R: BufRead, W: Write, A: Allocator>(
     Ok(Ok(refused))
 }
 
-// How long an entry was, and whether it was refused.
+/// How long an entry was, and whether it was refused.
 #[derive(Clone, Copy)]
 struct Checked {
     len: u64,
     refused: bool,
 }
 
-// Checks the first entry of what is left of a tree, so many bytes.
+/// Checks the first entry of what is left of a tree, so many bytes.
 fn check_entry<R: BufRead, W: Write, A: Allocator>(
     tree: Tree<'_>,
     left: u64,
@@ -323,7 +327,7 @@ fn check_entry<R: BufRead, W: Write, A: Allocator>(
     Ok(Ok(Checked { len, refused }))
 }
 
-// Writes the line of an entry whose name is refused, and says whether it is.
+/// Writes the line of an entry whose name is refused, and says whether it is.
 fn check_name<W: Write, A: Allocator>(
     tree: Tree<'_>,
     mode: &[u8],

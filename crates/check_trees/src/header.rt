@@ -4,8 +4,8 @@ ghost use Rattle.std.specs.Prelude.{◌≡◌};
 ghost use Rattle.std.specs.List.{list_all};
 ghost use Rattle.std.specs.Option.{option_map};
 ghost use Rattle.std.specs.Str.{bytes_eq};
-ghost use Rattle.check_trees.specs.Objects.{Named, is_hex_digit, is_id, is_tree_type, kind_of, named_by, number_of, said_by, split_once};
-ghost use Rattle.check_trees.specs.Steps.{said};
+ghost use Rattle.check_trees.specs.Objects.{ParsedEntry, is_hex_digit, is_id, is_tree_type, kind_of, number_of, parsed_entry, parsed_header, split_once};
+ghost use Rattle.check_trees.specs.Steps.{as_parsed};
 
 use gix_validate::path::ComponentMode;
 use memchr::memchr;
@@ -24,8 +24,9 @@ pub(crate) enum Header<'a> {
 }
 
 /// What a header line says, without its end (docs/RULES.md, "The report of trees").
+#[tactic(auto, unfolding(crate::specs::Objects::parsed_header))]
 pub(crate) fn header_of(line: &[u8]) -> Option<Header<'_>>
-    ensures { option_map said result ≡ said_by line.now }
+    ensures { option_map as_parsed result ≡ parsed_header line.now }
 {
     let (id, rest) = split_once(b' ', line)?;
     if !is_id(id) {
@@ -41,9 +42,10 @@ pub(crate) fn header_of(line: &[u8]) -> Option<Header<'_>>
 }
 
 /// The mode, the mode's meaning for the name, and the name of an entry.
+#[tactic(auto, unfolding(crate::specs::Objects::parsed_entry))]
 pub(crate) fn mode_and_name(front: &[u8]) -> Option<(&[u8], Option<ComponentMode>, &[u8])>
     ensures { option_map (λ parts. record { mode = parts.0.now; kind = parts.1; name = parts.2.now }) result
-        ≡ named_by front.now }
+        ≡ parsed_entry front.now }
 {
     // Most entries are files that are not executable.
     if front.len() >= 7 && is_word(&front[..7], b"100644 ") {
@@ -88,6 +90,7 @@ fn is_tree_type(text: &[u8]) -> Option<bool>
 }
 
 /// What stands before the first such byte of a text, and all that follows it.
+#[tactic(auto, using(crate::proofs::SplitTexts::searched))]
 fn split_once(separator: u8, text: &[u8]) -> Option<(&[u8], &[u8])>
     ensures { option_map (λ parts. (parts.0.now, parts.1.now)) result ≡ split_once separator text.now }
 {
@@ -116,6 +119,7 @@ fn are_hex_digits(text: &[u8]) -> bool
 }
 
 /// The number that digits of this base spell, if it is below 2^64.
+#[tactic(auto, using(std::proofs::lemmas::Grind::common_steps, crate::proofs::Numbers::numbers))]
 fn number_of(base: u64, digits: &[u8]) -> Option<u64>
     ensures { result ≡ number_of base digits.now }
 {

@@ -20,7 +20,8 @@ pub(crate) enum Found {
     End,
 }
 
-/// Reads what stands before the first such byte, and the byte, which is left out. No more than `limit` bytes are read.
+/// Reads what stands before the first such byte, and the byte, which is left out. No more than
+/// `limit` bytes are read.
 pub(crate) fn read_before<R: BufRead, A: Allocator>(
     input: &mut R,
     byte: u8,
@@ -68,7 +69,8 @@ fn append_part<R: BufRead, A: Allocator>(
     Ok(found)
 }
 
-/// What stands before the first such byte, how many bytes that takes with the byte itself, and whether there is one.
+/// What stands before the first such byte, how many bytes that takes with the byte itself, and
+/// whether there is one.
 fn cut_at(byte: u8, shown: &[u8]) -> (&[u8], usize, Option<Found>)
     ensures { Cuts byte shown.now result.0.now result.1 result.2 }
 {
@@ -97,7 +99,8 @@ pub(crate) fn skip<R: BufRead>(input: &mut R, count: u64) -> Result<bool, RunErr
     Err(RunError::Read)
 }
 
-/// Skips what the reader has at hand of so many bytes. Only at the end of the input are these no bytes.
+/// Skips what the reader has at hand of so many bytes. Only at the end of the input are these no
+/// bytes.
 fn skip_part<R: BufRead>(input: &mut R, count: u64) -> Result<Option<u64>, RunError>
     requires { 0 < count }
     ensures bound { IfOk result (λ skipped. IfSome skipped (λ n. n ≤ count)) }

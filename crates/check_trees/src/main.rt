@@ -1,5 +1,5 @@
-//! Prints a line for each entry of a Git tree whose name is refused. Standard input has the trees as
-//! `git cat-file --batch` prints objects.
+//! Prints a line for each entry of a Git tree whose name is refused. Standard input has the trees
+//! as `git cat-file --batch` prints objects.
 #![tactic(auto)]
 
 ghost use Rattle.std.specs.Prelude.{◌≡◌, IfOk, IfSome};
@@ -38,7 +38,7 @@ The status is 0 where nothing is refused, 1 where something is, and 2 where the
 input is malformed, reading or writing fails, memory runs out, or an argument is
 wrong.";
 
-// How many bytes are read or written at once.
+/// How many bytes are read or written at once.
 const BUFFERED: usize = 65_536;
 
 fn main(rt: HostRuntime) -> ExitCode {
@@ -57,7 +57,7 @@ fn main(rt: HostRuntime) -> ExitCode {
     }
 }
 
-// Checks standard input. The lines of refused names are written before the status is known.
+/// Checks standard input. The lines of refused names are written before the status is known.
 fn check(rt: &HostRuntime, options: ComponentOptions) -> ExitCode {
     match run_buffered(rt.alloc(), options, rt.stdin(), rt.stdout()) {
         Ok(Verdict::Clean) => ExitCode::SUCCESS,
@@ -72,7 +72,7 @@ fn check(rt: &HostRuntime, options: ComponentOptions) -> ExitCode {
     }
 }
 
-// `engine::run` with a buffer on either side, and all that was reported written out.
+/// `engine::run` with a buffer on either side, and all that was reported written out.
 fn run_buffered<R: Read + Drop, W: Write + Drop>(
     alloc: Global,
     options: ComponentOptions,
@@ -91,13 +91,13 @@ fn run_buffered<R: Read + Drop, W: Write + Drop>(
     verdict
 }
 
-// Says on standard error why there is no answer.
+/// Says on standard error why there is no answer.
 fn failed(rt: &HostRuntime, what: impl Display + Drop) -> ExitCode {
     let _ = eprintln!(rt; "check_trees: {what}");
     ExitCode::from(2)
 }
 
-// Prints what was asked for in place of a check.
+/// Prints what was asked for in place of a check.
 fn printed(rt: &HostRuntime, text: &str) -> ExitCode {
     match println!(rt; "{text}") {
         Ok(()) => ExitCode::SUCCESS,

@@ -13,7 +13,7 @@ use gix_validate::path::{self, ComponentError, ComponentMode, ComponentOptions};
 use std::alloc::AllocError;
 use typed_names::Component;
 
-// What a setting's number is made of.
+/// What a setting's number is made of.
 const WINDOWS: u8 = 1;
 
 const HFS: u8 = 2;
@@ -22,7 +22,7 @@ const NTFS: u8 = 4;
 
 const SYMLINK: u8 = 8;
 
-// The numbers of the settings are those below this one.
+/// The numbers of the settings are those below this one.
 const SETTINGS: u8 = 16;
 
 /// Appends the sixteen letters of a component, one for each setting in the order of its number.
@@ -36,7 +36,7 @@ pub fn push_components(name: BStr<'_>, answers: &mut Vec<u8>) -> Result<(), Allo
     Ok(())
 }
 
-// Appends the answer under one setting, of the library and of the typed name.
+/// Appends the answer under one setting, of the library and of the typed name.
 fn push_letter(setting: u8, name: BStr<'_>, answers: &mut Vec<u8>) -> Result<(), AllocError>
     ensures { OnOk result (answers.new.items
         ≡ answers.old.items ++ letter (bstr_bytes name.entry) setting ∷ []) }
@@ -50,15 +50,15 @@ fn push_letter(setting: u8, name: BStr<'_>, answers: &mut Vec<u8>) -> Result<(),
     push_both(&[library], &[typed], answers)
 }
 
-// Whether version 2 may answer otherwise than the Rust crate, on purpose. The record has no answer there; rows of
-// the library's tests show what version 2 answers.
+/// Whether version 2 may answer otherwise than the Rust crate, on purpose. The record has no answer
+/// there; rows of the library's tests show what version 2 answers.
 fn is_changed(setting: u8, name: &[u8]) -> bool
     ensures { result ≡ is_changed name.now setting }
 {
     setting & NTFS != 0 && setting & WINDOWS == 0 && name.contains(&b'\\')
 }
 
-// The switches of a setting.
+/// The switches of a setting.
 fn options_of(setting: u8) -> ComponentOptions
     ensures { result ≡ options_of setting }
 {
@@ -69,7 +69,7 @@ fn options_of(setting: u8) -> ComponentOptions
     }
 }
 
-// The mode of a setting.
+/// The mode of a setting.
 fn mode_of(setting: u8) -> Option<ComponentMode>
     ensures { result ≡ mode_of setting }
 {
@@ -80,7 +80,7 @@ fn mode_of(setting: u8) -> Option<ComponentMode>
     }
 }
 
-// The letter of what is answered for a component.
+/// The letter of what is answered for a component.
 fn letter_of<T: Drop>(answer: Result<T, ComponentError>) -> u8
     ensures { MatchResult answer (λ _. result ≡ byte ".") (λ fault. result ≡ component_letter fault) }
 {

@@ -26,7 +26,8 @@ const BAD_HEXADECIMAL: &[u8] = b"bad hexadecimal";
 /// Why a run stopped before its end.
 #[derive(Debug, Drop)]
 pub enum RunError {
-    /// Reading to the end failed, or there was no memory for the bytes that were read. Nothing was written.
+    /// Reading to the end failed, or there was no memory for the bytes that were read. Nothing was
+    /// written.
     Read,
     /// There was no memory for the answers. Nothing was written.
     Memory,
@@ -50,18 +51,20 @@ impl Display for RunError {
 
 impl Error for RunError {}
 
-/// Reads all of `input`, answers each of its lines by one line, writes the answers to `output` by one
-/// call, and flushes it once (docs/RULES.md, "The recorded answers").
+/// Reads all of `input`, answers each of its lines by one line, writes the answers to `output` by
+/// one call, and flushes it once (docs/RULES.md, "The recorded answers").
 ///
-/// A line is a kind of question, a space and a text in hexadecimal, as `names 763130`. It is answered by what
-/// the calls of `gix_validate` say of the text, and where a typed name is asked too and says something else, by
-/// both. Any other line is answered by `unknown question` or `bad hexadecimal`.
+/// A line is a kind of question, a space and a text in hexadecimal, as `names 763130`. It is
+/// answered by what the calls of `gix_validate` say of the text, and where a typed name is asked
+/// too and says something else, by both. Any other line is answered by `unknown question` or `bad
+/// hexadecimal`.
 ///
 /// The whole input and all answers are held in memory.
 ///
 /// # Errors
 ///
-/// [`RunError`] says which of the three steps failed. Only a failed `Write` can leave anything written.
+/// [`RunError`] says which of the three steps failed. Only a failed `Write` can leave anything
+/// written.
 pub fn run<R: Read, W: Write>(alloc: Global, input: &mut R, output: &mut W) -> Result<(), RunError>
     ensures ok { OnOk result (IfSome (R.remaining input.old)
         (λ text. Appends (W.contents output.old) (W.contents output.new) (answers text))) }
@@ -78,7 +81,7 @@ pub fn run<R: Read, W: Write>(alloc: Global, input: &mut R, output: &mut W) -> R
     write_once(&answers, output).map_err(|_| RunError::Write)
 }
 
-// All that the reader has left.
+/// All that the reader has left.
 fn read_all<R: Read>(alloc: Global, input: &mut R) -> io::Result<Vec<u8>>
     ensures bytes { IfOk result (λ text. IfSome (R.remaining input.old) (λ bytes. text.items ≡ bytes)) }
     ensures end { OnOk result (IsAtEnd (R.remaining input.new)) }
@@ -89,7 +92,7 @@ fn read_all<R: Read>(alloc: Global, input: &mut R) -> io::Result<Vec<u8>>
     Ok(text)
 }
 
-// Writes the bytes and flushes, unless there are none.
+/// Writes the bytes and flushes, unless there are none.
 fn write_once<W: Write>(bytes: &[u8], output: &mut W) -> io::Result<()>
     ensures ok { OnOk result (Appends (W.contents output.old) (W.contents output.new) bytes.now) }
     ensures none { bytes.now ≡ [] → IsOk result × (output.new ≡ output.old) }
@@ -101,7 +104,7 @@ fn write_once<W: Write>(bytes: &[u8], output: &mut W) -> io::Result<()>
     output.flush()
 }
 
-// The answers to the lines of a text. No memory is asked for where there is no line.
+/// The answers to the lines of a text. No memory is asked for where there is no line.
 fn answer_all(alloc: Global, text: &[u8]) -> Result<Vec<u8>, AllocError>
     ensures ok { IfOk result (λ written. written.items ≡ answers text.now) }
     ensures err { OnErr result (text.now ≢ []) }
@@ -116,7 +119,7 @@ fn answer_all(alloc: Global, text: &[u8]) -> Result<Vec<u8>, AllocError>
     Ok(answers)
 }
 
-// The first line of a text, without its end, and what follows it.
+/// The first line of a text, without its end, and what follows it.
 fn first_line(text: &[u8]) -> Option<(&[u8], &[u8])>
     ensures lines { MatchOption result (text.now ≡ [])
         (λ parts. lines text.now ≡ parts.0.now ∷ lines parts.1.now) }
@@ -131,7 +134,7 @@ fn first_line(text: &[u8]) -> Option<(&[u8], &[u8])>
     }
 }
 
-// What stands before the first such byte of a text, and all that follows it.
+/// What stands before the first such byte of a text, and all that follows it.
 fn split_once(separator: u8, text: &[u8]) -> Option<(&[u8], &[u8])>
     ensures { option_map (λ parts. (parts.0.now, parts.1.now)) result ≡ split_once separator text.now }
 {
@@ -139,7 +142,7 @@ fn split_once(separator: u8, text: &[u8]) -> Option<(&[u8], &[u8])>
     Some((&text[..place], &text[place + 1..]))
 }
 
-// Appends the answer to one line.
+/// Appends the answer to one line.
 fn push_answer(alloc: Global, line: &[u8], answers: &mut Vec<u8>) -> Result<(), AllocError>
     ensures { OnOk result (answers.new.items ≡ answers.old.items ++ answer_of line.now) }
 {
@@ -149,7 +152,7 @@ fn push_answer(alloc: Global, line: &[u8], answers: &mut Vec<u8>) -> Result<(), 
     }
 }
 
-// Appends what a kind of question answers for the text with these digits.
+/// Appends what a kind of question answers for the text with these digits.
 fn push_answer_by(
     alloc: Global,
     kind: &[u8],
@@ -168,14 +171,14 @@ fn push_answer_by(
     }
 }
 
-// Whether the text is the word.
+/// Whether the text is the word.
 fn is_word<const N: usize>(text: &[u8], word: &[u8; N]) -> bool
     ensures { result ≡ bytes_eq text.now word.now }
 {
     text == word.as_slice()
 }
 
-// Appends the answers to the name with these digits.
+/// Appends the answers to the name with these digits.
 fn push_names_of(alloc: Global, digits: &[u8], answers: &mut Vec<u8>) -> Result<(), AllocError>
     ensures { OnOk result (answers.new.items
         ≡ answers.old.items ++ answer_for names_answer (decode_of digits.now)) }
@@ -186,7 +189,7 @@ fn push_names_of(alloc: Global, digits: &[u8], answers: &mut Vec<u8>) -> Result<
     }
 }
 
-// Appends the answers to the component with these digits.
+/// Appends the answers to the component with these digits.
 fn push_components_of(alloc: Global, digits: &[u8], answers: &mut Vec<u8>) -> Result<(), AllocError>
     ensures { OnOk result (answers.new.items
         ≡ answers.old.items ++ answer_for components_answer (decode_of digits.now)) }
@@ -197,7 +200,8 @@ fn push_components_of(alloc: Global, digits: &[u8], answers: &mut Vec<u8>) -> Re
     }
 }
 
-// The text with these digits, if they are the digits of one. An odd number of them is recognised without memory.
+/// The text with these digits, if they are the digits of one. An odd number of them is recognised
+/// without memory.
 fn decoded(alloc: Global, digits: &[u8]) -> Result<Option<Vec<u8>>, AllocError>
     ensures ok { IfOk result (λ text. MatchOption text (IsErr (decode_of digits.now))
         (λ bytes. decode_of digits.now ≡ Ok bytes.items)) }

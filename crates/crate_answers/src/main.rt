@@ -1,8 +1,8 @@
-//! Answers, for each line of standard input, what the calls of `gix_validate` say of the text on it, in the
-//! words in which the answers of the Rust crate gix-validate were recorded.
+//! Answers, for each line of standard input, what the calls of `gix_validate` say of the text on
+//! it, in the words in which the answers of the Rust crate gix-validate were recorded.
 //!
-//! The files `stdin` and `stdout` of this crate are those questions and those answers, so the merge gate
-//! replays them all (docs/RULES.md, "The recorded answers").
+//! The files `stdin` and `stdout` of this crate are those questions and those answers, so the merge
+//! gate replays them all (docs/RULES.md, "The recorded answers").
 #![tactic(auto)]
 
 mod components;

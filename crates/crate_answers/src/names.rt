@@ -16,7 +16,7 @@ use gix_validate::{path, reference, submodule, tag};
 use std::alloc::{AllocError, Global};
 use typed_names::{FullName, PartialName, TagName};
 
-// What stands behind the text while it is sanitised in place.
+/// What stands behind the text while it is sanitised in place.
 const BEHIND: &[u8] = b"x/.lock\xA5";
 
 /// Appends the seven answers to a name, with a space between each two.
@@ -39,7 +39,7 @@ pub fn push_names(alloc: Global, name: BStr<'_>, answers: &mut Vec<u8>) -> Resul
     push_sanitized(alloc, name, answers)
 }
 
-// Appends what is said of a tag name, by the library and by the typed name.
+/// Appends what is said of a tag name, by the library and by the typed name.
 fn push_tag(alloc: Global, name: BStr<'_>, answers: &mut Vec<u8>) -> Result<(), AllocError>
     ensures { OnOk result (answers.new.items
         ≡ answers.old.items ++ verdict_of tag_word (tag_fault_of (bstr_bytes name.entry))) }
@@ -49,7 +49,7 @@ fn push_tag(alloc: Global, name: BStr<'_>, answers: &mut Vec<u8>) -> Result<(), 
     push_both(&library, &typed, answers)
 }
 
-// The same of a partial name.
+/// The same of a partial name.
 fn push_partial(alloc: Global, name: BStr<'_>, answers: &mut Vec<u8>) -> Result<(), AllocError>
     ensures { OnOk result (answers.new.items
         ≡ answers.old.items ++ verdict_of reference_word (partial_fault_of (bstr_bytes name.entry))) }
@@ -59,7 +59,7 @@ fn push_partial(alloc: Global, name: BStr<'_>, answers: &mut Vec<u8>) -> Result<
     push_both(&library, &typed, answers)
 }
 
-// The same of a full name.
+/// The same of a full name.
 fn push_full(alloc: Global, name: BStr<'_>, answers: &mut Vec<u8>) -> Result<(), AllocError>
     ensures { OnOk result (answers.new.items
         ≡ answers.old.items ++ verdict_of reference_word (full_fault_of (bstr_bytes name.entry))) }
@@ -69,7 +69,7 @@ fn push_full(alloc: Global, name: BStr<'_>, answers: &mut Vec<u8>) -> Result<(),
     push_both(&library, &typed, answers)
 }
 
-// Appends what is said of the name of a branch, for which there is no typed name.
+/// Appends what is said of the name of a branch, for which there is no typed name.
 fn push_branch(alloc: Global, name: BStr<'_>, answers: &mut Vec<u8>) -> Result<(), AllocError>
     ensures { OnOk result (answers.new.items
         ≡ answers.old.items ++ verdict_of reference_word (branch_fault_of (bstr_bytes name.entry))) }
@@ -77,7 +77,7 @@ fn push_branch(alloc: Global, name: BStr<'_>, answers: &mut Vec<u8>) -> Result<(
     answers.extend_from_slice(&verdict(alloc, reference::branch_name(name))?)
 }
 
-// The same of a submodule name.
+/// The same of a submodule name.
 fn push_submodule(alloc: Global, name: BStr<'_>, answers: &mut Vec<u8>) -> Result<(), AllocError>
     ensures { OnOk result (answers.new.items
         ≡ answers.old.items ++ verdict_of submodule_word (submodule_fault_of (bstr_bytes name.entry))) }
@@ -85,7 +85,7 @@ fn push_submodule(alloc: Global, name: BStr<'_>, answers: &mut Vec<u8>) -> Resul
     answers.extend_from_slice(&verdict(alloc, submodule::name(name))?)
 }
 
-// Appends whether the name is a device on Windows.
+/// Appends whether the name is a device on Windows.
 fn push_device(name: BStr<'_>, answers: &mut Vec<u8>) -> Result<(), AllocError>
     ensures { OnOk result (answers.new.items
         ≡ answers.old.items ++ device_answer (bstr_bytes name.entry)) }
@@ -97,7 +97,7 @@ fn push_device(name: BStr<'_>, answers: &mut Vec<u8>) -> Result<(), AllocError>
     }
 }
 
-// Appends the repaired name, of the sanitiser that copies and of the one in place.
+/// Appends the repaired name, of the sanitiser that copies and of the one in place.
 fn push_sanitized(alloc: Global, name: BStr<'_>, answers: &mut Vec<u8>) -> Result<(), AllocError>
     ensures { OnOk result (answers.new.items
         ≡ answers.old.items ++ encode_lower (sanitized (bstr_bytes name.entry))) }
@@ -108,7 +108,7 @@ fn push_sanitized(alloc: Global, name: BStr<'_>, answers: &mut Vec<u8>) -> Resul
     push_both(copy.as_bytes(), &in_place, answers)
 }
 
-// What the sanitiser in place makes of a text, in a buffer that goes on behind it.
+/// What the sanitiser in place makes of a text, in a buffer that goes on behind it.
 fn sanitized_in_place(alloc: Global, text: &[u8]) -> Result<Vec<u8>, AllocError>
     ensures { IfOk result (λ answer. answer.items ≡ encode_lower (sanitized text.now)) }
 {
@@ -121,7 +121,8 @@ fn sanitized_in_place(alloc: Global, text: &[u8]) -> Result<Vec<u8>, AllocError>
     repaired(alloc, &buffer[..len], &buffer[kept..], &untouched[kept..])
 }
 
-// The repaired name in hexadecimal. Where what stands behind it has changed, a plus sign and what it is now follow.
+/// The repaired name in hexadecimal. Where what stands behind it has changed, a plus sign and what
+/// it is now follow.
 fn repaired(
     alloc: Global,
     name: &[u8],

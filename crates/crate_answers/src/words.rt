@@ -77,7 +77,7 @@ impl Fault for submodule::NameError {
     }
 }
 
-// The name of a variant, a colon, and the bytes that it carries.
+/// The name of a variant, a colon, and the bytes that it carries.
 fn carrying(alloc: Global, variant: &[u8], bytes: &[u8]) -> Result<Vec<u8>, AllocError>
     ensures { IfOk result (λ word. word.items ≡ carrying variant.now bytes.now) }
 {
@@ -102,7 +102,8 @@ pub fn verdict<T: Drop, E: Fault + Drop>(
     }
 }
 
-/// Appends what two calls answer that are to agree: the one answer, or where they differ both, with a bar between them.
+/// Appends what two calls answer that are to agree: the one answer, or where they differ both, with
+/// a bar between them.
 pub fn push_both(first: &[u8], second: &[u8], answers: &mut Vec<u8>) -> Result<(), AllocError>
     ensures same { first.now ≡ second.now
         → OnOk result (answers.new.items ≡ answers.old.items ++ first.now) }

@@ -8,7 +8,7 @@ use std::io;
 use std::io::{ErrorKind, Read, Write};
 use std::test::Fail;
 
-// Each line, and its answer.
+/// Each line, and its answer.
 const ROWS: [(&[u8], &[u8]); 34] = [
     (b"tag v1.2.3", b"ok"),
     (
@@ -73,7 +73,7 @@ const ROWS: [(&[u8], &[u8]); 34] = [
     (b"\0\0\0", b"unknown kind"),
 ];
 
-// Names, and what each is repaired to.
+/// Names, and what each is repaired to.
 const REPAIRS: [(&[u8], &[u8]); 20] = [
     (b"", b"-"),
     (b"///", b"-"),
@@ -115,7 +115,7 @@ fn answers(alloc: Global) -> Result<Vec<u8>, AllocError> {
     Ok(text)
 }
 
-// A run over memory, which meets each premise of the contract of `run`.
+/// A run over memory, which meets each premise of the contract of `run`.
 fn answered(alloc: Global, text: &[u8]) -> Result<Vec<u8>, RunError>
     ensures { IfOk result (λ output. output.items ≡ answers text.now) }
 {
@@ -124,7 +124,7 @@ fn answered(alloc: Global, text: &[u8]) -> Result<Vec<u8>, RunError>
     Ok(output)
 }
 
-// Gives its bytes, and then fails where the end would be.
+/// Gives its bytes, and then fails where the end would be.
 #[derive(Drop)]
 struct BrokenReader<'a> {
     left: &'a [u8],
@@ -139,10 +139,10 @@ impl Read for BrokenReader<'_> {
     }
 }
 
-// Takes bytes while it has room, and then fails. It counts its writes and their bytes, its flushes, and the bytes of
-// the last flush.
+/// Takes bytes while it has room, and then fails. It counts its writes and their bytes, its
+/// flushes, and the bytes of the last flush.
 #[derive(Drop)]
-struct Device<'a> {
+struct FakeWriter<'a> {
     room: &'a mut [u8],
     writes: usize,
     taken: usize,
@@ -151,9 +151,9 @@ struct Device<'a> {
     can_flush: bool,
 }
 
-impl<'a> Device<'a> {
-    fn new(room: &'a mut [u8]) -> Device<'a> {
-        Device {
+impl<'a> FakeWriter<'a> {
+    fn new(room: &'a mut [u8]) -> FakeWriter<'a> {
+        FakeWriter {
             room,
             writes: 0,
             taken: 0,
@@ -164,7 +164,7 @@ impl<'a> Device<'a> {
     }
 }
 
-impl Write for Device<'_> {
+impl Write for FakeWriter<'_> {
     fn write(&mut self, buf: &[u8]) -> io::Result<usize> {
         self.writes = self.writes.saturating_add(1);
         if self.room.is_empty() {
@@ -257,7 +257,7 @@ fn writes_and_flushes_once_where_it_answers(rt: HostRuntime) -> Result<(), Fail>
         (&all, 1),
     ] {
         let mut room = [0; 2048];
-        let mut output = Device::new(&mut room);
+        let mut output = FakeWriter::new(&mut room);
         run(rt.alloc(), &mut &*text, &mut output)?;
         assert_eq!(rt; output.writes, times);
         assert_eq!(rt; output.flushes, times);
@@ -267,7 +267,8 @@ fn writes_and_flushes_once_where_it_answers(rt: HostRuntime) -> Result<(), Fail>
     Ok(())
 }
 
-// The reader fails at each place of its text, and behind the last byte. After each failure the same lines are answered.
+/// The reader fails at each place of its text, and behind the last byte. After each failure the
+/// same lines are answered.
 #[test]
 fn reports_a_failed_read(rt: HostRuntime) -> Result<(), Fail> {
     let (text, want) = (lines(rt.alloc())?, answers(rt.alloc())?);
@@ -288,13 +289,13 @@ fn reports_a_failed_write(rt: HostRuntime) -> Result<(), Fail> {
     let mut room = [0; 2048];
     assert!(rt; want.len() <= room.len());
     for k in 0..want.len() {
-        let mut output = Device::new(&mut room[..k]);
+        let mut output = FakeWriter::new(&mut room[..k]);
         let result = run(rt.alloc(), &mut text.as_slice(), &mut output);
         assert!(rt; matches!(result, Err(RunError::Write)));
         run(rt.alloc(), &mut b"".as_slice(), &mut output)?;
         assert_eq!(rt; answered(rt.alloc(), &text)?.as_slice(), want.as_slice());
     }
-    let mut output = Device::new(&mut room);
+    let mut output = FakeWriter::new(&mut room);
     output.can_flush = false;
     let result = run(rt.alloc(), &mut text.as_slice(), &mut output);
     assert!(rt; matches!(result, Err(RunError::Write)));
@@ -302,13 +303,13 @@ fn reports_a_failed_write(rt: HostRuntime) -> Result<(), Fail> {
     run(
         rt.alloc(),
         &mut text.as_slice(),
-        &mut Device::new(&mut room),
+        &mut FakeWriter::new(&mut room),
     )?;
     assert!(rt; room.starts_with(&want));
     Ok(())
 }
 
-// The heap is a little larger each time, until there is enough.
+/// The heap is a little larger each time, until there is enough.
 #[test]
 fn reports_refused_memory(rt: HostRuntime) -> Result<(), Fail> {
     let (text, want) = (lines(rt.alloc())?, answers(rt.alloc())?);
@@ -316,7 +317,7 @@ fn reports_refused_memory(rt: HostRuntime) -> Result<(), Fail> {
     for units in 0..4096 {
         let heap = LocalHeap::new(rt.alloc(), 16 * units)?;
         let mut room = [0; 2048];
-        let mut output = Device::new(&mut room);
+        let mut output = FakeWriter::new(&mut room);
         let result = run_in(&heap, rt.alloc(), &mut text.as_slice(), &mut output);
         let taken = output.taken;
         assert_eq!(rt; heap.used(), 0);
@@ -364,7 +365,7 @@ fn prints_each_stop(rt: HostRuntime) -> Result<(), Fail> {
     Ok(())
 }
 
-// A clause says what `RunError` prints.
+/// A clause says what `RunError` prints.
 fn printed_stop(alloc: Global) -> Result<String, AllocError>
     ensures { IfOk result (λ text. string_bytes text ≡ codes "out of memory") }
 {

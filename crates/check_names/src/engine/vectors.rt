@@ -1,5 +1,5 @@
-//! A run against the answers as the rule of the program's lines gives them (`docs/RULES.md`,
-//! "The program's lines"), where the text has lines of tag names alone, or no name.
+//! A run against the answers as the rule of the program's lines gives them (`docs/RULES.md`, "The
+//! program's lines"), where the text has lines of tag names alone, or no name.
 
 use super::run;
 use bstr::BStr;
@@ -8,7 +8,7 @@ use std::alloc::{AllocError, Global};
 use std::process::Abort;
 use std::test::Fail;
 
-// The answers to the lines of a text, each with its end.
+/// The answers to the lines of a text, each with its end.
 fn answers(alloc: Global, text: &[u8]) -> Result<Vec<u8>, AllocError> {
     let mut lines: Vec<&[u8]> = text.split(|byte| *byte == b'\n').collect(alloc)?;
     if lines.last().is_some_and(|rest| rest.is_empty()) {
@@ -22,7 +22,7 @@ fn answers(alloc: Global, text: &[u8]) -> Result<Vec<u8>, AllocError> {
     Ok(answers)
 }
 
-// The answer to a line that asks for a tag name or is of no kind.
+/// The answer to a line that asks for a tag name or is of no kind.
 fn answer(alloc: Global, line: &[u8]) -> Result<Vec<u8>, AllocError> {
     let mut answer = Vec::new(alloc);
     match line.strip_prefix(b"tag ") {
@@ -38,7 +38,7 @@ fn answer(alloc: Global, line: &[u8]) -> Result<Vec<u8>, AllocError> {
     Ok(answer)
 }
 
-// Runs over the text, and compares what was written.
+/// Runs over the text, and compares what was written.
 fn ask(rt: &impl Abort, alloc: Global, text: &[u8]) -> Result<(), Fail> {
     let mut output = Vec::new(alloc);
     run(alloc, &mut &*text, &mut output)?;
@@ -61,7 +61,7 @@ fn answers_each_byte(rt: HostRuntime) -> Result<(), Fail> {
     Ok(())
 }
 
-// Each byte but a line's end is a name, on a line of its own and among the lines of one text.
+/// Each byte but a line's end is a name, on a line of its own and among the lines of one text.
 #[test]
 fn answers_each_byte_as_a_tag(rt: HostRuntime) -> Result<(), Fail> {
     let mut asked: u32 = 0;

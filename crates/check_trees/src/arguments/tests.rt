@@ -11,7 +11,7 @@ fn strings(alloc: Global, words: &[&str]) -> Result<Vec<String>, AllocError> {
     Ok(strings)
 }
 
-// The three switches where a check is asked for.
+/// The three switches where a check is asked for.
 fn switches(alloc: Global, words: &[&str]) -> Result<Option<(bool, bool, bool)>, Fail> {
     let words = strings(alloc, words)?;
     Ok(match request_of(&words) {

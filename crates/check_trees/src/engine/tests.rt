@@ -13,7 +13,8 @@ const ID: &[u8; 40] = b"4b825dc642cb6eb9a060e54bf8d69288fbee4904";
 
 const LONG_ID: &[u8; 64] = b"6ef19b41225c5369f1c104d45d8d85efa9b057b53b14b4b9b939dd74decc5321";
 
-// The mode and the name of an entry, and what the line of the report says behind the tree's id, if there is one.
+/// The mode and the name of an entry, and what the line of the report says behind the tree's id, if
+/// there is one.
 const ROWS: [(&[u8], &[u8]); 16] = [
     (b"100644 README", b""),
     (b"40000 src", b""),
@@ -66,7 +67,7 @@ const ROWS: [(&[u8], &[u8]); 16] = [
     ),
 ];
 
-// The entries of the rows, with ids of so many bytes.
+/// The entries of the rows, with ids of so many bytes.
 fn entries(alloc: Global, width: usize) -> Result<Vec<u8>, AllocError> {
     let mut bytes = Vec::new(alloc);
     for (entry, _) in &ROWS {
@@ -79,7 +80,7 @@ fn entries(alloc: Global, width: usize) -> Result<Vec<u8>, AllocError> {
     Ok(bytes)
 }
 
-// An object as `git cat-file --batch` prints it.
+/// An object as `git cat-file --batch` prints it.
 fn object(alloc: Global, id: &[u8], kind: &str, bytes: &[u8]) -> Result<Vec<u8>, Fail> {
     let mut text = id.to_vec(alloc)?;
     write!(text, " {kind} {}\n", bytes.len())?;
@@ -88,7 +89,7 @@ fn object(alloc: Global, id: &[u8], kind: &str, bytes: &[u8]) -> Result<Vec<u8>,
     Ok(text)
 }
 
-// A blob, two trees and an object that is missing, and the lines of the trees.
+/// A blob, two trees and an object that is missing, and the lines of the trees.
 fn stream(alloc: Global) -> Result<(Vec<u8>, Vec<u8>), Fail> {
     let mut text = object(alloc, ID, "blob", b"100644 .git\0........")?;
     text.extend_from_slice(&object(alloc, ID, "tree", b"")?)?;
@@ -118,7 +119,7 @@ fn checked(alloc: Global, text: &[u8]) -> Result<(Verdict, Vec<u8>), RunError> {
     Ok((verdict, output))
 }
 
-// What a run says of this text, and that it writes nothing.
+/// What a run says of this text, and that it writes nothing.
 fn expect(rt: &impl Abort, alloc: Global, text: &[u8], want: Verdict) -> Result<(), Fail> {
     let (verdict, output) = checked(alloc, text)?;
     assert_eq!(rt; verdict, want, "to {text:?}");
@@ -130,7 +131,7 @@ fn malformed(object: u64, fault: Fault) -> Verdict {
     Verdict::Malformed { object, fault }
 }
 
-// Shows one byte at a time, is interrupted before each, and fails or ends after the last.
+/// Shows one byte at a time, is interrupted before each, and fails or ends after the last.
 #[derive(Drop)]
 struct Dripping<'a> {
     left: &'a [u8],
@@ -171,7 +172,7 @@ impl BufRead for Dripping<'_> {
     }
 }
 
-// Takes one byte at a time while it has room, is interrupted before each, and then fails.
+/// Takes one byte at a time while it has room, is interrupted before each, and then fails.
 #[derive(Drop)]
 struct Narrow<'a> {
     room: &'a mut [u8],
@@ -328,7 +329,8 @@ fn bounds_what_it_holds(rt: HostRuntime) -> Result<(), Fail> {
     Ok(())
 }
 
-// Each front of the input: what it reports is the beginning of the lines, and a cut reports the object that it is in.
+/// Each front of the input: what it reports is the beginning of the lines, and a cut reports the
+/// object that it is in.
 #[test]
 fn tells_each_cut(rt: HostRuntime) -> Result<(), Fail> {
     let (text, lines) = stream(rt.alloc())?;
@@ -412,7 +414,7 @@ fn reports_a_failed_write(rt: HostRuntime) -> Result<(), Fail> {
     Ok(())
 }
 
-// The heap is a little larger each time, until there is enough.
+/// The heap is a little larger each time, until there is enough.
 #[test]
 fn reports_refused_memory(rt: HostRuntime) -> Result<(), Fail> {
     let (text, lines) = stream(rt.alloc())?;

@@ -7,7 +7,7 @@ use std::io;
 use std::io::{ErrorKind, Read, Write};
 use std::test::Fail;
 
-// Each line, and its answer. Each of the recorded questions asks something.
+/// Each line, and its answer. Each of the recorded questions asks something.
 const ROWS: [(&[u8], &[u8]); 16] = [
     (
         b"names 40",
@@ -48,7 +48,7 @@ fn answers(alloc: Global) -> Result<Vec<u8>, AllocError> {
     Ok(text)
 }
 
-// A run over memory, which meets each premise of the contract of `run`.
+/// A run over memory, which meets each premise of the contract of `run`.
 fn answered(alloc: Global, text: &[u8]) -> Result<Vec<u8>, RunError>
     ensures { IfOk result (λ output. output.items ≡ answers text.now) }
 {
@@ -57,7 +57,7 @@ fn answered(alloc: Global, text: &[u8]) -> Result<Vec<u8>, RunError>
     Ok(output)
 }
 
-// Gives its bytes, and then fails where the end would be.
+/// Gives its bytes, and then fails where the end would be.
 #[derive(Drop)]
 struct BrokenReader<'a> {
     left: &'a [u8],
@@ -72,18 +72,18 @@ impl Read for BrokenReader<'_> {
     }
 }
 
-// Takes bytes while it has room, and then fails. It counts its bytes and its flushes.
+/// Takes bytes while it has room, and then fails. It counts its bytes and its flushes.
 #[derive(Drop)]
-struct Device<'a> {
+struct FakeWriter<'a> {
     room: &'a mut [u8],
     taken: usize,
     flushes: usize,
     can_flush: bool,
 }
 
-impl<'a> Device<'a> {
-    fn new(room: &'a mut [u8]) -> Device<'a> {
-        Device {
+impl<'a> FakeWriter<'a> {
+    fn new(room: &'a mut [u8]) -> FakeWriter<'a> {
+        FakeWriter {
             room,
             taken: 0,
             flushes: 0,
@@ -92,7 +92,7 @@ impl<'a> Device<'a> {
     }
 }
 
-impl Write for Device<'_> {
+impl Write for FakeWriter<'_> {
     fn write(&mut self, buf: &[u8]) -> io::Result<usize> {
         if self.room.is_empty() {
             return Err(io::Error::from(ErrorKind::StorageFull));
@@ -133,7 +133,7 @@ fn answers_each_row(rt: HostRuntime) -> Result<(), Fail> {
 fn flushes_once_where_it_answers(rt: HostRuntime) -> Result<(), Fail> {
     for (text, flushes) in [(b"".as_slice(), 0), (b"\n", 1), (b"names 40\nnames 4\n", 1)] {
         let mut room = [0; 128];
-        let mut output = Device::new(&mut room);
+        let mut output = FakeWriter::new(&mut room);
         run(rt.alloc(), &mut &*text, &mut output)?;
         assert_eq!(rt; output.flushes, flushes);
         assert_eq!(rt; output.taken == 0, text.is_empty());
@@ -160,18 +160,18 @@ fn reports_a_failed_write(rt: HostRuntime) -> Result<(), Fail> {
     let mut room = [0; 1024];
     assert!(rt; want.len() <= room.len());
     for k in 0..want.len() {
-        let mut output = Device::new(&mut room[..k]);
+        let mut output = FakeWriter::new(&mut room[..k]);
         let result = run(rt.alloc(), &mut text.as_slice(), &mut output);
         assert!(rt; matches!(result, Err(RunError::Write)));
     }
-    let mut output = Device::new(&mut room);
+    let mut output = FakeWriter::new(&mut room);
     output.can_flush = false;
     let result = run(rt.alloc(), &mut text.as_slice(), &mut output);
     assert!(rt; matches!(result, Err(RunError::Write)));
     run(
         rt.alloc(),
         &mut text.as_slice(),
-        &mut Device::new(&mut room),
+        &mut FakeWriter::new(&mut room),
     )?;
     assert!(rt; room.starts_with(&want));
     Ok(())
@@ -190,7 +190,7 @@ fn prints_each_stop(rt: HostRuntime) -> Result<(), Fail> {
     Ok(())
 }
 
-// A clause says what `RunError` prints.
+/// A clause says what `RunError` prints.
 fn printed_stop(alloc: Global) -> Result<String, AllocError>
     ensures { IfOk result (λ text. string_bytes text ≡ codes "out of memory") }
 {

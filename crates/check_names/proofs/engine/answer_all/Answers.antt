@@ -8,7 +8,9 @@ loop-line-preserved g c =
     let line = c.in-Some.line.now in
     let first = answers-first c.loop-line.rest.now line c.in-Some.after.now c.in-Some.ensures.lines in
     record {
-      whole = answers-more c.loop-line.answers.items (answer_of line) (answers c.loop-line.rest.now) (answers c.in-Some.after.now) (answers c.args.text.now) c.push_answer.new.answers.items c.push.new.self.items c.in_ok-push_answer.ensures.ok c.in_ok-push.ensures.items first c.loop-line.invariant.whole;
+      whole = answers-more c.loop-line.answers.items (answer_of line) (answers c.loop-line.rest.now) (answers c.in-Some.after.now)
+          (answers c.args.text.now) c.push_answer.new.answers.items c.push.new.self.items c.in_ok-push_answer.ensures.ok c.in_ok-push.ensures.items
+          first c.loop-line.invariant.whole;
       shorter = omega (arith, c.in-Some.ensures.shorter, c.loop-line.invariant.shorter);
     }
 

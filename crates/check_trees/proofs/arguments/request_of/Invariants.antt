@@ -1,5 +1,11 @@
-use Rattle.std.proofs.Common.{length}
+-- what is left of the words asks under the protections so far for what all words ask for
+use Rattle.std.proofs.Common.{◌≡◌, length, map}
+use Rattle.std.specs.String.{string_bytes}
+use Rattle.check_trees.specs.Arguments.{request_from, request_of}
 use Rattle.check_trees.proofs.arguments.request_of.Given as goal
+
+abbrev pub invariant-loop-rest : goal.invariant-loop-rest
+invariant-loop-rest l = request_from l.options (map string_bytes l.rest) ≡ request_of (map string_bytes l.fn.words)
 
 abbrev pub decreases-loop-rest : goal.decreases-loop-rest
 decreases-loop-rest l = length l.rest

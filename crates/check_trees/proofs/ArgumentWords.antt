@@ -1,0 +1,50 @@
+-- The words of the command line: the parts of a list between its commas, and what the words ask for from the first on.
+use Rattle.std.proofs.Common.{◌≡◌, ℕ, ◌+◌, List, [], ◌∷◌, Option, Some, None, take, drop, refl, arith}
+use Rattle.std.proofs.lemmas.Bool.Decides.{nat_tests}
+use Rattle.std.proofs.lemmas.List.{take_rest}
+use Rattle.memchr.specs.Find.{is_byte, IsFirstByte}
+use Rattle.check_trees.specs.Objects.{split_once}
+use Rattle.std.proofs.Common.{◌≢◌, ◌≤◌, length, get_or, map, codes, Result, Err, ap, ◌∙◌}
+use Rattle.std.proofs.lemmas.Slice.Eq.{bytes_eq-Decides}
+use Rattle.gix_validate.specs.declared.path.ComponentOptions.{ComponentOptions}
+use Rattle.check_trees.specs.declared.arguments.Request.{Request}
+use Rattle.check_trees.specs.Arguments.{comma_parts, protections_of, WrongArgument, Unknown, request_at_word, request_from}
+use Rattle.check_trees.proofs.SplitTexts.{split_searched}
+
+-- the texts before and behind the first comma, if there is one
+abbrev parts_of : List ℕ → Option (List ℕ × List ℕ) → List (List ℕ)
+parts_of text None = text ∷ []
+parts_of text (Some parts) = parts.0 ∷ comma_parts parts.1
+
+comma_parts_split : (text : List ℕ) → comma_parts text ≡ parts_of text (split_once 44 text)
+comma_parts_split [] = refl
+comma_parts_split (b ∷ text) = grind (arith, nat_tests, comma_parts_split text)
+
+pub last_part : (text : List ℕ) → IsFirstByte (is_byte 44) text None → comma_parts text ≡ text ∷ []
+last_part text nowhere = grind (arith, comma_parts_split, split_searched 44 text None nowhere)
+
+pub first_part : (text : List ℕ) (k : ℕ) → IsFirstByte (is_byte 44) text (Some k) → comma_parts text ≡ take k text ∷ comma_parts (drop (k + 1) text)
+first_part text k found = grind (arith, comma_parts_split, split_searched 44 text (Some k) found)
+
+pub ruleset comma_searched = (last_part, first_part, take_rest)
+
+-- ---- the words of the command line
+
+-- a word that is none of the three
+other_word : (text word : List ℕ) (listed : Result Request WrongArgument) → text ≡ word → text ≢ codes "--help" → text ≢ codes "--version"
+    → text ≢ codes "--protect" → Err (Unknown text) ≡ request_at_word word listed
+other_word text word listed is help version protect =
+    grind (arith, bytes_eq-Decides word (codes "--help"), bytes_eq-Decides word (codes "--version"), bytes_eq-Decides word (codes "--protect"))
+
+module _ {X : Type 0} (f : X → List ℕ) (options : ComponentOptions) where
+  pub at_unknown_word : (words : List X) (word : X) (text : List ℕ) → 1 ≤ length words → word ≡ get_or words 0 word → text ≡ f word
+      → text ≢ codes "--help" → text ≢ codes "--version" → text ≢ codes "--protect" → Err (Unknown text) ≡ request_from options (map f words)
+  at_unknown_word [] word text some first is help version protect = absurd (omega arith)
+  at_unknown_word (w ∷ []) word text some first is help version protect = other_word text (f w) _ (is ∙ ap f first) help version protect
+  at_unknown_word (w ∷ l ∷ words) word text some first is help version protect = other_word text (f w) _ (is ∙ ap f first) help version protect
+
+  pub after_list : (words : List X) (word list : X) (on : ComponentOptions) → 2 ≤ length words → word ≡ get_or words 0 word → f word ≡ codes "--protect"
+      → list ≡ get_or words 1 list → Some on ≡ protections_of (f list) → request_from on (map f (drop 1 (drop 1 words))) ≡ request_from options (map f words)
+  after_list [] word list on some first protect second under = absurd (omega arith)
+  after_list (w ∷ []) word list on some first protect second under = absurd (omega arith)
+  after_list (w ∷ l ∷ words) word list on some first protect second under = rw (← first, protect, ← second, ← under) refl

@@ -12,7 +12,7 @@ use bstr::BStr;
 use gix_validate::path::{ComponentMode, ComponentOptions};
 use gix_validate::{path, reference, submodule};
 use memchr::memchr;
-use std::alloc::{AllocError, Allocator, Global};
+use std::alloc::{AllocError, Global};
 use std::error::Error;
 use std::fmt::{Display, Write as _};
 use std::io::{Read, Write};
@@ -79,34 +79,13 @@ pub fn run<R: Read, W: Write>(alloc: Global, input: &mut R, output: &mut W) -> R
     ensures empty { R.remaining input.old ≡ Some [] → IsOkUnless result RunError.Read
         × (output.new ≡ output.old) }
 {
-    run_in(&alloc, alloc, input, output)
-}
-
-/// `run`, which holds the input and the answers in the memory of any allocator; each repaired name
-/// is of `global`.
-fn run_in<A: Allocator, R: Read, W: Write>(
-    alloc: &A,
-    global: Global,
-    input: &mut R,
-    output: &mut W,
-) -> Result<(), RunError>
-    ensures ok { OnOk result (IfSome (R.remaining input.old)
-        (λ text. Appends (W.contents output.old) (W.contents output.new) (answers text))) }
-    ensures end { result ≢ Err RunError.Read → IsAtEnd (R.remaining input.new) }
-    ensures spent { result ≢ Err RunError.Read → IfSome (R.remaining input.old)
-        (λ _. R.remaining input.new ≡ Some []) }
-    ensures read { result ≡ Err RunError.Read → output.new ≡ output.old }
-    ensures memory { result ≡ Err RunError.Memory → output.new ≡ output.old }
-    ensures empty { R.remaining input.old ≡ Some [] → IsOkUnless result RunError.Read
-        × (output.new ≡ output.old) }
-{
     let text = read_all(alloc, input).map_err(|_| RunError::Read)?;
-    let answers = answer_all(alloc, global, &text).map_err(|_| RunError::Memory)?;
+    let answers = answer_all(alloc, &text).map_err(|_| RunError::Memory)?;
     write_once(&answers, output).map_err(|_| RunError::Write)
 }
 
 /// All that the reader has left.
-fn read_all<A: Allocator, R: Read>(alloc: A, input: &mut R) -> io::Result<Vec<u8, A>>
+fn read_all<R: Read>(alloc: Global, input: &mut R) -> io::Result<Vec<u8>>
     ensures bytes { IfOk result (λ text. IfSome (R.remaining input.old) (λ bytes. text.items ≡ bytes)) }
     ensures end { OnOk result (IsAtEnd (R.remaining input.new)) }
     ensures spent { OnOk result (IfSome (R.remaining input.old) (λ _. R.remaining input.new ≡ Some [])) }
@@ -129,14 +108,14 @@ fn write_once<W: Write>(bytes: &[u8], output: &mut W) -> io::Result<()>
 }
 
 /// The answers to the lines of a text. No memory is asked for where there is no line.
-fn answer_all<A: Allocator>(alloc: A, global: Global, text: &[u8]) -> Result<Vec<u8, A>, AllocError>
+fn answer_all(alloc: Global, text: &[u8]) -> Result<Vec<u8>, AllocError>
     ensures ok { IfOk result (λ written. written.items ≡ answers text.now) }
     ensures err { OnErr result (text.now ≢ []) }
 {
     let mut answers = Vec::new(alloc);
     let mut rest = text;
     while let Some((line, after)) = first_line(rest) {
-        push_answer(global, line, &mut answers)?;
+        push_answer(alloc, line, &mut answers)?;
         answers.push(b'\n')?;
         rest = after;
     }
@@ -160,11 +139,7 @@ fn first_line(text: &[u8]) -> Option<(&[u8], &[u8])>
 
 /// Appends the answer to one line. A kind costs a comparison for each kind before it, and full
 /// reference names come first.
-fn push_answer<A: Allocator>(
-    global: Global,
-    line: &[u8],
-    answers: &mut Vec<u8, A>,
-) -> Result<(), AllocError>
+fn push_answer(alloc: Global, line: &[u8], answers: &mut Vec<u8>) -> Result<(), AllocError>
     ensures ok { OnOk result (answers.new.items ≡ answers.old.items ++ answer_of line.now) }
     ensures full { request_of line.now ≡ None → OnErr result
         (vec_capacity answers.old < vec_len answers.old + length unknown_kind) }
@@ -186,7 +161,7 @@ fn push_answer<A: Allocator>(
     } else if let Some(name) = name_behind(b"device ", line) {
         push_device(name, answers)
     } else if let Some(name) = name_behind(b"sanitize ", line) {
-        push_sanitized(global, name, answers)
+        push_sanitized(alloc, name, answers)
     } else {
         answers.extend_from_slice(UNKNOWN_KIND)
     }
@@ -203,10 +178,10 @@ fn name_behind<'a>(kind_and_space: &[u8], line: &'a [u8]) -> Option<BStr<'a>>
 }
 
 /// Appends whether the name may be a path component of this mode, under the default options.
-fn push_component<A: Allocator>(
+fn push_component(
     name: BStr<'_>,
     mode: Option<ComponentMode>,
-    answers: &mut Vec<u8, A>,
+    answers: &mut Vec<u8>,
 ) -> Result<(), AllocError>
     ensures ok { OnOk result (answers.new.items ≡ answers.old.items
         ++ verdict (fault_of all_protections mode (bstr_bytes name.entry)) component_text) }
@@ -220,7 +195,7 @@ fn push_component<A: Allocator>(
 }
 
 /// Appends whether the name is a device on Windows.
-fn push_device<A: Allocator>(name: BStr<'_>, answers: &mut Vec<u8, A>) -> Result<(), AllocError>
+fn push_device(name: BStr<'_>, answers: &mut Vec<u8>) -> Result<(), AllocError>
     ensures { OnOk result (answers.new.items
         ≡ answers.old.items ++ device_answer (bstr_bytes name.entry)) }
 {
@@ -232,22 +207,18 @@ fn push_device<A: Allocator>(name: BStr<'_>, answers: &mut Vec<u8, A>) -> Result
 }
 
 /// Appends the name, repaired to a partial name. The copy of it is given back.
-fn push_sanitized<A: Allocator>(
-    global: Global,
-    name: BStr<'_>,
-    answers: &mut Vec<u8, A>,
-) -> Result<(), AllocError>
+fn push_sanitized(alloc: Global, name: BStr<'_>, answers: &mut Vec<u8>) -> Result<(), AllocError>
     ensures { OnOk result (answers.new.items
         ≡ answers.old.items ++ sanitized (bstr_bytes name.entry)) }
 {
-    let repaired = reference::name_partial_or_sanitize(global, name)?;
+    let repaired = reference::name_partial_or_sanitize(alloc, name)?;
     answers.extend_from_slice(repaired.as_slice())
 }
 
 /// Appends what a validator says: `ok`, or the fault.
-fn push_verdict<T: Drop, E: Display + Drop, A: Allocator>(
+fn push_verdict<T: Drop, E: Display + Drop>(
     verdict: Result<T, E>,
-    answers: &mut Vec<u8, A>,
+    answers: &mut Vec<u8>,
 ) -> Result<(), AllocError>
     ensures ok { OnOk result (MatchResult verdict
         (λ _. answers.new.items ≡ answers.old.items ++ codes "ok")
@@ -263,10 +234,7 @@ fn push_verdict<T: Drop, E: Display + Drop, A: Allocator>(
 }
 
 /// Appends a fault: that there is one, and its text.
-fn push_fault<E: Display + Drop, A: Allocator>(
-    fault: E,
-    answers: &mut Vec<u8, A>,
-) -> Result<(), AllocError>
+fn push_fault<E: Display + Drop>(fault: E, answers: &mut Vec<u8>) -> Result<(), AllocError>
     ensures { OnOk result (IfSome (E.output fault)
         (λ text. answers.new.items ≡ answers.old.items ++ codes "error: " ++ text)) }
 {
@@ -275,11 +243,11 @@ fn push_fault<E: Display + Drop, A: Allocator>(
 
 /// The answers, as a target of writes. A write fails where there is no memory for its text.
 #[derive(Drop)]
-struct Appender<'a, A: Allocator> {
-    answers: &'a mut Vec<u8, A>,
+struct Appender<'a> {
+    answers: &'a mut Vec<u8>,
 }
 
-impl<A: Allocator> fmt::Write for Appender<'_, A> {
+impl fmt::Write for Appender<'_> {
     ghost write_str_gives = { λ before text after. (after.answers.ghost_name ≡ before.answers.ghost_name)
         × (after.answers.now.items ≡ before.answers.now.items ++ text) };
 

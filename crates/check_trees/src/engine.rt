@@ -13,7 +13,7 @@ use crate::output::{set_line, write_whole};
 use bstr::BStr;
 use gix_validate::path;
 use gix_validate::path::{ComponentMode, ComponentOptions};
-use std::alloc::{Allocator, Global};
+use std::alloc::Allocator;
 use std::error::Error;
 use std::fmt;
 use std::io::{BufRead, Write};
@@ -113,8 +113,8 @@ impl Error for RunError {}
 /// The longest header line, the longest entry and the longest line of the report, of `alloc`,
 /// whatever the sizes: each of the first two has at most 65,536 bytes.
 #[tactic(auto, using(crate::proofs::SpelledStreams::reported_in_order))]
-pub fn run<R: BufRead, W: Write>(
-    alloc: Global,
+pub fn run<A: Allocator, R: BufRead, W: Write>(
+    alloc: A,
     options: ComponentOptions,
     input: &mut R,
     output: &mut W,
@@ -128,28 +128,10 @@ pub fn run<R: BufRead, W: Write>(
         Begins (W.contents output.old) (W.contents output.new) (report options text).lines)) }
     ensures spelled { IsReportedInOrder options }
 {
-    run_in(&alloc, options, input, output)
-}
-
-/// `run`, in the memory of any allocator.
-fn run_in<A: Allocator, R: BufRead, W: Write>(
-    alloc: &A,
-    options: ComponentOptions,
-    input: &mut R,
-    output: &mut W,
-) -> Result<Verdict, RunError>
-    ensures verdict { IfOk result (λ verdict. IfSome (R.remaining input.old) (λ text.
-        Appends (W.contents output.old) (W.contents output.new) (report options text).lines
-        × (verdict ≡ verdict_of (report options text)))) }
-    ensures end { IfOk result (λ verdict. is_malformed verdict ≡ false
-        → OnSome (R.remaining input.old) (IsAtEnd (R.remaining input.new))) }
-    ensures stopped { OnErr result (IfSome (R.remaining input.old) (λ text.
-        Begins (W.contents output.old) (W.contents output.new) (report options text).lines)) }
-{
-    let mut header = Vec::new(alloc);
+    let mut header = Vec::new(&alloc);
     let mut buffers = Buffers {
-        entry: Vec::new(alloc),
-        line: Vec::new(alloc),
+        entry: Vec::new(&alloc),
+        line: Vec::new(&alloc),
     };
     let mut refused = false;
     for before in 0..u64::MAX {

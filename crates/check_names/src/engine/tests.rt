@@ -1,7 +1,7 @@
 ghost use Rattle.std.specs.Prelude.{◌≡◌, IfOk, codes, string_bytes};
 ghost use Rattle.check_names.specs.Answers.{answers};
 
-use super::{RunError, run, run_in};
+use super::{RunError, run};
 use linked_list_allocator::LocalHeap;
 use std::alloc::{AllocError, Global};
 use std::io;
@@ -306,35 +306,6 @@ fn reports_a_failed_write(rt: HostRuntime) -> Result<(), Fail> {
         &mut FakeWriter::new(&mut room),
     )?;
     assert!(rt; room.starts_with(&want));
-    Ok(())
-}
-
-/// The heap is a little larger each time, until there is enough.
-#[test]
-fn reports_refused_memory(rt: HostRuntime) -> Result<(), Fail> {
-    let (text, want) = (lines(rt.alloc())?, answers(rt.alloc())?);
-    let (mut reads, mut growths, mut is_done) = (0u32, 0u32, false);
-    for units in 0..4096 {
-        let heap = LocalHeap::new(rt.alloc(), 16 * units)?;
-        let mut room = [0; 2048];
-        let mut output = FakeWriter::new(&mut room);
-        let result = run_in(&heap, rt.alloc(), &mut text.as_slice(), &mut output);
-        let taken = output.taken;
-        assert_eq!(rt; heap.used(), 0);
-        match result {
-            Ok(()) => {
-                assert!(rt; taken == want.len() && room.starts_with(&want));
-                is_done = true;
-                break;
-            }
-            Err(RunError::Read) => reads = reads.saturating_add(1),
-            Err(RunError::Memory) => growths = growths.saturating_add(1),
-            Err(RunError::Write) => panic!(rt; "the writer has room"),
-        }
-        assert_eq!(rt; taken, 0);
-        assert_eq!(rt; answered(rt.alloc(), &text)?.as_slice(), want.as_slice());
-    }
-    assert!(rt; reads > 0 && growths > 0 && is_done);
     Ok(())
 }
 

@@ -1,6 +1,6 @@
 //! Runs over objects that are made by hand.
 
-use super::{Fault, RunError, Verdict, run, run_in};
+use super::{Fault, RunError, Verdict, run};
 use gix_validate::path::ComponentOptions;
 use linked_list_allocator::LocalHeap;
 use std::alloc::{AllocError, Global};
@@ -423,7 +423,7 @@ fn reports_refused_memory(rt: HostRuntime) -> Result<(), Fail> {
         let heap = LocalHeap::new(rt.alloc(), 16 * units)?;
         let mut output = Vec::new(rt.alloc());
         let options = ComponentOptions::default();
-        let result = run_in(&heap, options, &mut text.as_slice(), &mut output);
+        let result = run(&heap, options, &mut text.as_slice(), &mut output);
         assert_eq!(rt; heap.used(), 0);
         assert!(rt; lines.starts_with(&output));
         match result {

@@ -4,7 +4,7 @@ use Rattle.check_names.proofs.AnswerLemmas.{answers-first, answers-more, answers
 use Rattle.check_names.proofs.engine.answer_all.Goals as goal
 
 pub loop-line-preserved : goal.loop-line-preserved
-loop-line-preserved g c =
+loop-line-preserved c =
     let line = c.in-Some.line.now in
     let first = answers-first c.loop-line.rest.now line c.in-Some.after.now c.in-Some.ensures.lines in
     record {
@@ -15,4 +15,4 @@ loop-line-preserved g c =
     }
 
 pub returns-clause-ok : goal.returns-clause-ok
-returns-clause-ok g c = answers-done c.loop-line.answers.items c.loop-line.rest.now c.args.text.now c.in_default.ensures.lines c.loop-line.invariant.whole
+returns-clause-ok c = answers-done c.loop-line.answers.items c.loop-line.rest.now c.args.text.now c.in_default.ensures.lines c.loop-line.invariant.whole

@@ -12,70 +12,70 @@ use Rattle.check_names.proofs.AnswerLemmas.{asked_submodule, asked_path, asked_s
 use Rattle.check_names.proofs.engine.push_answer.Goals as goal
 
 pub returns-in-Some-clause-ok : goal.returns-in-Some-clause-ok
-returns-in-Some-clause-ok g c = rw (asked_ref _ _ c.in-Some.ensures)
+returns-in-Some-clause-ok c = rw (asked_ref _ _ c.in-Some.ensures)
     (on_ok_weaker _ (verdict-of_kept full_text Reference.full_fault_of _ c.in-Some.name _ _ _ c.new.ensures.answer) c.push_verdict.ensures.ok)
 
 pub returns-in-Some-clause-full : goal.returns-in-Some-clause-full
-returns-in-Some-clause-full g c = λ none. absurd (asks_something _ (codes "ref ") _ c.in-Some.ensures refl none)
+returns-in-Some-clause-full c = λ none. absurd (asks_something _ (codes "ref ") _ c.in-Some.ensures refl none)
 
 pub returns-in-Some-name_behind-clause-ok : goal.returns-in-Some-name_behind-clause-ok
-returns-in-Some-name_behind-clause-ok g c = rw (asked_tag _ _ c.in-Some-name_behind.ensures)
+returns-in-Some-name_behind-clause-ok c = rw (asked_tag _ _ c.in-Some-name_behind.ensures)
     (on_ok_weaker _ (verdict-of_kept tag_text Tag.fault_of _ c.in-Some-name_behind.name _ _ _ c.new-in-Some-name_behind.ensures.answer)
     c.push_verdict-in-Some-name_behind.ensures.ok)
 
 pub returns-in-Some-name_behind-clause-full : goal.returns-in-Some-name_behind-clause-full
-returns-in-Some-name_behind-clause-full g c = λ none. absurd (asks_something _ (codes "tag ") _ c.in-Some-name_behind.ensures refl none)
+returns-in-Some-name_behind-clause-full c = λ none. absurd (asks_something _ (codes "tag ") _ c.in-Some-name_behind.ensures refl none)
 
 pub returns-in-Some-name_behind-2-clause-ok : goal.returns-in-Some-name_behind-2-clause-ok
-returns-in-Some-name_behind-2-clause-ok g c = rw (asked_partial _ _ c.in-Some-name_behind-2.ensures)
+returns-in-Some-name_behind-2-clause-ok c = rw (asked_partial _ _ c.in-Some-name_behind-2.ensures)
     (on_ok_weaker _ (verdict-of_kept partial_text Reference.partial_fault_of _ c.in-Some-name_behind-2.name _ _ _ c.new-in-Some-name_behind-2.ensures.answer)
     c.push_verdict-in-Some-name_behind-2.ensures.ok)
 
 pub returns-in-Some-name_behind-2-clause-full : goal.returns-in-Some-name_behind-2-clause-full
-returns-in-Some-name_behind-2-clause-full g c = λ none. absurd (asks_something _ (codes "partial ") _ c.in-Some-name_behind-2.ensures refl none)
+returns-in-Some-name_behind-2-clause-full c = λ none. absurd (asks_something _ (codes "partial ") _ c.in-Some-name_behind-2.ensures refl none)
 
 pub returns-in-Some-name_behind-3-clause-ok : goal.returns-in-Some-name_behind-3-clause-ok
-returns-in-Some-name_behind-3-clause-ok g c = rw (asked_branch _ _ c.in-Some-name_behind-3.ensures)
+returns-in-Some-name_behind-3-clause-ok c = rw (asked_branch _ _ c.in-Some-name_behind-3.ensures)
     (on_ok_weaker _ (verdict-of_validator Reference.branch_fault_of _ (bstr_bytes c.in-Some-name_behind-3.name) _ _ _ c.branch_name.ensures.answer)
     c.push_verdict-in-Some-name_behind-3.ensures.ok)
 
 pub returns-in-Some-name_behind-3-clause-full : goal.returns-in-Some-name_behind-3-clause-full
-returns-in-Some-name_behind-3-clause-full g c = λ none. absurd (asks_something _ (codes "branch ") _ c.in-Some-name_behind-3.ensures refl none)
+returns-in-Some-name_behind-3-clause-full c = λ none. absurd (asks_something _ (codes "branch ") _ c.in-Some-name_behind-3.ensures refl none)
 
 pub returns-in-Some-name_behind-4-clause-ok : goal.returns-in-Some-name_behind-4-clause-ok
-returns-in-Some-name_behind-4-clause-ok g c = rw (asked_submodule _ _ c.in-Some-name_behind-4.ensures)
+returns-in-Some-name_behind-4-clause-ok c = rw (asked_submodule _ _ c.in-Some-name_behind-4.ensures)
     (on_ok_weaker _ (verdict-of_validator Submodule.fault_of _ (bstr_bytes c.in-Some-name_behind-4.name) _ _ _ c.name.ensures.answer)
     c.push_verdict-in-Some-name_behind-4.ensures.ok)
 
 pub returns-in-Some-name_behind-4-clause-full : goal.returns-in-Some-name_behind-4-clause-full
-returns-in-Some-name_behind-4-clause-full g c = λ none. absurd (asks_something _ (codes "submodule ") _ c.in-Some-name_behind-4.ensures refl none)
+returns-in-Some-name_behind-4-clause-full c = λ none. absurd (asks_something _ (codes "submodule ") _ c.in-Some-name_behind-4.ensures refl none)
 
 pub returns-in-Some-name_behind-5-clause-ok : goal.returns-in-Some-name_behind-5-clause-ok
-returns-in-Some-name_behind-5-clause-ok g c = rw (asked_path _ _ c.in-Some-name_behind-5.ensures) c.push_component.ensures.ok
+returns-in-Some-name_behind-5-clause-ok c = rw (asked_path _ _ c.in-Some-name_behind-5.ensures) c.push_component.ensures.ok
 
 pub returns-in-Some-name_behind-5-clause-full : goal.returns-in-Some-name_behind-5-clause-full
-returns-in-Some-name_behind-5-clause-full g c = λ none. absurd (asks_something _ (codes "path ") _ c.in-Some-name_behind-5.ensures refl none)
+returns-in-Some-name_behind-5-clause-full c = λ none. absurd (asks_something _ (codes "path ") _ c.in-Some-name_behind-5.ensures refl none)
 
 pub returns-in-Some-name_behind-6-clause-ok : goal.returns-in-Some-name_behind-6-clause-ok
-returns-in-Some-name_behind-6-clause-ok g c = rw (asked_symlink _ _ c.in-Some-name_behind-6.ensures) c.push_component-in-Some-name_behind-6.ensures.ok
+returns-in-Some-name_behind-6-clause-ok c = rw (asked_symlink _ _ c.in-Some-name_behind-6.ensures) c.push_component-in-Some-name_behind-6.ensures.ok
 
 pub returns-in-Some-name_behind-6-clause-full : goal.returns-in-Some-name_behind-6-clause-full
-returns-in-Some-name_behind-6-clause-full g c = λ none. absurd (asks_something _ (codes "symlink ") _ c.in-Some-name_behind-6.ensures refl none)
+returns-in-Some-name_behind-6-clause-full c = λ none. absurd (asks_something _ (codes "symlink ") _ c.in-Some-name_behind-6.ensures refl none)
 
 pub returns-in-Some-name_behind-7-clause-ok : goal.returns-in-Some-name_behind-7-clause-ok
-returns-in-Some-name_behind-7-clause-ok g c = rw (asked_device _ _ c.in-Some-name_behind-7.ensures) c.push_device.ensures
+returns-in-Some-name_behind-7-clause-ok c = rw (asked_device _ _ c.in-Some-name_behind-7.ensures) c.push_device.ensures
 
 pub returns-in-Some-name_behind-7-clause-full : goal.returns-in-Some-name_behind-7-clause-full
-returns-in-Some-name_behind-7-clause-full g c = λ none. absurd (asks_something _ (codes "device ") _ c.in-Some-name_behind-7.ensures refl none)
+returns-in-Some-name_behind-7-clause-full c = λ none. absurd (asks_something _ (codes "device ") _ c.in-Some-name_behind-7.ensures refl none)
 
 pub returns-in-Some-name_behind-8-clause-ok : goal.returns-in-Some-name_behind-8-clause-ok
-returns-in-Some-name_behind-8-clause-ok g c = rw (asked_sanitize _ _ c.in-Some-name_behind-8.ensures) c.push_sanitized.ensures
+returns-in-Some-name_behind-8-clause-ok c = rw (asked_sanitize _ _ c.in-Some-name_behind-8.ensures) c.push_sanitized.ensures
 
 pub returns-in-Some-name_behind-8-clause-full : goal.returns-in-Some-name_behind-8-clause-full
-returns-in-Some-name_behind-8-clause-full g c = λ none. absurd (asks_something _ (codes "sanitize ") _ c.in-Some-name_behind-8.ensures refl none)
+returns-in-Some-name_behind-8-clause-full c = λ none. absurd (asks_something _ (codes "sanitize ") _ c.in-Some-name_behind-8.ensures refl none)
 
 pub returns-in_default-name_behind-8-clause-ok : goal.returns-in_default-name_behind-8-clause-ok
-returns-in_default-name_behind-8-clause-ok g c =
+returns-in_default-name_behind-8-clause-ok c =
     let answer = asked_otherwise c.args.line.now c.in_default.ensures c.in_default-name_behind.ensures c.in_default-name_behind-2.ensures
     c.in_default-name_behind-3.ensures c.in_default-name_behind-4.ensures c.in_default-name_behind-5.ensures c.in_default-name_behind-6.ensures
     c.in_default-name_behind-7.ensures c.in_default-name_behind-8.ensures in

@@ -3,7 +3,7 @@ use Rattle.std.proofs.lemmas.Bool.{false≢true}
 use Rattle.std.proofs.lemmas.Grind.{common_steps}
 use Rattle.check_names.specs.Answers.{answers}
 use Rattle.check_names.proofs.AnswerLemmas.{answers_nil}
-use Rattle.check_names.proofs.engine.run_in.Goals as goal
+use Rattle.check_names.proofs.engine.run.Goals as goal
 
 IfErr-from_ok : {T E : Type 0} (r : Result T E) (P : E → Type 0) → is_ok r ≡ true → IfErr r P
 IfErr-from_ok (Ok x) P passed = tt

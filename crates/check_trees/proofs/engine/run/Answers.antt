@@ -2,8 +2,8 @@ use Rattle.std.proofs.Common.{arith}
 use Rattle.std.proofs.lemmas.Grind.{common_steps}
 use Rattle.check_trees.proofs.ReportSoFar.{starts, on_err}
 use Rattle.check_trees.proofs.StreamObjects.{line_gives, long_gives, cut_gives, stream_goes, stream_faults, stream_ends, stream_stops, stream_pauses}
-use Rattle.check_trees.proofs.engine.run_in.Goals.{in-Byte+in_ok-found-in-Byte+in-Err, in-Limit, in-End-2}
-use Rattle.check_trees.proofs.engine.run_in.Goals as goal
+use Rattle.check_trees.proofs.engine.run.Goals.{in-Byte+in_ok-found-in-Byte+in-Err, in-Limit, in-End-2}
+use Rattle.check_trees.proofs.engine.run.Goals as goal
 
 pub loop-before-init : goal.loop-before-init
 loop-before-init g c = starts _ _ _

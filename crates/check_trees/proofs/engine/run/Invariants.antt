@@ -2,7 +2,7 @@
 use Rattle.std.proofs.Common.{◌+◌}
 use Rattle.check_trees.proofs.ReportSoFar.{SoFar}
 use Rattle.check_trees.proofs.StreamObjects.{objects_report}
-use Rattle.check_trees.proofs.engine.run_in.Given as goal
+use Rattle.check_trees.proofs.engine.run.Given as goal
 
 abbrev pub invariant-loop-before : goal.invariant-loop-before
 invariant-loop-before g l = SoFar (objects_report l.options 1) (objects_report l.options (l.before + 1)) (g.R.Read.remaining l.fn.input)

@@ -24,7 +24,7 @@ use crate::quoted::Quoted;
 use crate::tag;
 use arrayvec::ArrayVec;
 use bstr::{BStr, BString};
-use std::alloc::{AllocError, Allocator, Global};
+use std::alloc::{AllocError, Global};
 use std::error::Error;
 use std::fmt;
 
@@ -220,7 +220,10 @@ pub fn join(alloc: Global, a: BStr<'_>, b: BStr<'_>) -> Result<BString, AllocErr
         ≡ joined (bstr_bytes a.entry ∷ bstr_bytes b.entry ∷ [])) }
     ensures valid { IfOk result (λ name. IsTrue (is_full_name (bstring_bytes name))) }
 {
-    let name = join_in(alloc, a.as_bytes(), b.as_bytes())?;
+    let (a, b) = (a.as_bytes(), b.as_bytes());
+    let with_slash = a.len().checked_add(1).ok_or(AllocError)?;
+    let len = with_slash.checked_add(b.len()).ok_or(AllocError)?;
+    let name = write_joined(Vec::with_capacity(alloc, len)?, a, b)?;
     Ok(BString::new(name))
 }
 
@@ -256,21 +259,8 @@ fn stands_alone(bytes: &[u8]) -> bool
         && bytes.iter().all(|byte| matches!(*byte, b'A'..=b'Z' | b'_'))
 }
 
-/// `join` with any allocator. A sum of lengths that wraps counts as out of memory.
-fn join_in<A: Allocator>(alloc: A, a: &[u8], b: &[u8]) -> Result<Vec<u8, A>, AllocError>
-    ensures { IfOk result (λ name. name.items ≡ joined (a.now ∷ b.now ∷ [])) }
-{
-    let with_slash = a.len().checked_add(1).ok_or(AllocError)?;
-    let len = with_slash.checked_add(b.len()).ok_or(AllocError)?;
-    write_joined(Vec::with_capacity(alloc, len)?, a, b)
-}
-
 /// All that follows the reservation, which was for the join and no byte more: it succeeds.
-fn write_joined<A: Allocator>(
-    mut buffer: Vec<u8, A>,
-    a: &[u8],
-    b: &[u8],
-) -> Result<Vec<u8, A>, AllocError>
+fn write_joined(mut buffer: Vec<u8>, a: &[u8], b: &[u8]) -> Result<Vec<u8>, AllocError>
     requires room { vec_capacity buffer ≡ vec_len buffer + length (joined (a.now ∷ b.now ∷ [])) }
     ensures bytes { IfOk result (λ name. name.items ≡ buffer.items ++ joined (a.now ∷ b.now ∷ [])) }
     ensures succeeds { IsOk result }
@@ -280,6 +270,3 @@ fn write_joined<A: Allocator>(
     buffer.extend_from_slice(b)?;
     Ok(buffer)
 }
-
-#[cfg(test)]
-mod tests;

@@ -145,6 +145,3 @@ fn is_separator(byte: u8) -> bool
 {
     matches!(byte, b'/' | b'\\')
 }
-
-#[cfg(test)]
-mod tests;

@@ -248,6 +248,3 @@ fn ends_in_lock(text: &[u8]) -> bool
 {
     text.ends_with(b"k") && text.ends_with(b".lock")
 }
-
-#[cfg(test)]
-mod tests;

@@ -1,13 +1,15 @@
-//! No vectors, whatever its name says. The crate holds three things:
+//! The tests of `gix_validate` and of `typed_names`, and laws about the rules. A crate that has tests
+//! is proved a second time with them, so these two have none. The crate holds four things:
 //!
+//! - Worked names, whose answers are written out.
 //! - The rules of docs/RULES.md, written a second time. The first writing is the definitions in
-//!   `crates/gix_validate/specs`, against which the library is proved. The second is code, and goes another way: it
-//!   searches where the library walks, and lists all names where the library compares fronts. Only the types of the
-//!   faults are the library's.
-//! - Tests that give tens of thousands of texts, all texts of up to two bytes among them, to each call of `gix_validate`
-//!   and to the second writing, and compare the answers.
-//! - Laws about the first writing, which are proved: in [`laws`] that it agrees with what the crate `bstr` decodes, and
-//!   in [`versions`] what version 2 changed in it.
+//!   `crates/gix_validate/specs`, against which the library is proved. The second is code, and goes
+//!   another way: it searches where the library walks, and lists all names where the library
+//!   compares fronts. Only the types of the faults are the library's.
+//! - Tests that give tens of thousands of texts, all texts of up to two bytes among them, to each
+//!   call of `gix_validate` and to the second writing, and compare the answers.
+//! - Laws about the first writing, which are proved: in [`laws`] that it agrees with what the crate
+//!   `bstr` decodes, and in [`versions`] what version 2 changed in it.
 //!
 //! The second writing is built for the tests alone, so callers see only the laws. The functions
 //! that carry them do nothing: the contract of each is the law.
@@ -30,9 +32,16 @@ mod submodule;
 mod tag;
 #[cfg(test)]
 mod text;
+/// The types of `typed_names`, on worked names.
+#[cfg(test)]
+mod typed;
 #[cfg(test)]
 mod units;
 pub mod versions;
+
+/// Worked names, whose answers are written out.
+#[cfg(test)]
+mod worked;
 
 /// The calls, compared with the second writing.
 #[cfg(test)]

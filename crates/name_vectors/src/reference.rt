@@ -46,6 +46,7 @@ fn may_stand(text: &[u8]) -> bool {
     text.contains(&b'/') || text.iter().all(|byte| matches!(byte, b'A'..=b'Z' | b'_'))
 }
 
+/// The fault of the text where it is this reserved name.
 fn reserved(text: &[u8], name: &'static [u8]) -> Option<Fault<'static>> {
     if text == name {
         Some(Fault::Reserved(name))

@@ -5,16 +5,27 @@ use std::alloc::{AllocError, Global};
 
 /// The sanitised text.
 pub(crate) fn sanitized(alloc: Global, text: &[u8]) -> Result<Vec<u8>, AllocError> {
-    let pieces = text.split(is_slash).filter(|piece| !piece.is_empty());
     let mut name = Vec::new(alloc);
-    for (number, piece) in pieces.enumerate() {
-        if number > 0 {
-            name.push(b'/')?;
+    let mut separator: &[u8] = b"";
+    for piece in text.split(is_slash) {
+        if !piece.is_empty() {
+            push_piece(alloc, &mut name, separator, piece)?;
+            separator = b"/";
         }
-        name.extend_from_slice(cut(&cleaned(alloc, piece)?))?;
     }
     repair(&mut name)?;
     Ok(name)
+}
+
+/// Puts the sanitised piece behind the name and the separator.
+fn push_piece(
+    alloc: Global,
+    name: &mut Vec<u8>,
+    separator: &[u8],
+    piece: &[u8],
+) -> Result<(), AllocError> {
+    name.extend_from_slice(separator)?;
+    name.extend_from_slice(cut(&cleaned(alloc, piece)?))
 }
 
 /// The piece with each of its runs cleaned. A run is as many dots as stand together, or one other

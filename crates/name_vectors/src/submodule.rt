@@ -21,6 +21,7 @@ fn is_parent_at(text: &[u8], place: usize) -> bool {
     stands_at(text, place, b"..") && separates(before) && separates(after)
 }
 
+/// Whether the byte, or the end, separates two parts.
 fn separates(byte: Option<&u8>) -> bool {
     matches!(byte, None | Some(b'/' | b'\\'))
 }

@@ -25,35 +25,41 @@ pub(crate) fn fault(text: &[u8]) -> Option<Fault<'static>> {
         (text.ends_with(b"/"), Fault::EndsWithSlash),
         (text.starts_with(b"/"), Fault::StartsWithSlash),
     ])
-    .or_else(|| (0..text.len()).find_map(|place| first_of(&faults_at(text, place))))
-    .or_else(|| {
-        first_of(&[
-            (text.starts_with(b"."), Fault::StartsWithDot),
-            (text.ends_with(b"."), Fault::EndsWithDot),
-        ])
-    })
+    .or(first_at_places(text))
+    .or(first_of(&[
+        (text.starts_with(b"."), Fault::StartsWithDot),
+        (text.ends_with(b"."), Fault::EndsWithDot),
+    ]))
+}
+
+/// The fault of the first place that has one.
+fn first_at_places(text: &[u8]) -> Option<Fault<'static>> {
+    (0..text.len()).find_map(|place| first_of(&faults_at(text, place)))
 }
 
 /// The faults that a place may have, and which of them it has: at most one.
 pub(crate) fn faults_at(text: &[u8], place: usize) -> [(bool, Fault<'static>); 8] {
     let (before, here) = text.split_at_checked(place).unwrap_or((text, b""));
-    let byte = here.first().copied();
-    let follows = |last: &[u8], next: u8| before.ends_with(last) && byte == Some(next);
-    let is_last = here.len() == 1;
+    let byte = here.first().copied().unwrap_or(0);
+    let is_bad = here.first().is_some_and(|byte| is_bad(*byte));
     [
-        (
-            byte.is_some_and(|byte| is_bad(byte)),
-            Fault::InvalidByte(byte.unwrap_or(0)),
-        ),
-        (byte == Some(b'*'), Fault::Asterisk),
-        (follows(b".", b'.'), Fault::RepeatedDot),
-        (follows(b"/", b'.'), Fault::StartsWithDot),
-        (follows(b"@", b'{'), Fault::ReflogPortion),
-        (follows(b"/", b'/'), Fault::RepeatedSlash),
-        (follows(b".lock", b'/'), Fault::LockFileSuffix),
-        (
-            is_last && text.ends_with(b".lock") && text != b".lock".as_slice(),
-            Fault::LockFileSuffix,
-        ),
+        (is_bad, Fault::InvalidByte(byte)),
+        (here.starts_with(b"*"), Fault::Asterisk),
+        (meet(before, b".", here, b"."), Fault::RepeatedDot),
+        (meet(before, b"/", here, b"."), Fault::StartsWithDot),
+        (meet(before, b"@", here, b"{"), Fault::ReflogPortion),
+        (meet(before, b"/", here, b"/"), Fault::RepeatedSlash),
+        (meet(before, b".lock", here, b"/"), Fault::LockFileSuffix),
+        (here.len() == 1 && is_locked(text), Fault::LockFileSuffix),
     ]
+}
+
+/// Whether the one text ends with the last word, and the other starts with the next one.
+fn meet(before: &[u8], last: &[u8], here: &[u8], next: &[u8]) -> bool {
+    before.ends_with(last) && here.starts_with(next)
+}
+
+/// Whether the text ends with `.lock`, and is more than that.
+fn is_locked(text: &[u8]) -> bool {
+    text.len() > 5 && text.ends_with(b".lock")
 }

@@ -24,34 +24,67 @@ fn ask(rt: &impl Abort, alloc: Global, text: &[u8]) -> Result<(), AllocError> {
 
 /// What the rules say both as a grammar and as faults agrees; and no place has two faults.
 fn ask_rules(rt: &impl Abort, text: &[u8]) {
-    for (accepts, fault) in [
-        (tag::is_name(text), tag::fault(text)),
-        (reference::is_partial(text), reference::partial_fault(text)),
-        (reference::is_full(text), reference::full_fault(text)),
-        (reference::is_branch(text), reference::branch_fault(text)),
-    ] {
-        assert!(rt; accepts == fault.is_none(), "{text:?} has {fault:?}");
-    }
+    check_agreement(rt, text, tag::is_name(text), tag::fault(text));
+    check_agreement(
+        rt,
+        text,
+        reference::is_partial(text),
+        reference::partial_fault(text),
+    );
+    check_agreement(
+        rt,
+        text,
+        reference::is_full(text),
+        reference::full_fault(text),
+    );
+    check_agreement(
+        rt,
+        text,
+        reference::is_branch(text),
+        reference::branch_fault(text),
+    );
     for place in 0..text.len() {
-        let faults = tag::faults_at(text, place);
-        let count = faults.iter().filter(|line| line.0).count();
+        let count = count_of_faults(text, place);
         assert!(rt; count < 2, "{count} faults at {place} in {text:?}");
     }
+}
+
+/// A grammar accepts the text exactly where it has no fault.
+fn check_agreement(rt: &impl Abort, text: &[u8], accepts: bool, fault: Option<Fault<'_>>) {
+    assert!(rt; accepts == fault.is_none(), "{text:?} has {fault:?}");
+}
+
+/// How many faults the place has as one of a tag name.
+fn count_of_faults(text: &[u8], place: usize) -> usize {
+    tag::faults_at(text, place)
+        .iter()
+        .filter(|line| line.0)
+        .count()
 }
 
 /// The units are the text, cut; and without the ignored characters they are what HFS+ reads.
 fn ask_forms(rt: &impl Abort, alloc: Global, text: &[u8], on_hfs: &[u8]) -> Result<(), AllocError> {
     let units = units::units(alloc, text)?;
-    let mut rest = Some(text);
-    for unit in &units {
-        rest = rest.and_then(|rest| rest.strip_prefix(*unit));
-    }
-    assert_eq!(rt; rest, Some(b"".as_slice()), "the units of {text:?}");
+    assert_eq!(rt;
+        behind(text, &units),
+        Some(b"".as_slice()),
+        "the units of {text:?}"
+    );
     let kept = forms::kept_units(alloc, &units)?;
     assert_eq!(rt; on_hfs, kept.as_slice(), "the form of {text:?}");
     Ok(())
 }
 
+/// What follows the units in the text, if it begins with them.
+fn behind<'a>(text: &'a [u8], units: &[&[u8]]) -> Option<&'a [u8]> {
+    let mut rest = text;
+    for unit in units {
+        rest = rest.strip_prefix(*unit)?;
+    }
+    Some(rest)
+}
+
+/// Asks for tag names and names of submodules.
 fn ask_names(rt: &impl Abort, text: &[u8]) {
     let answer = gix_validate::tag::name(BStr::new(text));
     let told = answer.as_ref().map_err(|fault| Fault::from(fault));
@@ -61,6 +94,7 @@ fn ask_names(rt: &impl Abort, text: &[u8]) {
     compare(rt, text, told, submodule::fault(text), "submodule");
 }
 
+/// Asks for the three kinds of reference names.
 fn ask_reference_names(rt: &impl Abort, text: &[u8]) {
     let answer = gix_validate::reference::name_partial(BStr::new(text));
     let told = answer.as_ref().map_err(|fault| Fault::from(fault));
@@ -77,27 +111,26 @@ fn ask_reference_names(rt: &impl Abort, text: &[u8]) {
 fn ask_components(rt: &impl Abort, alloc: Global, text: &[u8]) -> Result<(), AllocError> {
     let readings = component::read(alloc, text)?;
     ask_forms(rt, alloc, text, &readings.on_hfs)?;
-    for windows in [false, true] {
-        for hfs in [false, true] {
-            for ntfs in [false, true] {
-                for symlink in [false, true] {
-                    let setting = Setting {
-                        windows,
-                        hfs,
-                        ntfs,
-                        symlink,
-                    };
-                    ask_component(rt, text, setting, component::fault(&readings, setting));
-                }
-            }
-        }
+    for bits in 0..16 {
+        let setting = setting_of(bits);
+        ask_component(rt, text, setting, component::fault(&readings, setting));
     }
-    let name = BStr::new(text);
-    let is_device = gix_validate::path::component_is_windows_device(name);
+    let is_device = gix_validate::path::component_is_windows_device(BStr::new(text));
     assert_eq!(rt; is_device, forms::is_device(text), "is {text:?} a device?");
     Ok(())
 }
 
+/// The setting that the last four bits say.
+fn setting_of(bits: u8) -> Setting {
+    Setting {
+        windows: bits & 1 != 0,
+        hfs: bits & 2 != 0,
+        ntfs: bits & 4 != 0,
+        symlink: bits & 8 != 0,
+    }
+}
+
+/// Asks for components under one setting.
 fn ask_component(rt: &impl Abort, text: &[u8], setting: Setting, want: Option<Fault<'_>>) {
     let mode = if setting.symlink {
         Some(ComponentMode::Symlink)
@@ -120,19 +153,44 @@ fn ask_repairs(rt: &impl Abort, alloc: Global, text: &[u8]) -> Result<(), AllocE
     let name = gix_validate::reference::name_partial_or_sanitize(alloc, BStr::new(text))?;
     assert_eq!(rt; name.as_bytes(), want.as_slice(), "from {text:?}");
     for behind in [b"".as_slice(), b"?", b"/.lock"] {
-        let mut buffer = text.to_vec(alloc)?;
-        buffer.extend_from_slice(behind)?;
-        if buffer.is_empty() {
-            continue;
-        }
-        let end = text.len().max(1);
-        let rest = buffer.get(end..).unwrap_or(b"").to_vec(alloc)?;
-        assert!(rt; text.len() <= buffer.len());
-        let len = gix_validate::reference::sanitize_in_place(&mut buffer, text.len());
-        assert_eq!(rt; buffer.get(..len), Some(want.as_slice()), "from {text:?}");
-        assert_eq!(rt; buffer.get(end..), Some(rest.as_slice()), "behind {text:?}");
+        ask_repair(rt, alloc, text, behind, &want)?;
     }
     Ok(())
+}
+
+/// The sanitiser in place, in a buffer that has these bytes behind the text.
+fn ask_repair(
+    rt: &impl Abort,
+    alloc: Global,
+    text: &[u8],
+    behind: &[u8],
+    want: &[u8],
+) -> Result<(), AllocError> {
+    let given = joined(alloc, text, behind)?;
+    let mut buffer = joined(alloc, text, behind)?;
+    if let Some(len) = sanitize_front(rt, &mut buffer, text.len()) {
+        let end = text.len().max(1);
+        assert_eq!(rt; buffer.get(..len), Some(want), "from {text:?}");
+        assert_eq!(rt; buffer.get(end..), given.get(end..), "behind {text:?}");
+    }
+    Ok(())
+}
+
+/// The two texts, one behind the other.
+fn joined(alloc: Global, front: &[u8], back: &[u8]) -> Result<Vec<u8>, AllocError> {
+    let mut text = front.to_vec(alloc)?;
+    text.extend_from_slice(back)?;
+    Ok(text)
+}
+
+/// Sanitises the front of the buffer, and says how long it is then. An empty buffer has none.
+fn sanitize_front(rt: &impl Abort, buffer: &mut [u8], len: usize) -> Option<usize> {
+    assert!(rt; len <= buffer.len());
+    if buffer.is_empty() {
+        None
+    } else {
+        Some(gix_validate::reference::sanitize_in_place(buffer, len))
+    }
 }
 
 /// What a call answered is what the rule says: the same text, or the same fault.
@@ -143,11 +201,9 @@ fn compare(
     want: Option<Fault<'_>>,
     call: &str,
 ) {
-    match told {
-        Ok(given) => {
-            assert!(rt; want.is_none(), "{call} accepts {text:?}");
-            assert_eq!(rt; given.as_bytes(), text, "{call} gives back another text");
-        }
-        Err(fault) => assert!(rt; want == Some(fault), "{call} tells {fault:?} of {text:?}"),
+    if let Ok(given) = told {
+        assert_eq!(rt; given.as_bytes(), text, "{call} gives back another text");
     }
+    let fault = told.err();
+    assert!(rt; fault == want, "{call} tells {fault:?} of {text:?}");
 }

@@ -3,17 +3,19 @@
 use std::alloc::{AllocError, Global};
 
 /// The rows of Unicode's table of whole UTF-8 sequences: the least and the greatest of each byte.
-pub(crate) const ROWS: [&[(u8, u8)]; 9] = [
-    &[(0x00, 0x7F)],
-    &[(0xC2, 0xDF), (0x80, 0xBF)],
-    &[(0xE0, 0xE0), (0xA0, 0xBF), (0x80, 0xBF)],
-    &[(0xE1, 0xEC), (0x80, 0xBF), (0x80, 0xBF)],
-    &[(0xED, 0xED), (0x80, 0x9F), (0x80, 0xBF)],
-    &[(0xEE, 0xEF), (0x80, 0xBF), (0x80, 0xBF)],
-    &[(0xF0, 0xF0), (0x90, 0xBF), (0x80, 0xBF), (0x80, 0xBF)],
-    &[(0xF1, 0xF3), (0x80, 0xBF), (0x80, 0xBF), (0x80, 0xBF)],
-    &[(0xF4, 0xF4), (0x80, 0x8F), (0x80, 0xBF), (0x80, 0xBF)],
-];
+pub(crate) fn rows() -> [&'static [(u8, u8)]; 9] {
+    [
+        &[(0x00, 0x7F)],
+        &[(0xC2, 0xDF), (0x80, 0xBF)],
+        &[(0xE0, 0xE0), (0xA0, 0xBF), (0x80, 0xBF)],
+        &[(0xE1, 0xEC), (0x80, 0xBF), (0x80, 0xBF)],
+        &[(0xED, 0xED), (0x80, 0x9F), (0x80, 0xBF)],
+        &[(0xEE, 0xEF), (0x80, 0xBF), (0x80, 0xBF)],
+        &[(0xF0, 0xF0), (0x90, 0xBF), (0x80, 0xBF), (0x80, 0xBF)],
+        &[(0xF1, 0xF3), (0x80, 0xBF), (0x80, 0xBF), (0x80, 0xBF)],
+        &[(0xF4, 0xF4), (0x80, 0x8F), (0x80, 0xBF), (0x80, 0xBF)],
+    ]
+}
 
 /// The units of a text, in order.
 pub(crate) fn units(alloc: Global, text: &[u8]) -> Result<Vec<&[u8]>, AllocError> {
@@ -33,21 +35,39 @@ pub(crate) fn units(alloc: Global, text: &[u8]) -> Result<Vec<&[u8]>, AllocError
 /// The first unit: the front that is a whole sequence, else the longest front that begins one, else
 /// one byte.
 pub(crate) fn first_unit(text: &[u8]) -> &[u8] {
-    let fronts = [text.get(..4), text.get(..3), text.get(..2), text.get(..1)];
-    for front in fronts.into_iter().flatten() {
-        if ROWS
-            .iter()
-            .any(|row| row.len() == front.len() && begins(front, row))
-        {
-            return front;
-        }
+    if let Some(front) = whole_front(text) {
+        return front;
     }
-    for front in fronts.into_iter().flatten() {
-        if ROWS.iter().any(|row| begins(front, row)) {
-            return front;
-        }
+    if let Some(front) = begun_front(text) {
+        return front;
     }
     text.get(..1).unwrap_or(text)
+}
+
+/// The front that is a whole sequence.
+fn whole_front(text: &[u8]) -> Option<&[u8]> {
+    for len in (1..=4).rev() {
+        if let Some(front) = text.get(..len)
+            && rows()
+                .iter()
+                .any(|row| row.len() == len && begins(front, row))
+        {
+            return Some(front);
+        }
+    }
+    None
+}
+
+/// The longest front that begins a sequence.
+fn begun_front(text: &[u8]) -> Option<&[u8]> {
+    for len in (1..=4).rev() {
+        if let Some(front) = text.get(..len)
+            && rows().iter().any(|row| begins(front, row))
+        {
+            return Some(front);
+        }
+    }
+    None
 }
 
 /// Whether the front begins a sequence of the row.

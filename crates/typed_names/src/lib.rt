@@ -41,5 +41,3 @@ mod partial;
 mod pieces;
 mod submodule;
 mod tag;
-#[cfg(test)]
-mod tests;

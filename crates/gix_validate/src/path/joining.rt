@@ -8,7 +8,7 @@ ghost use Rattle.gix_validate.specs.ComponentLaws.{no_protections, IsBasicName};
 ghost use Rattle.gix_validate.specs.Pieces.{pieces, joined};
 
 use bstr::{BStr, BString};
-use std::alloc::{AllocError, Allocator, Global};
+use std::alloc::{AllocError, Global};
 
 /// Joins components by slashes into a path, whose pieces are the parts in their order
 /// (docs/RULES.md, "Joining").
@@ -39,16 +39,9 @@ pub fn join(alloc: Global, parts: &[BStr<'_>]) -> Result<BString, AllocError>
     // No piece is empty, `.`, `..`, or `.git` in any ASCII letter case.
     ensures basic { IfOk result (λ path. All IsBasicName (pieces (bstring_bytes path))) }
 {
-    Ok(BString::new(join_in(alloc, parts)?))
-}
-
-/// `join` with any allocator. A sum of lengths that wraps counts as out of memory.
-fn join_in<A: Allocator>(alloc: A, parts: &[BStr<'_>]) -> Result<Vec<u8, A>, AllocError>
-    requires { 0 < length parts.now }
-    ensures { IfOk result (λ path. path.items ≡ joined (map bstr_bytes parts.now)) }
-{
     let len = joined_len(parts).ok_or(AllocError)?;
-    write_joined(Vec::with_capacity(alloc, len)?, parts)
+    let path = write_joined(Vec::with_capacity(alloc, len)?, parts)?;
+    Ok(BString::new(path))
 }
 
 /// How long the parts and the slashes between them are, where that fits a `usize`.
@@ -67,10 +60,7 @@ fn joined_len(parts: &[BStr<'_>]) -> Option<usize>
 }
 
 /// All that follows the reservation, which was for the path and no byte more: it succeeds.
-fn write_joined<A: Allocator>(
-    mut buffer: Vec<u8, A>,
-    parts: &[BStr<'_>],
-) -> Result<Vec<u8, A>, AllocError>
+fn write_joined(mut buffer: Vec<u8>, parts: &[BStr<'_>]) -> Result<Vec<u8>, AllocError>
     requires room { vec_capacity buffer ≡ vec_len buffer + length (joined (map bstr_bytes parts.now)) }
     ensures bytes { IfOk result
         (λ path. path.items ≡ buffer.items ++ joined (map bstr_bytes parts.now)) }
@@ -84,6 +74,3 @@ fn write_joined<A: Allocator>(
     }
     Ok(buffer)
 }
-
-#[cfg(test)]
-mod tests;

@@ -12,7 +12,7 @@ ghost use Rattle.gix_validate.specs.Sanitized.{allowed, cut, mended_pieces, repa
 use crate::adjacent::is_clear;
 use crate::bytes::may_be_faulty;
 use bstr::{BStr, BString};
-use std::alloc::{AllocError, Allocator, Global};
+use std::alloc::{AllocError, Global};
 
 /// Copies a name, and repairs the copy if the name is not a partial name (docs/RULES.md, "Sanitised
 /// names").
@@ -47,7 +47,7 @@ pub fn name_partial_or_sanitize(alloc: Global, path: BStr<'_>) -> Result<BString
 }
 
 /// Makes the one reservation, and then the copy.
-fn sanitized_copy<A: Allocator>(alloc: A, path: &[u8]) -> Result<Vec<u8, A>, AllocError>
+fn sanitized_copy(alloc: Global, path: &[u8]) -> Result<Vec<u8>, AllocError>
     ensures { IfOk result (λ name. name.items ≡ sanitized path.now) }
 {
     let mut name = Vec::with_capacity(alloc, path.len().max(1))?;
@@ -57,7 +57,7 @@ fn sanitized_copy<A: Allocator>(alloc: A, path: &[u8]) -> Result<Vec<u8, A>, All
 
 /// Writes the sanitised path to an empty vector that has room for the path, or for one byte if that
 /// is empty, and for no more. So it never fails.
-fn fill_sanitized<A: Allocator>(name: &mut Vec<u8, A>, path: &[u8]) -> Result<(), AllocError>
+fn fill_sanitized(name: &mut Vec<u8>, path: &[u8]) -> Result<(), AllocError>
     requires empty { name.old.items ≡ [] }
     requires room { vec_capacity name.old ≡ max 1 (length path.now) }
     ensures succeeds { IsOk result }
@@ -273,6 +273,3 @@ fn repair_end(buf: &mut [u8], end: usize) -> usize
     }
     end
 }
-
-#[cfg(test)]
-mod tests;

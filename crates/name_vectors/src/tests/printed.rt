@@ -4,13 +4,26 @@ use arrayvec::ArrayVec;
 use gix_validate::path::ComponentError;
 use gix_validate::{reference, submodule, tag};
 use std::alloc::{AllocError, Global};
+use std::fmt::Display;
+use std::process::Abort;
 use std::test::Fail;
 
-#[test]
-fn prints_faults_of_tag_names(rt: HostRuntime) -> Result<(), Fail> {
+/// The fault prints the text.
+fn check_printed(
+    rt: &impl Abort,
+    alloc: Global,
+    fault: &impl Display,
+    want: &str,
+) -> Result<(), AllocError> {
+    assert_eq!(rt; fault.to_string(alloc)?.as_str(), want);
+    Ok(())
+}
+
+/// Faults of tag names, and their texts.
+fn faults_of_tag_names() -> &'static [(tag::NameError, &'static str)] {
     use tag::NameError::*;
 
-    let rows = [
+    &[
         (
             StartsWithSlash,
             "A reference name must not start with a slash '/'",
@@ -33,18 +46,22 @@ fn prints_faults_of_tag_names(rt: HostRuntime) -> Result<(), Fail> {
         (EndsWithDot, "A ref must not end with a '.'"),
         (EndsWithSlash, "A ref must not end with a '/'"),
         (Empty, "A ref must not be empty"),
-    ];
-    for (fault, want) in rows {
-        assert_eq!(rt; format!(in rt.alloc(); "{fault}")?.as_str(), want);
+    ]
+}
+
+#[test]
+fn prints_faults_of_tag_names(rt: HostRuntime) -> Result<(), Fail> {
+    for (fault, want) in faults_of_tag_names() {
+        check_printed(&rt, rt.alloc(), fault, want)?;
     }
     Ok(())
 }
 
-#[test]
-fn prints_faults_of_reference_names(rt: HostRuntime) -> Result<(), Fail> {
+/// Faults of reference names, and their texts.
+fn faults_of_reference_names() -> [(reference::NameError, &'static str); 11] {
     use reference::NameError::*;
 
-    let rows = [
+    [
         (StartsWithSlash, "Reference name cannot start with a slash"),
         (
             RepeatedSlash,
@@ -62,31 +79,40 @@ fn prints_faults_of_reference_names(rt: HostRuntime) -> Result<(), Fail> {
             SomeLowercase,
             "Standalone references must be all uppercased, like 'HEAD'",
         ),
-    ];
-    for (fault, want) in rows {
-        assert_eq!(rt; format!(in rt.alloc(); "{fault}")?.as_str(), want);
+    ]
+}
+
+#[test]
+fn prints_faults_of_reference_names(rt: HostRuntime) -> Result<(), Fail> {
+    for (fault, want) in faults_of_reference_names() {
+        check_printed(&rt, rt.alloc(), &fault, want)?;
     }
     Ok(())
+}
+
+/// Faults of submodule names, and their texts.
+fn faults_of_submodule_names() -> &'static [(submodule::NameError, &'static str)] {
+    use submodule::NameError::*;
+
+    &[
+        (Empty, "Submodule names cannot be empty"),
+        (ParentComponent, "Submodules names must not contains '..'"),
+    ]
 }
 
 #[test]
 fn prints_faults_of_submodule_names(rt: HostRuntime) -> Result<(), Fail> {
-    use submodule::NameError::*;
-
-    for (fault, want) in [
-        (Empty, "Submodule names cannot be empty"),
-        (ParentComponent, "Submodules names must not contains '..'"),
-    ] {
-        assert_eq!(rt; format!(in rt.alloc(); "{fault}")?.as_str(), want);
+    for (fault, want) in faults_of_submodule_names() {
+        check_printed(&rt, rt.alloc(), fault, want)?;
     }
     Ok(())
 }
 
-#[test]
-fn prints_faults_of_components(rt: HostRuntime) -> Result<(), Fail> {
+/// Faults of components, and their texts.
+fn faults_of_components() -> &'static [(ComponentError, &'static str)] {
     use ComponentError::*;
 
-    let rows = [
+    &[
         (Empty, "A path component must not be empty"),
         (
             PathSeparator,
@@ -107,10 +133,27 @@ fn prints_faults_of_components(rt: HostRuntime) -> Result<(), Fail> {
             "The .gitmodules file must not be a symlink",
         ),
         (Relative, "Relative components '.' and '..' are disallowed"),
-    ];
-    for (fault, want) in rows {
-        assert_eq!(rt; format!(in rt.alloc(); "{fault}")?.as_str(), want);
+    ]
+}
+
+#[test]
+fn prints_faults_of_components(rt: HostRuntime) -> Result<(), Fail> {
+    for (fault, want) in faults_of_components() {
+        check_printed(&rt, rt.alloc(), fault, want)?;
     }
+    Ok(())
+}
+
+/// The fault prints the text, and behind it the bytes in their quoted form.
+fn check_quoted(
+    rt: &impl Abort,
+    alloc: Global,
+    fault: &impl Display,
+    text: &str,
+    bytes: &[u8],
+) -> Result<(), AllocError> {
+    let want = followed_by_quoted(alloc, text, bytes)?;
+    assert_eq!(rt; fault.to_string(alloc)?.as_bytes(), want.as_slice());
     Ok(())
 }
 
@@ -121,37 +164,38 @@ fn prints_each_byte(rt: HostRuntime) -> Result<(), Fail> {
     for byte in 0..=u8::MAX {
         let fault = tag::NameError::InvalidByte { byte };
         let text = "A ref must not contain invalid bytes or ascii control characters: ";
-        let want = followed_by_quoted(alloc, text, &[byte])?;
-        assert_eq!(rt; format!(in alloc; "{fault}")?.as_bytes(), want.as_slice());
+        check_quoted(&rt, alloc, &fault, text, &[byte])?;
         let fault = reference::NameError::InvalidByte { byte };
-        let want = followed_by_quoted(alloc, "Reference name contains invalid byte: ", &[byte])?;
-        assert_eq!(rt; format!(in alloc; "{fault}")?.as_bytes(), want.as_slice());
+        let text = "Reference name contains invalid byte: ";
+        check_quoted(&rt, alloc, &fault, text, &[byte])?;
         asked = asked.saturating_add(1);
     }
     assert_eq!(rt; asked, 256);
     Ok(())
 }
 
-#[test]
-fn prints_reserved_names(rt: HostRuntime) -> Result<(), Fail> {
-    let alloc = rt.alloc();
-    let names: [&[u8]; 6] = [
+/// Names of at most fifteen bytes.
+fn names() -> &'static [&'static [u8]] {
+    &[
         b"",
         b"@",
         b"refs/heads/HEAD",
         b"\"\\",
         b"\0\t\n\r \x1b\x7f\xc3\xa9",
         b"\xff\xff\xff\xff\xff\xff\xff\xff\xff\xff\xff\xff\xff\xff\xff",
-    ];
-    for bytes in names {
+    ]
+}
+
+#[test]
+fn prints_reserved_names(rt: HostRuntime) -> Result<(), Fail> {
+    for bytes in names() {
         let mut name = ArrayVec::new();
-        for byte in bytes {
+        for byte in *bytes {
             assert!(rt; name.try_push(*byte).is_ok());
         }
         let fault = reference::NameError::Reserved { name };
         let text = "Reference name is reserved and cannot be used: ";
-        let want = followed_by_quoted(alloc, text, bytes)?;
-        assert_eq!(rt; format!(in alloc; "{fault}")?.as_bytes(), want.as_slice());
+        check_quoted(&rt, rt.alloc(), &fault, text, bytes)?;
     }
     Ok(())
 }
@@ -161,17 +205,32 @@ fn followed_by_quoted(alloc: Global, text: &str, bytes: &[u8]) -> Result<Vec<u8>
     let mut printed = text.as_bytes().to_vec(alloc)?;
     printed.push(b'"')?;
     for byte in bytes {
-        match *byte {
-            0x00 => printed.extend_from_slice(b"\\0")?,
-            0x09 => printed.extend_from_slice(b"\\t")?,
-            0x0A => printed.extend_from_slice(b"\\n")?,
-            0x0D => printed.extend_from_slice(b"\\r")?,
-            0x22 => printed.extend_from_slice(b"\\\"")?,
-            0x5C => printed.extend_from_slice(b"\\\\")?,
-            0x20..=0x7E => printed.push(*byte)?,
-            _ => printed.extend_from_slice(format!(in alloc; "\\x{byte:02x}")?.as_bytes())?,
-        }
+        push_quoted(alloc, &mut printed, *byte)?;
     }
     printed.push(b'"')?;
     Ok(printed)
+}
+
+/// Puts the quoted form of the byte behind the text.
+fn push_quoted(alloc: Global, printed: &mut Vec<u8>, byte: u8) -> Result<(), AllocError> {
+    if let Some(escape) = short_escape(byte) {
+        printed.extend_from_slice(escape)
+    } else if matches!(byte, 0x20..=0x7E) {
+        Ok(printed.push(byte)?)
+    } else {
+        printed.extend_from_slice(format!(in alloc; "\\x{byte:02x}")?.as_bytes())
+    }
+}
+
+/// The escape of a byte that has one of its own.
+fn short_escape(byte: u8) -> Option<&'static [u8]> {
+    match byte {
+        0x00 => Some(b"\\0"),
+        0x09 => Some(b"\\t"),
+        0x0A => Some(b"\\n"),
+        0x0D => Some(b"\\r"),
+        0x22 => Some(b"\\\""),
+        0x5C => Some(b"\\\\"),
+        _ => None,
+    }
 }

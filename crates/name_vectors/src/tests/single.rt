@@ -1,10 +1,9 @@
 //! Long texts, and texts that are not UTF-8, with answers that are written out.
 
 use super::ask;
-use crate::fault::Fault;
 use crate::units::units;
 use bstr::BStr;
-use gix_validate::path::{ComponentOptions, component};
+use gix_validate::path::{ComponentError, ComponentOptions, component};
 use gix_validate::reference::name_partial_or_sanitize;
 use gix_validate::tag;
 use std::alloc::{AllocError, Global};
@@ -18,19 +17,23 @@ fn long(alloc: Global, front: &[u8], word: &[u8], end: &[u8]) -> Result<Vec<u8>,
     Ok(text)
 }
 
-#[test]
-fn sanitizes_long_texts(rt: HostRuntime) -> Result<(), Fail> {
-    let alloc = rt.alloc();
-    let rows: [(&[u8], &[u8], &[u8], &[u8]); 4] = [
+/// What a long text begins with, repeats and ends with, and what it is sanitised to.
+fn long_texts() -> &'static [(&'static [u8], &'static [u8], &'static [u8], &'static [u8])] {
+    &[
         (b"a", b".lock", b"", b"a"),
         (b"", b".", b"", b"-"),
         (b"a", b".", b"b", b"a.b"),
         (b"", b"/", b"", b"-"),
-    ];
-    for (front, word, end, want) in rows {
+    ]
+}
+
+#[test]
+fn sanitizes_long_texts(rt: HostRuntime) -> Result<(), Fail> {
+    let alloc = rt.alloc();
+    for (front, word, end, want) in long_texts() {
         let text = long(alloc, front, word, end)?;
         let name = name_partial_or_sanitize(alloc, BStr::new(&text))?;
-        assert_eq!(rt; name.as_bytes(), want);
+        assert_eq!(rt; name.as_bytes(), *want);
         ask(&rt, alloc, &text)?;
     }
     Ok(())
@@ -44,29 +47,33 @@ fn finds_the_fault_of_a_long_text(rt: HostRuntime) -> Result<(), Fail> {
     Ok(())
 }
 
+/// The word, with a thousand ignored characters on either side of it.
+fn among_ignored(alloc: Global, word: &[u8]) -> Result<Vec<u8>, AllocError> {
+    let ignored = "\u{200C}".as_bytes().repeat(alloc, 1000)?;
+    let mut text = ignored.to_vec(alloc)?;
+    text.extend_from_slice(word)?;
+    text.extend_from_slice(&ignored)?;
+    Ok(text)
+}
+
 #[test]
 fn sees_through_ignored_characters(rt: HostRuntime) -> Result<(), Fail> {
     let alloc = rt.alloc();
-    let ignored = "\u{200C}".as_bytes().repeat(alloc, 1000)?;
-    let mut text = ignored.to_vec(alloc)?;
-    text.extend_from_slice(b".git")?;
-    text.extend_from_slice(&ignored)?;
+    let text = among_ignored(alloc, b".git")?;
     let hfs_alone = ComponentOptions {
         protect_windows: false,
         protect_hfs: true,
         protect_ntfs: false,
     };
     let answer = component(BStr::new(&text), None, hfs_alone);
-    let told = answer.as_ref().map_err(|fault| Fault::from(fault));
-    assert!(rt; matches!(told, Err(Fault::DotGitDir)));
+    assert!(rt; matches!(answer, Err(ComponentError::DotGitDir)));
     ask(&rt, alloc, &text)?;
     Ok(())
 }
 
-/// Ill-formed texts, and the units that they are cut into.
-#[test]
-fn cuts_texts_into_units(rt: HostRuntime) -> Result<(), Fail> {
-    let rows: [(&[u8], &[&[u8]]); 7] = [
+/// Texts, and the units that they are cut into.
+fn texts_of_units() -> &'static [(&'static [u8], &'static [&'static [u8]])] {
+    &[
         (b"\xE2\x82:", &[b"\xE2\x82", b":"]),
         (b"\x80\x80:", &[b"\x80", b"\x80", b":"]),
         (b"\xC3\xA9:", &[b"\xC3\xA9", b":"]),
@@ -77,19 +84,32 @@ fn cuts_texts_into_units(rt: HostRuntime) -> Result<(), Fail> {
         (b"\xF0\x90\xE2\x80\x8C", &[b"\xF0\x90", b"\xE2\x80\x8C"]),
         (b"\xC0:", &[b"\xC0", b":"]),
         (b"\xE0\x80:", &[b"\xE0", b"\x80", b":"]),
-    ];
-    for (text, want) in rows {
-        assert_eq!(rt; units(rt.alloc(), text)?.as_slice(), want);
+    ]
+}
+
+/// Ill-formed texts, and the units that they are cut into.
+#[test]
+fn cuts_texts_into_units(rt: HostRuntime) -> Result<(), Fail> {
+    for (text, want) in texts_of_units() {
+        assert_eq!(rt; units(rt.alloc(), text)?.as_slice(), *want);
         ask(&rt, rt.alloc(), text)?;
     }
     Ok(())
 }
 
 /// The 128 bytes that are not ASCII, in order.
+fn bytes_past_ascii(alloc: Global) -> Result<Vec<u8>, AllocError> {
+    let mut bytes = Vec::new(alloc);
+    for byte in 0x80..=0xFF {
+        bytes.push(byte)?;
+    }
+    Ok(bytes)
+}
+
 #[test]
 fn accepts_bytes_past_ascii(rt: HostRuntime) -> Result<(), Fail> {
     let alloc = rt.alloc();
-    let text: Vec<u8> = (0x80..=0xFF).collect(alloc)?;
+    let text = bytes_past_ascii(alloc)?;
     assert_eq!(rt; text.len(), 128);
     let name = name_partial_or_sanitize(alloc, BStr::new(&text))?;
     assert_eq!(rt; name.as_bytes(), text.as_slice());

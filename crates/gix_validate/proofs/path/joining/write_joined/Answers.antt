@@ -11,16 +11,16 @@ abbrev none : BStr
 none = record { bytes = record { ref_ptr = (0, 0); now = [] } }
 
 pub returns-in_err-push-clause-succeeds : goal.returns-in_err-push-clause-succeeds
-returns-in_err-push-clause-succeeds g c =
+returns-in_err-push-clause-succeeds c =
     let enough = fits bstr_bytes c.args.parts.now c.loop-i.i none c.args.buffer.items c.loop-i.buffer.items c.loop-i-test.true c.loop-i.invariant.written in
     grind arith
 
 pub returns-in_err-extend_from_slice-clause-succeeds : goal.returns-in_err-extend_from_slice-clause-succeeds
-returns-in_err-extend_from_slice-clause-succeeds g c =
+returns-in_err-extend_from_slice-clause-succeeds c =
     let enough = fits bstr_bytes c.args.parts.now c.loop-i.i none c.args.buffer.items c.loop-i.buffer.items c.loop-i-test.true c.loop-i.invariant.written in
     grind (arith, common_steps)
 
 pub loop-i-preserved : goal.loop-i-preserved
-loop-i-preserved g c =
+loop-i-preserved c =
     let all = written bstr_bytes c.args.parts.now c.loop-i.i none c.args.buffer.items c.loop-i.buffer.items c.loop-i-test.true c.loop-i.invariant.written in
     grind (arith, common_steps)

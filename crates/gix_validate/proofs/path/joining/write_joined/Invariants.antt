@@ -5,7 +5,7 @@ use Rattle.gix_validate.specs.Pieces.{joined}
 use Rattle.gix_validate.proofs.path.joining.write_joined.Given as goal
 
 abbrev pub invariant-loop-i : goal.invariant-loop-i
-invariant-loop-i g l = record {
+invariant-loop-i l = record {
   written : l.buffer.items ≡ l.initial.buffer.items ++ joined (take l.i (map bstr_bytes l.parts));
   room : vec_capacity l.initial.buffer ≤ vec_capacity l.buffer;
 }

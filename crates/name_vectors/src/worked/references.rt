@@ -1,23 +1,23 @@
-//! Answers and printed texts by example, calls that are out of memory, and callers that rest on
-//! what the conversion and the printing promise.
+//! Reference names: their answers, the text that each fault prints, and joins of two names.
 
 ghost use Rattle.std.specs.Prelude.{◌≡◌, IfOk, string_bytes};
 ghost use Rattle.gix_validate.specs.Reference.{carried, text_of};
 
-use super::{NameError, branch_name, join, join_in, name, name_partial};
-use crate::tag;
 use arrayvec::ArrayVec;
 use bstr::BStr;
-use linked_list_allocator::LocalHeap;
+use gix_validate::reference::{NameError, branch_name, join, name, name_partial};
+use gix_validate::tag;
 use std::alloc::{AllocError, Global};
 use std::test::Fail;
 
+/// A caller that rests on what the type says that it prints.
 fn printed(alloc: Global, fault: &NameError) -> Result<String, AllocError>
     ensures { IfOk result (λ text. string_bytes text ≡ text_of fault.now) }
 {
     format!(in alloc; "{fault}")
 }
 
+/// A caller that rests on what the conversion promises.
 fn converted(fault: tag::NameError) -> NameError
     ensures { result ≡ carried fault }
 {
@@ -32,15 +32,30 @@ fn said(alloc: Global, answer: Result<BStr<'_>, NameError>) -> Result<String, Al
     }
 }
 
+/// What is said of a partial name.
+fn said_of_partial(alloc: Global, path: &str) -> Result<String, AllocError> {
+    said(alloc, name_partial(BStr::from(path)))
+}
+
+/// What is said of a full name.
+fn said_of_full(alloc: Global, path: &str) -> Result<String, AllocError> {
+    said(alloc, name(BStr::from(path)))
+}
+
+/// What is said of the name of a branch.
+fn said_of_branch(alloc: Global, path: &str) -> Result<String, AllocError> {
+    said(alloc, branch_name(BStr::from(path)))
+}
+
 const RESERVED_AT: &str = "Reference name is reserved and cannot be used: \"@\"";
 
 const RESERVED_HEAD: &str = "Reference name is reserved and cannot be used: \"refs/heads/HEAD\"";
 
 const LOWERCASE: &str = "Standalone references must be all uppercased, like 'HEAD'";
 
-#[test]
-fn partial_names(rt: HostRuntime) -> Result<(), Fail> {
-    for (path, want) in [
+/// Names, and what is said of each as a partial name.
+fn partial() -> &'static [(&'static str, &'static str)] {
+    &[
         ("@", RESERVED_AT),
         ("a b", "Reference name contains invalid byte: \" \""),
         ("", "Reference name cannot be empty"),
@@ -58,16 +73,21 @@ fn partial_names(rt: HostRuntime) -> Result<(), Fail> {
         ("@@", "ok"),
         ("main", "ok"),
         ("some-name", "ok"),
-    ] {
-        let answer = said(rt.alloc(), name_partial(BStr::from(path)))?;
-        assert_eq!(rt; answer.as_str(), want, "of {path}");
+    ]
+}
+
+#[test]
+fn partial_names(rt: HostRuntime) -> Result<(), Fail> {
+    for (path, want) in partial() {
+        let answer = said_of_partial(rt.alloc(), path)?;
+        assert_eq!(rt; answer.as_str(), *want, "of {path}");
     }
     Ok(())
 }
 
-#[test]
-fn full_names(rt: HostRuntime) -> Result<(), Fail> {
-    for (path, want) in [
+/// Names, and what is said of each as a full name.
+fn full() -> &'static [(&'static str, &'static str)] {
+    &[
         ("V1", LOWERCASE),
         ("lower", LOWERCASE),
         ("main", LOWERCASE),
@@ -80,24 +100,34 @@ fn full_names(rt: HostRuntime) -> Result<(), Fail> {
         ("a/b", "ok"),
         ("refs/lower", "ok"),
         ("refs/heads/HEAD", "ok"),
-    ] {
-        let answer = said(rt.alloc(), name(BStr::from(path)))?;
-        assert_eq!(rt; answer.as_str(), want, "of {path}");
+    ]
+}
+
+#[test]
+fn full_names(rt: HostRuntime) -> Result<(), Fail> {
+    for (path, want) in full() {
+        let answer = said_of_full(rt.alloc(), path)?;
+        assert_eq!(rt; answer.as_str(), *want, "of {path}");
     }
     Ok(())
 }
 
-#[test]
-fn branch_names(rt: HostRuntime) -> Result<(), Fail> {
-    for (path, want) in [
+/// Names, and what is said of each as the name of a branch.
+fn branches() -> &'static [(&'static str, &'static str)] {
+    &[
         ("refs/heads/HEAD", RESERVED_HEAD),
         ("main", LOWERCASE),
         ("HEAD", "ok"),
         ("refs/heads/head", "ok"),
         ("refs/heads/HEAD/x", "ok"),
-    ] {
-        let answer = said(rt.alloc(), branch_name(BStr::from(path)))?;
-        assert_eq!(rt; answer.as_str(), want, "of {path}");
+    ]
+}
+
+#[test]
+fn branch_names(rt: HostRuntime) -> Result<(), Fail> {
+    for (path, want) in branches() {
+        let answer = said_of_branch(rt.alloc(), path)?;
+        assert_eq!(rt; answer.as_str(), *want, "of {path}");
     }
     Ok(())
 }
@@ -110,22 +140,34 @@ fn gives_the_text_back(rt: HostRuntime) {
     assert!(rt; branch_name(path).is_ok_and(|name| name == path));
 }
 
-#[test]
-fn printed_bytes(rt: HostRuntime) -> Result<(), Fail> {
-    for (byte, want) in [
+/// Bad bytes, and what is said of each.
+fn bad_bytes() -> &'static [(u8, &'static str)] {
+    &[
         (0x1b, "Reference name contains invalid byte: \"\\x1b\""),
         (0x00, "Reference name contains invalid byte: \"\\0\""),
         (0x5c, "Reference name contains invalid byte: \"\\\\\""),
         (0x7f, "Reference name contains invalid byte: \"\\x7f\""),
-    ] {
-        let fault = converted(tag::NameError::InvalidByte { byte });
-        let text = printed(rt.alloc(), &fault)?;
-        assert_eq!(rt; text.as_str(), want);
+    ]
+}
+
+/// What is said of a bad byte.
+fn said_of_byte(alloc: Global, byte: u8) -> Result<String, AllocError> {
+    printed(alloc, &converted(tag::NameError::InvalidByte { byte }))
+}
+
+/// What is said of a reserved name that is empty.
+fn said_of_nothing(alloc: Global) -> Result<String, AllocError> {
+    let name = ArrayVec::new();
+    printed(alloc, &NameError::Reserved { name })
+}
+
+#[test]
+fn printed_bytes(rt: HostRuntime) -> Result<(), Fail> {
+    for (byte, want) in bad_bytes() {
+        let text = said_of_byte(rt.alloc(), *byte)?;
+        assert_eq!(rt; text.as_str(), *want);
     }
-    let nameless = NameError::Reserved {
-        name: ArrayVec::new(),
-    };
-    let text = printed(rt.alloc(), &nameless)?;
+    let text = said_of_nothing(rt.alloc())?;
     assert_eq!(rt;
         text.as_str(),
         "Reference name is reserved and cannot be used: \"\""
@@ -133,37 +175,24 @@ fn printed_bytes(rt: HostRuntime) -> Result<(), Fail> {
     Ok(())
 }
 
-#[test]
-fn joins(rt: HostRuntime) -> Result<(), Fail> {
-    for (a, b, want) in [
+/// Tag names, and what each two join to.
+fn pairs() -> &'static [(&'static str, &'static str, &'static str)] {
+    &[
         ("@", "v1.0", "@/v1.0"),
         ("a./b", "c", "a./b/c"),
         ("HEAD", "a", "HEAD/a"),
-    ] {
-        let (Ok(a), Ok(b)) = (tag::name(BStr::from(a)), tag::name(BStr::from(b))) else {
+    ]
+}
+
+#[test]
+fn joins(rt: HostRuntime) -> Result<(), Fail> {
+    for (a, b, want) in pairs() {
+        let (Ok(a), Ok(b)) = (tag::name(BStr::from(*a)), tag::name(BStr::from(*b))) else {
             panic!(rt; "both are tag names");
         };
         let joined = join(rt.alloc(), a, b)?;
-        assert_eq!(rt; joined.as_bstr(), BStr::from(want));
+        assert_eq!(rt; joined.as_bstr(), BStr::from(*want));
         assert!(rt; name(joined.as_bstr()).is_ok());
     }
     Ok(())
-}
-
-/// A heap that grows from one block of sixteen bytes, of which the test holds one.
-#[test]
-fn join_answers_out_of_memory_only_where_refused(rt: HostRuntime) -> Result<(), Fail> {
-    for blocks in 1..10 {
-        let heap = LocalHeap::new(rt.alloc(), 16 * blocks)?;
-        let _held = Box::new(&heap, 0u8)?;
-        match join_in(&heap, b"@", b"v1.0") {
-            Err(AllocError) => assert_eq!(rt; heap.used(), 16),
-            Ok(joined) => {
-                assert_eq!(rt; joined.as_slice(), b"@/v1.0".as_slice());
-                assert_eq!(rt; blocks, 2);
-                return Ok(());
-            }
-        }
-    }
-    panic!(rt; "no size served");
 }

@@ -6,11 +6,11 @@ ghost use Rattle.bstr.specs.Owned.{bstring_bytes};
 ghost use Rattle.gix_validate.specs.Pieces.{joined};
 ghost use Rattle.typed_names.specs.Names.{component_text};
 
-use crate::{Component, TagName};
 use bstr::{BStr, BString};
 use gix_validate::path::{self, ComponentOptions};
 use std::alloc::{AllocError, Global};
 use std::test::Fail;
+use typed_names::{Component, TagName};
 
 /// What components keep is all that the join asks of its parts.
 fn path_of(alloc: Global, folder: Component<'_>, name: Component<'_>) -> Result<BString, AllocError>

@@ -1,0 +1,143 @@
+//! Names that are repaired, in a copy and in place.
+
+use bstr::{BStr, BString};
+use gix_validate::reference::{name_partial_or_sanitize, sanitize_in_place};
+use std::alloc::{AllocError, Global};
+use std::process::Abort;
+use std::test::Fail;
+
+/// The copy, repaired.
+fn repaired(alloc: Global, name: &[u8]) -> Result<BString, AllocError> {
+    name_partial_or_sanitize(alloc, BStr::new(name))
+}
+
+/// Repairs the name in the first `len` bytes of the buffer, and gives the repaired name's length:
+/// 0 where the buffer has no byte or too few.
+fn repair_front(buffer: &mut [u8], len: usize) -> usize {
+    if buffer.is_empty() || len > buffer.len() {
+        return 0;
+    }
+    sanitize_in_place(buffer, len)
+}
+
+/// Asks both calls to repair the name. In place it stands before two bytes more, the last of which
+/// has to stay.
+fn check_repair<R: Abort>(
+    rt: &R,
+    alloc: Global,
+    name: &[u8],
+    want: &[u8],
+) -> Result<(), AllocError> {
+    assert_eq!(rt; repaired(alloc, name)?.as_bytes(), want);
+    let mut buffer = Vec::from_slice(alloc, name)?;
+    buffer.extend_from_slice(b"!!")?;
+    let len = repair_front(buffer.as_mut_slice(), name.len());
+    assert_eq!(rt; buffer.get(..len), Some(want));
+    assert_eq!(rt; buffer.last(), Some(&b'!'));
+    Ok(())
+}
+
+/// Names, and what they are repaired to.
+fn names() -> &'static [(&'static str, &'static str)] {
+    &[
+        ("", "-"),
+        ("///", "-"),
+        (".", "-"),
+        ("..", "-"),
+        ("a.", "a-"),
+        ("a..b", "a.b"),
+        ("/a//b/", "a/b"),
+        ("a./b", "a./b"),
+        ("a/.lock", "a/-lock"),
+        ("a//.lock", "a/-lock"),
+        ("a.lock.lock", "a"),
+        ("a.lock/b.lock", "a/b"),
+        ("x.lock..", "x.lock-"),
+        ("@{", "@-"),
+        ("@..{", "@.{"),
+        ("@", "-"),
+        ("@/@", "@/@"),
+        ("*.lock", "-"),
+        ("\0\x7f", "--"),
+        ("é", "é"),
+    ]
+}
+
+#[test]
+fn repairs_names(rt: HostRuntime) -> Result<(), Fail> {
+    for (name, want) in names() {
+        check_repair(&rt, rt.alloc(), name.as_bytes(), want.as_bytes())?;
+    }
+    Ok(())
+}
+
+/// Names with several faults, and what they are repaired to.
+fn names_with_several_faults() -> &'static [(&'static str, &'static str)] {
+    &[
+        ("refs//heads/../x.lock.lock/.y*", "refs/heads/-/x/-y-"),
+        ("@.lock", "-"),
+        ("/@", "-"),
+        ("@/", "-"),
+        ("..a", "-a"),
+        ("a..lock", "a"),
+        (".lock", "-lock"),
+        (".lock.lock", "-lock"),
+        ("x.lock..lock/", "x"),
+        ("a./", "a-"),
+        ("a.lock.", "a.lock-"),
+        ("@@{", "@@-"),
+        ("a\tb@{c", "a-b@-c"),
+        ("a b/c~", "a-b/c-"),
+        (".lock/.lock", "-lock/-lock"),
+        ("a/./b", "a/-/b"),
+        ("a.lock.lock/..lock", "a/-lock"),
+        ("/.lock.lock/..@{", "-lock/-@-"),
+        ("a b.lock", "a-b"),
+    ]
+}
+
+#[test]
+fn repairs_several_faults_at_once(rt: HostRuntime) -> Result<(), Fail> {
+    for (name, want) in names_with_several_faults() {
+        check_repair(&rt, rt.alloc(), name.as_bytes(), want.as_bytes())?;
+    }
+    Ok(())
+}
+
+/// A buffer, the length of the name in it, and what it begins with and ends in afterwards, where
+/// the beginning is the whole repaired name.
+fn buffers() -> &'static [(&'static str, usize, &'static str, &'static str)] {
+    &[
+        ("..azz", 3, "-a", "zz"),
+        ("QR", 0, "-", "R"),
+        ("Q", 0, "-", ""),
+        ("x.lock.lock/..", 14, "x/-", ""),
+        ("///", 3, "-", ""),
+        ("a//b!", 4, "a/b", "!"),
+        ("@/zz", 2, "-", "zz"),
+        (".lock", 5, "-lock", ""),
+        ("a.lock", 6, "a", ""),
+    ]
+}
+
+/// Repairs the name that a buffer begins with, and compares what it has afterwards.
+fn check_buffer<R: Abort>(
+    rt: &R,
+    alloc: Global,
+    row: &(&str, usize, &str, &str),
+) -> Result<(), AllocError> {
+    let (before, len, front, back) = row;
+    let mut buffer = Vec::from_slice(alloc, before.as_bytes())?;
+    let new_len = repair_front(buffer.as_mut_slice(), *len);
+    assert_eq!(rt; buffer.get(..new_len), Some(front.as_bytes()));
+    assert!(rt; buffer.ends_with(back.as_bytes()), "after {before}");
+    Ok(())
+}
+
+#[test]
+fn repairs_the_front_of_a_buffer(rt: HostRuntime) -> Result<(), Fail> {
+    for row in buffers() {
+        check_buffer(&rt, rt.alloc(), row)?;
+    }
+    Ok(())
+}

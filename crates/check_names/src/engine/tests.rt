@@ -6,6 +6,7 @@ use linked_list_allocator::LocalHeap;
 use std::alloc::{AllocError, Global};
 use std::io;
 use std::io::{ErrorKind, Read, Write};
+use std::process::Abort;
 use std::test::Fail;
 
 /// Each line, and its answer.
@@ -97,21 +98,50 @@ const REPAIRS: [(&[u8], &[u8]); 20] = [
     (b"\xc3\xa9", b"\xc3\xa9"),
 ];
 
+/// The rows, behind a call, so that the proofs of the tests don't carry them.
+fn rows() -> &'static [(&'static [u8], &'static [u8])] {
+    &ROWS
+}
+
+/// The repairs, behind a call as the rows.
+fn repairs() -> &'static [(&'static [u8], &'static [u8])] {
+    &REPAIRS
+}
+
+/// The lines of all rows.
 fn lines(alloc: Global) -> Result<Vec<u8>, AllocError> {
     let mut text = Vec::new(alloc);
-    for (line, _) in &ROWS {
-        text.extend_from_slice(line)?;
-        text.push(b'\n')?;
+    for (line, _) in rows() {
+        push_line(&mut text, line)?;
     }
     Ok(text)
 }
 
-fn answers(alloc: Global) -> Result<Vec<u8>, AllocError> {
+/// The answers of the first rows, as many as are asked for.
+fn first_answers(alloc: Global, count: usize) -> Result<Vec<u8>, AllocError> {
     let mut text = Vec::new(alloc);
-    for (_, answer) in &ROWS {
-        text.extend_from_slice(answer)?;
-        text.push(b'\n')?;
+    for (_, answer) in rows().iter().take(count) {
+        push_line(&mut text, answer)?;
     }
+    Ok(text)
+}
+
+/// The answers of all rows.
+fn answers(alloc: Global) -> Result<Vec<u8>, AllocError> {
+    first_answers(alloc, ROWS.len())
+}
+
+/// Pushes a line and its end.
+fn push_line(text: &mut Vec<u8>, line: &[u8]) -> Result<(), AllocError> {
+    text.extend_from_slice(line)?;
+    text.push(b'\n')?;
+    Ok(())
+}
+
+/// A line with its end, as a text of its own.
+fn line_alone(alloc: Global, line: &[u8]) -> Result<Vec<u8>, AllocError> {
+    let mut text = Vec::new(alloc);
+    push_line(&mut text, line)?;
     Ok(text)
 }
 
@@ -122,6 +152,12 @@ fn answered(alloc: Global, text: &[u8]) -> Result<Vec<u8>, RunError>
     let mut output = Vec::new(alloc);
     run(alloc, &mut &*text, &mut output)?;
     Ok(output)
+}
+
+/// A run over memory into any writer. (It has no contract, so that the proofs of the tests don't
+/// carry one.)
+fn run_over<W: Write>(alloc: Global, text: &[u8], output: &mut W) -> Result<(), RunError> {
+    run(alloc, &mut &*text, output)
 }
 
 /// Gives its bytes, and then fails where the end would be.
@@ -186,26 +222,23 @@ impl Write for FakeWriter<'_> {
     }
 }
 
+/// The lines that the stored run is asked, which are the first rows.
+fn stored_lines() -> &'static [u8] {
+    b"tag v1.2.3\ntag a b\ntag refs/heads/"
+}
+
 #[test]
 fn answers_the_stored_run(rt: HostRuntime) -> Result<(), Fail> {
-    let output = answered(rt.alloc(), b"tag v1.2.3\ntag a b\ntag refs/heads/")?;
-    let mut want = Vec::new(rt.alloc());
-    for (_, answer) in &ROWS[..3] {
-        want.extend_from_slice(answer)?;
-        want.push(b'\n')?;
-    }
-    assert_eq!(rt; output.as_slice(), want.as_slice());
+    let output = answered(rt.alloc(), stored_lines())?;
+    assert_eq!(rt; output.as_slice(), first_answers(rt.alloc(), 3)?.as_slice());
     Ok(())
 }
 
 #[test]
 fn answers_each_row(rt: HostRuntime) -> Result<(), Fail> {
-    for (line, answer) in &ROWS {
-        let mut text = line.to_vec(rt.alloc())?;
-        text.push(b'\n')?;
-        let output = answered(rt.alloc(), &text)?;
-        let mut want = answer.to_vec(rt.alloc())?;
-        want.push(b'\n')?;
+    for (line, answer) in rows() {
+        let output = answered(rt.alloc(), &line_alone(rt.alloc(), line)?)?;
+        let want = line_alone(rt.alloc(), answer)?;
         assert_eq!(rt; output.as_slice(), want.as_slice());
     }
     let output = answered(rt.alloc(), &lines(rt.alloc())?)?;
@@ -213,58 +246,101 @@ fn answers_each_row(rt: HostRuntime) -> Result<(), Fail> {
     Ok(())
 }
 
+/// A start, filled up to a length.
+fn filled(alloc: Global, start: &[u8], len: usize) -> Result<Vec<u8>, AllocError> {
+    let mut text = start.to_vec(alloc)?;
+    text.resize(len, b'a')?;
+    Ok(text)
+}
+
+/// Starts of long lines, and their answers.
+fn starts() -> [(&'static [u8], &'static [u8]); 2] {
+    [(b"", b"unknown kind\n"), (b"tag ", b"ok\n")]
+}
+
 #[test]
 fn answers_long_lines(rt: HostRuntime) -> Result<(), Fail> {
     for len in [10_000, 1 << 20] {
-        let mut text = vec![in rt.alloc(); b'a'; len]?;
-        assert_eq!(rt;
-            answered(rt.alloc(), &text)?.as_slice(),
-            b"unknown kind\n".as_slice()
-        );
-        assert!(rt; text.len() >= 4);
-        text[..4].copy_from_slice(b"tag ");
-        assert_eq!(rt; answered(rt.alloc(), &text)?.as_slice(), b"ok\n".as_slice());
+        for (start, answer) in starts() {
+            let text = filled(rt.alloc(), start, len)?;
+            assert_eq!(rt; answered(rt.alloc(), &text)?.as_slice(), answer);
+        }
     }
     Ok(())
 }
 
+/// The line that asks for the repair of a name, with its end.
+fn repair_line(alloc: Global, name: &[u8]) -> Result<Vec<u8>, AllocError> {
+    let mut line = b"sanitize ".to_vec(alloc)?;
+    push_line(&mut line, name)?;
+    Ok(line)
+}
+
+/// The lines that ask for all repairs.
+fn repair_lines(alloc: Global) -> Result<Vec<u8>, AllocError> {
+    let mut text = Vec::new(alloc);
+    for (name, _) in repairs() {
+        text.extend_from_slice(&repair_line(alloc, name)?)?;
+    }
+    Ok(text)
+}
+
+/// The answers to these lines.
+fn repaired_names(alloc: Global) -> Result<Vec<u8>, AllocError> {
+    let mut text = Vec::new(alloc);
+    for (_, repaired) in repairs() {
+        push_line(&mut text, repaired)?;
+    }
+    Ok(text)
+}
+
 #[test]
 fn repairs_each_row(rt: HostRuntime) -> Result<(), Fail> {
-    let (mut text, mut want) = (Vec::new(rt.alloc()), Vec::new(rt.alloc()));
-    for (name, repaired) in &REPAIRS {
-        let mut line = b"sanitize ".to_vec(rt.alloc())?;
-        line.extend_from_slice(name)?;
-        line.push(b'\n')?;
-        let mut answer = repaired.to_vec(rt.alloc())?;
-        answer.push(b'\n')?;
-        let output = answered(rt.alloc(), &line)?;
-        assert_eq!(rt; output.as_slice(), answer.as_slice());
-        text.extend_from_slice(&line)?;
-        want.extend_from_slice(&answer)?;
+    for (name, repaired) in repairs() {
+        let output = answered(rt.alloc(), &repair_line(rt.alloc(), name)?)?;
+        let want = line_alone(rt.alloc(), repaired)?;
+        assert_eq!(rt; output.as_slice(), want.as_slice());
     }
-    assert_eq!(rt; answered(rt.alloc(), &text)?.as_slice(), want.as_slice());
+    let output = answered(rt.alloc(), &repair_lines(rt.alloc())?)?;
+    assert_eq!(rt; output.as_slice(), repaired_names(rt.alloc())?.as_slice());
+    Ok(())
+}
+
+/// Texts, and how many times their answers are written.
+fn texts_with_writes(all: &[u8]) -> [(&[u8], usize); 5] {
+    [
+        (b"", 0),
+        (b"\n", 1),
+        (b"tag a", 1),
+        (b"tag a\ntag b\n", 1),
+        (all, 1),
+    ]
+}
+
+/// A run over a text writes and flushes so many times, and flushes all that it wrote.
+fn expect_writes<R: Abort>(rt: &R, alloc: Global, text: &[u8], times: usize) -> Result<(), Fail> {
+    let mut room = vec![in alloc; 0; 2048]?;
+    let mut output = FakeWriter::new(&mut room);
+    run_over(alloc, text, &mut output)?;
+    assert_eq!(rt; output.writes, times);
+    assert_eq!(rt; output.flushes, times);
+    assert_eq!(rt; output.flushed, output.taken);
+    assert_eq!(rt; output.taken == 0, text.is_empty());
     Ok(())
 }
 
 #[test]
 fn writes_and_flushes_once_where_it_answers(rt: HostRuntime) -> Result<(), Fail> {
     let all = lines(rt.alloc())?;
-    for (text, times) in [
-        (b"".as_slice(), 0),
-        (b"\n", 1),
-        (b"tag a", 1),
-        (b"tag a\ntag b\n", 1),
-        (&all, 1),
-    ] {
-        let mut room = [0; 2048];
-        let mut output = FakeWriter::new(&mut room);
-        run(rt.alloc(), &mut &*text, &mut output)?;
-        assert_eq!(rt; output.writes, times);
-        assert_eq!(rt; output.flushes, times);
-        assert_eq!(rt; output.flushed, output.taken);
-        assert_eq!(rt; output.taken == 0, text.is_empty());
+    for (text, times) in texts_with_writes(&all) {
+        expect_writes(&rt, rt.alloc(), text, times)?;
     }
     Ok(())
+}
+
+/// A run over a reader that fails behind the text.
+fn run_until(alloc: Global, text: &[u8], output: &mut Vec<u8>) -> Result<(), RunError> {
+    run(alloc, &mut BrokenReader { left: text }, output)
 }
 
 /// The reader fails at each place of its text, and behind the last byte. After each failure the
@@ -273,9 +349,8 @@ fn writes_and_flushes_once_where_it_answers(rt: HostRuntime) -> Result<(), Fail>
 fn reports_a_failed_read(rt: HostRuntime) -> Result<(), Fail> {
     let (text, want) = (lines(rt.alloc())?, answers(rt.alloc())?);
     for k in 0..=text.len() {
-        let mut input = BrokenReader { left: &text[..k] };
         let mut output = Vec::new(rt.alloc());
-        let result = run(rt.alloc(), &mut input, &mut output);
+        let result = run_until(rt.alloc(), &text[..k], &mut output);
         assert!(rt; matches!(result, Err(RunError::Read)));
         assert!(rt; output.is_empty());
         assert_eq!(rt; answered(rt.alloc(), &text)?.as_slice(), want.as_slice());
@@ -286,35 +361,31 @@ fn reports_a_failed_read(rt: HostRuntime) -> Result<(), Fail> {
 #[test]
 fn reports_a_failed_write(rt: HostRuntime) -> Result<(), Fail> {
     let (text, want) = (lines(rt.alloc())?, answers(rt.alloc())?);
-    let mut room = [0; 2048];
-    assert!(rt; want.len() <= room.len());
     for k in 0..want.len() {
-        let mut output = FakeWriter::new(&mut room[..k]);
-        let result = run(rt.alloc(), &mut text.as_slice(), &mut output);
+        let mut room = vec![in rt.alloc(); 0; k]?;
+        let mut output = FakeWriter::new(&mut room);
+        let result = run_over(rt.alloc(), &text, &mut output);
         assert!(rt; matches!(result, Err(RunError::Write)));
-        run(rt.alloc(), &mut b"".as_slice(), &mut output)?;
+        run_over(rt.alloc(), b"", &mut output)?;
         assert_eq!(rt; answered(rt.alloc(), &text)?.as_slice(), want.as_slice());
     }
+    let mut room = vec![in rt.alloc(); 0; 2048]?;
+    assert!(rt; want.len() <= room.len());
     let mut output = FakeWriter::new(&mut room);
     output.can_flush = false;
-    let result = run(rt.alloc(), &mut text.as_slice(), &mut output);
+    let result = run_over(rt.alloc(), &text, &mut output);
     assert!(rt; matches!(result, Err(RunError::Write)));
-    run(rt.alloc(), &mut b"".as_slice(), &mut output)?;
-    run(
-        rt.alloc(),
-        &mut text.as_slice(),
-        &mut FakeWriter::new(&mut room),
-    )?;
+    run_over(rt.alloc(), b"", &mut output)?;
+    run_over(rt.alloc(), &text, &mut FakeWriter::new(&mut room))?;
     assert!(rt; room.starts_with(&want));
     Ok(())
 }
 
 #[test]
 fn reports_a_writer_that_cannot_grow(rt: HostRuntime) -> Result<(), Fail> {
-    let heap = LocalHeap::new(rt.alloc(), 32)?;
-    let mut output = Vec::new(&heap);
     let text = lines(rt.alloc())?;
-    let result = run(rt.alloc(), &mut text.as_slice(), &mut output);
+    let heap = LocalHeap::new(rt.alloc(), 32)?;
+    let result = run_over(rt.alloc(), &text, &mut Vec::new(&heap));
     assert!(rt; matches!(result, Err(RunError::Write)));
     assert_eq!(rt;
         answered(rt.alloc(), &text)?.as_slice(),
@@ -323,14 +394,24 @@ fn reports_a_writer_that_cannot_grow(rt: HostRuntime) -> Result<(), Fail> {
     Ok(())
 }
 
-#[test]
-fn prints_each_stop(rt: HostRuntime) -> Result<(), Fail> {
-    for (stop, want) in [
+/// What a stop prints.
+fn printed(alloc: Global, stop: RunError) -> Result<String, AllocError> {
+    format!(in alloc; "{stop}")
+}
+
+/// Each stop, and its text.
+fn stops() -> [(RunError, &'static str); 3] {
+    [
         (RunError::Read, "read failed"),
         (RunError::Memory, "out of memory"),
         (RunError::Write, "write failed"),
-    ] {
-        assert_eq!(rt; format!(in rt.alloc(); "{stop}")?.as_str(), want);
+    ]
+}
+
+#[test]
+fn prints_each_stop(rt: HostRuntime) -> Result<(), Fail> {
+    for (stop, want) in stops() {
+        assert_eq!(rt; printed(rt.alloc(), stop)?.as_str(), want);
     }
     assert_eq!(rt; printed_stop(rt.alloc())?.as_str(), "out of memory");
     Ok(())

@@ -1,7 +1,7 @@
 //! A run against the answers as the rule of the program's lines gives them (`docs/RULES.md`, "The
 //! program's lines"), where the text has lines of tag names alone, or no name.
 
-use super::run;
+use super::{RunError, run};
 use bstr::BStr;
 use gix_validate::tag;
 use std::alloc::{AllocError, Global};
@@ -38,12 +38,17 @@ fn answer(alloc: Global, line: &[u8]) -> Result<Vec<u8>, AllocError> {
     Ok(answer)
 }
 
-/// Runs over the text, and compares what was written.
-fn ask(rt: &impl Abort, alloc: Global, text: &[u8]) -> Result<(), Fail> {
+/// What a run writes.
+fn run_over(alloc: Global, text: &[u8]) -> Result<Vec<u8>, RunError> {
     let mut output = Vec::new(alloc);
     run(alloc, &mut &*text, &mut output)?;
+    Ok(output)
+}
+
+/// Runs over the text, and compares what was written.
+fn ask(rt: &impl Abort, alloc: Global, text: &[u8]) -> Result<(), Fail> {
     assert_eq!(rt;
-        output.as_slice(),
+        run_over(alloc, text)?.as_slice(),
         answers(alloc, text)?.as_slice(),
         "to {text:?}"
     );
@@ -76,12 +81,16 @@ fn answers_each_byte_as_a_tag(rt: HostRuntime) -> Result<(), Fail> {
     Ok(())
 }
 
+/// A line that asks for a name of 10,000 bytes.
+fn long_line(alloc: Global) -> Result<Vec<u8>, AllocError> {
+    let mut text = b"tag ".to_vec(alloc)?;
+    text.extend_from_slice(&b"a".repeat(alloc, 10_000)?)?;
+    Ok(text)
+}
+
 #[test]
 fn answers_a_long_name(rt: HostRuntime) -> Result<(), Fail> {
-    let mut text = b"tag ".to_vec(rt.alloc())?;
-    text.extend_from_slice(&b"a".repeat(rt.alloc(), 10_000)?)?;
-    let mut output = Vec::new(rt.alloc());
-    run(rt.alloc(), &mut text.as_slice(), &mut output)?;
+    let output = run_over(rt.alloc(), &long_line(rt.alloc())?)?;
     assert_eq!(rt; output.as_slice(), b"ok\n".as_slice());
     Ok(())
 }

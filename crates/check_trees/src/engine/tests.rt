@@ -3,120 +3,177 @@
 use super::{Fault, RunError, Verdict, run};
 use gix_validate::path::ComponentOptions;
 use linked_list_allocator::LocalHeap;
-use std::alloc::{AllocError, Global};
+use std::alloc::{AllocError, Allocator, Global};
 use std::io;
 use std::io::{BufRead, ErrorKind, Read, Write};
 use std::process::Abort;
 use std::test::Fail;
 
-const ID: &[u8; 40] = b"4b825dc642cb6eb9a060e54bf8d69288fbee4904";
+// Tables and long texts stand behind calls, so that the proofs of the tests don't carry them.
 
-const LONG_ID: &[u8; 64] = b"6ef19b41225c5369f1c104d45d8d85efa9b057b53b14b4b9b939dd74decc5321";
+/// An id of SHA-1, in hexadecimal.
+fn id() -> &'static [u8] {
+    b"4b825dc642cb6eb9a060e54bf8d69288fbee4904"
+}
+
+/// An id of SHA-256, in hexadecimal.
+fn long_id() -> &'static [u8] {
+    b"6ef19b41225c5369f1c104d45d8d85efa9b057b53b14b4b9b939dd74decc5321"
+}
 
 /// The mode and the name of an entry, and what the line of the report says behind the tree's id, if
 /// there is one.
-const ROWS: [(&[u8], &[u8]); 16] = [
-    (b"100644 README", b""),
-    (b"40000 src", b""),
-    (b"100755 \xe6\xbc\xa2\xff", b""),
-    (b"120000 link", b""),
-    (b"100644 .gitmodules", b""),
-    (
-        b"100644 ",
-        b"100644 \"\" A path component must not be empty",
-    ),
-    (
-        b"40000 a/b",
-        b"40000 \"a/b\" Path separators like / or \\ are not allowed",
-    ),
-    (
-        b"100644 c:d",
-        b"100644 \"c:d\" Windows path prefixes are not allowed",
-    ),
-    (
-        b"100644 aux.c",
-        b"100644 \"aux.c\" Windows device-names may have side-effects and are not allowed",
-    ),
-    (
-        b"100644 a\nb",
-        b"100644 \"a\\nb\" Trailing spaces or dots, and the following characters anywhere, are forbidden in Windows paths, along with non-printable ones: <>:\"|?*",
-    ),
-    (
-        b"040000 .GIT",
-        b"040000 \".GIT\" The .git name may never be used",
-    ),
-    (
-        b"160000 .g\xe2\x80\x8cit",
-        b"160000 \".g\\xe2\\x80\\x8cit\" The .git name may never be used",
-    ),
-    (
-        b"120000 .gitmodules",
-        b"120000 \".gitmodules\" The .gitmodules file must not be a symlink",
-    ),
-    (
-        b"0120755 .gitmodules",
-        b"0120755 \".gitmodules\" The .gitmodules file must not be a symlink",
-    ),
-    (
-        b"40000 ..",
-        b"40000 \"..\" Relative components '.' and '..' are disallowed",
-    ),
-    (
-        b"100644 \"\\\t\r\x1f",
-        b"100644 \"\\\"\\\\\\t\\r\\x1f\" Path separators like / or \\ are not allowed",
-    ),
-];
+fn rows() -> &'static [(&'static [u8], &'static [u8])] {
+    &[
+        (b"100644 README", b""),
+        (b"40000 src", b""),
+        (b"100755 \xe6\xbc\xa2\xff", b""),
+        (b"120000 link", b""),
+        (b"100644 .gitmodules", b""),
+        (
+            b"100644 ",
+            b"100644 \"\" A path component must not be empty",
+        ),
+        (
+            b"40000 a/b",
+            b"40000 \"a/b\" Path separators like / or \\ are not allowed",
+        ),
+        (
+            b"100644 c:d",
+            b"100644 \"c:d\" Windows path prefixes are not allowed",
+        ),
+        (
+            b"100644 aux.c",
+            b"100644 \"aux.c\" Windows device-names may have side-effects and are not allowed",
+        ),
+        (
+            b"100644 a\nb",
+            b"100644 \"a\\nb\" Trailing spaces or dots, and the following characters anywhere, are forbidden in Windows paths, along with non-printable ones: <>:\"|?*",
+        ),
+        (
+            b"040000 .GIT",
+            b"040000 \".GIT\" The .git name may never be used",
+        ),
+        (
+            b"160000 .g\xe2\x80\x8cit",
+            b"160000 \".g\\xe2\\x80\\x8cit\" The .git name may never be used",
+        ),
+        (
+            b"120000 .gitmodules",
+            b"120000 \".gitmodules\" The .gitmodules file must not be a symlink",
+        ),
+        (
+            b"0120755 .gitmodules",
+            b"0120755 \".gitmodules\" The .gitmodules file must not be a symlink",
+        ),
+        (
+            b"40000 ..",
+            b"40000 \"..\" Relative components '.' and '..' are disallowed",
+        ),
+        (
+            b"100644 \"\\\t\r\x1f",
+            b"100644 \"\\\"\\\\\\t\\r\\x1f\" Path separators like / or \\ are not allowed",
+        ),
+    ]
+}
 
-/// The entries of the rows, with ids of so many bytes.
-fn entries(alloc: Global, width: usize) -> Result<Vec<u8>, AllocError> {
+/// Adds an object as `git cat-file --batch` prints it.
+fn push_object(text: &mut Vec<u8>, id: &[u8], kind: &str, bytes: &[u8]) -> Result<(), Fail> {
+    text.extend_from_slice(id)?;
+    write!(text, " {kind} {}\n", bytes.len())?;
+    text.extend_from_slice(bytes)?;
+    text.push(b'\n')?;
+    Ok(())
+}
+
+/// Adds a tree with the entries of the rows, whose ids have so many bytes.
+fn push_tree(text: &mut Vec<u8>, alloc: Global, id: &[u8], width: usize) -> Result<(), Fail> {
     let mut bytes = Vec::new(alloc);
-    for (entry, _) in &ROWS {
+    for (entry, _) in rows() {
         bytes.extend_from_slice(entry)?;
         bytes.push(0)?;
         for _ in 0..width {
             bytes.push(b'\n')?;
         }
     }
-    Ok(bytes)
+    push_object(text, id, "tree", &bytes)
 }
 
 /// An object as `git cat-file --batch` prints it.
 fn object(alloc: Global, id: &[u8], kind: &str, bytes: &[u8]) -> Result<Vec<u8>, Fail> {
-    let mut text = id.to_vec(alloc)?;
-    write!(text, " {kind} {}\n", bytes.len())?;
-    text.extend_from_slice(bytes)?;
-    text.push(b'\n')?;
+    let mut text = Vec::new(alloc);
+    push_object(&mut text, id, kind, bytes)?;
     Ok(text)
 }
 
-/// A blob, two trees and an object that is missing, and the lines of the trees.
-fn stream(alloc: Global) -> Result<(Vec<u8>, Vec<u8>), Fail> {
-    let mut text = object(alloc, ID, "blob", b"100644 .git\0........")?;
-    text.extend_from_slice(&object(alloc, ID, "tree", b"")?)?;
-    text.extend_from_slice(&object(alloc, ID, "tree", &entries(alloc, 20)?)?)?;
-    text.extend_from_slice(ID)?;
-    text.extend_from_slice(b" missing\n")?;
-    text.extend_from_slice(&object(alloc, LONG_ID, "tree", &entries(alloc, 32)?)?)?;
-    text.extend_from_slice(&object(alloc, ID, "commit", b"")?)?;
-    text.extend_from_slice(&object(alloc, ID, "tag", b"\n")?)?;
-    let mut lines = Vec::new(alloc);
-    for id in [ID.as_slice(), LONG_ID] {
-        for (_, line) in &ROWS {
-            if !line.is_empty() {
-                lines.extend_from_slice(id)?;
-                lines.push(b' ')?;
-                lines.extend_from_slice(line)?;
-                lines.push(b'\n')?;
-            }
-        }
-    }
-    Ok((text, lines))
+/// The bytes of a blob, which would be a faulty entry of a tree.
+fn blob() -> &'static [u8] {
+    b"100644 .git\0........"
 }
 
-fn checked(alloc: Global, text: &[u8]) -> Result<(Verdict, Vec<u8>), RunError> {
+/// The line of an object that is missing.
+fn missing() -> &'static [u8] {
+    b"4b825dc642cb6eb9a060e54bf8d69288fbee4904 missing\n"
+}
+
+/// A blob, two trees, an object that is missing, another tree, a commit and a tag.
+fn stream(alloc: Global) -> Result<Vec<u8>, Fail> {
+    let mut text = Vec::new(alloc);
+    push_object(&mut text, id(), "blob", blob())?;
+    push_object(&mut text, id(), "tree", b"")?;
+    push_tree(&mut text, alloc, id(), 20)?;
+    text.extend_from_slice(missing())?;
+    push_tree(&mut text, alloc, long_id(), 32)?;
+    push_object(&mut text, id(), "commit", b"")?;
+    push_object(&mut text, id(), "tag", b"\n")?;
+    Ok(text)
+}
+
+/// The lines of the stream's trees.
+fn lines(alloc: Global) -> Result<Vec<u8>, AllocError> {
+    let mut lines = Vec::new(alloc);
+    push_lines(&mut lines, id())?;
+    push_lines(&mut lines, long_id())?;
+    Ok(lines)
+}
+
+/// Adds the lines of the tree with this id.
+fn push_lines(lines: &mut Vec<u8>, id: &[u8]) -> Result<(), AllocError> {
+    for (_, line) in rows() {
+        if !line.is_empty() {
+            lines.extend_from_slice(id)?;
+            lines.push(b' ')?;
+            lines.extend_from_slice(line)?;
+            lines.push(b'\n')?;
+        }
+    }
+    Ok(())
+}
+
+/// [`run`] without its contract, which the proofs of the tests then don't carry.
+fn plain_run<A: Allocator, R: BufRead, W: Write>(
+    alloc: A,
+    options: ComponentOptions,
+    input: &mut R,
+    output: &mut W,
+) -> Result<Verdict, RunError> {
+    run(alloc, options, input, output)
+}
+
+/// What a run says of the text under these options, and what it writes.
+fn checked_under(
+    alloc: Global,
+    options: ComponentOptions,
+    mut text: &[u8],
+) -> Result<(Verdict, Vec<u8>), RunError> {
     let mut output = Vec::new(alloc);
-    let verdict = run(alloc, ComponentOptions::default(), &mut &*text, &mut output)?;
+    let verdict = plain_run(alloc, options, &mut text, &mut output)?;
     Ok((verdict, output))
+}
+
+/// The same under the default options.
+fn checked(alloc: Global, text: &[u8]) -> Result<(Verdict, Vec<u8>), RunError> {
+    checked_under(alloc, ComponentOptions::default(), text)
 }
 
 /// What a run says of this text, and that it writes nothing.
@@ -127,6 +184,7 @@ fn expect(rt: &impl Abort, alloc: Global, text: &[u8], want: Verdict) -> Result<
     Ok(())
 }
 
+/// What a run says where this object has the fault.
 fn malformed(object: u64, fault: Fault) -> Verdict {
     Verdict::Malformed { object, fault }
 }
@@ -174,29 +232,42 @@ impl BufRead for Dripping<'_> {
 
 /// Takes one byte at a time while it has room, is interrupted before each, and then fails.
 #[derive(Drop)]
-struct Narrow<'a> {
-    room: &'a mut [u8],
-    taken: usize,
+struct Narrow {
+    taken: Vec<u8>,
+    room: usize,
     is_interrupted: bool,
     takes_nothing: bool,
 }
 
-impl Write for Narrow<'_> {
+impl Narrow {
+    fn new(alloc: Global, room: usize, takes_nothing: bool) -> Narrow {
+        Narrow {
+            taken: Vec::new(alloc),
+            room,
+            is_interrupted: false,
+            takes_nothing,
+        }
+    }
+}
+
+impl Write for Narrow {
     fn write(&mut self, buf: &[u8]) -> io::Result<usize> {
         self.is_interrupted = !self.is_interrupted;
         if self.is_interrupted {
             return Err(io::Error::from(ErrorKind::Interrupted));
         }
-        if self.room.is_empty() {
+        if self.taken.len() >= self.room {
             return if self.takes_nothing {
                 Ok(0)
             } else {
                 Err(io::Error::from(ErrorKind::StorageFull))
             };
         }
-        let taken = self.room.write(&buf[..buf.len().min(1)])?;
-        self.taken = self.taken.saturating_add(taken);
-        Ok(taken)
+        let Some(byte) = buf.first() else {
+            return Ok(0);
+        };
+        self.taken.push(*byte)?;
+        Ok(1)
     }
 
     fn flush(&mut self) -> io::Result<()> {
@@ -206,50 +277,48 @@ impl Write for Narrow<'_> {
 
 #[test]
 fn reports_each_row(rt: HostRuntime) -> Result<(), Fail> {
-    let (text, lines) = stream(rt.alloc())?;
-    let (verdict, output) = checked(rt.alloc(), &text)?;
+    let (verdict, output) = checked(rt.alloc(), &stream(rt.alloc())?)?;
     assert_eq!(rt; verdict, Verdict::Refused);
-    assert_eq!(rt; output.as_slice(), lines.as_slice());
+    assert_eq!(rt; output.as_slice(), lines(rt.alloc())?.as_slice());
     Ok(())
+}
+
+/// A tree of two entries, whose ids are dots and NULs.
+fn clean_entries() -> &'static [u8] {
+    b"100644 a\0....................100644 b\0\0\0\0\0\0\0\0\0\0\0\0\0\0\0\0\0\0\0\0\0"
 }
 
 #[test]
 fn accepts_what_is_clean(rt: HostRuntime) -> Result<(), Fail> {
     expect(&rt, rt.alloc(), b"", Verdict::Clean)?;
-    let clean = b"100644 a\0....................100644 b\0\0\0\0\0\0\0\0\0\0\0\0\0\0\0\0\0\0\0\0\0";
-    let tree = object(rt.alloc(), ID, "tree", clean)?;
+    let tree = object(rt.alloc(), id(), "tree", clean_entries())?;
     expect(&rt, rt.alloc(), &tree, Verdict::Clean)?;
-    let empty = object(rt.alloc(), LONG_ID, "tree", b"")?;
+    let empty = object(rt.alloc(), long_id(), "tree", b"")?;
     expect(&rt, rt.alloc(), &empty, Verdict::Clean)?;
     Ok(())
 }
 
 #[test]
 fn asks_under_the_options(rt: HostRuntime) -> Result<(), Fail> {
-    let tree = object(
-        rt.alloc(),
-        ID,
-        "tree",
-        b"100644 aux.c\0....................",
-    )?;
+    let entry = b"100644 aux.c\0....................";
+    let tree = object(rt.alloc(), id(), "tree", entry)?;
     for protects in [true, false] {
         let options = ComponentOptions {
             protect_windows: protects,
             protect_hfs: true,
             protect_ntfs: true,
         };
-        let mut output = Vec::new(rt.alloc());
-        let verdict = run(rt.alloc(), options, &mut tree.as_slice(), &mut output)?;
+        let (verdict, output) = checked_under(rt.alloc(), options, &tree)?;
         assert_eq!(rt; verdict == Verdict::Refused, protects);
         assert_eq!(rt; output.is_empty(), !protects);
     }
     Ok(())
 }
 
-#[test]
-fn tells_each_malformed_header(rt: HostRuntime) -> Result<(), Fail> {
-    for line in [
-        b"\n".as_slice(),
+/// Texts whose first header line is malformed.
+fn malformed_headers() -> &'static [&'static [u8]] {
+    &[
+        b"\n",
         b"4b825dc642cb6eb9a060e54bf8d69288fbee4904\n",
         b"4b825dc642cb6eb9a060e54bf8d69288fbee490 tree 0\n\n",
         b"4B825DC642CB6EB9A060E54BF8D69288FBEE4904 tree 0\n\n",
@@ -264,23 +333,36 @@ fn tells_each_malformed_header(rt: HostRuntime) -> Result<(), Fail> {
         b"4b825dc642cb6eb9a060e54bf8d69288fbee4904 tree 0x0\n\n",
         b"4b825dc642cb6eb9a060e54bf8d69288fbee4904 tree 18446744073709551616\n\n",
         b"4b825dc642cb6eb9a060e54bf8d69288fbee4904\ttree 0\n\n",
-    ] {
-        expect(&rt, rt.alloc(), line, malformed(1, Fault::Header))?;
-    }
-    let mut text = object(rt.alloc(), ID, "tree", b"")?;
-    text.push(b'\n')?;
-    expect(&rt, rt.alloc(), &text, malformed(2, Fault::Header))?;
-    let lies = b"4b825dc642cb6eb9a060e54bf8d69288fbee4904 blob 18446744073709551615\n";
-    expect(&rt, rt.alloc(), lies, malformed(1, Fault::Ended))?;
-    let zeros = b"4b825dc642cb6eb9a060e54bf8d69288fbee4904 tree 000\n\n";
-    expect(&rt, rt.alloc(), zeros, Verdict::Clean)?;
-    Ok(())
+    ]
+}
+
+/// The header line of a blob with the most bytes that a header can name.
+fn lies() -> &'static [u8] {
+    b"4b825dc642cb6eb9a060e54bf8d69288fbee4904 blob 18446744073709551615\n"
+}
+
+/// A tree whose size is written in three digits.
+fn zeros() -> &'static [u8] {
+    b"4b825dc642cb6eb9a060e54bf8d69288fbee4904 tree 000\n\n"
 }
 
 #[test]
-fn tells_each_malformed_entry(rt: HostRuntime) -> Result<(), Fail> {
-    for bytes in [
-        b"1".as_slice(),
+fn tells_each_malformed_header(rt: HostRuntime) -> Result<(), Fail> {
+    for text in malformed_headers() {
+        expect(&rt, rt.alloc(), text, malformed(1, Fault::Header))?;
+    }
+    let mut text = object(rt.alloc(), id(), "tree", b"")?;
+    text.push(b'\n')?;
+    expect(&rt, rt.alloc(), &text, malformed(2, Fault::Header))?;
+    expect(&rt, rt.alloc(), lies(), malformed(1, Fault::Ended))?;
+    expect(&rt, rt.alloc(), zeros(), Verdict::Clean)?;
+    Ok(())
+}
+
+/// The bytes of trees whose first entry is malformed.
+fn malformed_entries() -> &'static [&'static [u8]] {
+    &[
+        b"1",
         b"100644 a\0...................",
         b"100644 a",
         b"100644 a....................",
@@ -289,38 +371,52 @@ fn tells_each_malformed_entry(rt: HostRuntime) -> Result<(), Fail> {
         b"100648 a\0....................",
         b"-40000 a\0....................",
         b"2000000000000000000000 a\0....................",
-    ] {
-        let tree = object(rt.alloc(), ID, "tree", bytes)?;
+    ]
+}
+
+/// A tree and a blob with a byte more than their headers say.
+fn longer_objects() -> &'static [&'static [u8]] {
+    &[
+        b"4b825dc642cb6eb9a060e54bf8d69288fbee4904 tree 29\n100644 a\0.....................\n",
+        b"4b825dc642cb6eb9a060e54bf8d69288fbee4904 blob 1\na\0",
+    ]
+}
+
+#[test]
+fn tells_each_malformed_entry(rt: HostRuntime) -> Result<(), Fail> {
+    for bytes in malformed_entries() {
+        let tree = object(rt.alloc(), id(), "tree", bytes)?;
         expect(&rt, rt.alloc(), &tree, malformed(1, Fault::Entry))?;
     }
-    let tree = object(
-        rt.alloc(),
-        LONG_ID,
-        "tree",
-        b"100644 a\0....................",
-    )?;
+    let entry = b"100644 a\0....................";
+    let tree = object(rt.alloc(), long_id(), "tree", entry)?;
     expect(&rt, rt.alloc(), &tree, malformed(1, Fault::Entry))?;
-    let tree =
-        b"4b825dc642cb6eb9a060e54bf8d69288fbee4904 tree 29\n100644 a\0.....................\n";
-    expect(&rt, rt.alloc(), tree, malformed(1, Fault::LineEnd))?;
-    let blob = b"4b825dc642cb6eb9a060e54bf8d69288fbee4904 blob 1\na\0";
-    expect(&rt, rt.alloc(), blob, malformed(1, Fault::LineEnd))?;
+    for text in longer_objects() {
+        expect(&rt, rt.alloc(), text, malformed(1, Fault::LineEnd))?;
+    }
     Ok(())
+}
+
+/// A tree with an entry whose name has so many bytes.
+fn tree_with_name(alloc: Global, len: usize) -> Result<Vec<u8>, Fail> {
+    let mut bytes = Vec::new(alloc);
+    bytes.extend_from_slice(b"100644 ")?;
+    for _ in 0..len {
+        bytes.push(b'a')?;
+    }
+    bytes.push(0)?;
+    bytes.extend_from_slice(&[7; 20])?;
+    object(alloc, id(), "tree", &bytes)
 }
 
 #[test]
 fn bounds_what_it_holds(rt: HostRuntime) -> Result<(), Fail> {
-    for (len, is_long) in [(65_528usize, false), (65_529, true), (1 << 17, true)] {
-        let mut bytes = b"100644 ".to_vec(rt.alloc())?;
-        bytes.extend_from_slice(&b"a".repeat(rt.alloc(), len)?)?;
-        bytes.push(0)?;
-        bytes.extend_from_slice(&[7; 20])?;
-        let tree = object(rt.alloc(), ID, "tree", &bytes)?;
-        let want = if is_long {
-            malformed(1, Fault::TooLong)
-        } else {
-            Verdict::Clean
-        };
+    for (len, want) in [
+        (65_528, Verdict::Clean),
+        (65_529, malformed(1, Fault::TooLong)),
+        (1 << 17, malformed(1, Fault::TooLong)),
+    ] {
+        let tree = tree_with_name(rt.alloc(), len)?;
         expect(&rt, rt.alloc(), &tree, want)?;
     }
     let line = b"a".repeat(rt.alloc(), 65_536)?;
@@ -333,7 +429,7 @@ fn bounds_what_it_holds(rt: HostRuntime) -> Result<(), Fail> {
 /// object that it is in.
 #[test]
 fn tells_each_cut(rt: HostRuntime) -> Result<(), Fail> {
-    let (text, lines) = stream(rt.alloc())?;
+    let (text, lines) = (stream(rt.alloc())?, lines(rt.alloc())?);
     let (mut clean, mut cuts) = (0u32, 0u32);
     for k in 0..text.len() {
         let (verdict, output) = checked(rt.alloc(), &text[..k])?;
@@ -352,86 +448,84 @@ fn tells_each_cut(rt: HostRuntime) -> Result<(), Fail> {
     Ok(())
 }
 
+/// A run over a text that is shown byte by byte, and what it writes.
+fn dripped(alloc: Global, text: &[u8], fails: bool) -> (Result<Verdict, RunError>, Vec<u8>) {
+    let mut output = Vec::new(alloc);
+    let mut input = Dripping::new(text, fails);
+    let result = plain_run(alloc, ComponentOptions::default(), &mut input, &mut output);
+    (result, output)
+}
+
 #[test]
 fn reads_byte_by_byte(rt: HostRuntime) -> Result<(), Fail> {
-    let (text, lines) = stream(rt.alloc())?;
-    let mut output = Vec::new(rt.alloc());
-    let mut input = Dripping::new(&text, false);
-    let verdict = run(
-        rt.alloc(),
-        ComponentOptions::default(),
-        &mut input,
-        &mut output,
-    )?;
-    assert_eq!(rt; verdict, Verdict::Refused);
-    assert_eq!(rt; output.as_slice(), lines.as_slice());
+    let text = stream(rt.alloc())?;
+    let (result, output) = dripped(rt.alloc(), &text, false);
+    assert_eq!(rt; result?, Verdict::Refused);
+    assert_eq!(rt; output.as_slice(), lines(rt.alloc())?.as_slice());
     Ok(())
 }
 
 #[test]
 fn reports_a_failed_read(rt: HostRuntime) -> Result<(), Fail> {
-    let (text, lines) = stream(rt.alloc())?;
+    let (text, lines) = (stream(rt.alloc())?, lines(rt.alloc())?);
     for k in 0..=text.len() {
-        let mut output = Vec::new(rt.alloc());
-        let mut input = Dripping::new(&text[..k], true);
-        let result = run(
-            rt.alloc(),
-            ComponentOptions::default(),
-            &mut input,
-            &mut output,
-        );
+        let (result, output) = dripped(rt.alloc(), &text[..k], true);
         assert!(rt; matches!(result, Err(RunError::Read)));
         assert!(rt; lines.starts_with(&output));
     }
     Ok(())
 }
 
+/// Whether a run fails to write where there is so much room, and what is taken of it.
+fn narrowed(alloc: Global, mut text: &[u8], room: usize, takes_nothing: bool) -> (bool, Vec<u8>) {
+    let mut output = Narrow::new(alloc, room, takes_nothing);
+    let result = plain_run(alloc, ComponentOptions::default(), &mut text, &mut output);
+    (matches!(result, Err(RunError::Write)), output.taken)
+}
+
 #[test]
 fn reports_a_failed_write(rt: HostRuntime) -> Result<(), Fail> {
-    let text = object(rt.alloc(), ID, "tree", b"40000 .\0....................")?;
+    let text = object(rt.alloc(), id(), "tree", b"40000 .\0....................")?;
     let (_, lines) = checked(rt.alloc(), &text)?;
-    let mut room = [0; 256];
-    assert!(rt; lines.len() > 64 && lines.len() <= room.len());
+    assert!(rt; lines.len() > 64);
     for k in 0..=lines.len() {
         for takes_nothing in [true, false] {
-            let mut output = Narrow {
-                room: &mut room[..k],
-                taken: 0,
-                is_interrupted: false,
-                takes_nothing,
-            };
-            let result = run(
-                rt.alloc(),
-                ComponentOptions::default(),
-                &mut text.as_slice(),
-                &mut output,
-            );
-            assert_eq!(rt; matches!(result, Err(RunError::Write)), k < lines.len());
-            assert_eq!(rt; output.taken, k);
+            let (fails, taken) = narrowed(rt.alloc(), &text, k, takes_nothing);
+            assert_eq!(rt; fails, k < lines.len());
+            assert_eq!(rt; taken.len(), k);
+            assert!(rt; lines.starts_with(&taken));
         }
-        assert_eq!(rt; &room[..k], &lines[..k]);
     }
     Ok(())
+}
+
+/// A run that takes its memory from this heap, and what it writes.
+fn run_within(
+    heap: &LocalHeap,
+    alloc: Global,
+    mut text: &[u8],
+) -> (Result<Verdict, RunError>, Vec<u8>) {
+    let mut output = Vec::new(alloc);
+    let result = plain_run(heap, ComponentOptions::default(), &mut text, &mut output);
+    (result, output)
 }
 
 /// The heap is a little larger each time, until there is enough.
 #[test]
 fn reports_refused_memory(rt: HostRuntime) -> Result<(), Fail> {
-    let (text, lines) = stream(rt.alloc())?;
-    let (mut refused, mut is_done) = (0u32, false);
+    let (text, lines) = (stream(rt.alloc())?, lines(rt.alloc())?);
+    let mut refused = 0u32;
     for units in 0..4096 {
         let heap = LocalHeap::new(rt.alloc(), 16 * units)?;
-        let mut output = Vec::new(rt.alloc());
-        let options = ComponentOptions::default();
-        let result = run(&heap, options, &mut text.as_slice(), &mut output);
+        let (result, output) = run_within(&heap, rt.alloc(), &text);
         assert_eq!(rt; heap.used(), 0);
         assert!(rt; lines.starts_with(&output));
         match result {
             Ok(verdict) => {
                 assert_eq!(rt; verdict, Verdict::Refused);
                 assert_eq!(rt; output.as_slice(), lines.as_slice());
-                is_done = true;
-                break;
+                assert!(rt; refused > 0);
+                return Ok(());
             }
             Err(stop) => {
                 assert!(rt; matches!(stop, RunError::Memory));
@@ -439,13 +533,12 @@ fn reports_refused_memory(rt: HostRuntime) -> Result<(), Fail> {
             }
         }
     }
-    assert!(rt; refused > 0 && is_done);
-    Ok(())
+    panic!(rt; "no heap was large enough")
 }
 
-#[test]
-fn prints_each_fault(rt: HostRuntime) -> Result<(), Fail> {
-    for (fault, want) in [
+/// Each fault, and its text.
+fn fault_texts() -> &'static [(Fault, &'static str)] {
+    &[
         (
             Fault::Header,
             "the header line is not 'OID TYPE SIZE' or 'OID missing'",
@@ -460,15 +553,25 @@ fn prints_each_fault(rt: HostRuntime) -> Result<(), Fail> {
             "an entry is not 'MODE NAME', NUL and an object id, or runs past its tree",
         ),
         (Fault::LineEnd, "no line end follows the object's bytes"),
-    ] {
-        assert_eq!(rt; format!(in rt.alloc(); "{fault}")?.as_str(), want);
-    }
-    for (stop, want) in [
+    ]
+}
+
+/// Each stop, and its text.
+fn stop_texts() -> &'static [(RunError, &'static str)] {
+    &[
         (RunError::Read, "read failed"),
         (RunError::Memory, "out of memory"),
         (RunError::Write, "write failed"),
-    ] {
-        assert_eq!(rt; format!(in rt.alloc(); "{stop}")?.as_str(), want);
+    ]
+}
+
+#[test]
+fn prints_each_fault(rt: HostRuntime) -> Result<(), Fail> {
+    for (fault, want) in fault_texts() {
+        assert_eq!(rt; format!(in rt.alloc(); "{fault}")?.as_str(), *want);
+    }
+    for (stop, want) in stop_texts() {
+        assert_eq!(rt; format!(in rt.alloc(); "{stop}")?.as_str(), *want);
     }
     Ok(())
 }

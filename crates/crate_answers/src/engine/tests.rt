@@ -30,22 +30,34 @@ const ROWS: [(&[u8], &[u8]); 16] = [
     (b"names 40\r", b"bad hexadecimal"),
 ];
 
+/// The rows, behind a call, so that the proofs of the tests don't carry them.
+fn rows() -> &'static [(&'static [u8], &'static [u8])] {
+    &ROWS
+}
+
+/// The lines of all rows.
 fn lines(alloc: Global) -> Result<Vec<u8>, AllocError> {
     let mut text = Vec::new(alloc);
-    for (line, _) in &ROWS {
-        text.extend_from_slice(line)?;
-        text.push(b'\n')?;
+    for (line, _) in rows() {
+        push_line(&mut text, line)?;
     }
     Ok(text)
 }
 
+/// The answers of all rows.
 fn answers(alloc: Global) -> Result<Vec<u8>, AllocError> {
     let mut text = Vec::new(alloc);
-    for (_, answer) in &ROWS {
-        text.extend_from_slice(answer)?;
-        text.push(b'\n')?;
+    for (_, answer) in rows() {
+        push_line(&mut text, answer)?;
     }
     Ok(text)
+}
+
+/// Pushes a line and its end.
+fn push_line(text: &mut Vec<u8>, line: &[u8]) -> Result<(), AllocError> {
+    text.extend_from_slice(line)?;
+    text.push(b'\n')?;
+    Ok(())
 }
 
 /// A run over memory, which meets each premise of the contract of `run`.
@@ -55,6 +67,12 @@ fn answered(alloc: Global, text: &[u8]) -> Result<Vec<u8>, RunError>
     let mut output = Vec::new(alloc);
     run(alloc, &mut &*text, &mut output)?;
     Ok(output)
+}
+
+/// A run over memory into any writer. (It has no contract, so that the proofs of the tests don't
+/// carry one.)
+fn run_over<W: Write>(alloc: Global, text: &[u8], output: &mut W) -> Result<(), RunError> {
+    run(alloc, &mut &*text, output)
 }
 
 /// Gives its bytes, and then fails where the end would be.
@@ -112,16 +130,21 @@ impl Write for FakeWriter<'_> {
     }
 }
 
+/// The answer to a line that has no end.
+fn answer_to(alloc: Global, line: &[u8], answer: &[u8]) -> Result<Vec<u8>, AllocError> {
+    let mut text = Vec::new(alloc);
+    // An empty text has no line.
+    if !line.is_empty() {
+        push_line(&mut text, answer)?;
+    }
+    Ok(text)
+}
+
 #[test]
 fn answers_each_row(rt: HostRuntime) -> Result<(), Fail> {
-    for (line, answer) in &ROWS {
+    for (line, answer) in rows() {
         let output = answered(rt.alloc(), line)?;
-        let mut want = answer.to_vec(rt.alloc())?;
-        want.push(b'\n')?;
-        // An empty text has no line.
-        if line.is_empty() {
-            want.clear();
-        }
+        let want = answer_to(rt.alloc(), line, answer)?;
         assert_eq!(rt; output.as_slice(), want.as_slice());
     }
     let output = answered(rt.alloc(), &lines(rt.alloc())?)?;
@@ -129,25 +152,34 @@ fn answers_each_row(rt: HostRuntime) -> Result<(), Fail> {
     Ok(())
 }
 
+/// Texts, and how many times their answers are flushed.
+fn texts_with_flushes() -> [(&'static [u8], usize); 3] {
+    [(b"", 0), (b"\n", 1), (b"names 40\nnames 4\n", 1)]
+}
+
 #[test]
 fn flushes_once_where_it_answers(rt: HostRuntime) -> Result<(), Fail> {
-    for (text, flushes) in [(b"".as_slice(), 0), (b"\n", 1), (b"names 40\nnames 4\n", 1)] {
-        let mut room = [0; 128];
+    for (text, flushes) in texts_with_flushes() {
+        let mut room = vec![in rt.alloc(); 0; 128]?;
         let mut output = FakeWriter::new(&mut room);
-        run(rt.alloc(), &mut &*text, &mut output)?;
+        run_over(rt.alloc(), text, &mut output)?;
         assert_eq!(rt; output.flushes, flushes);
         assert_eq!(rt; output.taken == 0, text.is_empty());
     }
     Ok(())
 }
 
+/// A run over a reader that fails behind the text.
+fn run_until(alloc: Global, text: &[u8], output: &mut Vec<u8>) -> Result<(), RunError> {
+    run(alloc, &mut BrokenReader { left: text }, output)
+}
+
 #[test]
 fn reports_a_failed_read(rt: HostRuntime) -> Result<(), Fail> {
     let text = lines(rt.alloc())?;
     for k in 0..text.len() {
-        let mut input = BrokenReader { left: &text[..k] };
         let mut output = Vec::new(rt.alloc());
-        let result = run(rt.alloc(), &mut input, &mut output);
+        let result = run_until(rt.alloc(), &text[..k], &mut output);
         assert!(rt; matches!(result, Err(RunError::Read)));
         assert!(rt; output.is_empty());
     }
@@ -157,34 +189,41 @@ fn reports_a_failed_read(rt: HostRuntime) -> Result<(), Fail> {
 #[test]
 fn reports_a_failed_write(rt: HostRuntime) -> Result<(), Fail> {
     let (text, want) = (lines(rt.alloc())?, answers(rt.alloc())?);
-    let mut room = [0; 1024];
-    assert!(rt; want.len() <= room.len());
     for k in 0..want.len() {
-        let mut output = FakeWriter::new(&mut room[..k]);
-        let result = run(rt.alloc(), &mut text.as_slice(), &mut output);
+        let mut room = vec![in rt.alloc(); 0; k]?;
+        let mut output = FakeWriter::new(&mut room);
+        let result = run_over(rt.alloc(), &text, &mut output);
         assert!(rt; matches!(result, Err(RunError::Write)));
     }
+    let mut room = vec![in rt.alloc(); 0; 1024]?;
+    assert!(rt; want.len() <= room.len());
     let mut output = FakeWriter::new(&mut room);
     output.can_flush = false;
-    let result = run(rt.alloc(), &mut text.as_slice(), &mut output);
+    let result = run_over(rt.alloc(), &text, &mut output);
     assert!(rt; matches!(result, Err(RunError::Write)));
-    run(
-        rt.alloc(),
-        &mut text.as_slice(),
-        &mut FakeWriter::new(&mut room),
-    )?;
+    run_over(rt.alloc(), &text, &mut FakeWriter::new(&mut room))?;
     assert!(rt; room.starts_with(&want));
     Ok(())
 }
 
-#[test]
-fn prints_each_stop(rt: HostRuntime) -> Result<(), Fail> {
-    for (stop, want) in [
+/// Each stop, and its text.
+fn stops() -> [(RunError, &'static str); 3] {
+    [
         (RunError::Read, "read failed"),
         (RunError::Memory, "out of memory"),
         (RunError::Write, "write failed"),
-    ] {
-        assert_eq!(rt; format!(in rt.alloc(); "{stop}")?.as_str(), want);
+    ]
+}
+
+/// What a stop prints.
+fn printed(alloc: Global, stop: RunError) -> Result<String, AllocError> {
+    format!(in alloc; "{stop}")
+}
+
+#[test]
+fn prints_each_stop(rt: HostRuntime) -> Result<(), Fail> {
+    for (stop, want) in stops() {
+        assert_eq!(rt; printed(rt.alloc(), stop)?.as_str(), want);
     }
     assert_eq!(rt; printed_stop(rt.alloc())?.as_str(), "out of memory");
     Ok(())

@@ -20,16 +20,22 @@ fn is_good_piece(piece: &[u8]) -> bool {
 
 /// The first fault of the text, if it has one.
 pub(crate) fn fault(text: &[u8]) -> Option<Fault<'static>> {
-    first_of(&[
+    let fault = first_of(&[
         (text.is_empty(), Fault::Empty),
         (text.ends_with(b"/"), Fault::EndsWithSlash),
         (text.starts_with(b"/"), Fault::StartsWithSlash),
-    ])
-    .or(first_at_places(text))
-    .or(first_of(&[
+    ]);
+    if fault.is_some() {
+        return fault;
+    }
+    let fault = first_at_places(text);
+    if fault.is_some() {
+        return fault;
+    }
+    first_of(&[
         (text.starts_with(b"."), Fault::StartsWithDot),
         (text.ends_with(b"."), Fault::EndsWithDot),
-    ]))
+    ])
 }
 
 /// The fault of the first place that has one.

@@ -35,20 +35,21 @@ pub(crate) fn units(alloc: Global, text: &[u8]) -> Result<Vec<&[u8]>, AllocError
 /// The first unit: the front that is a whole sequence, else the longest front that begins one, else
 /// one byte.
 pub(crate) fn first_unit(text: &[u8]) -> &[u8] {
-    if let Some(front) = whole_front(text) {
+    let rows = rows();
+    if let Some(front) = whole_front(text, &rows) {
         return front;
     }
-    if let Some(front) = begun_front(text) {
+    if let Some(front) = begun_front(text, &rows) {
         return front;
     }
     text.get(..1).unwrap_or(text)
 }
 
 /// The front that is a whole sequence.
-fn whole_front(text: &[u8]) -> Option<&[u8]> {
+fn whole_front<'a>(text: &'a [u8], rows: &[&[(u8, u8)]]) -> Option<&'a [u8]> {
     for len in (1..=4).rev() {
         if let Some(front) = text.get(..len)
-            && rows()
+            && rows
                 .iter()
                 .any(|row| row.len() == len && begins(front, row))
         {
@@ -59,10 +60,10 @@ fn whole_front(text: &[u8]) -> Option<&[u8]> {
 }
 
 /// The longest front that begins a sequence.
-fn begun_front(text: &[u8]) -> Option<&[u8]> {
+fn begun_front<'a>(text: &'a [u8], rows: &[&[(u8, u8)]]) -> Option<&'a [u8]> {
     for len in (1..=4).rev() {
         if let Some(front) = text.get(..len)
-            && rows().iter().any(|row| begins(front, row))
+            && rows.iter().any(|row| begins(front, row))
         {
             return Some(front);
         }

@@ -42,7 +42,7 @@ protections_of list = if bytes_eq list (codes "none") then Some no_protections e
 
 -- ---- all arguments
 
--- what is wrong with the arguments: an unknown word, or a text that is no list of protections (an empty one where no list is given)
+-- what is wrong with the arguments: an unknown word, or a text that is not a list of protections (an empty one where no list is given)
 pub data WrongArgument : Type 0 where
   Unknown : (word : List ℕ) → WrongArgument
   Protections : (list : List ℕ) → WrongArgument

@@ -195,7 +195,7 @@ enum Kind {
     Submodule,
 }
 
-/// Texts that are no name of the type, and what the fault prints.
+/// Texts that are not names of the type, and what the fault prints.
 fn refused_names() -> &'static [(Kind, &'static str, &'static str)] {
     &[
         (

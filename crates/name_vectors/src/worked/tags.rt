@@ -104,7 +104,7 @@ fn more_names_and_their_faults(rt: HostRuntime) -> Result<(), Fail> {
     check_all(&rt, more_names())
 }
 
-/// Names with bytes that are no text, and their answers.
+/// Names with bytes that are not text, and their answers.
 fn bytes() -> &'static [(&'static [u8], &'static str)] {
     &[
         (b"\x80\xff", "ok"),

@@ -151,7 +151,7 @@ pub(crate) fn block_has_none(text: &[u8], at: usize, relation: Relation) -> bool
     )
 }
 
-/// Whether no two bytes side by side are related in a text that is no longer than a block.
+/// Whether a text of at most one block has no two related bytes side by side.
 #[inline(always)]
 fn pairs_have_none(text: &[u8], relation: Relation) -> bool
     requires { length text.now ≤ LANES }

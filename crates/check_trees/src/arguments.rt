@@ -116,6 +116,3 @@ fn switched_on(word: &[u8], options: ComponentOptions) -> Option<ComponentOption
         None
     }
 }
-
-#[cfg(test)]
-mod tests;

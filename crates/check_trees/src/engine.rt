@@ -330,6 +330,3 @@ fn check_name<W: Write, A: Allocator>(
         }
     }
 }
-
-#[cfg(test)]
-mod tests;

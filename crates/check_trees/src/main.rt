@@ -17,7 +17,7 @@ use gix_validate::path::ComponentOptions;
 use std::alloc::Global;
 use std::env;
 use std::fmt::Display;
-use std::io::{BufReader, BufWriter, Read, Write};
+use std::io::{BufReader, BufWriter, ErrorKind, Read, Write};
 use std::process::ExitCode;
 
 const HELP: &str = "\
@@ -45,8 +45,9 @@ fn main(rt: HostRuntime) -> ExitCode {
     let words: Vec<String> = match env::args(&rt) {
         Ok(args) => match args.skip(1).collect(rt.alloc()) {
             Ok(words) => words,
-            Err(_) => return failed(&rt, "out of memory"),
+            Err(_) => return failed(&rt, RunError::Memory),
         },
+        Err(e) if e.kind() == ErrorKind::OutOfMemory => return failed(&rt, RunError::Memory),
         Err(_) => return failed(&rt, "the arguments can't be read as UTF-8"),
     };
     match arguments::request_of(&words) {

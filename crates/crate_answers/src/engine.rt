@@ -213,6 +213,3 @@ fn decoded(alloc: Global, digits: &[u8]) -> Result<Option<Vec<u8>>, AllocError>
         Err(_) => Ok(None),
     }
 }
-
-#[cfg(test)]
-mod tests;

@@ -1,6 +1,7 @@
 /*
- * Replays the rows of bindings/rows through the calls of gix_validate.h, and asks what no row can say: texts into
- * buffers that are too small, large enough and larger; NULL with length 0; reads past either end of a name.
+ * Replays the rows of bindings/rows through the calls of gix_validate.h, and asks what no row can say: texts and
+ * repairs into buffers that are too small, large enough and larger; flags with other bits; NULL with length 0; reads
+ * past either end of a name; the version.
  * Each name and each buffer is a block of its exact size, so that valgrind sees any byte beyond it.
  *
  *     rows FILE      prints how many rows were replayed; status 1 where an answer is wrong
@@ -81,27 +82,28 @@ static size_t text_of(const struct question *asked, uint32_t flags, struct bytes
                                : gix_validate_component_text(name.start, name.length, flags, text.start, text.length);
 }
 
-/* The text that the calls give has to be the same into each buffer that it fits, and nothing else changes. */
+/* Whatever the buffer's size, the call answers the length of the text. It writes the same text into each buffer that
+   the text fits, and changes nothing else. */
 static void check_texts(const struct question *asked, uint32_t flags, struct bytes name, const char *wanted) {
     struct bytes none = {NULL, 0};
     size_t length = text_of(asked, flags, name, none);
     EXPECT(length <= GIX_VALIDATE_TEXT_MAX);
     EXPECT((length == 0) == (code_of(asked, flags, name) == GIX_VALIDATE_OK));
     struct bytes exact = block(length, CANARY);
-    struct bytes larger = block(length + MORE, CANARY);
-    struct bytes smaller = block(length == 0 ? 0 : length - 1, CANARY);
     EXPECT(text_of(asked, flags, name, exact) == length);
-    EXPECT(text_of(asked, flags, name, larger) == length);
-    EXPECT(text_of(asked, flags, name, smaller) == length);
-    EXPECT(same(exact.start, larger.start, length));
-    EXPECT(all_are(larger.start + length, MORE, CANARY));
-    EXPECT(all_are(smaller.start, smaller.length, CANARY));
+    EXPECT(memchr(exact.start, CANARY, length) == NULL);
     if (*wanted != '\0') {
         EXPECT(length == strlen(wanted) && same(exact.start, wanted, length));
     }
+    for (size_t size = 0; size <= GIX_VALIDATE_TEXT_MAX + MORE; size++) {
+        struct bytes text = block(size, CANARY);
+        size_t written = size < length ? 0 : length;
+        EXPECT(text_of(asked, flags, name, text) == length);
+        EXPECT(same(text.start, exact.start, written));
+        EXPECT(all_are(text.start + written, size - written, CANARY));
+        free(text.start);
+    }
     free(exact.start);
-    free(larger.start);
-    free(smaller.start);
 }
 
 static void check_sanitized(struct bytes name, struct bytes wanted) {
@@ -122,6 +124,7 @@ static void check_sanitized(struct bytes name, struct bytes wanted) {
     struct bytes small = block(least - 1, CANARY);
     EXPECT(gix_validate_sanitize(name.start, name.length, small.start, small.length) == 0);
     EXPECT(gix_validate_sanitize_in_place(small.start, small.length, name.length) == 0);
+    EXPECT(gix_validate_sanitize_in_place(small.start, small.length, SIZE_MAX) == 0);
     EXPECT(all_are(small.start, small.length, CANARY));
     free(small.start);
 }
@@ -293,7 +296,7 @@ static void check_helpers(void) {
     EXPECT(gix_validate_component_text((const uint8_t *)"a.", 2, GIX_VALIDATE_PROTECT_ALL, NULL, 0) ==
            GIX_VALIDATE_TEXT_MAX);
     EXPECT(gix_validate_fault_name(GIX_VALIDATE_RELATIVE + 1) == NULL);
-    EXPECT(gix_validate_version() / 1000000 == 2);
+    EXPECT(gix_validate_version() == 2000000);
 }
 
 int main(int count, char **arguments) {

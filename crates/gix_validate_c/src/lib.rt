@@ -20,7 +20,3 @@ pub mod sanitize;
 mod text;
 pub mod texts;
 pub mod version;
-
-/// Each export, on rows written out by hand.
-#[cfg(test)]
-mod tests;

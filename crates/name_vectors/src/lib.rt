@@ -1,7 +1,8 @@
-//! The tests of `gix_validate` and of `typed_names`, and laws about the rules. A crate that has tests
-//! is proved a second time with them, so these two have none. The crate holds four things:
+//! The tests of `gix_validate`, `typed_names` and `uses`, and laws about the rules. A crate that has
+//! tests is proved a second time with them, so these three have none. The crate holds four things:
 //!
-//! - Worked names, whose answers are written out.
+//! - Names and texts whose answers are written out, for calls that take memory, for the typed names
+//!   and for their callers.
 //! - The rules of docs/RULES.md, written a second time. The first writing is the definitions in
 //!   `crates/gix_validate/specs`, against which the library is proved. The second is code, and goes
 //!   another way: it searches where the library walks, and lists all names where the library
@@ -15,6 +16,9 @@
 //! that carry them do nothing: the contract of each is the law.
 #![tactic(auto)]
 
+/// The callers of `uses`.
+#[cfg(test)]
+mod callers;
 #[cfg(test)]
 mod component;
 #[cfg(test)]
@@ -39,7 +43,7 @@ mod typed;
 mod units;
 pub mod versions;
 
-/// Worked names, whose answers are written out.
+/// Names whose answers are written out, for the calls that take memory or copy a value.
 #[cfg(test)]
 mod worked;
 

@@ -5,7 +5,7 @@ mod printed;
 mod single;
 mod tables;
 
-use crate::component::Setting;
+use crate::component::{Readings, Setting};
 use crate::fault::Fault;
 use crate::{component, forms, reference, sanitized, submodule, tag, units};
 use bstr::BStr;
@@ -13,45 +13,38 @@ use gix_validate::path::{ComponentMode, ComponentOptions};
 use std::alloc::{AllocError, Global};
 use std::process::Abort;
 
-/// Asks every call about the text, and compares each answer with the rule's.
+/// Asks every call about the text, and stops where an answer is not the rule's. (All else answers
+/// by a value: the proof of an assertion is dear.)
 fn ask(rt: &impl Abort, alloc: Global, text: &[u8]) -> Result<(), AllocError> {
-    ask_rules(rt, text);
-    ask_names(rt, text);
-    ask_reference_names(rt, text);
-    ask_components(rt, alloc, text)?;
-    ask_repairs(rt, alloc, text)
-}
-
-/// What the rules say both as a grammar and as faults agrees; and no place has two faults.
-fn ask_rules(rt: &impl Abort, text: &[u8]) {
-    check_agreement(rt, text, tag::is_name(text), tag::fault(text));
-    check_agreement(
-        rt,
-        text,
-        reference::is_partial(text),
-        reference::partial_fault(text),
-    );
-    check_agreement(
-        rt,
-        text,
-        reference::is_full(text),
-        reference::full_fault(text),
-    );
-    check_agreement(
-        rt,
-        text,
-        reference::is_branch(text),
-        reference::branch_fault(text),
-    );
-    for place in 0..text.len() {
-        let count = count_of_faults(text, place);
-        assert!(rt; count < 2, "{count} faults at {place} in {text:?}");
+    match differing(alloc, text)? {
+        None => Ok(()),
+        Some(what) => panic!(rt; "{what} differs for {text:?}"),
     }
 }
 
-/// A grammar accepts the text exactly where it has no fault.
-fn check_agreement(rt: &impl Abort, text: &[u8], accepts: bool, fault: Option<Fault<'_>>) {
-    assert!(rt; accepts == fault.is_none(), "{text:?} has {fault:?}");
+/// What differs from the rule, if anything does.
+fn differing(alloc: Global, text: &[u8]) -> Result<Option<&'static str>, AllocError> {
+    let readings = component::read(alloc, text)?;
+    let agrees = [
+        ("a rule as a grammar", rules_agree(text)),
+        ("the tag name", tag_agrees(text)),
+        ("the submodule name", submodule_agrees(text)),
+        ("a reference name", references_agree(text)),
+        ("a component", components_agree(text, &readings)),
+        ("the device", device_agrees(text)),
+        ("a form", forms_agree(alloc, text, &readings.on_hfs)?),
+        ("a repair", repairs_agree(alloc, text)?),
+    ];
+    Ok(agrees.iter().find(|line| !line.1).map(|line| line.0))
+}
+
+/// What the rules say both as a grammar and as faults agrees; and no place has two faults.
+fn rules_agree(text: &[u8]) -> bool {
+    tag::is_name(text) == tag::fault(text).is_none()
+        && reference::is_partial(text) == reference::partial_fault(text).is_none()
+        && reference::is_full(text) == reference::full_fault(text).is_none()
+        && reference::is_branch(text) == reference::branch_fault(text).is_none()
+        && (0..text.len()).all(|place| count_of_faults(text, place) < 2)
 }
 
 /// How many faults the place has as one of a tag name.
@@ -62,62 +55,60 @@ fn count_of_faults(text: &[u8], place: usize) -> usize {
         .count()
 }
 
-/// The units are the text, cut; and without the ignored characters they are what HFS+ reads.
-fn ask_forms(rt: &impl Abort, alloc: Global, text: &[u8], on_hfs: &[u8]) -> Result<(), AllocError> {
-    let units = units::units(alloc, text)?;
-    assert_eq!(rt;
-        behind(text, &units),
-        Some(b"".as_slice()),
-        "the units of {text:?}"
-    );
-    let kept = forms::kept_units(alloc, &units)?;
-    assert_eq!(rt; on_hfs, kept.as_slice(), "the form of {text:?}");
-    Ok(())
+/// The rule has no fault, and the text itself was given back.
+fn is_same(text: &[u8], given: BStr<'_>, fault: Option<Fault<'_>>) -> bool {
+    fault.is_none() && given.as_bytes() == text
 }
 
-/// What follows the units in the text, if it begins with them.
-fn behind<'a>(text: &'a [u8], units: &[&[u8]]) -> Option<&'a [u8]> {
-    let mut rest = text;
-    for unit in units {
-        rest = rest.strip_prefix(*unit)?;
+/// The answer for tag names.
+fn tag_agrees(text: &[u8]) -> bool {
+    let fault = tag::fault(text);
+    match gix_validate::tag::name(BStr::new(text)) {
+        Ok(given) => is_same(text, given, fault),
+        Err(told) => fault == Some(Fault::from(&told)),
     }
-    Some(rest)
 }
 
-/// Asks for tag names and names of submodules.
-fn ask_names(rt: &impl Abort, text: &[u8]) {
-    let answer = gix_validate::tag::name(BStr::new(text));
-    let told = answer.as_ref().map_err(|fault| Fault::from(fault));
-    compare(rt, text, told, tag::fault(text), "tag");
-    let answer = gix_validate::submodule::name(BStr::new(text));
-    let told = answer.as_ref().map_err(|fault| Fault::from(fault));
-    compare(rt, text, told, submodule::fault(text), "submodule");
+/// The answer for names of submodules.
+fn submodule_agrees(text: &[u8]) -> bool {
+    let fault = submodule::fault(text);
+    match gix_validate::submodule::name(BStr::new(text)) {
+        Ok(given) => is_same(text, given, fault),
+        Err(told) => fault == Some(Fault::from(&told)),
+    }
 }
 
-/// Asks for the three kinds of reference names.
-fn ask_reference_names(rt: &impl Abort, text: &[u8]) {
-    let answer = gix_validate::reference::name_partial(BStr::new(text));
-    let told = answer.as_ref().map_err(|fault| Fault::from(fault));
-    compare(rt, text, told, reference::partial_fault(text), "partial");
-    let answer = gix_validate::reference::name(BStr::new(text));
-    let told = answer.as_ref().map_err(|fault| Fault::from(fault));
-    compare(rt, text, told, reference::full_fault(text), "full");
-    let answer = gix_validate::reference::branch_name(BStr::new(text));
-    let told = answer.as_ref().map_err(|fault| Fault::from(fault));
-    compare(rt, text, told, reference::branch_fault(text), "branch");
+/// The answers for the three kinds of reference names.
+fn references_agree(text: &[u8]) -> bool {
+    use gix_validate::reference::{branch_name, name, name_partial};
+
+    let path = BStr::new(text);
+    reference_agrees(text, name_partial(path), reference::partial_fault(text))
+        && reference_agrees(text, name(path), reference::full_fault(text))
+        && reference_agrees(text, branch_name(path), reference::branch_fault(text))
 }
 
-/// Under all settings of the switches, without the mode and with it.
-fn ask_components(rt: &impl Abort, alloc: Global, text: &[u8]) -> Result<(), AllocError> {
-    let readings = component::read(alloc, text)?;
-    ask_forms(rt, alloc, text, &readings.on_hfs)?;
+/// The answer for one kind of reference names.
+fn reference_agrees(
+    text: &[u8],
+    answer: Result<BStr<'_>, gix_validate::reference::NameError>,
+    fault: Option<Fault<'_>>,
+) -> bool {
+    match answer {
+        Ok(given) => is_same(text, given, fault),
+        Err(told) => fault == Some(Fault::from(&told)),
+    }
+}
+
+/// The answers for components, under all settings of the switches, without the mode and with it.
+fn components_agree(text: &[u8], readings: &Readings<'_>) -> bool {
     for bits in 0..16 {
         let setting = setting_of(bits);
-        ask_component(rt, text, setting, component::fault(&readings, setting));
+        if !component_agrees(text, setting, component::fault(readings, setting)) {
+            return false;
+        }
     }
-    let is_device = gix_validate::path::component_is_windows_device(BStr::new(text));
-    assert_eq!(rt; is_device, forms::is_device(text), "is {text:?} a device?");
-    Ok(())
+    true
 }
 
 /// The setting that the last four bits say.
@@ -130,8 +121,8 @@ fn setting_of(bits: u8) -> Setting {
     }
 }
 
-/// Asks for components under one setting.
-fn ask_component(rt: &impl Abort, text: &[u8], setting: Setting, want: Option<Fault<'_>>) {
+/// The answer for components under one setting.
+fn component_agrees(text: &[u8], setting: Setting, fault: Option<Fault<'_>>) -> bool {
     let mode = if setting.symlink {
         Some(ComponentMode::Symlink)
     } else {
@@ -142,38 +133,57 @@ fn ask_component(rt: &impl Abort, text: &[u8], setting: Setting, want: Option<Fa
         protect_hfs: setting.hfs,
         protect_ntfs: setting.ntfs,
     };
-    let answer = gix_validate::path::component(BStr::new(text), mode, options);
-    let told = answer.as_ref().map_err(|fault| Fault::from(fault));
-    compare(rt, text, told, want, "component");
+    match gix_validate::path::component(BStr::new(text), mode, options) {
+        Ok(given) => is_same(text, given, fault),
+        Err(told) => fault == Some(Fault::from(&told)),
+    }
+}
+
+/// The answer for devices.
+fn device_agrees(text: &[u8]) -> bool {
+    gix_validate::path::component_is_windows_device(BStr::new(text)) == forms::is_device(text)
+}
+
+/// The units are the text, cut; and without the ignored characters they are what HFS+ reads.
+fn forms_agree(alloc: Global, text: &[u8], on_hfs: &[u8]) -> Result<bool, AllocError> {
+    let units = units::units(alloc, text)?;
+    let kept = forms::kept_units(alloc, &units)?;
+    Ok(behind(text, &units).is_some_and(|rest| rest.is_empty()) && kept.as_slice() == on_hfs)
+}
+
+/// What follows the units in the text, if it begins with them.
+fn behind<'a>(text: &'a [u8], units: &[&[u8]]) -> Option<&'a [u8]> {
+    let mut rest = text;
+    for unit in units {
+        rest = rest.strip_prefix(*unit)?;
+    }
+    Some(rest)
 }
 
 /// Both sanitisers. Behind the text in the buffer stand no bytes, one, and some.
-fn ask_repairs(rt: &impl Abort, alloc: Global, text: &[u8]) -> Result<(), AllocError> {
+fn repairs_agree(alloc: Global, text: &[u8]) -> Result<bool, AllocError> {
     let want = sanitized::sanitized(alloc, text)?;
     let name = gix_validate::reference::name_partial_or_sanitize(alloc, BStr::new(text))?;
-    assert_eq!(rt; name.as_bytes(), want.as_slice(), "from {text:?}");
-    for behind in [b"".as_slice(), b"?", b"/.lock"] {
-        ask_repair(rt, alloc, text, behind, &want)?;
-    }
-    Ok(())
+    Ok(
+        name.as_bytes() == want.as_slice()
+            && repair_agrees(alloc, text, b"", &want)?
+            && repair_agrees(alloc, text, b"?", &want)?
+            && repair_agrees(alloc, text, b"/.lock", &want)?,
+    )
 }
 
 /// The sanitiser in place, in a buffer that has these bytes behind the text.
-fn ask_repair(
-    rt: &impl Abort,
+fn repair_agrees(
     alloc: Global,
     text: &[u8],
     behind: &[u8],
     want: &[u8],
-) -> Result<(), AllocError> {
+) -> Result<bool, AllocError> {
     let given = joined(alloc, text, behind)?;
     let mut buffer = joined(alloc, text, behind)?;
-    if let Some(len) = sanitize_front(rt, &mut buffer, text.len()) {
-        let end = text.len().max(1);
-        assert_eq!(rt; buffer.get(..len), Some(want), "from {text:?}");
-        assert_eq!(rt; buffer.get(end..), given.get(end..), "behind {text:?}");
-    }
-    Ok(())
+    let len = sanitize_front(&mut buffer, text.len());
+    let end = text.len().max(1);
+    Ok(given.is_empty() || buffer.get(..len) == Some(want) && buffer.get(end..) == given.get(end..))
 }
 
 /// The two texts, one behind the other.
@@ -184,26 +194,9 @@ fn joined(alloc: Global, front: &[u8], back: &[u8]) -> Result<Vec<u8>, AllocErro
 }
 
 /// Sanitises the front of the buffer, and says how long it is then. An empty buffer has none.
-fn sanitize_front(rt: &impl Abort, buffer: &mut [u8], len: usize) -> Option<usize> {
-    assert!(rt; len <= buffer.len());
-    if buffer.is_empty() {
-        None
-    } else {
-        Some(gix_validate::reference::sanitize_in_place(buffer, len))
+fn sanitize_front(buffer: &mut [u8], len: usize) -> usize {
+    if buffer.is_empty() || len > buffer.len() {
+        return 0;
     }
-}
-
-/// What a call answered is what the rule says: the same text, or the same fault.
-fn compare(
-    rt: &impl Abort,
-    text: &[u8],
-    told: Result<&BStr<'_>, Fault<'_>>,
-    want: Option<Fault<'_>>,
-    call: &str,
-) {
-    if let Ok(given) = told {
-        assert_eq!(rt; given.as_bytes(), text, "{call} gives back another text");
-    }
-    let fault = told.err();
-    assert!(rt; fault == want, "{call} tells {fault:?} of {text:?}");
+    gix_validate::reference::sanitize_in_place(buffer, len)
 }

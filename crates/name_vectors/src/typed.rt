@@ -14,20 +14,19 @@ use gix_validate::path::{ComponentError, ComponentMode, ComponentOptions};
 use gix_validate::{reference, tag};
 use std::alloc::{AllocError, Global};
 use std::fmt::Display;
-use std::process::Abort;
 use std::test::Fail;
 use typed_names::{BranchName, Component, FullName, PartialName, Pieces, SubmoduleName, TagName};
 
-/// The name is refused, and the fault prints the text.
-fn check_fault(
-    rt: &impl Abort,
+/// Whether there is a fault, and it prints the text.
+fn prints(
     alloc: Global,
     fault: Option<impl Display + Drop>,
     text: &str,
-) -> Result<(), AllocError> {
-    let printed = fault.expect(rt, "a fault").to_string(alloc)?;
-    assert_eq!(rt; printed.as_str(), text);
-    Ok(())
+) -> Result<bool, AllocError> {
+    match fault {
+        Some(fault) => Ok(fault.to_string(alloc)?.as_str() == text),
+        None => Ok(false),
+    }
 }
 
 /// A tag name, by what `From` says of it.
@@ -124,48 +123,44 @@ fn listed<'a>(alloc: Global, name: TagName<'a>) -> Result<Vec<BStr<'a>>, AllocEr
     name.pieces().collect(alloc)
 }
 
-/// The name has the wanted pieces, and no more.
-fn check_pieces(rt: &impl Abort, name: &str, wanted: &[&str]) -> Result<(), Fail> {
+/// Whether the name has these pieces and no more, and clones of `Pieces` give the same.
+fn has_pieces(name: &str, wanted: &[&str]) -> Result<bool, tag::NameError> {
     let mut pieces = TagName::new(BStr::from(name))?.pieces();
     for piece in wanted {
-        check_next(rt, &mut pieces, BStr::from(*piece));
+        let wanted = Some(BStr::from(*piece));
+        if pieces_twin(&pieces).next() != wanted || next_of(&mut pieces) != wanted {
+            return Ok(false);
+        }
     }
-    assert!(rt; next_of(&mut pieces).is_none(), "in {name}");
-    assert!(rt; next_of(&mut pieces).is_none(), "in {name}");
-    Ok(())
+    Ok(next_of(&mut pieces).is_none() && next_of(&mut pieces).is_none())
 }
 
-/// The wanted piece comes next, from a clone too.
-fn check_next(rt: &impl Abort, pieces: &mut Pieces<'_>, wanted: BStr<'_>) {
-    assert_eq!(rt; pieces_twin(pieces).next(), Some(wanted));
-    assert_eq!(rt; next_of(pieces), Some(wanted));
+/// How many pieces the name has, and the second of them.
+fn second_piece(alloc: Global, name: &str) -> Result<(usize, Option<BStr<'_>>), Fail> {
+    let list = listed(alloc, TagName::new(BStr::from(name))?)?;
+    Ok((list.len(), list.get(1).copied()))
 }
 
 #[test]
 fn gives_pieces(rt: HostRuntime) -> Result<(), Fail> {
-    check_pieces(&rt, "refs/heads/main", &["refs", "heads", "main"])?;
-    check_pieces(&rt, "a./b", &["a.", "b"])?;
-    check_pieces(&rt, "v1.2.3", &["v1.2.3"])?;
-    let list = list_of_pieces(rt.alloc(), "refs/heads/main")?;
-    assert_eq!(rt; list.len(), 3);
-    assert_eq!(rt; list.get(1), Some(&BStr::from("heads")));
+    assert!(rt; has_pieces("refs/heads/main", &["refs", "heads", "main"])?);
+    assert!(rt; has_pieces("a./b", &["a.", "b"])?);
+    assert!(rt; has_pieces("v1.2.3", &["v1.2.3"])?);
+    let second = second_piece(rt.alloc(), "refs/heads/main")?;
+    assert_eq!(rt; second, (3, Some(BStr::from("heads"))));
     Ok(())
 }
 
-/// The pieces of the name.
-fn list_of_pieces(alloc: Global, name: &str) -> Result<Vec<BStr<'_>>, Fail> {
-    Ok(listed(alloc, TagName::new(BStr::from(name))?)?)
-}
-
-/// The texts are what follows the slashes of the name, one after the other.
-fn check_rests(rt: &impl Abort, name: &str, wanted: &[&str]) -> Result<(), Fail> {
+/// Whether these texts follow the slashes of the name, one after the other.
+fn has_rests(name: &str, wanted: &[&str]) -> Result<bool, tag::NameError> {
     let mut rest = TagName::new(BStr::from(name))?.after_first_slash();
     for text in wanted {
-        assert_eq!(rt; text_of(rest), Some(BStr::from(*text)), "in {name}");
+        if text_of(rest) != Some(BStr::from(*text)) {
+            return Ok(false);
+        }
         rest = rest_of(rest);
     }
-    assert!(rt; rest.is_none(), "in {name}");
-    Ok(())
+    Ok(rest.is_none())
 }
 
 /// The text of the name, if there is one.
@@ -180,9 +175,10 @@ fn rest_of(name: Option<TagName<'_>>) -> Option<TagName<'_>> {
 
 #[test]
 fn goes_past_slashes(rt: HostRuntime) -> Result<(), Fail> {
-    check_rests(&rt, "refs/heads/main", &["heads/main", "main"])?;
-    check_rests(&rt, "a./b", &["b"])?;
-    check_rests(&rt, "main", &[])
+    assert!(rt; has_rests("refs/heads/main", &["heads/main", "main"])?);
+    assert!(rt; has_rests("a./b", &["b"])?);
+    assert!(rt; has_rests("main", &[])?);
+    Ok(())
 }
 
 /// A type of names, of those that are made of a text alone.
@@ -226,58 +222,49 @@ fn refused_names() -> &'static [(Kind, &'static str, &'static str)] {
     ]
 }
 
-/// The name is refused by the type, and the fault prints the text.
-fn check_refused(
-    rt: &impl Abort,
-    alloc: Global,
-    kind: Kind,
-    name: BStr<'_>,
-    text: &str,
-) -> Result<(), AllocError> {
+/// Whether the name is refused by the type, and the fault prints the text.
+fn is_refused(alloc: Global, kind: Kind, name: BStr<'_>, text: &str) -> Result<bool, AllocError> {
     match kind {
-        Kind::Tag => check_fault(rt, alloc, TagName::new(name).err(), text),
-        Kind::Partial => check_fault(rt, alloc, PartialName::new(name).err(), text),
-        Kind::Full => check_fault(rt, alloc, FullName::new(name).err(), text),
-        Kind::Branch => check_fault(rt, alloc, BranchName::new(name).err(), text),
-        Kind::Submodule => check_fault(rt, alloc, SubmoduleName::new(name).err(), text),
+        Kind::Tag => prints(alloc, TagName::new(name).err(), text),
+        Kind::Partial => prints(alloc, PartialName::new(name).err(), text),
+        Kind::Full => prints(alloc, FullName::new(name).err(), text),
+        Kind::Branch => prints(alloc, BranchName::new(name).err(), text),
+        Kind::Submodule => prints(alloc, SubmoduleName::new(name).err(), text),
     }
 }
 
 #[test]
 fn tells_faults(rt: HostRuntime) -> Result<(), Fail> {
     for (kind, name, text) in refused_names() {
-        check_refused(&rt, rt.alloc(), *kind, BStr::from(*name), text)?;
+        assert!(rt;
+            is_refused(rt.alloc(), *kind, BStr::from(*name), text)?,
+            "{name}"
+        );
     }
-    let submodule = submodule_twin(SubmoduleName::new(BStr::from("vendor/package"))?);
-    assert_eq!(rt; submodule.as_bstr(), BStr::from("vendor/package"));
     Ok(())
+}
+
+/// Whether the name of a branch stays the same text as a full name, a partial name and a tag name.
+fn keeps_its_text(text: &str) -> Result<bool, reference::NameError> {
+    let text = BStr::from(text);
+    let branch = branch_twin(BranchName::new(text)?);
+    let full = full_twin(full_of(branch));
+    let partial = partial_twin(partial_of(full));
+    let tag = tag_twin(tag_of(partial));
+    Ok(
+        branch.as_bstr() == text
+            && full.as_bstr() == text
+            && partial.as_bstr() == text
+            && tag.as_bstr() == text,
+    )
 }
 
 #[test]
-fn turns_full_names_into_others(rt: HostRuntime) -> Result<(), Fail> {
-    check_turned_branch(&rt, "refs/heads/main")?;
-    check_turned_full(&rt, "HEAD")?;
-    Ok(())
-}
-
-/// The name of a branch, as a full name.
-fn check_turned_branch(rt: &impl Abort, text: &str) -> Result<(), reference::NameError> {
-    let text = BStr::from(text);
-    let branch = branch_twin(BranchName::new(text)?);
-    assert_eq!(rt; branch.as_bstr(), text);
-    assert_eq!(rt; full_of(branch).as_bstr(), text);
-    Ok(())
-}
-
-/// A full name, as a partial name and as a tag name.
-fn check_turned_full(rt: &impl Abort, text: &str) -> Result<(), reference::NameError> {
-    let text = BStr::from(text);
-    let full = full_twin(FullName::new(text)?);
-    assert_eq!(rt; full.as_bstr(), text);
-    let partial = partial_twin(partial_of(full));
-    assert_eq!(rt; partial.as_bstr(), text);
-    let tag = tag_twin(tag_of(partial));
-    assert_eq!(rt; tag.as_bstr(), text);
+fn turns_names_into_others(rt: HostRuntime) -> Result<(), Fail> {
+    assert!(rt; keeps_its_text("refs/heads/main")?);
+    assert!(rt; keeps_its_text("HEAD")?);
+    let submodule = submodule_twin(SubmoduleName::new(BStr::from("vendor/package"))?);
+    assert!(rt; submodule.as_bstr() == BStr::from("vendor/package"));
     Ok(())
 }
 
@@ -287,39 +274,35 @@ const WINDOWS_ALONE: ComponentOptions = ComponentOptions {
     protect_ntfs: false,
 };
 
-/// Under all switches and this mode, the component is refused, and the fault prints the text.
-fn check_component(
-    rt: &impl Abort,
+/// Whether the component is refused under all switches and this mode, and the fault prints the text.
+fn is_refused_as_component(
     alloc: Global,
     name: &str,
     mode: Option<ComponentMode>,
     text: &str,
-) -> Result<(), AllocError> {
+) -> Result<bool, AllocError> {
     let answer = Component::new(BStr::from(name), mode, ComponentOptions::default());
-    check_fault(rt, alloc, answer.err(), text)
+    prints(alloc, answer.err(), text)
 }
 
-/// Under these options and without a mode, the component is kept.
-fn check_kept(
-    rt: &impl Abort,
-    name: &str,
-    options: ComponentOptions,
-) -> Result<(), ComponentError> {
+/// Whether the component is kept as it is, under these options and without a mode.
+fn is_kept(name: &str, options: ComponentOptions) -> Result<bool, ComponentError> {
     let name = BStr::from(name);
     let component = component_twin(Component::new(name, None, options)?);
-    assert_eq!(rt; component.as_bstr(), name);
-    Ok(())
+    Ok(component.as_bstr() == name)
 }
 
 #[test]
 fn judges_components_by_what_it_is_handed(rt: HostRuntime) -> Result<(), Fail> {
-    let alloc = rt.alloc();
     let text = "Windows device-names may have side-effects and are not allowed";
-    check_component(&rt, alloc, "CON", None, text)?;
-    check_kept(&rt, "CON", WINDOWS_ALONE)?;
-    let text = "The .gitmodules file must not be a symlink";
-    check_component(&rt, alloc, "~1234567", Some(ComponentMode::Symlink), text)?;
-    check_kept(&rt, "~1234567", ComponentOptions::default())?;
+    assert!(rt; is_refused_as_component(rt.alloc(), "CON", None, text)?);
+    assert!(rt; is_kept("CON", WINDOWS_ALONE)?);
+    let (mode, text) = (
+        Some(ComponentMode::Symlink),
+        "The .gitmodules file must not be a symlink",
+    );
+    assert!(rt; is_refused_as_component(rt.alloc(), "~1234567", mode, text)?);
+    assert!(rt; is_kept("~1234567", ComponentOptions::default())?);
     Ok(())
 }
 
@@ -329,20 +312,21 @@ fn parts_of(text: &str) -> Result<(Pieces<'_>, Option<TagName<'_>>), tag::NameEr
     Ok((name.pieces(), name.after_first_slash()))
 }
 
+/// Whether the pieces that are left are the wanted ones.
+fn are_left(mut pieces: Pieces<'_>, wanted: &[&str]) -> bool {
+    for piece in wanted {
+        if pieces.next() != Some(BStr::from(*piece)) {
+            return false;
+        }
+    }
+    pieces.next().is_none()
+}
+
 #[test]
 fn parts_outlive_the_name_that_gave_them(rt: HostRuntime) -> Result<(), Fail> {
     let text = String::from_str(rt.alloc(), "refs/heads/main")?;
     let (pieces, rest) = parts_of(text.as_str())?;
-    check_left(&rt, pieces, &["refs", "heads", "main"]);
-    let rest = rest.expect(&rt, "a slash");
-    assert_eq!(rt; rest.as_bstr(), BStr::from("heads/main"));
+    assert!(rt; are_left(pieces, &["refs", "heads", "main"]));
+    assert!(rt; rest.is_some_and(|rest| rest.as_bstr() == BStr::from("heads/main")));
     Ok(())
-}
-
-/// The pieces that are left are the wanted ones.
-fn check_left(rt: &impl Abort, mut pieces: Pieces<'_>, wanted: &[&str]) {
-    for piece in wanted {
-        assert_eq!(rt; pieces.next(), Some(BStr::from(*piece)));
-    }
-    assert_eq!(rt; pieces.next(), None);
 }

@@ -1,8 +1,6 @@
-//! Worked names, whose answers are written out.
+//! Names whose answers are written out, for the calls that take memory or copy a value. (Those of
+//! the other calls are proved: see the rows of `gix_validate`.)
 
-mod components;
 mod joined;
-mod references;
+mod options;
 mod sanitized;
-mod submodules;
-mod tags;

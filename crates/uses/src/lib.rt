@@ -17,5 +17,3 @@ pub mod literals;
 pub mod ref_store;
 pub mod repair;
 pub mod settings;
-#[cfg(test)]
-mod tests;

@@ -62,6 +62,14 @@ main_is_no_fault_of_partial : partial_fault_of (codes "main") ≡ None
 unfolding partial_fault_of fault_of faults_at faults_between at_first_place is_bad
 main_is_no_fault_of_partial = refl
 
+hyphen_inside : partial_fault_of (codes "some-name") ≡ None
+unfolding partial_fault_of fault_of faults_at faults_between at_first_place is_bad
+hyphen_inside = refl
+
+folder_alone : partial_fault_of (codes "refs/heads/") ≡ Some EndsWithSlash
+unfolding partial_fault_of fault_of faults_at faults_between at_first_place is_bad
+folder_alone = refl
+
 slash_first : partial_fault_of (codes "/a") ≡ Some StartsWithSlash
 unfolding partial_fault_of fault_of faults_at faults_between at_first_place is_bad
 slash_first = refl

@@ -1,22 +1,53 @@
 //! What each error prints, against the texts written out (docs/RULES.md, "Printed texts").
 
+ghost use Rattle.std.specs.Prelude.{◌≡◌, IfOk, string_bytes};
+ghost use Rattle.gix_validate.specs.Component.{text_of as component_text_of};
+ghost use Rattle.gix_validate.specs.Reference.{carried, text_of as reference_text_of};
+ghost use Rattle.gix_validate.specs.Submodule.{text_of as submodule_text_of};
+ghost use Rattle.gix_validate.specs.Tag.{text_of as tag_text_of};
+
 use arrayvec::ArrayVec;
 use gix_validate::path::ComponentError;
 use gix_validate::{reference, submodule, tag};
 use std::alloc::{AllocError, Global};
-use std::fmt::Display;
-use std::process::Abort;
 use std::test::Fail;
 
-/// The fault prints the text.
-fn check_printed(
-    rt: &impl Abort,
-    alloc: Global,
-    fault: &impl Display,
-    want: &str,
-) -> Result<(), AllocError> {
-    assert_eq!(rt; fault.to_string(alloc)?.as_str(), want);
-    Ok(())
+// Callers that rest on what the types say that they print.
+
+/// What a fault of a tag name prints.
+fn tag_text(alloc: Global, fault: &tag::NameError) -> Result<String, AllocError>
+    ensures { IfOk result (λ text. string_bytes text ≡ tag_text_of fault.now) }
+{
+    format!(in alloc; "{fault}")
+}
+
+/// What a fault of a reference name prints.
+fn reference_text(alloc: Global, fault: &reference::NameError) -> Result<String, AllocError>
+    ensures { IfOk result (λ text. string_bytes text ≡ reference_text_of fault.now) }
+{
+    format!(in alloc; "{fault}")
+}
+
+/// What a fault of a submodule name prints.
+fn submodule_text(alloc: Global, fault: &submodule::NameError) -> Result<String, AllocError>
+    ensures { IfOk result (λ text. string_bytes text ≡ submodule_text_of fault.now) }
+{
+    format!(in alloc; "{fault}")
+}
+
+/// What a fault of a component prints.
+fn component_text(alloc: Global, fault: &ComponentError) -> Result<String, AllocError>
+    ensures { IfOk result (λ text. string_bytes text ≡ component_text_of fault.now) }
+{
+    format!(in alloc; "{fault}")
+}
+
+/// The fault of a reference name that carries a fault of a tag name, by what the conversion
+/// promises.
+fn converted(fault: tag::NameError) -> reference::NameError
+    ensures { result ≡ carried fault }
+{
+    reference::NameError::from(fault)
 }
 
 /// Faults of tag names, and their texts.
@@ -52,7 +83,7 @@ fn faults_of_tag_names() -> &'static [(tag::NameError, &'static str)] {
 #[test]
 fn prints_faults_of_tag_names(rt: HostRuntime) -> Result<(), Fail> {
     for (fault, want) in faults_of_tag_names() {
-        check_printed(&rt, rt.alloc(), fault, want)?;
+        assert_eq!(rt; tag_text(rt.alloc(), fault)?.as_str(), *want);
     }
     Ok(())
 }
@@ -85,7 +116,7 @@ fn faults_of_reference_names() -> [(reference::NameError, &'static str); 11] {
 #[test]
 fn prints_faults_of_reference_names(rt: HostRuntime) -> Result<(), Fail> {
     for (fault, want) in faults_of_reference_names() {
-        check_printed(&rt, rt.alloc(), &fault, want)?;
+        assert_eq!(rt; reference_text(rt.alloc(), &fault)?.as_str(), want);
     }
     Ok(())
 }
@@ -103,7 +134,7 @@ fn faults_of_submodule_names() -> &'static [(submodule::NameError, &'static str)
 #[test]
 fn prints_faults_of_submodule_names(rt: HostRuntime) -> Result<(), Fail> {
     for (fault, want) in faults_of_submodule_names() {
-        check_printed(&rt, rt.alloc(), fault, want)?;
+        assert_eq!(rt; submodule_text(rt.alloc(), fault)?.as_str(), *want);
     }
     Ok(())
 }
@@ -139,35 +170,27 @@ fn faults_of_components() -> &'static [(ComponentError, &'static str)] {
 #[test]
 fn prints_faults_of_components(rt: HostRuntime) -> Result<(), Fail> {
     for (fault, want) in faults_of_components() {
-        check_printed(&rt, rt.alloc(), fault, want)?;
+        assert_eq!(rt; component_text(rt.alloc(), fault)?.as_str(), *want);
     }
     Ok(())
 }
 
-/// The fault prints the text, and behind it the bytes in their quoted form.
-fn check_quoted(
-    rt: &impl Abort,
-    alloc: Global,
-    fault: &impl Display,
-    text: &str,
-    bytes: &[u8],
-) -> Result<(), AllocError> {
-    let want = followed_by_quoted(alloc, text, bytes)?;
-    assert_eq!(rt; fault.to_string(alloc)?.as_bytes(), want.as_slice());
-    Ok(())
+/// Whether both types print the byte in its quoted form.
+fn is_quoted(alloc: Global, byte: u8) -> Result<bool, AllocError> {
+    let fault = tag::NameError::InvalidByte { byte };
+    let text = "A ref must not contain invalid bytes or ascii control characters: ";
+    let want = followed_by_quoted(alloc, text, &[byte])?;
+    let on_tags = tag_text(alloc, &fault)?.as_bytes() == want.as_slice();
+    let text = "Reference name contains invalid byte: ";
+    let want = followed_by_quoted(alloc, text, &[byte])?;
+    Ok(on_tags && reference_text(alloc, &converted(fault))?.as_bytes() == want.as_slice())
 }
 
 #[test]
 fn prints_each_byte(rt: HostRuntime) -> Result<(), Fail> {
-    let alloc = rt.alloc();
     let mut asked: u32 = 0;
     for byte in 0..=u8::MAX {
-        let fault = tag::NameError::InvalidByte { byte };
-        let text = "A ref must not contain invalid bytes or ascii control characters: ";
-        check_quoted(&rt, alloc, &fault, text, &[byte])?;
-        let fault = reference::NameError::InvalidByte { byte };
-        let text = "Reference name contains invalid byte: ";
-        check_quoted(&rt, alloc, &fault, text, &[byte])?;
+        assert!(rt; is_quoted(rt.alloc(), byte)?, "{byte}");
         asked = asked.saturating_add(1);
     }
     assert_eq!(rt; asked, 256);
@@ -186,16 +209,22 @@ fn names() -> &'static [&'static [u8]] {
     ]
 }
 
+/// What is printed of the reserved name, where it has at most fifteen bytes.
+fn reserved_text(alloc: Global, bytes: &[u8]) -> Result<String, AllocError> {
+    let mut name = ArrayVec::new();
+    for byte in bytes {
+        let _ = name.try_push(*byte);
+    }
+    reference_text(alloc, &reference::NameError::Reserved { name })
+}
+
 #[test]
 fn prints_reserved_names(rt: HostRuntime) -> Result<(), Fail> {
     for bytes in names() {
-        let mut name = ArrayVec::new();
-        for byte in *bytes {
-            assert!(rt; name.try_push(*byte).is_ok());
-        }
-        let fault = reference::NameError::Reserved { name };
         let text = "Reference name is reserved and cannot be used: ";
-        check_quoted(&rt, rt.alloc(), &fault, text, bytes)?;
+        let want = followed_by_quoted(rt.alloc(), text, bytes)?;
+        let printed = reserved_text(rt.alloc(), bytes)?;
+        assert!(rt; printed.as_bytes() == want.as_slice(), "{bytes:?}");
     }
     Ok(())
 }

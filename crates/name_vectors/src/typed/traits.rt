@@ -1,5 +1,5 @@
 //! What the typed names share: equality, bytes and printed text, by callers that rest on what each
-//! type says of them, and on worked names.
+//! type says of them.
 
 ghost use Rattle.std.specs.Prelude.{◌≡◌, ◌↔◌, IfOk, IsTrue, string_bytes, encode_utf8_all};
 ghost use Rattle.bstr.specs.Utf8.{lossy_chars};
@@ -9,8 +9,6 @@ use bstr::BStr;
 use gix_validate::path::ComponentOptions;
 use std::alloc::{AllocError, Global};
 use std::convert::AsSlice;
-use std::fmt::Display;
-use std::process::Abort;
 use std::test::Fail;
 use typed_names::{BranchName, Component, FullName, PartialName, SubmoduleName, TagName};
 
@@ -153,146 +151,76 @@ const ALL: ComponentOptions = ComponentOptions {
     protect_ntfs: true,
 };
 
-/// Whether the name is equal to each of the others, as a `TagName`.
-fn compared_tag(name: BStr<'_>, again: BStr<'_>, other: BStr<'_>) -> Result<(bool, bool), Fail> {
-    let name = TagName::new(name)?;
-    let same = same_tag(&name, &TagName::new(again)?);
-    Ok((same, same_tag(&name, &TagName::new(other)?)))
+/// Whether a `TagName` is equal to itself, gives the name's bytes and prints this text.
+fn tag_shows(alloc: Global, name: BStr<'_>, text: &str) -> Result<bool, Fail> {
+    let tag = TagName::new(name)?;
+    Ok(
+        same_tag(&tag, &tag)
+            && slice_of_tag(&tag) == name.as_bytes()
+            && printed_tag(alloc, &tag)?.as_str() == text,
+    )
 }
 
-/// Whether the name is equal to each of the others, as a `PartialName`.
-fn compared_partial(
-    name: BStr<'_>,
-    again: BStr<'_>,
-    other: BStr<'_>,
-) -> Result<(bool, bool), Fail> {
-    let name = PartialName::new(name)?;
-    let same = same_partial(&name, &PartialName::new(again)?);
-    Ok((same, same_partial(&name, &PartialName::new(other)?)))
+/// Whether a `PartialName` is equal to itself, gives the name's bytes and prints this text.
+fn partial_shows(alloc: Global, name: BStr<'_>, text: &str) -> Result<bool, Fail> {
+    let partial = PartialName::new(name)?;
+    Ok(
+        same_partial(&partial, &partial)
+            && slice_of_partial(&partial) == name.as_bytes()
+            && printed_partial(alloc, &partial)?.as_str() == text,
+    )
 }
 
-/// Whether the name is equal to each of the others, as a `FullName`.
-fn compared_full(name: BStr<'_>, again: BStr<'_>, other: BStr<'_>) -> Result<(bool, bool), Fail> {
-    let name = FullName::new(name)?;
-    let same = same_full(&name, &FullName::new(again)?);
-    Ok((same, same_full(&name, &FullName::new(other)?)))
+/// Whether a `FullName` is equal to itself, gives the name's bytes and prints this text.
+fn full_shows(alloc: Global, name: BStr<'_>, text: &str) -> Result<bool, Fail> {
+    let full = FullName::new(name)?;
+    Ok(
+        same_full(&full, &full)
+            && slice_of_full(&full) == name.as_bytes()
+            && printed_full(alloc, &full)?.as_str() == text,
+    )
 }
 
-/// Whether the name is equal to each of the others, as a `BranchName`.
-fn compared_branch(name: BStr<'_>, again: BStr<'_>, other: BStr<'_>) -> Result<(bool, bool), Fail> {
-    let name = BranchName::new(name)?;
-    let same = same_branch(&name, &BranchName::new(again)?);
-    Ok((same, same_branch(&name, &BranchName::new(other)?)))
+/// Whether a `BranchName` is equal to itself, gives the name's bytes and prints this text.
+fn branch_shows(alloc: Global, name: BStr<'_>, text: &str) -> Result<bool, Fail> {
+    let branch = BranchName::new(name)?;
+    Ok(
+        same_branch(&branch, &branch)
+            && slice_of_branch(&branch) == name.as_bytes()
+            && printed_branch(alloc, &branch)?.as_str() == text,
+    )
 }
 
-/// Whether the name is equal to each of the others, as a `SubmoduleName`.
-fn compared_submodule(
-    name: BStr<'_>,
-    again: BStr<'_>,
-    other: BStr<'_>,
-) -> Result<(bool, bool), Fail> {
-    let name = SubmoduleName::new(name)?;
-    let same = same_submodule(&name, &SubmoduleName::new(again)?);
-    Ok((same, same_submodule(&name, &SubmoduleName::new(other)?)))
+/// Whether a `SubmoduleName` is equal to itself, gives the name's bytes and prints this text.
+fn submodule_shows(alloc: Global, name: BStr<'_>, text: &str) -> Result<bool, Fail> {
+    let submodule = SubmoduleName::new(name)?;
+    Ok(
+        same_submodule(&submodule, &submodule)
+            && slice_of_submodule(&submodule) == name.as_bytes()
+            && printed_submodule(alloc, &submodule)?.as_str() == text,
+    )
 }
 
-/// Whether the name is equal to each of the others, as a `Component`.
-fn compared_component(
-    name: BStr<'_>,
-    again: BStr<'_>,
-    other: BStr<'_>,
-) -> Result<(bool, bool), Fail> {
-    let name = Component::new(name, None, ALL)?;
-    let same = same_component(&name, &Component::new(again, None, ALL)?);
-    Ok((
-        same,
-        same_component(&name, &Component::new(other, None, ALL)?),
-    ))
-}
-
-/// The name is equal to the first of the others, and not to the second.
-fn check_compared(rt: &impl Abort, answers: Result<(bool, bool), Fail>) -> Result<(), Fail> {
-    let (same, other) = answers?;
-    assert!(rt; same);
-    assert!(rt; !other);
-    Ok(())
+/// Whether a `Component` is equal to itself, gives the name's bytes and prints this text.
+fn component_shows(alloc: Global, name: BStr<'_>, text: &str) -> Result<bool, Fail> {
+    let component = Component::new(name, None, ALL)?;
+    Ok(
+        same_component(&component, &component)
+            && slice_of_component(&component) == name.as_bytes()
+            && printed_component(alloc, &component)?.as_str() == text,
+    )
 }
 
 #[test]
-fn compares_bytes(rt: HostRuntime) -> Result<(), Fail> {
-    let copy = String::from_str(rt.alloc(), "refs/heads/main")?;
-    let (name, again) = (BStr::from("refs/heads/main"), BStr::from(copy.as_str()));
-    let other = BStr::from("refs/heads/Main");
-    check_compared(&rt, compared_tag(name, again, other))?;
-    check_compared(&rt, compared_partial(name, again, other))?;
-    check_compared(&rt, compared_full(name, again, other))?;
-    check_compared(&rt, compared_branch(name, again, other))?;
-    check_compared(&rt, compared_submodule(name, again, other))?;
-    let (name, other) = (BStr::from("main"), BStr::from("Main"));
-    let again = BStr::from(copy.get(11..).unwrap_or(""));
-    check_compared(&rt, compared_component(name, again, other))
-}
-
-/// What the name prints, as a `TagName`.
-fn text_of_tag(alloc: Global, name: BStr<'_>) -> Result<String, Fail> {
-    Ok(printed_tag(alloc, &TagName::new(name)?)?)
-}
-
-/// What the name prints, as a `PartialName`.
-fn text_of_partial(alloc: Global, name: BStr<'_>) -> Result<String, Fail> {
-    Ok(printed_partial(alloc, &PartialName::new(name)?)?)
-}
-
-/// What the name prints, as a `FullName`.
-fn text_of_full(alloc: Global, name: BStr<'_>) -> Result<String, Fail> {
-    Ok(printed_full(alloc, &FullName::new(name)?)?)
-}
-
-/// What the name prints, as a `BranchName`.
-fn text_of_branch(alloc: Global, name: BStr<'_>) -> Result<String, Fail> {
-    Ok(printed_branch(alloc, &BranchName::new(name)?)?)
-}
-
-/// What the name prints, as a `SubmoduleName`.
-fn text_of_submodule(alloc: Global, name: BStr<'_>) -> Result<String, Fail> {
-    Ok(printed_submodule(alloc, &SubmoduleName::new(name)?)?)
-}
-
-/// What the name prints, as a `Component`.
-fn text_of_component(alloc: Global, name: BStr<'_>) -> Result<String, Fail> {
-    Ok(printed_component(alloc, &Component::new(name, None, ALL)?)?)
-}
-
-/// What was printed is the text.
-fn check_printed(rt: &impl Abort, printed: Result<String, Fail>, text: &str) -> Result<(), Fail> {
-    assert_eq!(rt; printed?.as_str(), text);
-    Ok(())
-}
-
-#[test]
-fn prints_names(rt: HostRuntime) -> Result<(), Fail> {
+fn shows_names(rt: HostRuntime) -> Result<(), Fail> {
     let name = BStr::new(b"refs/caf\xC3\xA9/\xFF");
     let text = "refs/café/\u{FFFD}";
-    let alloc = rt.alloc();
-    check_printed(&rt, text_of_tag(alloc, name), text)?;
-    check_printed(&rt, text_of_partial(alloc, name), text)?;
-    check_printed(&rt, text_of_full(alloc, name), text)?;
-    check_printed(&rt, text_of_branch(alloc, name), text)?;
-    check_printed(&rt, text_of_submodule(alloc, name), text)?;
+    assert!(rt; tag_shows(rt.alloc(), name, text)?);
+    assert!(rt; partial_shows(rt.alloc(), name, text)?);
+    assert!(rt; full_shows(rt.alloc(), name, text)?);
+    assert!(rt; branch_shows(rt.alloc(), name, text)?);
+    assert!(rt; submodule_shows(rt.alloc(), name, text)?);
     let name = BStr::new(b"caf\xC3\xA9 \xFF");
-    check_printed(&rt, text_of_component(alloc, name), "café \u{FFFD}")
-}
-
-#[test]
-fn gives_bytes(rt: HostRuntime) -> Result<(), Fail> {
-    let name = BStr::new(b"refs/\xFF");
-    let bytes: &[u8] = b"refs/\xFF";
-    assert_eq!(rt; slice_of_tag(&TagName::new(name)?), bytes);
-    assert_eq!(rt; slice_of_partial(&PartialName::new(name)?), bytes);
-    assert_eq!(rt; slice_of_full(&FullName::new(name)?), bytes);
-    assert_eq!(rt; slice_of_branch(&BranchName::new(name)?), bytes);
-    assert_eq!(rt; slice_of_submodule(&SubmoduleName::new(name)?), bytes);
-    let component = Component::new(BStr::new(b"\xFF"), None, ALL)?;
-    assert_eq!(rt; slice_of_component(&component), b"\xFF".as_slice());
+    assert!(rt; component_shows(rt.alloc(), name, "café \u{FFFD}")?);
     Ok(())
 }

@@ -3,7 +3,6 @@
 use bstr::{BStr, BString};
 use gix_validate::reference::{name_partial_or_sanitize, sanitize_in_place};
 use std::alloc::{AllocError, Global};
-use std::process::Abort;
 use std::test::Fail;
 
 /// The copy, repaired.
@@ -20,21 +19,17 @@ fn repair_front(buffer: &mut [u8], len: usize) -> usize {
     sanitize_in_place(buffer, len)
 }
 
-/// Asks both calls to repair the name. In place it stands before two bytes more, the last of which
-/// has to stay.
-fn check_repair<R: Abort>(
-    rt: &R,
-    alloc: Global,
-    name: &[u8],
-    want: &[u8],
-) -> Result<(), AllocError> {
-    assert_eq!(rt; repaired(alloc, name)?.as_bytes(), want);
-    let mut buffer = Vec::from_slice(alloc, name)?;
+/// Whether both calls repair the name to this one. In place it stands before two bytes more, the
+/// last of which has to stay.
+fn is_repaired_to(alloc: Global, name: &str, want: &str) -> Result<bool, AllocError> {
+    let mut buffer = Vec::from_slice(alloc, name.as_bytes())?;
     buffer.extend_from_slice(b"!!")?;
     let len = repair_front(buffer.as_mut_slice(), name.len());
-    assert_eq!(rt; buffer.get(..len), Some(want));
-    assert_eq!(rt; buffer.last(), Some(&b'!'));
-    Ok(())
+    Ok(
+        repaired(alloc, name.as_bytes())?.as_bytes() == want.as_bytes()
+            && buffer.get(..len) == Some(want.as_bytes())
+            && buffer.ends_with(b"!"),
+    )
 }
 
 /// Names, and what they are repaired to.
@@ -66,7 +61,7 @@ fn names() -> &'static [(&'static str, &'static str)] {
 #[test]
 fn repairs_names(rt: HostRuntime) -> Result<(), Fail> {
     for (name, want) in names() {
-        check_repair(&rt, rt.alloc(), name.as_bytes(), want.as_bytes())?;
+        assert!(rt; is_repaired_to(rt.alloc(), name, want)?, "{name}");
     }
     Ok(())
 }
@@ -99,7 +94,7 @@ fn names_with_several_faults() -> &'static [(&'static str, &'static str)] {
 #[test]
 fn repairs_several_faults_at_once(rt: HostRuntime) -> Result<(), Fail> {
     for (name, want) in names_with_several_faults() {
-        check_repair(&rt, rt.alloc(), name.as_bytes(), want.as_bytes())?;
+        assert!(rt; is_repaired_to(rt.alloc(), name, want)?, "{name}");
     }
     Ok(())
 }
@@ -120,24 +115,21 @@ fn buffers() -> &'static [(&'static str, usize, &'static str, &'static str)] {
     ]
 }
 
-/// Repairs the name that a buffer begins with, and compares what it has afterwards.
-fn check_buffer<R: Abort>(
-    rt: &R,
+/// Whether the name that a buffer begins with is repaired to this one, and what is behind it stays.
+fn is_front_repaired_to(
     alloc: Global,
     row: &(&str, usize, &str, &str),
-) -> Result<(), AllocError> {
+) -> Result<bool, AllocError> {
     let (before, len, front, back) = row;
     let mut buffer = Vec::from_slice(alloc, before.as_bytes())?;
     let new_len = repair_front(buffer.as_mut_slice(), *len);
-    assert_eq!(rt; buffer.get(..new_len), Some(front.as_bytes()));
-    assert!(rt; buffer.ends_with(back.as_bytes()), "after {before}");
-    Ok(())
+    Ok(buffer.get(..new_len) == Some(front.as_bytes()) && buffer.ends_with(back.as_bytes()))
 }
 
 #[test]
 fn repairs_the_front_of_a_buffer(rt: HostRuntime) -> Result<(), Fail> {
     for row in buffers() {
-        check_buffer(&rt, rt.alloc(), row)?;
+        assert!(rt; is_front_repaired_to(rt.alloc(), row)?, "{}", row.0);
     }
     Ok(())
 }

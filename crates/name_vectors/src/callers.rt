@@ -1,11 +1,5 @@
-//! Each caller once, with names and texts that were worked out by hand.
+//! The callers of `uses`, each once, with names and texts that were worked out by hand.
 
-use crate::checkout::Place;
-use crate::first::branch_to_push;
-use crate::literals::{default_branch, release_tag, workflow};
-use crate::ref_store::{ObjectId, RefStore};
-use crate::repair::{repair, repaired};
-use crate::settings::{SettingsError, submodule, submodules};
 use bstr::BStr;
 use gix_validate::path::ComponentOptions;
 use gix_validate::submodule::NameError;
@@ -13,6 +7,12 @@ use std::alloc::{AllocError, Global};
 use std::process::Abort;
 use std::test::Fail;
 use typed_names::{Component, FullName, SubmoduleName};
+use uses::checkout::Place;
+use uses::first::branch_to_push;
+use uses::literals::{default_branch, release_tag, workflow};
+use uses::ref_store::{ObjectId, RefStore};
+use uses::repair::{repair, repaired};
+use uses::settings::{SettingsError, submodule, submodules};
 
 /// Compares a name. (Behind a call, as what is below, so that the proofs of the tests carry neither
 /// texts nor contracts.)

@@ -13,7 +13,7 @@ use crate::output::{set_line, write_whole};
 use bstr::BStr;
 use gix_validate::path;
 use gix_validate::path::{ComponentMode, ComponentOptions};
-use std::alloc::Allocator;
+use std::alloc::Global;
 use std::error::Error;
 use std::fmt;
 use std::io::{BufRead, Write};
@@ -113,8 +113,8 @@ impl Error for RunError {}
 /// The longest header line, the longest entry and the longest line of the report, of `alloc`,
 /// whatever the sizes: each of the first two has at most 65,536 bytes.
 #[tactic(auto, using(crate::proofs::SpelledStreams::reported_in_order))]
-pub fn run<A: Allocator, R: BufRead, W: Write>(
-    alloc: A,
+pub fn run<R: BufRead, W: Write>(
+    alloc: Global,
     options: ComponentOptions,
     input: &mut R,
     output: &mut W,
@@ -128,10 +128,10 @@ pub fn run<A: Allocator, R: BufRead, W: Write>(
         Begins (W.contents output.old) (W.contents output.new) (report options text).lines)) }
     ensures spelled { IsReportedInOrder options }
 {
-    let mut header = Vec::new(&alloc);
+    let mut header = Vec::new(alloc);
     let mut buffers = Buffers {
-        entry: Vec::new(&alloc),
-        line: Vec::new(&alloc),
+        entry: Vec::new(alloc),
+        line: Vec::new(alloc),
     };
     let mut refused = false;
     for before in 0..u64::MAX {
@@ -166,9 +166,9 @@ fn whole_input(refused: bool) -> Verdict
 
 /// Where an entry is read to, and the line of a refused one is built.
 #[derive(Drop)]
-struct Buffers<A: Allocator> {
-    entry: Vec<u8, A>,
-    line: Vec<u8, A>,
+struct Buffers {
+    entry: Vec<u8>,
+    line: Vec<u8>,
 }
 
 /// A tree that is read.
@@ -180,12 +180,12 @@ struct Tree<'a> {
 
 /// Checks what follows a header line, and says whether an entry was refused.
 #[tactic(auto, using(crate::proofs::StreamObjects::body_closed))]
-fn check_object<R: BufRead, W: Write, A: Allocator>(
+fn check_object<R: BufRead, W: Write>(
     options: ComponentOptions,
     line: &[u8],
     input: &mut R,
     output: &mut W,
-    buffers: &mut Buffers<A>,
+    buffers: &mut Buffers,
 ) -> Result<Result<bool, Fault>, RunError>
     ensures { IfSome (R.remaining input.old) (λ text. Gives (object_report options (parsed_header line.now) text)
         (R.remaining input.new) (W.contents output.old) (W.contents output.new) result) }
@@ -203,13 +203,13 @@ fn check_object<R: BufRead, W: Write, A: Allocator>(
 }
 
 /// Checks an object's bytes, so many, and says whether an entry was refused.
-fn check_body<R: BufRead, W: Write, A: Allocator>(
+fn check_body<R: BufRead, W: Write>(
     tree: Tree<'_>,
     is_tree: bool,
     size: u64,
     input: &mut R,
     output: &mut W,
-    buffers: &mut Buffers<A>,
+    buffers: &mut Buffers,
 ) -> Result<Result<bool, Fault>, RunError>
     ensures { IfSome (R.remaining input.old) (λ text.
         Gives (body_report tree.entry.options tree.entry.id.now is_tree size text)
@@ -226,10 +226,10 @@ fn check_body<R: BufRead, W: Write, A: Allocator>(
 }
 
 /// Reads the line end behind an object's bytes, and passes on whether an entry was refused.
-fn close<R: BufRead, A: Allocator>(
+fn close<R: BufRead>(
     refused: bool,
     input: &mut R,
-    read: &mut Vec<u8, A>,
+    read: &mut Vec<u8>,
 ) -> Result<Result<bool, Fault>, RunError>
     ensures { IfSome (R.remaining input.old) (λ text. Closes refused text (R.remaining input.new) result) }
 {
@@ -241,12 +241,12 @@ fn close<R: BufRead, A: Allocator>(
 }
 
 /// Checks a tree of so many bytes, and says whether an entry was refused.
-fn check_tree<R: BufRead, W: Write, A: Allocator>(
+fn check_tree<R: BufRead, W: Write>(
     tree: Tree<'_>,
     size: u64,
     input: &mut R,
     output: &mut W,
-    buffers: &mut Buffers<A>,
+    buffers: &mut Buffers,
 ) -> Result<Result<bool, Fault>, RunError>
     ensures { IfSome (R.remaining input.old) (λ text. Gives (tree_report tree.entry.options tree.entry.id.now size text)
         (R.remaining input.new) (W.contents output.old) (W.contents output.new) result) }
@@ -272,12 +272,12 @@ struct Checked {
 }
 
 /// Checks the first entry of what is left of a tree, so many bytes.
-fn check_entry<R: BufRead, W: Write, A: Allocator>(
+fn check_entry<R: BufRead, W: Write>(
     tree: Tree<'_>,
     left: u64,
     input: &mut R,
     output: &mut W,
-    buffers: &mut Buffers<A>,
+    buffers: &mut Buffers,
 ) -> Result<Result<Checked, Fault>, RunError>
     requires { 0 < left }
     ensures bound { IfOk result (λ checked. IfOk checked (λ entry. (0 < entry.len) × (entry.len ≤ left))) }
@@ -310,12 +310,12 @@ fn check_entry<R: BufRead, W: Write, A: Allocator>(
 }
 
 /// Writes the line of an entry whose name is refused, and says whether it is.
-fn check_name<W: Write, A: Allocator>(
+fn check_name<W: Write>(
     tree: Tree<'_>,
     mode: &[u8],
     kind: Option<ComponentMode>,
     name: &[u8],
-    line: &mut Vec<u8, A>,
+    line: &mut Vec<u8>,
     output: &mut W,
 ) -> Result<bool, RunError>
     ensures { NameGives (line_of tree.entry.options tree.entry.id.now (record { mode = mode.now; kind = kind; name = name.now }))

@@ -6,7 +6,6 @@ ghost use Rattle.check_trees.specs.Steps.{Cuts, Fronts, Part, Skips};
 
 use crate::engine::RunError;
 use memchr::memchr;
-use std::alloc::Allocator;
 use std::io::{BufRead, ErrorKind};
 
 /// Where a read for a byte came to its end.
@@ -22,11 +21,11 @@ pub(crate) enum Found {
 
 /// Reads what stands before the first such byte, and the byte, which is left out. No more than
 /// `limit` bytes are read.
-pub(crate) fn read_before<R: BufRead, A: Allocator>(
+pub(crate) fn read_before<R: BufRead>(
     input: &mut R,
     byte: u8,
     limit: usize,
-    front: &mut Vec<u8, A>,
+    front: &mut Vec<u8>,
 ) -> Result<Found, RunError>
     ensures { IfOk result (Fronts byte limit (R.remaining input.old) (R.remaining input.new) front.new.items) }
 {
@@ -44,11 +43,11 @@ pub(crate) fn read_before<R: BufRead, A: Allocator>(
 }
 
 /// Appends what the reader has at hand of such a front, and says where that is all of it.
-fn append_part<R: BufRead, A: Allocator>(
+fn append_part<R: BufRead>(
     input: &mut R,
     byte: u8,
     limit: usize,
-    front: &mut Vec<u8, A>,
+    front: &mut Vec<u8>,
 ) -> Result<Option<Found>, RunError>
     requires { 0 < limit }
     ensures { IfOk result (λ found. (part : List ℕ) × (front.new.items ≡ front.old.items ++ part)

@@ -8,15 +8,15 @@ ghost use Rattle.check_trees.specs.Steps.{Begins};
 
 use crate::engine::RunError;
 use gix_validate::path::ComponentError;
-use std::alloc::{AllocError, Allocator};
+use std::alloc::AllocError;
 use std::io;
 use std::io::{ErrorKind, Write};
 
 const HEX_DIGITS: &[u8; 16] = b"0123456789abcdef";
 
 /// Puts the line of a refused entry in place of the last one.
-pub(crate) fn set_line<A: Allocator>(
-    line: &mut Vec<u8, A>,
+pub(crate) fn set_line(
+    line: &mut Vec<u8>,
     id: &[u8],
     mode: &[u8],
     name: &[u8],
@@ -37,7 +37,7 @@ pub(crate) fn set_line<A: Allocator>(
 }
 
 /// Appends a name as it is shown between double quotes (docs/RULES.md, "Quoted bytes").
-fn push_quoted<A: Allocator>(line: &mut Vec<u8, A>, name: &[u8]) -> Result<(), AllocError>
+fn push_quoted(line: &mut Vec<u8>, name: &[u8]) -> Result<(), AllocError>
     ensures { OnOk result (line.new.items ≡ line.old.items ++ quoted name.now) }
 {
     line.push(b'"')?;
@@ -49,7 +49,7 @@ fn push_quoted<A: Allocator>(line: &mut Vec<u8, A>, name: &[u8]) -> Result<(), A
 }
 
 /// Appends a byte as it is shown between double quotes.
-fn push_escape<A: Allocator>(line: &mut Vec<u8, A>, byte: u8) -> Result<(), AllocError>
+fn push_escape(line: &mut Vec<u8>, byte: u8) -> Result<(), AllocError>
     ensures { OnOk result (line.new.items ≡ line.old.items ++ escape_of byte) }
 {
     match byte {

@@ -1,8 +1,8 @@
 -- The answer of a line from what it asks for, and the answers of a text from its first line.
-use Rattle.std.proofs.Common.{◌≡◌, ◌≢◌, ◌==◌, ◌||◌, ◌+◌, ℕ, suc, Bool, not, List, [], ◌∷◌, ◌++◌, true, false, inl, inr}
-use Rattle.std.proofs.Common.{Option, Some, None, is_some, Result, Ok, Err, MatchResult, codes, refl, sym, ap, ◌∙◌, append_assoc, append-nil, arith}
+use Rattle.std.proofs.Common.{◌≡◌, ◌≢◌, ◌==◌, ◌||◌, ℕ, Bool, List, [], ◌∷◌, ◌++◌, true, false, inl, inr}
+use Rattle.std.proofs.Common.{Option, Some, None, Result, MatchResult, codes, refl, sym, ap, ◌∙◌, append_assoc, append-nil, arith}
 use Rattle.std.specs.Str.{byte, bytes_eq}
-use Rattle.std.specs.List.{list_any, prefix_len, before_first, after_first}
+use Rattle.std.specs.List.{list_any, before_first, after_first}
 use Rattle.std.proofs.lemmas.Bool.{cases_Bool, cond-false, eqb-true, false≢true, false_from_ne_true}
 use Rattle.std.proofs.lemmas.List.Folds.{list_any-append}
 use Rattle.std.proofs.lemmas.Slice.Eq.{bytes_eq-Decides}

@@ -1,4 +1,4 @@
-pub mod WriteLemmas
-pub mod AnswersRows
 pub mod LineLemmas
 pub mod AnswerLemmas
+pub mod WriteLemmas
+pub mod AnswersRows

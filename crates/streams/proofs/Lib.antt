@@ -1,0 +1,9 @@
+pub mod SplitTexts
+pub mod Numbers
+pub mod ReportSoFar
+pub mod LinesRead
+pub mod WholeStreams
+pub mod ObjectsRead
+pub mod SpelledHeaders
+pub mod SpelledStreams
+pub mod WellFormedStreams

@@ -1,0 +1,17 @@
+use Rattle.std.proofs.Common.{◌≡◌, ◌≢◌, ℕ, ◌+◌, List, ◌++◌, All, Option, length, subst, arith}
+use Rattle.std.proofs.lemmas.Grind.{common_steps}
+use Rattle.std.specs.Io.KnownBytes.{Consumes}
+use Rattle.streams.specs.declared.input.Found.{Found}
+use Rattle.streams.specs.Promises.{Fronts, Part}
+use Rattle.streams.proofs.input.read_before.Goals as goal
+
+-- a part behind what was read before
+Fronts_more : (byte limit room : ℕ) (a b c : Option (List ℕ)) (done part new : List ℕ) (found : Found) → room + length done ≡ limit → new ≡ done ++ part
+    → Consumes a b done → All (λ x. x ≢ byte) done → Fronts byte room b c part found → Fronts byte limit a c new found
+Fronts_more byte limit room a b c done part new found whole is first none front = grind (arith, common_steps)
+
+pub returns-in-Some : goal.returns-in-Some
+returns-in-Some g c =
+    let (part, is, given) = c.in_ok-found.ensures in
+    Fronts_more c.args.byte c.args.limit _ _ _ _ c.loop.front.items part _ c.in-Some.found (grind (arith, common_steps)) is
+    c.loop.invariant.bytes c.loop.invariant.none (subst (Part c.args.byte _ _ _ part) c.in-Some.is given)

@@ -1,0 +1,24 @@
+-- What is printed of an input that is malformed, and of a run that stopped before its end.
+use Rattle.std.specs.Prelude.{ℕ, List, codes}
+use Rattle.streams.specs.declared.outcome.Fault.{Fault}
+use Rattle.streams.specs.declared.outcome.Fault.TheVariants.{Header, TooLong, Ended, Entry, LineEnd, Absent, NoEnd, Line, Empty}
+use Rattle.streams.specs.declared.outcome.RunError.{RunError}
+use Rattle.streams.specs.declared.outcome.RunError.TheVariants.{Read, Memory, Write}
+
+-- what a fault prints
+abbrev pub fault_text_of : Fault → List ℕ
+fault_text_of Header = codes "the header line is not 'OID TYPE SIZE' or 'OID missing'"
+fault_text_of TooLong = codes "a line or an entry is longer than 65536 bytes"
+fault_text_of Ended = codes "the input ends within it"
+fault_text_of Entry = codes "an entry is not 'MODE NAME', NUL and an object id, or runs past its tree"
+fault_text_of LineEnd = codes "no newline follows the object's bytes"
+fault_text_of Absent = codes "the object is missing"
+fault_text_of NoEnd = codes "the input ends without the line '..end missing'"
+fault_text_of Line = codes "the line is not 'OLD NEW REF'"
+fault_text_of Empty = codes "the input is empty"
+
+-- what a stopped run prints
+abbrev pub stop_text_of : RunError → List ℕ
+stop_text_of Read = codes "read failed"
+stop_text_of Memory = codes "out of memory"
+stop_text_of Write = codes "write failed"

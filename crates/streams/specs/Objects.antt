@@ -1,0 +1,49 @@
+-- A stream of objects as `git cat-file --batch` prints them: a header line, as many bytes as it says, and LF.
+use Rattle.std.specs.Prelude.{ℕ, ◌+◌, Bool, true, false, ◌==◌, nat_lt, if◌then◌else◌, List, [], ◌∷◌, length, take, drop}
+use Rattle.std.specs.Prelude.{Option, Some, None, Result, Ok, Err}
+use Rattle.streams.specs.declared.outcome.Fault.{Fault}
+use Rattle.streams.specs.declared.outcome.Fault.TheVariants.{Header, Ended, LineEnd, Absent}
+use Rattle.streams.specs.declared.lines.Ending.{Ending}
+use Rattle.streams.specs.declared.lines.Ending.TheVariants.{Anywhere, EndLine}
+use Rattle.streams.specs.Texts.{line_end}
+use Rattle.streams.specs.Headers.{ParsedObject, ParsedHeader, Missing, Object, parsed_header}
+use Rattle.streams.specs.Reports.{Said, nothing, LineRule, Report, report}
+
+-- what is said of a part of an object, and what is wrong with it, if something is
+abbrev pub Judged : Type 0
+Judged = Said × Option Fault
+
+-- A rule of objects: what is said of an object of these bytes, and what is wrong with them. (`cut`: the input ends before its last byte.)
+abbrev pub ObjectRule : Type 0
+ObjectRule = (cut : Bool) → ParsedObject → List ℕ → Judged
+
+-- how many bytes an object of this size has with the LF behind it
+abbrev pub size_with_end : ℕ → List ℕ → Result ℕ Fault
+size_with_end size [] = Err Ended
+size_with_end size (b ∷ text) = if b == line_end then Ok (size + 1) else Err LineEnd
+
+abbrev pub closed : ℕ → Judged → List ℕ → Said × Result ℕ Fault
+closed size (said, Some fault) text = (said, Err fault)
+closed size (said, None) text = (said, size_with_end size (drop size text))
+
+-- an object at the front of what follows its header line
+abbrev pub object_step : ObjectRule → ParsedObject → List ℕ → Said × Result ℕ Fault
+object_step rule object text = closed object.size (rule (nat_lt (length text) object.size) object (take object.size text)) text
+
+-- what follows a header line; no object may be missing where the stream has to be whole
+abbrev pub header_rule : ObjectRule → Bool → Option ParsedHeader → List ℕ → Said × Result ℕ Fault
+header_rule rule whole None text = (nothing, Err Header)
+header_rule rule whole (Some Missing) text = (nothing, if whole then Err Absent else Ok 0)
+header_rule rule whole (Some (Object object)) text = object_step rule object text
+
+abbrev pub object_rule : ObjectRule → Bool → LineRule
+object_rule rule whole line text = header_rule rule whole (parsed_header line) text
+
+-- how a stream has to end
+abbrev pub ending_of : Bool → Ending
+ending_of true = EndLine
+ending_of false = Anywhere
+
+-- the report of a stream of objects
+abbrev pub object_report : ObjectRule → Bool → List ℕ → Report
+object_report rule whole text = report (object_rule rule whole) (ending_of whole) text

@@ -1,0 +1,145 @@
+-- The report of a text that is read line by line: what each line and what belongs to it give, in order, up to the first
+-- that is malformed.
+use Rattle.std.specs.Prelude.{◌≡◌, ℕ, zero, suc, ◌+◌, Bool, true, false, ◌==◌, ◌&&◌, ◌||◌, nat_lt, if◌then◌else◌, List, [], ◌∷◌, ◌++◌, length, take, drop, codes}
+use Rattle.std.specs.Prelude.{Option, Some, None, Result, Ok, Err}
+use Rattle.std.specs.Str.{bytes_eq}
+use Rattle.gix_validate.specs.Faults.{when}
+use Rattle.streams.specs.declared.outcome.Fault.{Fault}
+use Rattle.streams.specs.declared.outcome.Fault.TheVariants.{TooLong, Ended, NoEnd, Empty}
+use Rattle.streams.specs.declared.outcome.Verdict.{Verdict}
+use Rattle.streams.specs.declared.outcome.Verdict.TheVariants.{Clean, Refused, Malformed}
+use Rattle.streams.specs.declared.lines.Ending.{Ending}
+use Rattle.streams.specs.declared.lines.Ending.TheVariants.{Anywhere, EndLine, AfterALine}
+use Rattle.streams.specs.Texts.{line_end, split_once}
+
+-- the most bytes of a line with its end
+abbrev pub longest : ℕ
+longest = 65536
+
+-- ---- what is said
+
+-- the lines that are printed, and whether something is refused
+pub record Said : Type 0 where
+  pub lines : List ℕ
+  pub refused : Bool
+
+abbrev pub nothing : Said
+nothing = record { lines = []; refused = false }
+
+-- first this, then that
+abbrev pub then_said : Said → Said → Said
+then_said first more = record { lines = first.lines ++ more.lines; refused = first.refused || more.refused }
+
+abbrev pub all_said : List Said → Said
+all_said [] = nothing
+all_said (first ∷ more) = then_said first (all_said more)
+
+-- ---- a line
+
+-- what is said of a part of a text, and what follows it, or what is wrong with it
+abbrev pub Step : Type 0
+Step = Said × Result (List ℕ) Fault
+
+-- A rule of lines: what is said of a line without its end, before this text, and how many bytes of the text belong to it, or what is wrong.
+abbrev pub LineRule : Type 0
+LineRule = (line text : List ℕ) → Said × Result ℕ Fault
+
+-- the same with what follows
+abbrev pub with_rest : Said × Result ℕ Fault → List ℕ → Step
+with_rest (said, Ok count) text = (said, Ok (drop count text))
+with_rest (said, Err fault) text = (said, Err fault)
+
+-- the first line of a text, where it is known what is before its end, if there is one within the limit
+abbrev pub line_with : LineRule → List ℕ → Option (List ℕ × List ℕ) → Step
+line_with rule text None = (nothing, Err (if nat_lt (length text) longest then Ended else TooLong))
+line_with rule text (Some parts) = let rest = drop (length parts.0 + 1) text in with_rest (rule parts.0 rest) rest
+
+-- the first line of a text
+unfoldable pub line_of : LineRule → List ℕ → Step
+line_of rule text = line_with rule text (split_once line_end (take longest text))
+
+-- ---- a text
+
+-- what is said, and the first line that is malformed, counted from 1, if one is
+pub record Report : Type 0 where
+  pub said : Said
+  pub malformed : Option (ℕ × Fault)
+
+abbrev pub before_report : Said → Report → Report
+before_report said report = record { said = then_said said report.said; malformed = report.malformed }
+
+-- the first line, which has this number, and what follows it
+abbrev pub lines_then : (List ℕ → Report) → ℕ → Step → Report
+lines_then more number (said, Err fault) = record { said = said; malformed = Some (number, fault) }
+lines_then more number (said, Ok text) = before_report said (more text)
+
+-- The line that ends a whole stream, without its end and with it. Git prints it for the word `..end`, which no object, reference or path
+-- can have as its name.
+abbrev pub end_word : List ℕ
+end_word = codes "..end missing"
+
+abbrev pub end_line : List ℕ
+end_line = end_word ++ line_end ∷ []
+
+-- the line has to end the text
+abbrev pub is_end_word : Ending → List ℕ → Bool
+is_end_word Anywhere line = false
+is_end_word AfterALine line = false
+is_end_word EndLine line = bytes_eq line end_word
+
+-- nothing is left but that line
+abbrev pub is_end : Ending → List ℕ → Bool
+is_end Anywhere text = false
+is_end AfterALine text = false
+is_end EndLine text = bytes_eq text end_line
+
+-- what is wrong where the text ends before a line of this number
+abbrev pub fault_at_end : Ending → ℕ → Option Fault
+fault_at_end Anywhere number = None
+fault_at_end EndLine number = Some NoEnd
+fault_at_end AfterALine number = when (number == 1) Empty
+
+abbrev pub numbered : ℕ → Option Fault → Option (ℕ × Fault)
+numbered number None = None
+numbered number (Some fault) = Some (number, fault)
+
+-- nothing is left
+abbrev pub at_end : Ending → ℕ → Report
+at_end ending number = record { said = nothing; malformed = numbered number (fault_at_end ending number) }
+
+-- nothing more is said
+abbrev pub at_end_line : Report
+at_end_line = record { said = nothing; malformed = None }
+
+-- The lines of a text, the first of which has this number. (`fuel` is at least their number.)
+abbrev pub lines_within : ℕ → LineRule → Ending → ℕ → List ℕ → Report
+lines_within zero rule ending number text = at_end ending number
+lines_within (suc fuel) rule ending number [] = at_end ending number
+lines_within (suc fuel) rule ending number (b ∷ text) =
+    if is_end ending (b ∷ text) then at_end_line
+    else lines_then (lines_within fuel rule ending (number + 1)) number (line_of rule (b ∷ text))
+
+unfoldable pub lines_from : LineRule → Ending → ℕ → List ℕ → Report
+lines_from rule ending number text = lines_within (length text) rule ending number text
+
+-- the report of a text
+unfoldable pub report : LineRule → Ending → List ℕ → Report
+report rule ending text = lines_from rule ending 1 text
+
+-- what a run says of a text
+abbrev pub verdict_by : Bool → Option (ℕ × Fault) → Verdict
+verdict_by refused (Some place) = Malformed place.0 place.1
+verdict_by refused None = if refused then Refused else Clean
+
+abbrev pub verdict_of : Report → Verdict
+verdict_of report = verdict_by report.said.refused report.malformed
+
+-- whether it says that something is malformed
+abbrev pub is_malformed : Verdict → Bool
+is_malformed Clean = false
+is_malformed Refused = false
+is_malformed (Malformed number fault) = true
+
+-- A text that has to end in the line for that is well-formed only if it does.
+abbrev pub IsWhole : LineRule → Type 0
+IsWhole rule = (text : List ℕ) → (report rule EndLine text).malformed ≡ None → (front : List ℕ) × (text ≡ front ++ end_line)

@@ -1,0 +1,93 @@
+//! The line before an object in what `git cat-file --batch` prints.
+
+ghost use Rattle.std.specs.Prelude.{◌≡◌};
+ghost use Rattle.std.specs.Option.{option_map};
+ghost use Rattle.streams.specs.Headers.{kind_of_word, parsed_header, sized_parts};
+ghost use Rattle.streams.specs.Promises.{as_parsed};
+ghost use Rattle.streams.specs.Texts.{split_once};
+ghost use Rattle.std.specs.Str.{byte};
+
+use crate::text::{is_id, number_of, split_once};
+
+/// The type of an object.
+#[derive(Debug, Clone, Copy, PartialEq, Eq)]
+pub enum Kind {
+    Blob,
+    Tree,
+    Commit,
+    Tag,
+}
+
+/// What a header line says of the object that follows.
+#[derive(Debug, Clone, Copy)]
+pub struct Object<'a> {
+    /// Its id, in hexadecimal digits.
+    pub id: &'a [u8],
+    /// Its type.
+    pub kind: Kind,
+    /// How many bytes it has.
+    pub size: u64,
+    /// What else the line says, if a space follows the size.
+    pub rest: Option<&'a [u8]>,
+}
+
+/// What a header line says.
+#[derive(Debug, Clone, Copy)]
+pub enum Header<'a> {
+    /// The object is missing.
+    Missing,
+    /// An object follows.
+    Object(Object<'a>),
+}
+
+/// What a header line says, without its end: `ID missing`, `ID TYPE SIZE` or `ID TYPE SIZE REST`
+/// (docs/RULES.md, "Streams of objects"). It does not allocate.
+#[tactic(auto, unfolding(crate::specs::Headers::parsed_header))]
+pub fn header_of(line: &[u8]) -> Option<Header<'_>>
+    ensures header { option_map as_parsed result ≡ parsed_header line.now }
+{
+    let (id, after) = split_once(b' ', line)?;
+    if !is_id(id) {
+        return None;
+    }
+    if after == b"missing".as_slice() {
+        return Some(Header::Missing);
+    }
+    let (word, sized) = split_once(b' ', after)?;
+    let kind = kind_of_word(word)?;
+    object_of(id, kind, sized)
+}
+
+/// What a header line says behind its type.
+fn object_of<'a>(id: &'a [u8], kind: Kind, sized: &'a [u8]) -> Option<Header<'a>>
+    ensures { option_map as_parsed result ≡ sized_parts id.now kind sized.now (split_once (byte " ") sized.now) }
+{
+    let (digits, rest) = match split_once(b' ', sized) {
+        Some((digits, rest)) => (digits, Some(rest)),
+        None => (sized, None),
+    };
+    let size = number_of(10, digits)?;
+    Some(Header::Object(Object {
+        id,
+        kind,
+        size,
+        rest,
+    }))
+}
+
+/// The type of a word.
+fn kind_of_word(word: &[u8]) -> Option<Kind>
+    ensures { result ≡ kind_of_word word.now }
+{
+    if word == b"blob".as_slice() {
+        Some(Kind::Blob)
+    } else if word == b"tree".as_slice() {
+        Some(Kind::Tree)
+    } else if word == b"commit".as_slice() {
+        Some(Kind::Commit)
+    } else if word == b"tag".as_slice() {
+        Some(Kind::Tag)
+    } else {
+        None
+    }
+}

@@ -1,0 +1,209 @@
+//! Reads that are bounded, and that say where the input ends.
+
+ghost use Rattle.std.specs.Prelude.{◌≡◌, ◌<◌, ◌≤◌, ℕ, true, List, [], ◌++◌, length, IfOk, IfSome, MatchOption, OnSome, Some};
+ghost use Rattle.std.specs.Io.KnownBytes.{Consumes, IsAtEnd};
+ghost use Rattle.gix_validate.specs.Bytes.{is_empty};
+ghost use Rattle.streams.specs.Promises.{Cuts, Fronts, Part, Skips};
+
+use crate::outcome::RunError;
+use memchr::memchr;
+use std::io::{BufRead, ErrorKind};
+
+/// Where a read for a byte came to its end.
+#[derive(Debug, Clone, Copy, PartialEq, Eq)]
+pub enum Found {
+    /// After the byte.
+    Byte,
+    /// At the limit, with no such byte before it.
+    Limit,
+    /// At the end of the input, before the limit and with no such byte before it.
+    End,
+}
+
+/// Reads what is before the first such byte, and the byte, which is left out. No more than `limit`
+/// bytes are read. `front` is the only thing that grows.
+///
+/// # Errors
+///
+/// [`RunError::Read`] and [`RunError::Memory`].
+pub fn read_before<R: BufRead>(
+    input: &mut R,
+    byte: u8,
+    limit: usize,
+    front: &mut Vec<u8>,
+) -> Result<Found, RunError>
+    ensures { IfOk result (Fronts byte limit (R.remaining input.old) (R.remaining input.new) front.new.items) }
+{
+    front.clear();
+    for _ in 0..u64::MAX {
+        if front.len() >= limit {
+            return Ok(Found::Limit);
+        }
+        let room = limit - front.len();
+        if let Some(found) = append_part(input, byte, room, front)? {
+            return Ok(found);
+        }
+    }
+    Err(RunError::Read)
+}
+
+/// Appends what the reader has at hand of such a front, and says where that is all of it.
+fn append_part<R: BufRead>(
+    input: &mut R,
+    byte: u8,
+    limit: usize,
+    front: &mut Vec<u8>,
+) -> Result<Option<Found>, RunError>
+    requires { 0 < limit }
+    ensures { IfOk result (λ found. (part : List ℕ) × (front.new.items ≡ front.old.items ++ part)
+        × Part byte limit (R.remaining input.old) (R.remaining input.new) part found) }
+{
+    let available = match input.fill_buf() {
+        Ok(available) => available,
+        Err(e) if e.kind() == ErrorKind::Interrupted => return Ok(None),
+        Err(_) => return Err(RunError::Read),
+    };
+    if available.is_empty() {
+        return Ok(Some(Found::End));
+    }
+    let shown = &available[..available.len().min(limit)];
+    let (part, used, found) = cut_at(byte, shown);
+    front.extend_from_slice(part).map_err(|_| RunError::Memory)?;
+    input.consume(used);
+    Ok(found)
+}
+
+/// What is before the first such byte, how many bytes that takes with the byte itself, and
+/// whether there is one.
+fn cut_at(byte: u8, shown: &[u8]) -> (&[u8], usize, Option<Found>)
+    ensures { Cuts byte shown.now result.0.now result.1 result.2 }
+{
+    match memchr(byte, shown) {
+        Some(at) => (&shown[..at], at + 1, Some(Found::Byte)),
+        None => (shown, shown.len(), None),
+    }
+}
+
+/// Reads so many bytes, and says whether the input had them.
+///
+/// # Errors
+///
+/// [`RunError::Read`] and [`RunError::Memory`].
+pub fn read_bytes<R: BufRead>(
+    input: &mut R,
+    count: usize,
+    bytes: &mut Vec<u8>,
+) -> Result<bool, RunError>
+    ensures { IfOk result (Skips count (R.remaining input.old) (R.remaining input.new) bytes.new.items) }
+{
+    bytes.clear();
+    for _ in 0..u64::MAX {
+        if bytes.len() >= count {
+            return Ok(true);
+        }
+        let room = count - bytes.len();
+        if read_part(input, room, bytes)? {
+            return Ok(false);
+        }
+    }
+    Err(RunError::Read)
+}
+
+/// Appends what the reader has at hand of so many bytes, and says whether it has no more.
+fn read_part<R: BufRead>(input: &mut R, count: usize, bytes: &mut Vec<u8>) -> Result<bool, RunError>
+    requires { 0 < count }
+    ensures { IfOk result (λ ended. (part : List ℕ) × (bytes.new.items ≡ bytes.old.items ++ part) × (length part ≤ count)
+        × Consumes (R.remaining input.old) (R.remaining input.new) part
+        × (ended ≡ true → (part ≡ []) × OnSome (R.remaining input.old) (IsAtEnd (R.remaining input.new)))) }
+{
+    let available = match input.fill_buf() {
+        Ok(available) => available,
+        Err(e) if e.kind() == ErrorKind::Interrupted => return Ok(false),
+        Err(_) => return Err(RunError::Read),
+    };
+    if available.is_empty() {
+        return Ok(true);
+    }
+    let part = &available[..available.len().min(count)];
+    bytes.extend_from_slice(part).map_err(|_| RunError::Memory)?;
+    let used = part.len();
+    input.consume(used);
+    Ok(false)
+}
+
+/// Skips so many bytes, and says whether the input had them. It does not allocate.
+///
+/// # Errors
+///
+/// [`RunError::Read`].
+pub fn skip<R: BufRead>(input: &mut R, count: u64) -> Result<bool, RunError>
+    ensures { IfOk result (λ whole. (bytes : List ℕ)
+        × Skips count (R.remaining input.old) (R.remaining input.new) bytes whole) }
+{
+    let mut left = count;
+    for _ in 0..u64::MAX {
+        if left == 0 {
+            return Ok(true);
+        }
+        match skip_part(input, left)? {
+            Some(0) => return Ok(false),
+            Some(skipped) => left -= skipped,
+            None => {}
+        }
+    }
+    Err(RunError::Read)
+}
+
+/// Skips what the reader has at hand of so many bytes. Only at the end of the input are these no
+/// bytes.
+fn skip_part<R: BufRead>(input: &mut R, count: u64) -> Result<Option<u64>, RunError>
+    requires { 0 < count }
+    ensures bound { IfOk result (λ skipped. IfSome skipped (λ n. n ≤ count)) }
+    ensures bytes { IfOk result (λ skipped. MatchOption skipped
+        (Consumes (R.remaining input.old) (R.remaining input.new) [])
+        (λ n. (bytes : List ℕ) × (length bytes ≡ n)
+        × Consumes (R.remaining input.old) (R.remaining input.new) bytes
+        × (n ≡ 0 → OnSome (R.remaining input.old) (IsAtEnd (R.remaining input.new))))) }
+{
+    let available = match input.fill_buf() {
+        Ok(available) => available.len(),
+        Err(e) if e.kind() == ErrorKind::Interrupted => return Ok(None),
+        Err(_) => return Err(RunError::Read),
+    };
+    let skipped = (available as u64).min(count);
+    input.consume(skipped as usize);
+    Ok(Some(skipped))
+}
+
+/// Whether nothing is left. Nothing is read. It does not allocate.
+///
+/// # Errors
+///
+/// [`RunError::Read`].
+pub fn is_at_end<R: BufRead>(input: &mut R) -> Result<bool, RunError>
+    ensures known { IfOk result (λ ended. IfSome (R.remaining input.old) (λ rest. ended ≡ is_empty rest)) }
+    ensures kept { IfOk result (λ ended. Consumes (R.remaining input.old) (R.remaining input.new) []) }
+    ensures spent { IfOk result (λ ended. ended ≡ true → OnSome (R.remaining input.old) (IsAtEnd (R.remaining input.new))) }
+{
+    for _ in 0..u64::MAX {
+        if let Some(ended) = look(input)? {
+            return Ok(ended);
+        }
+    }
+    Err(RunError::Read)
+}
+
+/// Whether the reader has nothing at hand, where it could look.
+fn look<R: BufRead>(input: &mut R) -> Result<Option<bool>, RunError>
+    ensures known { IfOk result (λ found. IfSome found (λ ended. IfSome (R.remaining input.old) (λ rest. ended ≡ is_empty rest))) }
+    ensures kept { IfOk result (λ found. Consumes (R.remaining input.old) (R.remaining input.new) []) }
+    ensures spent { IfOk result (λ found. found ≡ Some true → OnSome (R.remaining input.old) (IsAtEnd (R.remaining input.new))) }
+{
+    let ended = match input.fill_buf() {
+        Ok(available) => available.is_empty(),
+        Err(e) if e.kind() == ErrorKind::Interrupted => return Ok(None),
+        Err(_) => return Err(RunError::Read),
+    };
+    input.consume(0);
+    Ok(Some(ended))
+}

@@ -1,0 +1,159 @@
+//! An input that is read line by line, where a line can say what follows it.
+
+ghost use Rattle.std.specs.Prelude.{◌≡◌, ◌<◌, ◌≤◌, [], Some, true, false, ◌&&◌, if◌then◌else◌, IfOk, OnErr, IfSome, OnSome};
+ghost use Rattle.std.specs.Io.KnownBytes.{Appends, Consumes, IsAtEnd};
+ghost use Rattle.gix_validate.specs.Bytes.{is_empty};
+ghost use Rattle.streams.specs.Reports.{IsWhole, LineRule, end_word, fault_at_end, is_end_word, is_malformed, report, verdict_of, with_rest};
+ghost use Rattle.streams.specs.Promises.{Begins, Gives};
+
+use crate::input::{Found, is_at_end, read_before};
+use crate::outcome::{Fault, RunError, Verdict};
+use std::alloc::Global;
+use std::io::{BufRead, Write};
+
+/// The most bytes of a line with its end.
+pub const LONGEST: u64 = 65_536;
+
+/// What Git prints for the word `..end`, without the newline. No reference, object or path can have
+/// that name.
+const END: &[u8; 13] = b"..end missing";
+
+/// How an input has to end.
+#[derive(Debug, Clone, Copy, PartialEq, Eq)]
+pub enum Ending {
+    /// After any line and what belongs to it.
+    Anywhere,
+    /// With the line `..end missing`.
+    EndLine,
+    /// After at least one line.
+    AfterALine,
+}
+
+/// Where the parts of an input are read to, and the lines of the report are built.
+#[derive(Drop)]
+pub struct Buffers {
+    /// What is read.
+    pub read: Vec<u8>,
+    /// A part of it, as an id or a name.
+    pub part: Vec<u8>,
+    /// What is to be written.
+    pub lines: Vec<u8>,
+}
+
+/// A rule of lines, and the function that follows it.
+pub trait LineCheck: Copy {
+    ghost line_rule: { Self → LineRule };
+
+    /// Checks a line, which is given without its end, with what belongs to it, writes what is to be
+    /// said of it, and says whether something in it is refused.
+    fn check_line<R: BufRead, W: Write>(
+        self,
+        line: &[u8],
+        input: &mut R,
+        output: &mut W,
+        buffers: &mut Buffers,
+    ) -> Result<Result<bool, Fault>, RunError>
+        ensures gives { IfSome (R.remaining input.old) (λ text. Gives (with_rest (line_rule self line.now text) text)
+            (R.remaining input.new) (W.contents output.old) (W.contents output.new) result) };
+}
+
+/// Reads all of `input`, and writes what `check` says of each line and of what belongs to it.
+///
+/// Each line is written as it is found, and `output` is not flushed. What is malformed ends the run;
+/// what was said before it is written.
+///
+/// # Errors
+///
+/// [`RunError`] says whether reading, memory or writing failed. What was written then is the
+/// beginning of the report.
+///
+/// # Memory
+///
+/// The longest line, of at most 65,536 bytes, and what `check` allocates, of `alloc`.
+#[tactic(auto, using(crate::proofs::WholeStreams::ended_whole))]
+pub fn run<C: LineCheck, R: BufRead, W: Write>(
+    alloc: Global,
+    check: C,
+    ending: Ending,
+    input: &mut R,
+    output: &mut W,
+) -> Result<Verdict, RunError>
+    ensures verdict { IfOk result (λ verdict. IfSome (R.remaining input.old) (λ text.
+        Appends (W.contents output.old) (W.contents output.new) (report (C.line_rule check) ending text).said.lines
+        × (verdict ≡ verdict_of (report (C.line_rule check) ending text)))) }
+    ensures end { IfOk result (λ verdict. is_malformed verdict ≡ false
+        → OnSome (R.remaining input.old) (IsAtEnd (R.remaining input.new))) }
+    ensures spent { IfOk result (λ verdict. is_malformed verdict ≡ false
+        → IfSome (R.remaining input.old) (λ _. R.remaining input.new ≡ Some [])) }
+    ensures stopped { OnErr result (IfSome (R.remaining input.old) (λ text.
+        Begins (W.contents output.old) (W.contents output.new) (report (C.line_rule check) ending text).said.lines)) }
+    ensures whole { IsWhole (C.line_rule check) }
+{
+    let mut line = Vec::new(alloc);
+    let mut buffers = Buffers {
+        read: Vec::new(alloc),
+        part: Vec::new(alloc),
+        lines: Vec::new(alloc),
+    };
+    let mut refused = false;
+    for before in 0..u64::MAX {
+        let number = before + 1;
+        let fault = match read_before(input, b'\n', LONGEST as usize, &mut line)? {
+            Found::Byte => {
+                if is_last(ending, &line, input)? {
+                    return Ok(whole_input(refused));
+                }
+                match check.check_line(&line, input, output, &mut buffers)? {
+                    Ok(more) => {
+                        refused |= more;
+                        continue;
+                    }
+                    Err(fault) => fault,
+                }
+            }
+            Found::Limit => Fault::TooLong,
+            Found::End if !line.is_empty() => Fault::Ended,
+            Found::End => match fault_at_end(ending, number) {
+                Some(fault) => fault,
+                None => return Ok(whole_input(refused)),
+            },
+        };
+        return Ok(Verdict::Malformed { number, fault });
+    }
+    Err(RunError::Read)
+}
+
+/// Whether the line is the one that has to end the input, and nothing follows it.
+fn is_last<R: BufRead>(ending: Ending, line: &[u8], input: &mut R) -> Result<bool, RunError>
+    ensures known { IfOk result (λ last. IfSome (R.remaining input.old) (λ rest. last ≡ (is_end_word ending line.now && is_empty rest))) }
+    ensures kept { IfOk result (λ last. Consumes (R.remaining input.old) (R.remaining input.new) []) }
+    ensures spent { IfOk result (λ last. last ≡ true → OnSome (R.remaining input.old) (IsAtEnd (R.remaining input.new))) }
+{
+    if ending == Ending::EndLine && line == END.as_slice() {
+        is_at_end(input)
+    } else {
+        Ok(false)
+    }
+}
+
+/// What is wrong where the input ends before a line of this number.
+fn fault_at_end(ending: Ending, number: u64) -> Option<Fault>
+    ensures { result ≡ fault_at_end ending number }
+{
+    match ending {
+        Ending::EndLine => Some(Fault::NoEnd),
+        Ending::AfterALine if number == 1 => Some(Fault::Empty),
+        Ending::Anywhere | Ending::AfterALine => None,
+    }
+}
+
+/// What a whole input comes to.
+fn whole_input(refused: bool) -> Verdict
+    ensures { result ≡ (if refused then Verdict.Refused else Verdict.Clean) }
+{
+    if refused {
+        Verdict::Refused
+    } else {
+        Verdict::Clean
+    }
+}

@@ -1,0 +1,144 @@
+//! A stream of objects, as `git cat-file --batch` prints them.
+
+ghost use Rattle.std.specs.Prelude.{◌≡◌, [], Some, false, IfOk, OnErr, IfSome, OnSome};
+ghost use Rattle.std.specs.Io.KnownBytes.{Appends, IsAtEnd};
+ghost use Rattle.streams.specs.Objects.{ObjectRule, ending_of, object_report, object_rule, object_step};
+ghost use Rattle.streams.specs.Reports.{end_line, is_malformed, verdict_of, with_rest};
+ghost use Rattle.streams.specs.Promises.{Begins, Closes, Gives, as_object, body_step};
+ghost use Rattle.streams.specs.Spelled.{IsReportedInOrder, IsWellFormedOnlyIfSpelled};
+
+use crate::header::{Header, Object, header_of};
+use crate::input::{Found, read_before};
+use crate::lines;
+use crate::lines::{Buffers, Ending, LineCheck};
+use crate::outcome::{Fault, RunError, Verdict};
+use std::alloc::Global;
+use std::io::{BufRead, Write};
+
+/// A rule of objects, and the function that follows it.
+pub trait ObjectCheck: Copy {
+    ghost object_rule: { Self → ObjectRule };
+
+    /// Checks the bytes of an object, writes what is to be said of it, and says whether something
+    /// in it is refused.
+    fn check_object<R: BufRead, W: Write>(
+        self,
+        object: Object<'_>,
+        input: &mut R,
+        output: &mut W,
+        buffers: &mut Buffers,
+    ) -> Result<Result<bool, Fault>, RunError>
+        ensures gives { IfSome (R.remaining input.old) (λ text. Gives (body_step (object_rule self) (as_object object.entry) text)
+            (R.remaining input.new) (W.contents output.old) (W.contents output.new) result) };
+}
+
+/// Each line is the header of an object.
+#[derive(Debug, Clone, Copy)]
+pub struct Objects<C> {
+    check: C,
+    whole: bool,
+}
+
+impl<C: ObjectCheck> LineCheck for Objects<C> {
+    ghost line_rule = { λ objects. object_rule (C.object_rule objects.check) objects.whole };
+
+    fn check_line<R: BufRead, W: Write>(
+        self,
+        line: &[u8],
+        input: &mut R,
+        output: &mut W,
+        buffers: &mut Buffers,
+    ) -> Result<Result<bool, Fault>, RunError> {
+        match header_of(line) {
+            None => Ok(Err(Fault::Header)),
+            Some(Header::Missing) if self.whole => Ok(Err(Fault::Absent)),
+            Some(Header::Missing) => Ok(Ok(false)),
+            Some(Header::Object(object)) => {
+                check_and_close(self.check, object, input, output, buffers)
+            }
+        }
+    }
+}
+
+/// Checks the bytes of an object, and reads the LF behind them.
+fn check_and_close<C: ObjectCheck, R: BufRead, W: Write>(
+    check: C,
+    object: Object<'_>,
+    input: &mut R,
+    output: &mut W,
+    buffers: &mut Buffers,
+) -> Result<Result<bool, Fault>, RunError>
+    ensures { IfSome (R.remaining input.old) (λ text.
+        Gives (with_rest (object_step (C.object_rule check) (as_object object.entry) text) text)
+        (R.remaining input.new) (W.contents output.old) (W.contents output.new) result) }
+{
+    match check.check_object(object, input, output, buffers)? {
+        Ok(refused) => close(refused, input, &mut buffers.read),
+        Err(fault) => Ok(Err(fault)),
+    }
+}
+
+/// Reads the LF behind an object's bytes, and passes on whether something was refused.
+fn close<R: BufRead>(
+    refused: bool,
+    input: &mut R,
+    read: &mut Vec<u8>,
+) -> Result<Result<bool, Fault>, RunError>
+    ensures { IfSome (R.remaining input.old) (λ text. Closes refused text (R.remaining input.new) result) }
+{
+    match read_before(input, b'\n', 1, read)? {
+        Found::Byte => Ok(Ok(refused)),
+        Found::Limit => Ok(Err(Fault::LineEnd)),
+        Found::End => Ok(Err(Fault::Ended)),
+    }
+}
+
+/// Reads all of `input`, objects as `git cat-file --batch` prints them, and writes what `check` says
+/// of each (docs/RULES.md, "Streams of objects"). Where the stream has to be `whole`, its last line
+/// is `..end missing`, and no object is missing.
+///
+/// Each line is written as it is found, and `output` is not flushed. A malformed object ends the
+/// run; what was said before it is written.
+///
+/// # Errors
+///
+/// [`RunError`] says whether reading, memory or writing failed. What was written then is the
+/// beginning of the report.
+///
+/// # Memory
+///
+/// The longest header line, of at most 65,536 bytes, and what `check` allocates, of `alloc`.
+#[tactic(auto, using(crate::proofs::SpelledStreams::reported_in_order, crate::proofs::WellFormedStreams::well_formed_only_if_spelled))]
+pub fn run<C: ObjectCheck, R: BufRead, W: Write>(
+    alloc: Global,
+    check: C,
+    whole: bool,
+    input: &mut R,
+    output: &mut W,
+) -> Result<Verdict, RunError>
+    ensures verdict { IfOk result (λ verdict. IfSome (R.remaining input.old) (λ text.
+        Appends (W.contents output.old) (W.contents output.new) (object_report (C.object_rule check) whole text).said.lines
+        × (verdict ≡ verdict_of (object_report (C.object_rule check) whole text)))) }
+    ensures end { IfOk result (λ verdict. is_malformed verdict ≡ false
+        → OnSome (R.remaining input.old) (IsAtEnd (R.remaining input.new))) }
+    ensures spent { IfOk result (λ verdict. is_malformed verdict ≡ false
+        → IfSome (R.remaining input.old) (λ _. R.remaining input.new ≡ Some [])) }
+    ensures stopped { OnErr result (IfSome (R.remaining input.old) (λ text.
+        Begins (W.contents output.old) (W.contents output.new) (object_report (C.object_rule check) whole text).said.lines)) }
+    ensures spelled { IsReportedInOrder (C.object_rule check) whole }
+    ensures well_formed { IsWellFormedOnlyIfSpelled (C.object_rule check) whole }
+{
+    let objects = Objects { check, whole };
+    lines::run(alloc, objects, ending_of(whole), input, output)
+}
+
+/// How a stream has to end.
+fn ending_of(whole: bool) -> Ending
+    ensures { result ≡ ending_of whole }
+{
+    if whole {
+        Ending::EndLine
+    } else {
+        Ending::Anywhere
+    }
+}

@@ -1,0 +1,89 @@
+//! How a run ends.
+
+ghost use Rattle.std.specs.Prelude.{Some};
+
+use std::error::Error;
+use std::fmt;
+
+/// What a run found.
+#[derive(Debug, Clone, Copy, PartialEq, Eq)]
+pub enum Verdict {
+    /// The input is well-formed, and nothing is refused.
+    Clean,
+    /// The input is well-formed, and something is refused.
+    Refused,
+    /// This object or line of the input, counted from 1, is malformed.
+    Malformed { number: u64, fault: Fault },
+}
+
+/// What is wrong with an object or a line of the input.
+#[derive(Debug, Clone, Copy, PartialEq, Eq)]
+pub enum Fault {
+    /// The line before an object is not one of those that Git writes.
+    Header,
+    /// A line, or an entry of a tree up to its id, has more than 65,536 bytes.
+    TooLong,
+    /// The input ends within it.
+    Ended,
+    /// An entry of a tree is malformed, or runs past its tree.
+    Entry,
+    /// No newline follows the object.
+    LineEnd,
+    /// The object is missing, and the input has to be whole.
+    Absent,
+    /// The input has to be whole, and ends before its end line.
+    NoEnd,
+    /// The line is not one of a pre-receive hook's.
+    Line,
+    /// The input is empty, and has to have a line.
+    Empty,
+}
+
+impl fmt::Display for Fault {
+    ghost use Rattle.streams.specs.Messages.{fault_text_of};
+
+    ghost output = { λ fault. Some (fault_text_of fault) };
+
+    fn fmt<W: fmt::Write>(&self, f: &mut fmt::Formatter<W>) -> fmt::Result {
+        f.write_str(match self {
+            Fault::Header => "the header line is not 'OID TYPE SIZE' or 'OID missing'",
+            Fault::TooLong => "a line or an entry is longer than 65536 bytes",
+            Fault::Ended => "the input ends within it",
+            Fault::Entry => {
+                "an entry is not 'MODE NAME', NUL and an object id, or runs past its tree"
+            }
+            Fault::LineEnd => "no newline follows the object's bytes",
+            Fault::Absent => "the object is missing",
+            Fault::NoEnd => "the input ends without the line '..end missing'",
+            Fault::Line => "the line is not 'OLD NEW REF'",
+            Fault::Empty => "the input is empty",
+        })
+    }
+}
+
+/// Why a run stopped before its end.
+#[derive(Debug, Drop)]
+pub enum RunError {
+    /// Reading failed.
+    Read,
+    /// Memory ran out.
+    Memory,
+    /// Writing failed. The beginning of a line may be written.
+    Write,
+}
+
+impl fmt::Display for RunError {
+    ghost use Rattle.streams.specs.Messages.{stop_text_of};
+
+    ghost output = { λ stop. Some (stop_text_of stop) };
+
+    fn fmt<W: fmt::Write>(&self, f: &mut fmt::Formatter<W>) -> fmt::Result {
+        f.write_str(match self {
+            RunError::Read => "read failed",
+            RunError::Memory => "out of memory",
+            RunError::Write => "write failed",
+        })
+    }
+}
+
+impl Error for RunError {}

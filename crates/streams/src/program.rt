@@ -1,0 +1,110 @@
+//! What a program does around a run: buffers, the message of a failure, and the exit status.
+
+ghost use Rattle.std.specs.Prelude.{◌≡◌, ◌≤◌, ℕ, List, IfOk, IfSome};
+ghost use Rattle.std.specs.Io.KnownBytes.{Appends};
+ghost use Rattle.std.specs.Process.{exit_status};
+ghost use Rattle.streams.specs.Reports.{Report, verdict_of};
+
+use crate::outcome::{RunError, Verdict};
+use std::alloc::Global;
+use std::fmt::Display;
+use std::io::{BufRead, BufReader, BufWriter, Read, Write};
+use std::process::ExitCode;
+
+/// How many bytes are read or written at once.
+const BUFFERED: usize = 65_536;
+
+/// What a program checks.
+pub trait Check: Copy {
+    ghost report: { Self → List ℕ → Report };
+
+    /// Reads all of `input`, and writes the lines of the report.
+    fn run<R: BufRead, W: Write>(
+        self,
+        alloc: Global,
+        input: &mut R,
+        output: &mut W,
+    ) -> Result<Verdict, RunError>
+        ensures verdict { IfOk result (λ verdict. IfSome (R.remaining input.old) (λ text.
+            Appends (W.contents output.old) (W.contents output.new) (report self text).said.lines
+            × (verdict ≡ verdict_of (report self text)))) };
+}
+
+/// Checks the input, and gives the status that the program `name` ends with: 0 where nothing is
+/// refused, 1 where something is, and 2, with a message on standard error, where that isn't known.
+/// The lines of the report are written before the status is known.
+///
+/// # Memory
+///
+/// Two buffers of 65,536 bytes, and what `check` allocates, from the runtime's allocator.
+pub fn exit_code<C: Check, R: Read + Drop, W: Write + Drop>(
+    rt: &HostRuntime,
+    name: &str,
+    check: C,
+    input: R,
+    output: W,
+) -> ExitCode
+    ensures clean { IfSome (R.remaining input) (λ text. exit_status result ≡ 0 → verdict_of (C.report check text) ≡ Verdict.Clean) }
+    ensures refused { IfSome (R.remaining input) (λ text. exit_status result ≡ 1 → verdict_of (C.report check text) ≡ Verdict.Refused) }
+    ensures status { exit_status result ≤ 2 }
+{
+    match run_buffered(rt.alloc(), check, input, output) {
+        Ok((Verdict::Clean, _)) => ExitCode::SUCCESS,
+        Ok((Verdict::Refused, _)) => ExitCode::FAILURE,
+        Ok((Verdict::Malformed { number, fault }, _)) => {
+            failed(
+                rt,
+                name,
+                format_args!("malformed input: number {number}: {fault}"),
+            )
+        }
+        Err(stop) => failed(rt, name, stop),
+    }
+}
+
+/// A run with a buffer on either side, and all that was said written out. The writer is given back.
+///
+/// # Errors
+///
+/// [`RunError`] says whether reading, memory or writing failed.
+pub fn run_buffered<C: Check, R: Read + Drop, W: Write + Drop>(
+    alloc: Global,
+    check: C,
+    input: R,
+    output: W,
+) -> Result<(Verdict, W), RunError>
+    ensures verdict { IfOk result (λ answer. IfSome (R.remaining input) (λ text.
+        (answer.0 ≡ verdict_of (C.report check text))
+        × Appends (W.contents output) (W.contents answer.1) (C.report check text).said.lines)) }
+{
+    let mut input = BufReader::with_capacity(alloc, BUFFERED, input).map_err(|_| RunError::Memory)?;
+    let mut buffered = BufWriter::with_capacity(alloc, BUFFERED, output).map_err(
+        |_| RunError::Memory,
+    )?;
+    let verdict = check.run(alloc, &mut input, &mut buffered);
+    buffered.flush().map_err(|_| RunError::Write)?;
+    let verdict = verdict?;
+    match buffered.into_inner() {
+        Ok(output) => Ok((verdict, output)),
+        Err(_) => Err(RunError::Write),
+    }
+}
+
+/// Says on standard error, after the program's name, why it can't say more, and gives the status
+/// for that.
+pub fn failed(rt: &HostRuntime, name: &str, what: impl Display + Drop) -> ExitCode
+    ensures status { exit_status result ≡ 2 }
+{
+    let _ = eprintln!(rt; "{name}: {what}");
+    ExitCode::from(2)
+}
+
+/// Prints a text in place of a check.
+pub fn printed(rt: &HostRuntime, name: &str, text: impl Display + Drop) -> ExitCode
+    ensures status { exit_status result ≤ 2 }
+{
+    match println!(rt; "{text}") {
+        Ok(()) => ExitCode::SUCCESS,
+        Err(_) => failed(rt, name, RunError::Write),
+    }
+}

@@ -1,22 +1,27 @@
 -- The first entry of what is left of a tree, and what the reads of it give.
-use Rattle.std.proofs.Common.{◌≡◌, ◌≢◌, ℕ, ◌+◌, ◌-◌, ◌/◌, ◌<◌, ◌≤◌, min, true, false, not, List, ◌∷◌, ◌++◌, All, Option, Some, None, Result, Ok, Err}
-use Rattle.std.proofs.Common.{length, take, drop}
-use Rattle.std.proofs.Common.{refl, arith, append-nil, append_assoc, length-append, length-take, length-drop, take_all, take_at}
+use Rattle.std.proofs.Common.{◌≡◌, ◌≢◌, ℕ, ◌+◌, ◌-◌, ◌/◌, ◌<◌, ◌≤◌, min, nat_lt, Bool, true, false, List, ◌∷◌, ◌++◌, All, Option, Some, None, Result, Ok, Err}
+use Rattle.std.proofs.Common.{[], length, take, drop}
+use Rattle.std.proofs.Common.{refl, ap, ◌∙◌, arith, append-nil, append_assoc, length-append, length-take, length-drop, take_all, take_at, drop_at, take-take}
 use Rattle.std.proofs.lemmas.Option.{IfSome_then}
 use Rattle.std.proofs.lemmas.Bool.Decides.{nat_tests}
 use Rattle.std.specs.Prelude.{IfSome, IfOk, IsErr}
 use Rattle.std.specs.Io.KnownBytes.{Appends}
-use Rattle.gix_validate.specs.Bytes.{is_empty}
-use Rattle.gix_validate.specs.declared.path.ComponentOptions.{ComponentOptions}
-use Rattle.check_trees.specs.declared.engine.Fault.{Fault}
-use Rattle.check_trees.specs.declared.engine.Fault.TheVariants.{Ended, TooLong, Entry}
-use Rattle.check_trees.specs.declared.engine.RunError.{RunError}
+use Rattle.streams.specs.declared.outcome.Fault.{Fault}
+use Rattle.streams.specs.declared.outcome.Fault.TheVariants.{Ended, TooLong, Entry}
+use Rattle.streams.specs.declared.outcome.RunError.{RunError}
+use Rattle.streams.specs.declared.input.Found.TheVariants.{Byte, Limit, End}
+use Rattle.streams.specs.Texts.{split_once}
+use Rattle.streams.specs.Headers.{ParsedObject}
+use Rattle.streams.specs.Reports.{longest, Said}
+use Rattle.streams.specs.Promises.{Begins, Fronts, Skips}
+use Rattle.streams.proofs.SplitTexts.{take_after, take_past, drop_before, drop_both, split_within, split_short, split_long}
+use Rattle.check_trees.specs.declared.engine.CheckOptions.{CheckOptions}
 use Rattle.check_trees.specs.declared.engine.Checked.{Checked}
-use Rattle.check_trees.specs.declared.input.Found.TheVariants.{Byte, Limit, End}
-use Rattle.check_trees.specs.Objects.{nul, longest, split_once, ParsedEntry, parsed_entry, entry_at, entry_with, entry_of}
-use Rattle.check_trees.specs.Report.{short_of, line_of}
-use Rattle.check_trees.specs.Steps.{first_entry, Begins, EntryGives, Fronts, Skips}
-use Rattle.check_trees.proofs.SplitTexts.{take_behind, take_past, drop_before, drop_both, split_within, split_short, split_long}
+use Rattle.check_trees.specs.declared.engine.Finding.{Finding}
+use Rattle.check_trees.specs.declared.engine.Finding.TheVariants.{Accepted, Modules, Refused}
+use Rattle.check_trees.specs.Entries.{nul, ParsedFront, ParsedEntry, parsed_front, entry_at, entry_with, entry_of}
+use Rattle.check_trees.specs.Report.{short_of, finding_of, finding_said, entry_said}
+use Rattle.check_trees.specs.Promises.{first_entry, EntryGives, PassesId}
 
 -- ---- an entry of these bytes
 
@@ -30,7 +35,7 @@ module _ (short : Fault) (width : ℕ) where
   entry_long front rest none long = grind (arith, nat_tests, split_long nul front rest longest none long, length-append)
 
   pub entry_found : (front rest : List ℕ) → All (λ b. b ≢ nul) front → length front < longest
-      → entry_of short width (front ++ nul ∷ rest) ≡ entry_at short width (front ++ nul ∷ rest) (length front + 1) (parsed_entry front)
+      → entry_of short width (front ++ nul ∷ rest) ≡ entry_at short width (front ++ nul ∷ rest) (length front + 1) (parsed_front front)
   unfolding entry_of
   entry_found front rest none few = grind (arith, nat_tests, split_within nul front rest longest none few)
 
@@ -44,61 +49,109 @@ module _ (short : Fault) (width : ℕ) where
 
 -- ---- the first entry of a text
 
-module _ (id front rest : List ℕ) (left : ℕ) (none : All (λ b. b ≢ nul) front) where
-  first_past : length front ≡ left → left < longest → first_entry id left (front ++ rest) ≡ Err Entry
+module _ (tree : ParsedObject) (front rest : List ℕ) (left : ℕ) (none : All (λ b. b ≢ nul) front) where
+  first_past : length front ≡ left → left < longest → first_entry tree left (front ++ rest) ≡ Err Entry
   first_past size few = grind (arith, nat_tests, entry_cut, take_at, length-append)
 
-  first_long : length front ≡ longest → longest ≤ left → first_entry id left (front ++ rest) ≡ Err TooLong
-  first_long size many = grind (arith, entry_long, take_behind)
+  first_long : length front ≡ longest → longest ≤ left → first_entry tree left (front ++ rest) ≡ Err TooLong
+  first_long size many = grind (arith, entry_long, take_after)
 
-  pub first_cut : length front < left → length front < longest → first_entry id left front ≡ Err Ended
+  pub first_cut : length front < left → length front < longest → first_entry tree left front ≡ Err Ended
   first_cut cut few = grind (arith, nat_tests, entry_cut, take_all)
 
-  first_found : length front < left → length front < longest → first_entry id left (front ++ nul ∷ rest)
-      ≡ entry_at (short_of left (front ++ nul ∷ rest)) (length id / 2) (take left (front ++ nul ∷ rest)) (length front + 1) (parsed_entry front)
+  first_found : length front < left → length front < longest → first_entry tree left (front ++ nul ∷ rest)
+      ≡ entry_at (short_of (nat_lt (length (front ++ nul ∷ rest)) left)) (length tree.id / 2) (take left (front ++ nul ∷ rest)) (length front + 1) (parsed_front front)
   first_found less few = grind (arith, entry_found, take_past)
+
+pub id_after : (front id rest : List ℕ) (start width : ℕ) → start ≡ length front + 1 → width ≡ length id
+    → take width (drop start (front ++ nul ∷ (id ++ rest))) ≡ id
+id_after front id rest start width at long =
+    grind (arith, append_assoc front (nul ∷ []) (id ++ rest), drop_at (front ++ nul ∷ []) (id ++ rest) start, length-append, take_at id rest width)
+
+-- the id after the front, where it is all there
+id_taken : (front id rest : List ℕ) (start width left : ℕ) → start ≡ length front + 1 → width ≡ length id → start + width ≤ left
+    → take width (drop start (take left (front ++ nul ∷ (id ++ rest)))) ≡ id
+id_taken front id rest start width left at long room =
+    grind (
+      arith,
+      drop_before start left (front ++ nul ∷ (id ++ rest)),
+      take-take width (left - start) (drop start (front ++ nul ∷ (id ++ rest))),
+      id_after front id rest start width at long,
+    )
 
 -- ---- what the reads give
 
 -- up to the NUL
-module _ (options : ComponentOptions) (id : List ℕ) (left : ℕ) (out : Option (List ℕ)) {old new : Option (List ℕ)} {limit : ℕ} {front : List ℕ}
+module _ (options : CheckOptions) (tree : ParsedObject) (left : ℕ) (out : Option (List ℕ)) {old new : Option (List ℕ)} {limit : ℕ} {front : List ℕ}
     (is : limit ≡ min left longest) where
-  pub gives_past : Fronts nul limit old new front Limit → left < longest → IfSome old (λ text. EntryGives options id left text new out out (Ok (Err Entry)))
+  pub gives_past : Fronts nul limit old new front Limit → left < longest → IfSome old (λ text. EntryGives options tree left text new out out (Ok (Err Entry)))
   gives_past read few = grind (arith, append-nil, length-append, first_past)
 
-  pub gives_long : Fronts nul limit old new front Limit → longest ≤ left → IfSome old (λ text. EntryGives options id left text new out out (Ok (Err TooLong)))
+  pub gives_long : Fronts nul limit old new front Limit → longest ≤ left → IfSome old (λ text. EntryGives options tree left text new out out (Ok (Err TooLong)))
   gives_long read many = grind (arith, append-nil, length-append, first_long)
 
-  pub gives_cut : Fronts nul limit old new front End → IfSome old (λ text. EntryGives options id left text new out out (Ok (Err Ended)))
+  pub gives_cut : Fronts nul limit old new front End → IfSome old (λ text. EntryGives options tree left text new out out (Ok (Err Ended)))
   gives_cut read = grind (arith, append-nil, first_cut)
 
-  pub gives_malformed : Fronts nul limit old new front Byte → None ≡ parsed_entry front
-      → IfSome old (λ text. EntryGives options id left text new out out (Ok (Err Entry)))
+  pub gives_malformed : Fronts nul limit old new front Byte → None ≡ parsed_front front
+      → IfSome old (λ text. EntryGives options tree left text new out out (Ok (Err Entry)))
   gives_malformed read bad = grind (arith, append-nil, append_assoc, first_found)
 
--- and for the id behind a mode and a name, of which so many bytes are in the tree
-module _ (options : ComponentOptions) (id bytes : List ℕ) (left : ℕ) (new out : Option (List ℕ)) {old mid : Option (List ℕ)} {limit count : ℕ}
-    {front : List ℕ} {entry : ParsedEntry} (is : limit ≡ min left longest) (read : Fronts nul limit old mid front Byte)
-    (named : Some entry ≡ parsed_entry front)
-    (least : count ≡ min (length id / 2) (left - (length front + 1))) where
-  pub gives_id_cut : Skips count mid new bytes false → IfSome old (λ text. EntryGives options id left text new out out (Ok (Err Ended)))
-  gives_id_cut skips = grind (arith, append-nil, append_assoc, length-append, length-take, first_found)
+-- the id that was passed, which is said only where it was kept
+passed : (finding : Finding) (count : ℕ) (a b : Option (List ℕ)) (kept : List ℕ) (whole : Bool) → PassesId finding count a b kept whole
+    → (bytes : List ℕ) × Skips count a b bytes whole
+    × ((tree : ParsedObject) (front : ParsedFront)
+    → finding_said tree (record { front = front; id = kept }) finding ≡ finding_said tree (record { front = front; id = bytes }) finding)
+passed Accepted count a b kept whole (bytes, skips) = (bytes, skips, λ tree front. refl)
+passed Modules count a b kept whole skips = (kept, skips, λ tree front. refl)
+passed (Refused fault) count a b kept whole (bytes, skips) = (bytes, skips, λ tree front. refl)
 
-  pub gives_id_past : Skips count mid new bytes true → count < length id / 2
-      → IfSome old (λ text. EntryGives options id left text new out out (Ok (Err Entry)))
-  gives_id_past skips less = grind (arith, append-nil, append_assoc, length-append, length-take, first_found)
+-- and for the id after a mode and a name, of which so many bytes are in the tree
+module _ (options : CheckOptions) (tree : ParsedObject) (left : ℕ) (new out : Option (List ℕ)) {old mid : Option (List ℕ)} {limit count : ℕ}
+    {front : List ℕ} {named : ParsedFront} (is : limit ≡ min left longest) (read : Fronts nul limit old mid front Byte)
+    (parsed : Some named ≡ parsed_front front)
+    (least : count ≡ min (length tree.id / 2) (left - (length front + 1))) where
+  skipped_cut : (bytes : List ℕ) → Skips count mid new bytes false → IfSome old (λ text. EntryGives options tree left text new out out (Ok (Err Ended)))
+  skipped_cut bytes skips = grind (arith, append-nil, append_assoc, length-append, length-take, first_found)
 
-  first_whole : (len : ℕ) → Skips count mid new bytes true → length id / 2 ≤ count → len ≡ length front + 1 + length id / 2 → IfSome old (λ text.
-      (first_entry id left text ≡ Ok (entry, take (left - len) (drop len text))) × (new ≡ Some (drop len text)) × (len ≤ length text))
-  first_whole len skips more long = grind (arith, append_assoc, length-append, length-take, first_found, drop_before, drop_both)
+  skipped_past : (bytes : List ℕ) → Skips count mid new bytes true → count < length tree.id / 2
+      → IfSome old (λ text. EntryGives options tree left text new out out (Ok (Err Entry)))
+  skipped_past bytes skips less = grind (arith, append-nil, append_assoc, length-append, length-take, first_found)
 
-  pub gives_stop : (after : Option (List ℕ)) (r : Result (Result Checked Fault) RunError) → Skips count mid new bytes true → length id / 2 ≤ count
-      → IsErr r → Begins out after (line_of options id entry) → IfSome old (λ text. EntryGives options id left text new out after r)
-  gives_stop after r skips more stop begins = IfSome_then old (first_whole (length front + 1 + length id / 2) skips more refl) (λ text first. grind arith)
+  first_whole : (bytes : List ℕ) (len : ℕ) → Skips count mid new bytes true → length tree.id / 2 ≤ count → len ≡ length front + 1 + length tree.id / 2
+      → IfSome old (λ text.
+      (first_entry tree left text ≡ Ok (record { front = named; id = bytes }, take (left - len) (drop len text))) × (new ≡ Some (drop len text))
+      × (len ≤ length text))
+  first_whole bytes len skips more long = grind (arith, append_assoc, length-append, length-take, first_found, drop_before, drop_both, id_taken)
 
-  pub gives_entry : (after : Option (List ℕ)) (checked : Checked) → Skips count mid new bytes true → length id / 2 ≤ count
-      → checked.len ≡ length front + 1 + length id / 2
-      → Appends out after (line_of options id entry) → checked.refused ≡ not (is_empty (line_of options id entry))
-      → IfSome old (λ text. EntryGives options id left text new out after (Ok (Ok checked)))
-  gives_entry after checked skips more long appends found =
-      IfSome_then old (first_whole checked.len skips more long) (λ text first. (entry, first.0, first.1, first.2, appends, found))
+  module _ (finding : Finding) (kept : List ℕ) where
+    pub gives_id_cut : PassesId finding count mid new kept false → IfSome old (λ text. EntryGives options tree left text new out out (Ok (Err Ended)))
+    gives_id_cut passes = let (bytes, skips, same) = passed finding count mid new kept false passes in skipped_cut bytes skips
+
+    pub gives_id_past : PassesId finding count mid new kept true → count < length tree.id / 2
+        → IfSome old (λ text. EntryGives options tree left text new out out (Ok (Err Entry)))
+    gives_id_past passes less = let (bytes, skips, same) = passed finding count mid new kept true passes in skipped_past bytes skips less
+
+    pub gives_stop : (after : Option (List ℕ)) (r : Result (Result Checked Fault) RunError) → finding ≡ finding_of options named
+        → PassesId finding count mid new kept true → length tree.id / 2 ≤ count
+        → IsErr r → Begins out after (finding_said tree (record { front = named; id = kept }) finding).lines
+        → IfSome old (λ text. EntryGives options tree left text new out after r)
+    gives_stop after r found passes more stop begins =
+        let (bytes, skips, same) = passed finding count mid new kept true passes in
+        let said : finding_said tree (record { front = named; id = kept }) finding ≡ entry_said options tree (record { front = named; id = bytes }) =
+        same tree named ∙ ap (finding_said tree (record { front = named; id = bytes })) found in
+        IfSome_then old (first_whole bytes (length front + 1 + length tree.id / 2) skips more refl) (λ text first. grind arith)
+
+    pub gives_entry : (after : Option (List ℕ)) (checked : Checked) → finding ≡ finding_of options named
+        → PassesId finding count mid new kept true → length tree.id / 2 ≤ count
+        → checked.len ≡ length front + 1 + length tree.id / 2
+        → Appends out after (finding_said tree (record { front = named; id = kept }) finding).lines
+        → checked.refused ≡ (finding_said tree (record { front = named; id = kept }) finding).refused
+        → IfSome old (λ text. EntryGives options tree left text new out after (Ok (Ok checked)))
+    gives_entry after checked found passes more long appends refused =
+        let (bytes, skips, same) = passed finding count mid new kept true passes in
+        let entry : ParsedEntry = record { front = named; id = bytes } in
+        let said : finding_said tree (record { front = named; id = kept }) finding ≡ entry_said options tree entry =
+        same tree named ∙ ap (finding_said tree entry) found in
+        IfSome_then old (first_whole bytes checked.len skips more long)
+        (λ text first. (entry, first.0, first.1, first.2, rw said at appends, refused ∙ ap (λ (s : Said). s.refused) said))

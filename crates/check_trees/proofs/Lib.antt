@@ -1,9 +1,5 @@
-pub mod SplitTexts
-pub mod Numbers
-pub mod HeaderLines
-pub mod ReportSoFar
+pub mod EntryFronts
 pub mod FirstEntry
 pub mod TreeEntries
-pub mod StreamObjects
-pub mod SpelledStreams
+pub mod SpelledTrees
 pub mod ArgumentWords

@@ -1,5 +1,5 @@
 -- The entries of a tree, one after the other, and a tree while it is read.
-use Rattle.std.proofs.Common.{◌≡◌, ◌≢◌, ℕ, zero, suc, ◌-◌, ◌/◌, ◌<◌, ◌≤◌, Bool, ◌||◌, List, [], ◌∷◌, ◌++◌, Option, None, Result, Ok, Err, length, take, drop}
+use Rattle.std.proofs.Common.{◌≡◌, ◌≢◌, ℕ, zero, suc, ◌-◌, ◌/◌, ◌<◌, ◌≤◌, nat_lt, Bool, ◌||◌, List, [], ◌∷◌, ◌++◌, Option, None, Result, Ok, Err, length, take, drop}
 use Rattle.std.proofs.Common.{refl, arith, append-nil, length-take, length-drop, drop-drop}
 use Rattle.std.proofs.lemmas.List.{take-append-le}
 use Rattle.std.proofs.lemmas.List.Elements.{All-nil}
@@ -7,78 +7,81 @@ use Rattle.std.proofs.lemmas.Option.{IfSome_then}
 use Rattle.std.proofs.lemmas.Bool.Decides.{nat_tests}
 use Rattle.std.proofs.lemmas.Grind.{common_steps}
 use Rattle.std.specs.Prelude.{IfSome, IsErr}
-use Rattle.gix_validate.specs.declared.path.ComponentOptions.{ComponentOptions}
-use Rattle.check_trees.specs.declared.engine.Fault.{Fault}
-use Rattle.check_trees.specs.declared.engine.RunError.{RunError}
+use Rattle.streams.specs.declared.outcome.Fault.{Fault}
+use Rattle.streams.specs.declared.outcome.RunError.{RunError}
+use Rattle.streams.specs.Headers.{ParsedObject}
+use Rattle.streams.specs.Reports.{Said, nothing, then_said}
+use Rattle.streams.specs.Promises.{Begins, Gives}
+use Rattle.streams.proofs.ReportSoFar.{SoFar, goes, ends, stops}
+use Rattle.check_trees.specs.declared.engine.CheckOptions.{CheckOptions}
 use Rattle.check_trees.specs.declared.engine.Checked.{Checked}
-use Rattle.check_trees.specs.Objects.{nul, ParsedEntry, entry_of}
-use Rattle.check_trees.specs.Report.{line_of, entries_then, entries_within, entries, short_of}
-use Rattle.check_trees.specs.Steps.{first_entry, entry_lines, tree_report, Begins, Gives, EntryGives}
+use Rattle.check_trees.specs.Entries.{nul, ParsedEntry, entry_of}
+use Rattle.check_trees.specs.Report.{entry_said, entries_then, entries_within, entries, short_of}
+use Rattle.check_trees.specs.Promises.{first_entry, first_said, tree_report, EntryGives}
 use Rattle.check_trees.proofs.FirstEntry.{entry_shorter, first_cut}
-use Rattle.check_trees.proofs.ReportSoFar.{SoFar, goes, ends, stops}
 
 -- ---- the fuel says nothing, where there is enough
 
-module _ (options : ComponentOptions) (short : Fault) (id : List ℕ) where
+module _ (options : CheckOptions) (short : Fault) (tree : ParsedObject) where
   entries_enough : (f g : ℕ) (bytes : List ℕ) → length bytes ≤ f → length bytes ≤ g
-      → entries_within f options short id bytes ≡ entries_within g options short id bytes
+      → entries_within f options short tree bytes ≡ entries_within g options short tree bytes
   entries_enough zero zero bytes p q = refl
   entries_enough zero (suc g) bytes p q = grind arith
   entries_enough (suc f) zero bytes p q = grind arith
   entries_enough (suc f) (suc g) [] p q = refl
-  entries_enough (suc f) (suc g) (b ∷ bytes) p q = grind (arith, entry_shorter short (length id / 2) (b ∷ bytes), entries_enough f g)
+  entries_enough (suc f) (suc g) (b ∷ bytes) p q = grind (arith, entry_shorter short (length tree.id / 2) (b ∷ bytes), entries_enough f g)
 
   pub entries_first : (bytes : List ℕ) → 0 < length bytes
-      → entries options short id bytes ≡ entries_then (entries options short id) options id (entry_of short (length id / 2) bytes)
+      → entries options short tree bytes ≡ entries_then (entries options short tree) options tree (entry_of short (length tree.id / 2) bytes)
   unfolding entries
   entries_first [] some = grind arith
-  entries_first (b ∷ bytes) some = grind (arith, entry_shorter short (length id / 2) (b ∷ bytes), entries_enough)
+  entries_first (b ∷ bytes) some = grind (arith, entry_shorter short (length tree.id / 2) (b ∷ bytes), entries_enough)
 
-  pub entries_none : entries options short id [] ≡ ([], None)
+  pub entries_none : entries options short tree [] ≡ (nothing, None)
   unfolding entries
   entries_none = refl
 
 -- ---- a tree from its first entry
 
-module _ (options : ComponentOptions) (id : List ℕ) (left : ℕ) where
-  tree_ended : (text : List ℕ) → left ≡ 0 → tree_report options id left text ≡ ([], Ok text)
+module _ (options : CheckOptions) (tree : ParsedObject) (left : ℕ) where
+  tree_ended : (text : List ℕ) → left ≡ 0 → tree_report options tree left text ≡ (nothing, Ok text)
   tree_ended text none = grind (arith, entries_none)
 
-  tree_faulty : (text : List ℕ) (fault : Fault) → 0 < left → first_entry id left text ≡ Err fault → tree_report options id left text ≡ ([], Err fault)
-  tree_faulty [] fault some e = grind (arith, common_steps, entries_none, first_cut id [] [] left (All-nil (λ b. b ≢ nul)) some)
-  tree_faulty (b ∷ text) fault some e = grind (arith, length-take, entries_first options (short_of left (b ∷ text)) id (take left (b ∷ text)))
+  tree_faulty : (text : List ℕ) (fault : Fault) → 0 < left → first_entry tree left text ≡ Err fault → tree_report options tree left text ≡ (nothing, Err fault)
+  tree_faulty [] fault some e = grind (arith, common_steps, entries_none, first_cut tree [] [] left (All-nil (λ b. b ≢ nul)) some)
+  tree_faulty (b ∷ text) fault some e = grind (arith, length-take, entries_first options (short_of (nat_lt (length (b ∷ text)) left)) tree (take left (b ∷ text)))
 
   tree_entry : (text : List ℕ) (len : ℕ) (entry : ParsedEntry) → 0 < len → len ≤ left → len ≤ length text
-      → first_entry id left text ≡ Ok (entry, take (left - len) (drop len text)) → tree_report options id left text
-      ≡ (line_of options id entry ++ (tree_report options id (left - len) (drop len text)).0, (tree_report options id (left - len) (drop len text)).1)
+      → first_entry tree left text ≡ Ok (entry, take (left - len) (drop len text)) → tree_report options tree left text
+      ≡ (then_said (entry_said options tree entry) (tree_report options tree (left - len) (drop len text)).0, (tree_report options tree (left - len) (drop len text)).1)
   tree_entry text len entry some room many e =
-      grind (arith, nat_tests, length-take, length-drop, drop-drop, entries_first options (short_of left text) id (take left text))
+      grind (arith, nat_tests, length-take, length-drop, drop-drop, entries_first options (short_of (nat_lt (length text) left)) tree (take left text))
 
-  tree_begins : (text : List ℕ) (old new : Option (List ℕ)) → 0 < left → Begins old new (entry_lines options id (first_entry id left text))
-      → Begins old new (tree_report options id left text).0
-  tree_begins [] old new some begins = grind (arith, common_steps, entries_none, first_cut id [] [] left (All-nil (λ b. b ≢ nul)) some)
+  tree_begins : (text : List ℕ) (old new : Option (List ℕ)) → 0 < left → Begins old new (first_said options tree (first_entry tree left text)).lines
+      → Begins old new (tree_report options tree left text).0.lines
+  tree_begins [] old new some begins = grind (arith, common_steps, entries_none, first_cut tree [] [] left (All-nil (λ b. b ≢ nul)) some)
   tree_begins (b ∷ text) old new some begins =
-      grind (arith, length-take, take-append-le, entries_first options (short_of left (b ∷ text)) id (take left (b ∷ text)))
+      grind (arith, length-take, take-append-le, entries_first options (short_of (nat_lt (length (b ∷ text)) left)) tree (take left (b ∷ text)))
 
 -- ---- a tree while it is read
 
-module _ (options : ComponentOptions) (id : List ℕ) (size left : ℕ) {a b old mid : Option (List ℕ)} {refused : Bool}
-    (sofar : SoFar (tree_report options id size) (tree_report options id left) a b old mid refused) where
+module _ (options : CheckOptions) (tree : ParsedObject) (size left : ℕ) {a b old mid : Option (List ℕ)} {refused : Bool}
+    (sofar : SoFar (tree_report options tree size) (tree_report options tree left) a b old mid refused) where
   pub tree_goes : (c new : Option (List ℕ)) (entry : Checked) → (0 < entry.len) × (entry.len ≤ left)
-      → IfSome b (λ rest. EntryGives options id left rest c mid new (Ok (Ok entry)))
-      → SoFar (tree_report options id size) (tree_report options id (left - entry.len)) a c old new (refused || entry.refused)
+      → IfSome b (λ rest. EntryGives options tree left rest c mid new (Ok (Ok entry)))
+      → SoFar (tree_report options tree size) (tree_report options tree (left - entry.len)) a c old new (refused || entry.refused)
   tree_goes c new entry bound gives = goes sofar _ c new entry.refused (IfSome_then b gives (λ rest (named, first, after, many, appends, found).
-      (line_of options id named, _, after, tree_entry options id left rest entry.len named bound.0 bound.1 many first, appends, found)))
+      (entry_said options tree named, _, after, tree_entry options tree left rest entry.len named bound.0 bound.1 many first, appends, found)))
 
-  pub tree_faults : (new : Option (List ℕ)) (fault : Fault) → 0 < left → IfSome b (λ rest. EntryGives options id left rest b mid new (Ok (Err fault)))
-      → IfSome a (λ text. Gives (tree_report options id size text) b old new (Ok (Err fault)))
-  tree_faults new fault some gives = ends sofar new (Err fault) (IfSome_then b gives (λ rest e. ([], tree_faulty options id left rest fault some e.0, e.1)))
+  pub tree_faults : (new : Option (List ℕ)) (fault : Fault) → 0 < left → IfSome b (λ rest. EntryGives options tree left rest b mid new (Ok (Err fault)))
+      → IfSome a (λ text. Gives (tree_report options tree size text) b old new (Ok (Err fault)))
+  tree_faults new fault some gives = ends sofar new (Err fault) (IfSome_then b gives (λ rest e. (nothing, tree_faulty options tree left rest fault some e.0, e.1)))
 
-  pub tree_ends : left ≡ 0 → IfSome a (λ text. Gives (tree_report options id size text) b old mid (Ok (Ok refused)))
+  pub tree_ends : left ≡ 0 → IfSome a (λ text. Gives (tree_report options tree size text) b old mid (Ok (Ok refused)))
   tree_ends none = IfSome_then a sofar.known (λ text so. grind (arith, append-nil, tree_ended))
 
   pub tree_stops : (c new : Option (List ℕ)) (r : Result (Result Bool Fault) RunError) → 0 < left → IsErr r
-      → IfSome b (λ rest. Begins mid new (entry_lines options id (first_entry id left rest)))
-      → IfSome a (λ text. Gives (tree_report options id size text) c old new r)
+      → IfSome b (λ rest. Begins mid new (first_said options tree (first_entry tree left rest)).lines)
+      → IfSome a (λ text. Gives (tree_report options tree size text) c old new r)
   tree_stops c new r some stop begun =
-      IfSome_then a (stops sofar new (IfSome_then b begun (λ rest e. tree_begins options id left rest mid new some e))) (λ text e. grind arith)
+      IfSome_then a (stops sofar new (IfSome_then b begun (λ rest e. tree_begins options tree left rest mid new some e))) (λ text e. grind arith)

@@ -3,6 +3,7 @@ use Rattle.std.specs.Prelude.{ℕ, true, false, ◌==◌, if◌then◌else◌, L
 use Rattle.std.specs.Str.{byte, bytes_eq}
 use Rattle.gix_validate.specs.declared.path.ComponentOptions.{ComponentOptions}
 use Rattle.gix_validate.specs.Component.{all_protections}
+use Rattle.check_trees.specs.declared.engine.CheckOptions.{CheckOptions}
 use Rattle.check_trees.specs.declared.arguments.Request.{Request}
 use Rattle.check_trees.specs.declared.arguments.Request.TheVariants.{Check, Help, Version}
 use Rattle.check_trees.specs.declared.arguments.ArgumentError.{ArgumentError}
@@ -52,25 +53,40 @@ abbrev pub wrong_argument : ArgumentError → WrongArgument
 wrong_argument (error.Unknown word) = Unknown word.now
 wrong_argument (error.Protections list) = Protections list.now
 
--- what is asked for from a word on; `listed` is asked for where the word is `--protect`
-abbrev pub request_at_word : List ℕ → Result Request WrongArgument → Result Request WrongArgument
-request_at_word word listed =
+-- the same options with others of the three
+abbrev pub with_protections : ComponentOptions → CheckOptions → CheckOptions
+with_protections protections options = record { protections = protections; modules = options.modules; whole = options.whole }
+
+abbrev pub with_modules : CheckOptions → CheckOptions
+with_modules options = record { protections = options.protections; modules = true; whole = options.whole }
+
+abbrev pub with_end : CheckOptions → CheckOptions
+with_end options = record { protections = options.protections; modules = options.modules; whole = true }
+
+-- what is asked for from a word on: `modules`, `whole` or `listed` where the word is `--modules`, `--end` or `--protect`
+abbrev pub request_at_word : List ℕ → (modules whole listed : Result Request WrongArgument) → Result Request WrongArgument
+request_at_word word modules whole listed =
     if bytes_eq word (codes "--help") then Ok Help else
     if bytes_eq word (codes "--version") then Ok Version else
+    if bytes_eq word (codes "--modules") then modules else
+    if bytes_eq word (codes "--end") then whole else
     if bytes_eq word (codes "--protect") then listed else
     Err (Unknown word)
 
--- what is asked for behind a list, by the switches that it asks for
-abbrev pub request_behind : List ℕ → (ComponentOptions → Result Request WrongArgument) → Option ComponentOptions → Result Request WrongArgument
-request_behind list more None = Err (Protections list)
-request_behind list more (Some options) = more options
+-- what is asked for after a list, by the switches that it asks for
+abbrev pub request_after : List ℕ → (ComponentOptions → Result Request WrongArgument) → Option ComponentOptions → Result Request WrongArgument
+request_after list more None = Err (Protections list)
+request_after list more (Some options) = more options
 
--- what words ask for, read from the first, where a check would have these switches so far: a later list replaces them
-abbrev pub request_from : ComponentOptions → List (List ℕ) → Result Request WrongArgument
+-- what words ask for, read from the first, where a check would have these options so far: a later list replaces an earlier one
+abbrev pub request_from : CheckOptions → List (List ℕ) → Result Request WrongArgument
 request_from options [] = Ok (Check options)
-request_from options (word ∷ []) = request_at_word word (Err (Protections []))
-request_from options (word ∷ list ∷ words) = request_at_word word (request_behind list (λ on. request_from on words) (protections_of list))
+request_from options (word ∷ []) =
+    request_at_word word (Ok (Check (with_modules options))) (Ok (Check (with_end options))) (Err (Protections []))
+request_from options (word ∷ list ∷ words) =
+    request_at_word word (request_from (with_modules options) (list ∷ words)) (request_from (with_end options) (list ∷ words))
+    (request_after list (λ on. request_from (with_protections on options) words) (protections_of list))
 
--- what all arguments ask for: a check has every switch where no list is given
+-- what all arguments ask for: a check has every switch where no list is given, and nothing more where no other word is
 abbrev pub request_of : List (List ℕ) → Result Request WrongArgument
-request_of words = request_from all_protections words
+request_of words = request_from (record { protections = all_protections; modules = false; whole = false }) words

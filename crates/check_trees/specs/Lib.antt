@@ -1,6 +1,5 @@
-pub mod Objects
+pub mod Entries
 pub mod Report
-pub mod Steps
-pub mod Texts
 pub mod Spelled
+pub mod Promises
 pub mod Arguments

@@ -1,11 +1,14 @@
--- The same from the other side: what is reported of a stream that is spelled out, object by object and entry by entry.
-use Rattle.std.specs.Prelude.{◌≡◌, ◌≢◌, ℕ, ◌+◌, ◌/◌, ◌<◌, ◌≤◌, true, false, List, [], ◌∷◌, ◌++◌, All, length, flat_map, codes, Some}
+-- The same from the other side: a tree that is written out, entry by entry.
+use Rattle.std.specs.Prelude.{◌≡◌, ◌≢◌, ◌↔◌, ℕ, ◌+◌, ◌/◌, ◌≤◌, false, List, [], ◌∷◌, ◌++◌, All, length, map, flat_map, Some, None}
 use Rattle.std.specs.List.{AllByRecursion}
 use Rattle.std.specs.Str.{byte}
-use Rattle.gix_validate.specs.declared.path.ComponentOptions.{ComponentOptions}
-use Rattle.gix_validate.specs.Component.{fault_of}
-use Rattle.check_trees.specs.Objects.{line_end, nul, longest, number_of, is_id, is_tree_type, kind_of}
-use Rattle.check_trees.specs.Report.{line_if, report, objects, before_report}
+use Rattle.streams.specs.Texts.{number_of}
+use Rattle.streams.specs.Headers.{ParsedObject}
+use Rattle.streams.specs.Reports.{longest, Said, all_said}
+use Rattle.streams.specs.declared.header.Kind.TheVariants.{Tree}
+use Rattle.check_trees.specs.declared.engine.CheckOptions.{CheckOptions}
+use Rattle.check_trees.specs.Entries.{nul, named}
+use Rattle.check_trees.specs.Report.{entry_said, tree_rule}
 
 -- an entry of a tree: its mode and that as a number, its name, and the id of what it names
 pub record Item : Type 0 where
@@ -22,44 +25,19 @@ IsItem width item =
 abbrev pub item_bytes : Item → List ℕ
 item_bytes item = item.mode ++ byte " " ∷ item.name ++ nul ∷ item.id
 
--- what is printed of an entry of this tree
-abbrev pub item_line : ComponentOptions → List ℕ → Item → List ℕ
-item_line options tree item = line_if tree item.mode item.name (fault_of options (kind_of item.number) item.name)
+-- what is said of an entry of this tree
+abbrev pub item_said : CheckOptions → ParsedObject → Item → Said
+item_said options tree item = entry_said options tree (record { front = named item.mode item.name item.number; id = item.id })
 
--- an object, with the digits of its size
-pub data Spelled : Type 0 where
-  Tree : (id size : List ℕ) → (items : List Item) → Spelled
-  Other : (id kind size content : List ℕ) → Spelled
-  Absent : (id : List ℕ) → Spelled
+-- a tree of these bytes: its entries, whose ids are as long as its own, and what is said of them
+pub record IsTree (options : CheckOptions) (tree : ParsedObject) (bytes : List ℕ) (said : Said) : Type 0 where
+  pub items : List Item
+  pub each : AllByRecursion (IsItem (length tree.id / 2)) items
+  pub bytes_are : bytes ≡ flat_map item_bytes items
+  pub said_is : said ≡ all_said (map (item_said options tree) items)
 
--- the header line of an object, without its end
-abbrev pub header_line : List ℕ → List ℕ → List ℕ → List ℕ
-header_line id kind size = id ++ byte " " ∷ kind ++ byte " " ∷ size
-
-abbrev pub IsSpelled : Spelled → Type 0
-IsSpelled (Tree id size items) =
-    (is_id id ≡ true) × (number_of 10 size ≡ Some (length (flat_map item_bytes items))) × AllByRecursion (IsItem (length id / 2)) items
-    × (length (header_line id (codes "tree") size) < longest)
-IsSpelled (Other id kind size content) =
-    (is_id id ≡ true) × (is_tree_type kind ≡ Some false) × (number_of 10 size ≡ Some (length content))
-    × (length (header_line id kind size) < longest)
-IsSpelled (Absent id) = is_id id ≡ true
-
--- what Git prints of it
-abbrev pub spelling : Spelled → List ℕ
-spelling (Tree id size items) = header_line id (codes "tree") size ++ line_end ∷ (flat_map item_bytes items ++ line_end ∷ [])
-spelling (Other id kind size content) = header_line id kind size ++ line_end ∷ (content ++ line_end ∷ [])
-spelling (Absent id) = id ++ codes " missing" ++ line_end ∷ []
-
--- what the program prints of it: the lines of a tree's entries, in order
-abbrev pub spelled_lines : ComponentOptions → Spelled → List ℕ
-spelled_lines options (Tree id size items) = flat_map (item_line options id) items
-spelled_lines options (Other id kind size content) = []
-spelled_lines options (Absent id) = []
-
--- A stream that is spelled out gives exactly these lines, and then what follows it gives its own.
-abbrev pub IsReportedInOrder : ComponentOptions → Type 0
-IsReportedInOrder options =
-    (stream : List Spelled) (rest : List ℕ) → AllByRecursion IsSpelled stream
-    → report options (flat_map spelling stream ++ rest)
-    ≡ before_report (flat_map (spelled_lines options) stream) (objects options (1 + length stream) rest)
+-- The bytes of a tree are well-formed if and only if they are such entries one after the other, and then just that is said.
+abbrev pub IsReadAsItems : CheckOptions → Type 0
+IsReadAsItems options =
+    (tree : ParsedObject) (bytes : List ℕ) (said : Said) → tree.kind ≡ Tree
+    → (tree_rule options false tree bytes ≡ (said, None)) ↔ IsTree options tree bytes said

@@ -5,6 +5,7 @@ ghost use Rattle.std.specs.Result.{result_map_both};
 ghost use Rattle.std.specs.String.{string_bytes};
 ghost use Rattle.check_trees.specs.Arguments.{protections_of, request_of, switched_on, wrong_argument};
 
+use crate::engine::CheckOptions;
 use gix_validate::path::ComponentOptions;
 use memchr::memchr;
 use std::error::Error;
@@ -14,7 +15,7 @@ use std::fmt;
 #[derive(Debug, Clone, Copy)]
 pub enum Request {
     /// To check standard input under these options.
-    Check(ComponentOptions),
+    Check(CheckOptions),
     /// The help.
     Help,
     /// The version.
@@ -51,18 +52,30 @@ impl Error for ArgumentError<'_> {}
 pub fn request_of(words: &[String]) -> Result<Request, ArgumentError<'_>>
     ensures { result_map_both (λ request. request) wrong_argument result ≡ request_of (map string_bytes words.now) }
 {
-    let mut options = ComponentOptions::default();
+    let mut options = CheckOptions {
+        protections: ComponentOptions::default(),
+        modules: false,
+        whole: false,
+    };
     let mut rest = words;
     while let [word, after @ ..] = rest {
         match word.as_str() {
             "--help" => return Ok(Request::Help),
             "--version" => return Ok(Request::Version),
+            "--modules" => {
+                options.modules = true;
+                rest = after;
+            }
+            "--end" => {
+                options.whole = true;
+                rest = after;
+            }
             "--protect" => match after {
                 [] => return Err(ArgumentError::Protections("")),
                 [list, others @ ..] => {
-                    options = protections_of(list.as_bytes()).ok_or(ArgumentError::Protections(
-                        list.as_str(),
-                    ))?;
+                    options.protections = protections_of(list.as_bytes()).ok_or(
+                        ArgumentError::Protections(list.as_str()),
+                    )?;
                     rest = others;
                 }
             },

@@ -2,23 +2,27 @@
 //! as `git cat-file --batch` prints objects.
 #![tactic(auto)]
 
-ghost use Rattle.std.specs.Prelude.{◌≡◌, IfOk, IfSome};
-ghost use Rattle.check_trees.specs.Report.{report, verdict_of};
+ghost use Rattle.std.specs.Prelude.{◌≡◌, ◌≤◌, Ok, IfSome, map};
+ghost use Rattle.std.specs.Process.{exit_status};
+ghost use Rattle.std.specs.String.{string_bytes};
+ghost use Rattle.streams.specs.Reports.{verdict_of};
+ghost use Rattle.check_trees.specs.Arguments as arguments_rule;
+ghost use Rattle.check_trees.specs.Report.{report};
 
 mod arguments;
 mod engine;
-mod header;
-mod input;
+mod entry;
 mod output;
 
 use arguments::Request;
-use engine::{RunError, Verdict};
-use gix_validate::path::ComponentOptions;
-use std::alloc::Global;
+use engine::CheckOptions;
 use std::env;
-use std::fmt::Display;
-use std::io::{BufReader, BufWriter, ErrorKind, Read, Write};
+use std::io::{ErrorKind, Read, Write};
 use std::process::ExitCode;
+use streams::outcome::{RunError, Verdict};
+use streams::program::{exit_code, failed, printed};
+
+const NAME: &str = "check_trees";
 
 const HELP: &str = "\
 Prints a line for each entry of a Git tree whose name is refused:
@@ -26,82 +30,55 @@ Prints a line for each entry of a Git tree whose name is refused:
     git rev-list --objects --no-object-names --filter=object:type=tree \\
         --filter-provided-objects --all | git cat-file --batch | check_trees
 
-Standard input is what `git cat-file --batch` prints. A line has the id of the
-tree, the mode, the quoted name and the fault.
+Standard input is what `git cat-file --batch` prints, also with %(rest) at the
+end of its format. A line has the id of the tree, the mode, the quoted name, why
+it is refused, and the rest of the tree's header line, if it is not empty.
 
     --protect LIST    the systems to protect, separated by commas: windows, hfs
-                      and ntfs, or none. All three where it is not given
+                      and ntfs, or none. The default is all three
+    --modules         prints a line, too, for each file that a checkout reads as
+                      .gitmodules: 'modules', its id, and the place as above
+    --end             the input has to be whole: '..end missing', which Git prints
+                      for the word '..end', is its last line, and no object is
+                      missing
     --help            prints this text
     --version         prints the version
 
-The status is 0 where nothing is refused, 1 where something is, and 2 where the
-input is malformed, reading or writing fails, memory runs out, or an argument is
-wrong.";
-
-/// How many bytes are read or written at once.
-const BUFFERED: usize = 65_536;
+The status is 0 if nothing is refused, 1 if something is, and 2 if the input is
+malformed, reading or writing fails, memory runs out, or an argument is wrong.
+Names are checked for Windows if both windows and ntfs are protected.";
 
 fn main(rt: HostRuntime) -> ExitCode {
     let words: Vec<String> = match env::args(&rt) {
         Ok(args) => match args.skip(1).collect(rt.alloc()) {
             Ok(words) => words,
-            Err(_) => return failed(&rt, RunError::Memory),
+            Err(_) => return failed(&rt, NAME, RunError::Memory),
         },
-        Err(e) if e.kind() == ErrorKind::OutOfMemory => return failed(&rt, RunError::Memory),
-        Err(_) => return failed(&rt, "the arguments can't be read as UTF-8"),
+        Err(e) if e.kind() == ErrorKind::OutOfMemory => return failed(&rt, NAME, RunError::Memory),
+        Err(_) => return failed(&rt, NAME, "the arguments can't be read as UTF-8"),
     };
-    match arguments::request_of(&words) {
-        Ok(Request::Check(options)) => check(&rt, options),
-        Ok(Request::Help) => printed(&rt, HELP),
-        Ok(Request::Version) => printed(&rt, "check_trees 2"),
-        Err(fault) => failed(&rt, fault),
-    }
+    run(&rt, &words, rt.stdin(), rt.stdout())
 }
 
-/// Checks standard input. The lines of refused names are written before the status is known.
-fn check(rt: &HostRuntime, options: ComponentOptions) -> ExitCode {
-    match run_buffered(rt.alloc(), options, rt.stdin(), rt.stdout()) {
-        Ok(Verdict::Clean) => ExitCode::SUCCESS,
-        Ok(Verdict::Refused) => ExitCode::FAILURE,
-        Ok(Verdict::Malformed { object, fault }) => {
-            failed(
-                rt,
-                format_args!("malformed input: object {object}: {fault}"),
-            )
-        }
-        Err(stop) => failed(rt, stop),
-    }
-}
-
-/// `engine::run` with a buffer on either side, and all that was reported written out.
-fn run_buffered<R: Read + Drop, W: Write + Drop>(
-    alloc: Global,
-    options: ComponentOptions,
+/// Does what the arguments ask for.
+fn run<R: Read + Drop, W: Write + Drop>(
+    rt: &HostRuntime,
+    words: &[String],
     input: R,
     output: W,
-) -> Result<Verdict, RunError>
-    ensures { IfOk result (λ verdict. IfSome (R.remaining input) (λ text.
-        verdict ≡ verdict_of (report options text))) }
+) -> ExitCode
+    ensures clean { IfSome (R.remaining input) (λ text. (options : CheckOptions)
+        → arguments_rule.request_of (map string_bytes words.now) ≡ Ok (Request.Check options)
+        → exit_status result ≡ 0 → verdict_of (report options text) ≡ Verdict.Clean) }
+    ensures refused { IfSome (R.remaining input) (λ text. (options : CheckOptions)
+        → arguments_rule.request_of (map string_bytes words.now) ≡ Ok (Request.Check options)
+        → exit_status result ≡ 1 → verdict_of (report options text) ≡ Verdict.Refused) }
+    ensures status { exit_status result ≤ 2 }
 {
-    let mut input = BufReader::with_capacity(alloc, BUFFERED, input).map_err(|_| RunError::Memory)?;
-    let mut output = BufWriter::with_capacity(alloc, BUFFERED, output).map_err(
-        |_| RunError::Memory,
-    )?;
-    let verdict = engine::run(alloc, options, &mut input, &mut output);
-    output.flush().map_err(|_| RunError::Write)?;
-    verdict
-}
-
-/// Says on standard error why there is no answer.
-fn failed(rt: &HostRuntime, what: impl Display + Drop) -> ExitCode {
-    let _ = eprintln!(rt; "check_trees: {what}");
-    ExitCode::from(2)
-}
-
-/// Prints what was asked for in place of a check.
-fn printed(rt: &HostRuntime, text: &str) -> ExitCode {
-    match println!(rt; "{text}") {
-        Ok(()) => ExitCode::SUCCESS,
-        Err(_) => failed(rt, RunError::Write),
+    match arguments::request_of(words) {
+        Ok(Request::Check(options)) => exit_code(rt, NAME, "object", options, input, output),
+        Ok(Request::Help) => printed(rt, NAME, HELP),
+        Ok(Request::Version) => printed(rt, NAME, "check_trees 2"),
+        Err(fault) => failed(rt, NAME, fault),
     }
 }

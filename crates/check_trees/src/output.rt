@@ -1,90 +1,79 @@
 //! The lines of the report.
 
-ghost use Rattle.std.specs.Prelude.{◌≡◌, ◌++◌, OnOk, OnErr};
-ghost use Rattle.std.specs.Io.KnownBytes.{Appends};
-ghost use Rattle.gix_validate.specs.Quoted.{escape_of, quoted};
-ghost use Rattle.check_trees.specs.Report.{refused_line};
-ghost use Rattle.check_trees.specs.Steps.{Begins};
+ghost use Rattle.std.specs.Prelude.{◌≡◌, ◌++◌, OnOk};
+ghost use Rattle.std.specs.Option.{option_map};
+ghost use Rattle.streams.specs.Promises.{as_object};
+ghost use Rattle.check_trees.specs.Report.{in_path, modules_line, place, refused_line};
+ghost use Rattle.check_trees.specs.Promises.{as_front};
 
-use crate::engine::RunError;
+use crate::entry::Front;
 use gix_validate::path::ComponentError;
 use std::alloc::AllocError;
 use std::io;
-use std::io::{ErrorKind, Write};
-
-const HEX_DIGITS: &[u8; 16] = b"0123456789abcdef";
+use std::io::Write;
+use streams::header::Object;
+use streams::output::{push_hex, push_quoted};
 
 /// Puts the line of a refused entry in place of the last one.
-pub(crate) fn set_line(
+pub(crate) fn set_refused_line(
     line: &mut Vec<u8>,
-    id: &[u8],
-    mode: &[u8],
-    name: &[u8],
+    tree: Object<'_>,
+    front: Front<'_>,
     fault: ComponentError,
 ) -> io::Result<()>
-    ensures { OnOk result (line.new.items ≡ refused_line id.now mode.now name.now fault) }
+    ensures { OnOk result (line.new.items ≡ refused_line (as_object tree.entry) (as_front front.entry) fault) }
 {
     line.clear();
-    line.extend_from_slice(id)?;
-    line.push(b' ')?;
-    line.extend_from_slice(mode)?;
-    line.push(b' ')?;
-    push_quoted(line, name)?;
+    push_place(line, tree, front)?;
     line.push(b' ')?;
     write!(line, "{fault}")?;
+    push_path(line, tree.rest)?;
     line.push(b'\n')?;
     Ok(())
 }
 
-/// Appends a name as it is shown between double quotes (docs/RULES.md, "Quoted bytes").
-fn push_quoted(line: &mut Vec<u8>, name: &[u8]) -> Result<(), AllocError>
-    ensures { OnOk result (line.new.items ≡ line.old.items ++ quoted name.now) }
+/// Puts the line of a file that is read as `.gitmodules` in place of the last one. Its id is in
+/// bytes.
+pub(crate) fn set_modules_line(
+    line: &mut Vec<u8>,
+    tree: Object<'_>,
+    front: Front<'_>,
+    id: &[u8],
+) -> io::Result<()>
+    ensures { OnOk result (line.new.items ≡ modules_line (as_object tree.entry) (as_front front.entry) id.now) }
 {
-    line.push(b'"')?;
-    for byte in name {
-        push_escape(line, *byte)?;
-    }
-    line.push(b'"')?;
+    line.clear();
+    line.extend_from_slice(b"modules ")?;
+    push_hex(line, id)?;
+    line.push(b' ')?;
+    push_place(line, tree, front)?;
+    push_path(line, tree.rest)?;
+    line.push(b'\n')?;
     Ok(())
 }
 
-/// Appends a byte as it is shown between double quotes.
-fn push_escape(line: &mut Vec<u8>, byte: u8) -> Result<(), AllocError>
-    ensures { OnOk result (line.new.items ≡ line.old.items ++ escape_of byte) }
+/// Appends the tree's id, the mode and the quoted name of an entry.
+fn push_place(line: &mut Vec<u8>, tree: Object<'_>, front: Front<'_>) -> Result<(), AllocError>
+    ensures { OnOk result (line.new.items ≡ line.old.items ++ place (as_object tree.entry) (as_front front.entry)) }
 {
-    match byte {
-        0 => line.extend_from_slice(b"\\0"),
-        b'\t' => line.extend_from_slice(b"\\t"),
-        b'\n' => line.extend_from_slice(b"\\n"),
-        b'\r' => line.extend_from_slice(b"\\r"),
-        b'"' => line.extend_from_slice(b"\\\""),
-        b'\\' => line.extend_from_slice(b"\\\\"),
-        0x20..=0x7e => line.extend_from_slice(&[byte]),
-        _ => line.extend_from_slice(&[
-            b'\\',
-            b'x',
-            HEX_DIGITS[usize::from(byte / 16)],
-            HEX_DIGITS[usize::from(byte % 16)],
-        ]),
-    }
+    line.extend_from_slice(tree.id)?;
+    line.push(b' ')?;
+    line.extend_from_slice(front.mode)?;
+    line.push(b' ')?;
+    push_quoted(line, front.name)
 }
 
-/// Writes all of the bytes. What a failed call has written is a front of them.
-pub(crate) fn write_whole<W: Write>(bytes: &[u8], output: &mut W) -> Result<(), RunError>
-    ensures ok { OnOk result (Appends (W.contents output.old) (W.contents output.new) bytes.now) }
-    ensures err { OnErr result (Begins (W.contents output.old) (W.contents output.new) bytes.now) }
+/// Appends where the tree is, if that is known.
+fn push_path(line: &mut Vec<u8>, rest: Option<&[u8]>) -> Result<(), AllocError>
+    ensures { OnOk result (line.new.items ≡ line.old.items ++ in_path (option_map (λ rest. rest.now) rest.entry)) }
 {
-    let mut written = 0;
-    for _ in 0..u64::MAX {
-        if written >= bytes.len() {
-            return Ok(());
+    match rest {
+        Some(path) if !path.is_empty() => {
+            line.extend_from_slice(b" (in ")?;
+            push_quoted(line, path)?;
+            line.push(b')')?;
+            Ok(())
         }
-        match output.write(&bytes[written..]) {
-            Ok(0) => return Err(RunError::Write),
-            Ok(count) => written += count,
-            Err(e) if e.kind() == ErrorKind::Interrupted => {}
-            Err(_) => return Err(RunError::Write),
-        }
+        _ => Ok(()),
     }
-    Err(RunError::Write)
 }

@@ -14,8 +14,8 @@ use Rattle.streams.specs.Texts.{split_once}
 
 -- ---- so many bytes of two texts, one after the other
 
-pub take_behind : (front rest : List ℕ) (n : ℕ) → length front ≤ n → take n (front ++ rest) ≡ front ++ take (n - length front) rest
-take_behind front rest n some = grind (arith, take-append-add front rest (n - length front))
+pub take_after : (front rest : List ℕ) (n : ℕ) → length front ≤ n → take n (front ++ rest) ≡ front ++ take (n - length front) rest
+take_after front rest n some = grind (arith, take-append-add front rest (n - length front))
 
 pub take_past : (front rest : List ℕ) (b n : ℕ) → length front < n → take n (front ++ b ∷ rest) ≡ front ++ b ∷ take (n - length front - 1) rest
 take_past front rest b n some = grind (arith, take-append-add front (b ∷ rest) (suc (n - length front - 1)))

@@ -8,6 +8,7 @@ use Rattle.std.proofs.lemmas.Slice.Eq.{bytes_eq-Decides}
 use Rattle.streams.specs.declared.outcome.Fault.{Fault}
 use Rattle.streams.specs.declared.lines.Ending.TheVariants.{EndLine}
 use Rattle.streams.specs.Texts.{line_end, split_once}
+use Rattle.streams.specs.Objects.{ObjectRule, object_rule, IsWholeStream}
 use Rattle.streams.specs.Reports.{longest, Said, Step, LineRule, with_rest, line_with, line_of, Report, lines_then, end_line, at_end_line, lines_within, lines_from, report, IsWhole}
 
 abbrev Within : List ℕ → List ℕ → Type 0
@@ -60,3 +61,7 @@ module _ (rule : LineRule) where
   pub ended_whole : IsWhole rule
   unfolding report lines_from
   ended_whole text none = lines_ended (length text) 1 text none
+
+pub whole_stream : (rule : ObjectRule) (whole : Bool) → IsWholeStream rule whole
+whole_stream rule true asked text none = ended_whole (object_rule rule true) text none
+whole_stream rule false asked text none = grind arith

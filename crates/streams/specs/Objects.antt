@@ -1,5 +1,5 @@
 -- A stream of objects as `git cat-file --batch` prints them: a header line, as many bytes as it says, and LF.
-use Rattle.std.specs.Prelude.{ℕ, ◌+◌, Bool, true, false, ◌==◌, nat_lt, if◌then◌else◌, List, [], ◌∷◌, length, take, drop}
+use Rattle.std.specs.Prelude.{◌≡◌, ℕ, ◌+◌, ◌++◌, Bool, true, false, ◌==◌, nat_lt, if◌then◌else◌, List, [], ◌∷◌, length, take, drop}
 use Rattle.std.specs.Prelude.{Option, Some, None, Result, Ok, Err}
 use Rattle.streams.specs.declared.outcome.Fault.{Fault}
 use Rattle.streams.specs.declared.outcome.Fault.TheVariants.{Header, Ended, LineEnd, Absent}
@@ -7,7 +7,7 @@ use Rattle.streams.specs.declared.lines.Ending.{Ending}
 use Rattle.streams.specs.declared.lines.Ending.TheVariants.{Anywhere, EndLine}
 use Rattle.streams.specs.Texts.{line_end}
 use Rattle.streams.specs.Headers.{ParsedObject, ParsedHeader, Missing, Object, parsed_header}
-use Rattle.streams.specs.Reports.{Said, nothing, LineRule, Report, report}
+use Rattle.streams.specs.Reports.{Said, nothing, LineRule, end_line, Report, report}
 
 -- what is said of a part of an object, and what is wrong with it, if something is
 abbrev pub Judged : Type 0
@@ -47,3 +47,8 @@ ending_of false = Anywhere
 -- the report of a stream of objects
 abbrev pub object_report : ObjectRule → Bool → List ℕ → Report
 object_report rule whole text = report (object_rule rule whole) (ending_of whole) text
+
+-- A stream that has to be whole is well-formed only if the line for that ends it.
+abbrev pub IsWholeStream : ObjectRule → Bool → Type 0
+IsWholeStream rule whole =
+    whole ≡ true → (text : List ℕ) → (object_report rule whole text).malformed ≡ None → (front : List ℕ) × (text ≡ front ++ end_line)

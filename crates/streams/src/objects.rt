@@ -2,7 +2,7 @@
 
 ghost use Rattle.std.specs.Prelude.{◌≡◌, [], Some, false, IfOk, OnErr, IfSome, OnSome};
 ghost use Rattle.std.specs.Io.KnownBytes.{Appends, IsAtEnd};
-ghost use Rattle.streams.specs.Objects.{ObjectRule, ending_of, object_report, object_rule, object_step};
+ghost use Rattle.streams.specs.Objects.{IsWholeStream, ObjectRule, ending_of, object_report, object_rule, object_step};
 ghost use Rattle.streams.specs.Reports.{end_line, is_malformed, verdict_of, with_rest};
 ghost use Rattle.streams.specs.Promises.{Begins, Closes, Gives, as_object, body_step};
 ghost use Rattle.streams.specs.Spelled.{IsReportedInOrder, IsWellFormedOnlyIfSpelled};
@@ -108,7 +108,7 @@ fn close<R: BufRead>(
 /// # Memory
 ///
 /// The longest header line, of at most 65,536 bytes, and what `check` allocates, of `alloc`.
-#[tactic(auto, using(crate::proofs::SpelledStreams::reported_in_order, crate::proofs::WellFormedStreams::well_formed_only_if_spelled))]
+#[tactic(auto, using(crate::proofs::SpelledStreams::reported_in_order, crate::proofs::WellFormedStreams::well_formed_only_if_spelled, crate::proofs::WholeStreams::whole_stream))]
 pub fn run<C: ObjectCheck, R: BufRead, W: Write>(
     alloc: Global,
     check: C,
@@ -127,6 +127,7 @@ pub fn run<C: ObjectCheck, R: BufRead, W: Write>(
         Begins (W.contents output.old) (W.contents output.new) (object_report (C.object_rule check) whole text).said.lines)) }
     ensures spelled { IsReportedInOrder (C.object_rule check) whole }
     ensures well_formed { IsWellFormedOnlyIfSpelled (C.object_rule check) whole }
+    ensures whole { IsWholeStream (C.object_rule check) whole }
 {
     let objects = Objects { check, whole };
     lines::run(alloc, objects, ending_of(whole), input, output)

@@ -30,9 +30,10 @@ pub trait Check: Copy {
             × (verdict ≡ verdict_of (report self text)))) };
 }
 
-/// Checks the input, and gives the status that the program `name` ends with: 0 where nothing is
-/// refused, 1 where something is, and 2, with a message on standard error, where that isn't known.
-/// The lines of the report are written before the status is known.
+/// Checks the input, and gives the status that the program `name` ends with: 0 if nothing is
+/// refused, 1 if something is, and 2, with a message on standard error, if that isn't known. The
+/// message calls a part of the input a `unit`, as `object` or `line`. The lines of the report are
+/// written before the status is known.
 ///
 /// # Memory
 ///
@@ -40,6 +41,7 @@ pub trait Check: Copy {
 pub fn exit_code<C: Check, R: Read + Drop, W: Write + Drop>(
     rt: &HostRuntime,
     name: &str,
+    unit: &str,
     check: C,
     input: R,
     output: W,
@@ -55,7 +57,7 @@ pub fn exit_code<C: Check, R: Read + Drop, W: Write + Drop>(
             failed(
                 rt,
                 name,
-                format_args!("malformed input: number {number}: {fault}"),
+                format_args!("malformed input: {unit} {number}: {fault}"),
             )
         }
         Err(stop) => failed(rt, name, stop),

@@ -1,5 +1,5 @@
 use Rattle.std.proofs.Common.{arith}
-use Rattle.check_trees.proofs.ReportSoFar.{starts}
+use Rattle.streams.proofs.ReportSoFar.{starts}
 use Rattle.check_trees.proofs.TreeEntries.{tree_goes, tree_faults, tree_ends, tree_stops}
 use Rattle.check_trees.proofs.engine.check_tree.Goals as goal
 

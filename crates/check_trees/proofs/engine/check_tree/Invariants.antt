@@ -1,10 +1,13 @@
--- the lines of the entries so far are appended, and those of what is left follow
-use Rattle.check_trees.specs.Steps.{tree_report}
-use Rattle.check_trees.proofs.ReportSoFar.{SoFar}
+-- what was said of the entries so far is appended, and what is said of those that are left follows
+use Rattle.streams.specs.Promises.{as_object}
+use Rattle.streams.proofs.ReportSoFar.{SoFar}
+use Rattle.check_trees.specs.Promises.{tree_report}
 use Rattle.check_trees.proofs.engine.check_tree.Given as goal
 
 abbrev pub invariant-loop-left : goal.invariant-loop-left
-invariant-loop-left g l = SoFar (tree_report l.tree.options l.tree.id.now l.size) (tree_report l.tree.options l.tree.id.now l.left)
+invariant-loop-left g l =
+    let tree = as_object l.tree in
+    SoFar (tree_report l.options tree l.tree.size) (tree_report l.options tree l.left)
     (g.R.Read.remaining l.fn.input) (g.R.Read.remaining l.input) (g.W.Write.contents l.fn.output) (g.W.Write.contents l.output) l.refused
 
 abbrev pub decreases-loop-left : goal.decreases-loop-left

@@ -1,0 +1,155 @@
+-- The bytes of a tree are read as its entries, and nothing else is well-formed.
+use Rattle.std.proofs.Common.{◌≡◌, ◌≢◌, ℕ, zero, suc, ◌+◌, ◌/◌, ◌<◌, ◌≤◌, Bool, true, false, if◌then◌else◌, List, [], ◌∷◌, ◌++◌, All, Option, None, Some}
+use Rattle.std.proofs.Common.{Result, Ok, Err, length, take, drop}
+use Rattle.std.proofs.Common.{refl, ap, sym, ◌∙◌, arith, append_assoc, length-append, length-take, take-append-drop, drop-drop}
+use Rattle.std.specs.Prelude.{IfSome, IfOk, map, flat_map}
+use Rattle.std.specs.List.{AllByRecursion}
+use Rattle.std.proofs.lemmas.List.Elements.{All-from_recursion, All-append, All-cons}
+use Rattle.std.proofs.lemmas.Bool.Decides.{nat_tests}
+use Rattle.std.proofs.lemmas.Grind.{common_steps}
+use Rattle.streams.specs.declared.outcome.Fault.{Fault}
+use Rattle.streams.specs.declared.outcome.Fault.TheVariants.{Entry}
+use Rattle.streams.specs.declared.header.Kind.{Kind}
+use Rattle.streams.specs.declared.header.Kind.TheVariants.{Tree}
+use Rattle.streams.specs.Texts.{split_once, number_of}
+use Rattle.streams.specs.Headers.{ParsedObject}
+use Rattle.streams.specs.Reports.{longest, Said, nothing, then_said, all_said}
+use Rattle.streams.specs.Objects.{Judged}
+use Rattle.streams.proofs.SplitTexts.{split_found, drop_both, IsCut, split_cuts, whole}
+use Rattle.streams.proofs.SpelledHeaders.{without, number_high}
+use Rattle.check_trees.specs.declared.engine.CheckOptions.{CheckOptions}
+use Rattle.check_trees.specs.Entries.{nul, named, ParsedFront, ParsedEntry, parsed_front, entry_at, entry_with, entry_of}
+use Rattle.check_trees.specs.Report.{entry_said, entries_then, entries_within, entries, judged_by_kind, tree_rule}
+use Rattle.check_trees.specs.Spelled.{Item, IsItem, item_bytes, item_said, IsTree, IsReadAsItems}
+use Rattle.check_trees.proofs.FirstEntry.{entry_found, id_after}
+use Rattle.check_trees.proofs.TreeEntries.{entries_first, entries_none}
+
+-- ---- entries that are written out
+
+front_spelled : (mode name : List ℕ) (number : ℕ) → number_of 8 mode ≡ Some number
+    → parsed_front (mode ++ 32 ∷ name) ≡ Some (named mode name number)
+unfolding parsed_front
+front_spelled mode name number e = grind (arith, split_found 32 mode name (without 48 32 mode (omega arith) (number_high 8 mode number e)))
+
+entry_spelled : (short : Fault) (width : ℕ) (item : Item) (more : List ℕ) → IsItem width item
+    → entry_of short width (item_bytes item ++ more) ≡ Ok (record { front = named item.mode item.name item.number; id = item.id }, more)
+entry_spelled short width item more good =
+    let high = number_high 8 item.mode item.number good.0 in
+    let front = item.mode ++ 32 ∷ item.name in
+    let none : All (λ b. b ≢ nul) front = All-append (λ b. b ≢ nul) item.mode (32 ∷ item.name) (without 48 nul item.mode (omega arith) high)
+    (All-cons (λ b. b ≢ nul) 32 item.name (λ e. omega arith) good.1) in
+    grind (
+      arith,
+      nat_tests,
+      length-append,
+      append_assoc,
+      entry_found short width front (item.id ++ more) none,
+      drop_both (front ++ nul ∷ []) item.id more,
+      id_after front item.id more (length front + 1) width refl,
+      front_spelled item.mode item.name item.number good.0,
+    )
+
+entries_spelled : (options : CheckOptions) (short : Fault) (tree : ParsedObject) (items : List Item) → AllByRecursion (IsItem (length tree.id / 2)) items
+    → entries options short tree (flat_map item_bytes items) ≡ (all_said (map (item_said options tree) items), None)
+entries_spelled options short tree [] each = grind (arith, entries_none)
+entries_spelled options short tree (item ∷ items) (first, each) =
+    grind (arith, common_steps, entries_first, entry_spelled, entries_spelled options short tree items each)
+
+-- ---- an entry that is well-formed
+
+abbrev IsFront : List ℕ → ParsedFront → Type 0
+IsFront front parsed = (number : ℕ) × (number_of 8 parsed.mode ≡ Some number) × (front ≡ parsed.mode ++ 32 ∷ parsed.name)
+    × (parsed ≡ named parsed.mode parsed.name number)
+
+front_is : (front : List ℕ) → IfSome (parsed_front front) (IsFront front)
+unfolding parsed_front
+front_is front = grind (arith, split_cuts 32 front)
+
+abbrev IsFirst : ℕ → List ℕ → ParsedEntry × List ℕ → Type 0
+IsFirst width bytes entry =
+    (item : Item) × IsItem width item × (bytes ≡ item_bytes item ++ entry.1)
+    × (entry.0 ≡ record { front = named item.mode item.name item.number; id = item.id })
+
+-- what a test lets through
+if_ok : {T : Type 0} (test : Bool) (fault : Fault) (x : T) (P : T → Type 0) → (test ≡ false → P x) → IfOk (if test then Err fault else Ok x) P
+if_ok true fault x P holds = tt
+if_ok false fault x P holds = holds refl
+
+each_after : (P : ℕ → Type 0) (front rest : List ℕ) → AllByRecursion P (front ++ rest) → AllByRecursion P rest
+each_after P [] rest each = each
+each_after P (b ∷ front) rest (first, each) = each_after P front rest each
+
+module _ (short : Fault) (width : ℕ) where
+  item_at : (bytes front : List ℕ) (parsed : Option ParsedFront) → bytes ≡ front ++ nul ∷ drop (length front + 1) bytes → length front < longest
+      → AllByRecursion (λ b. b ≢ nul) front → IfSome parsed (IsFront front) → IfOk (entry_at short width bytes (length front + 1) parsed) (IsFirst width bytes)
+  item_at bytes front None cut few none is = tt
+  item_at bytes front (Some parsed) cut few none (number, digits, spelled, same) = if_ok _ short _ (IsFirst width bytes) (λ room.
+      let id = take width (drop (length front + 1) bytes) in
+      let name_none : AllByRecursion (λ b. b ≢ nul) parsed.name = (each_after (λ b. b ≢ nul) parsed.mode (32 ∷ parsed.name) (rw spelled at none)).1 in
+      let long : length bytes ≡ length (front ++ nul ∷ drop (length front + 1) bytes) = ap length cut in
+      let after : drop (length front + 1) bytes ≡ id ++ drop (length front + 1 + width) bytes =
+      rw (← (drop-drop width (length front + 1) bytes)) (sym (take-append-drop width (drop (length front + 1) bytes))) in (
+        record { mode = parsed.mode; number = number; name = parsed.name; id = id },
+        (digits, All-from_recursion (λ b. b ≢ nul) parsed.name name_none, grind (arith, nat_tests, length-take, length-append), grind (arith, length-append)),
+        grind (arith, append_assoc),
+        ap (λ (front : ParsedFront). record { front = front; id = id }) same,
+      ))
+
+  item_with : (bytes : List ℕ) (parts : Option (List ℕ × List ℕ)) → IfSome parts (IsCut nul (take longest bytes))
+      → IfOk (entry_with short width bytes parts) (IsFirst width bytes)
+  item_with bytes None cut = tt
+  item_with bytes (Some parts) cut =
+      let all = whole nul bytes parts.0 parts.1 longest cut.0 in item_at bytes parts.0 (parsed_front parts.0) all.0 all.1 cut.1 (front_is parts.0)
+
+  item_first : (bytes : List ℕ) → IfOk (entry_of short width bytes) (IsFirst width bytes)
+  unfolding entry_of
+  item_first bytes = item_with bytes (split_once nul (take longest bytes)) (split_cuts nul (take longest bytes))
+
+-- ---- a tree that is well-formed
+
+module _ (options : CheckOptions) (short : Fault) (tree : ParsedObject) where
+  abbrev Goes : List ℕ → Judged → Type 0
+  Goes bytes judged = judged.1 ≡ None → IsTree options tree bytes judged.0
+
+  tree_then : (more : List ℕ → Judged) (r : Result (ParsedEntry × List ℕ) Fault) (bytes : List ℕ) (fuel : ℕ) → length bytes ≤ suc fuel
+      → ((rest : List ℕ) → length rest ≤ fuel → Goes rest (more rest))
+      → IfOk r (IsFirst (length tree.id / 2) bytes) → Goes bytes (entries_then more options tree r)
+  tree_then more (Err fault) bytes fuel many go first none = grind arith
+  tree_then more (Ok entry) bytes fuel many go (item, good, cut, same) none =
+      let long : length bytes ≡ length (item_bytes item ++ entry.1) = ap length cut in
+      let others = go entry.1 (grind (arith, length-append)) none in
+      record {
+        items = item ∷ others.items;
+        each = (good, others.each);
+        bytes_are = cut ∙ ap (λ t. item_bytes item ++ t) others.bytes_are;
+        said_is = rw same (ap (λ said. then_said (item_said options tree item) said) others.said_is);
+      }
+
+  tree_within : (fuel : ℕ) (bytes : List ℕ) → length bytes ≤ fuel → Goes bytes (entries_within fuel options short tree bytes)
+  tree_within zero [] many none = record { items = []; each = tt; bytes_are = refl; said_is = refl }
+  tree_within zero (b ∷ bytes) many none = grind arith
+  tree_within (suc fuel) [] many none = record { items = []; each = tt; bytes_are = refl; said_is = refl }
+  tree_within (suc fuel) (b ∷ bytes) many none =
+      tree_then (entries_within fuel options short tree) (entry_of short (length tree.id / 2) (b ∷ bytes)) (b ∷ bytes) fuel many
+      (λ rest less done. tree_within fuel rest less done) (item_first short (length tree.id / 2) (b ∷ bytes)) none
+
+  tree_spelled : (bytes : List ℕ) → Goes bytes (entries options short tree bytes)
+  unfolding entries
+  tree_spelled bytes none = tree_within (length bytes) bytes (omega arith) none
+
+-- ---- both ways
+
+by_kind : (options : CheckOptions) (tree : ParsedObject) (bytes : List ℕ) → tree.kind ≡ Tree
+    → tree_rule options false tree bytes ≡ entries options Entry tree bytes
+by_kind options tree bytes is = ap (judged_by_kind options false tree bytes) is
+
+pub read_as_items : (options : CheckOptions) → IsReadAsItems options
+read_as_items options tree bytes said is = (
+  λ e.
+      let read = sym (by_kind options tree bytes is) ∙ e in
+      let items = tree_spelled options Entry tree bytes (ap (λ (judged : Judged). judged.1) read) in
+      rw (ap (λ (judged : Judged). judged.0) read) at items,
+  λ items.
+      by_kind options tree bytes is ∙ ap (entries options Entry tree) items.bytes_are ∙ entries_spelled options Entry tree items.items items.each
+      ∙ ap (λ said. (said, None)) (sym items.said_is),
+)

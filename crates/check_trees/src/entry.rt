@@ -1,0 +1,68 @@
+//! What is before the NUL of a tree's entry.
+
+ghost use Rattle.std.specs.Prelude.{◌≡◌};
+ghost use Rattle.std.specs.Option.{option_map};
+ghost use Rattle.std.specs.Str.{bytes_eq};
+ghost use Rattle.check_trees.specs.Entries.{is_file, kind_of, parsed_front};
+ghost use Rattle.check_trees.specs.Promises.{as_front};
+
+use gix_validate::path::ComponentMode;
+use streams::text::{number_of, split_once};
+
+/// What is before the NUL of an entry: a mode, what it means for the name, whether it is that of a
+/// file, and the name.
+#[derive(Debug, Clone, Copy)]
+pub(crate) struct Front<'a> {
+    pub(crate) mode: &'a [u8],
+    pub(crate) kind: Option<ComponentMode>,
+    pub(crate) is_file: bool,
+    pub(crate) name: &'a [u8],
+}
+
+/// What is before the NUL of an entry.
+#[tactic(auto, unfolding(crate::specs::Entries::parsed_front))]
+pub(crate) fn front_of(front: &[u8]) -> Option<Front<'_>>
+    ensures { option_map as_front result ≡ parsed_front front.now }
+{
+    // Most entries are files that are not executable.
+    if front.len() >= 7 && is_word(&front[..7], b"100644 ") {
+        return Some(Front {
+            mode: &front[..6],
+            kind: None,
+            is_file: true,
+            name: &front[7..],
+        });
+    }
+    let (mode, name) = split_once(b' ', front)?;
+    let number = number_of(8, mode)?;
+    Some(Front {
+        mode,
+        kind: kind_of(number),
+        is_file: is_file(number),
+        name,
+    })
+}
+
+/// Whether the text is the word. Its constant length makes this a comparison or two.
+fn is_word<const N: usize>(text: &[u8], word: &[u8; N]) -> bool
+    ensures { result ≡ bytes_eq text.now word.now }
+{
+    match <&[u8; N]>::try_from(text) {
+        Ok(text) => text == word,
+        Err(_) => false,
+    }
+}
+
+/// What a mode means for the name: the file type is in the bits from 12 on.
+fn kind_of(mode: u64) -> Option<ComponentMode>
+    ensures { result ≡ kind_of mode }
+{
+    (mode / 0o10000 % 16 == 0o12).then_some(ComponentMode::Symlink)
+}
+
+/// Whether a mode is that of a file.
+fn is_file(mode: u64) -> bool
+    ensures { result ≡ is_file mode }
+{
+    mode / 0o10000 % 16 == 0o10
+}

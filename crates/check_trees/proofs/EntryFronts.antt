@@ -1,5 +1,5 @@
--- What is before the NUL of an entry: the front of a plain file, for which the code has a shortcut.
-use Rattle.std.proofs.Common.{◌≡◌, List, ℕ, ◌++◌, Some, None, take, drop, codes, true, refl, arith, take-append-drop, take-take}
+-- What is before the NUL of an entry: the fronts of plain files and directories, for which the code has a shortcut.
+use Rattle.std.proofs.Common.{◌≡◌, List, ℕ, ◌++◌, Some, None, take, drop, codes, true, false, refl, arith, take-append-drop, take-take}
 use Rattle.std.specs.Str.{bytes_eq}
 use Rattle.std.proofs.lemmas.Slice.Eq.{bytes_eq-Decides}
 use Rattle.streams.specs.Texts.{number_of}
@@ -14,3 +14,14 @@ pub plain_file : (front : List ℕ) → bytes_eq (take 7 front) (codes "100644 "
 plain_file front e =
     let there : take 7 front ≡ codes "100644 " = (bytes_eq-Decides (take 7 front) (codes "100644 ")).0 e in
     grind (arith, plain_name (drop 7 front), take-append-drop 7 front, take-take 6 7 front)
+
+directory_name : (name : List ℕ)
+    → parsed_front (codes "40000 " ++ name) ≡ Some (record { mode = codes "40000"; kind = None; is_file = false; name = name })
+unfolding parsed_front number_of
+directory_name name = refl
+
+pub directory : (front : List ℕ) → bytes_eq (take 6 front) (codes "40000 ") ≡ true
+    → parsed_front front ≡ Some (record { mode = take 5 front; kind = None; is_file = false; name = drop 6 front })
+directory front e =
+    let there : take 6 front ≡ codes "40000 " = (bytes_eq-Decides (take 6 front) (codes "40000 ")).0 e in
+    grind (arith, directory_name (drop 6 front), take-append-drop 6 front, take-take 5 6 front)

@@ -6,8 +6,8 @@ ghost use Rattle.streams.specs.Reports.{is_malformed, verdict_of};
 ghost use Rattle.streams.specs.Objects.{IsWholeStream};
 ghost use Rattle.streams.specs.Promises.{Begins, Gives, as_object};
 ghost use Rattle.streams.specs.Spelled.{IsReportedInOrder, IsWellFormedOnlyIfSpelled};
-ghost use Rattle.bstr.specs.BStr.{bstr_bytes};
-ghost use Rattle.check_trees.specs.Report.{finding_of, finding_said, is_gitmodules, report, tree_rule};
+ghost use Rattle.gix_validate.specs.Component.{fault_of};
+ghost use Rattle.check_trees.specs.Report.{finding_by, finding_of, finding_said, is_gitmodules_fault, report, tree_rule};
 ghost use Rattle.check_trees.specs.Spelled.{IsReadAsItems};
 ghost use Rattle.check_trees.specs.Promises.{EntryGives, PassesId, Says, as_front, tree_report};
 
@@ -209,23 +209,35 @@ enum Finding {
 fn finding_of(options: CheckOptions, front: Front<'_>) -> Finding
     ensures { result ≡ finding_of options (as_front front.entry) }
 {
-    let name = BStr::new(front.name);
-    match path::component(name, front.kind, options.protections) {
-        Err(fault) => Finding::Refused(fault),
-        Ok(_) if options.modules && front.is_file && is_gitmodules(options.protections, name) =>
-            Finding::Modules,
+    let may_be_listed = options.modules && front.is_file;
+    // A name that a symbolic link may have, any entry may have.
+    let kind = if may_be_listed {
+        Some(ComponentMode::Symlink)
+    } else {
+        front.kind
+    };
+    match path::component(BStr::new(front.name), kind, options.protections) {
         Ok(_) => Finding::Accepted,
+        Err(fault) if may_be_listed => finding_of_file(options.protections, front, fault),
+        Err(fault) => Finding::Refused(fault),
     }
 }
 
-/// Whether a protected system takes the name for `.gitmodules`.
-fn is_gitmodules(protections: ComponentOptions, name: BStr<'_>) -> bool
-    ensures { result ≡ is_gitmodules protections (bstr_bytes name.entry) }
+/// What a file is that is refused as a symbolic link for this fault.
+#[cold]
+#[inline(never)]
+fn finding_of_file(
+    protections: ComponentOptions,
+    front: Front<'_>,
+    as_symlink: ComponentError,
+) -> Finding
+    ensures { result ≡ finding_by (is_gitmodules_fault (Some as_symlink)) (fault_of protections front.entry.kind front.entry.name.now) }
 {
-    matches!(
-        path::component(name, Some(ComponentMode::Symlink), protections),
-        Err(ComponentError::SymlinkedGitModules)
-    )
+    match path::component(BStr::new(front.name), front.kind, protections) {
+        Err(fault) => Finding::Refused(fault),
+        Ok(_) if matches!(as_symlink, ComponentError::SymlinkedGitModules) => Finding::Modules,
+        Ok(_) => Finding::Accepted,
+    }
 }
 
 /// Passes the bytes of an entry's id, and says whether the input had them. They are kept where the
@@ -256,12 +268,17 @@ fn say<W: Write>(
     ensures { Says (finding_said (as_object tree.entry) (record { front = as_front front.entry; id = id.now }) finding)
         (W.contents output.old) (W.contents output.new) result }
 {
-    let (is_refused, set) = match finding {
-        Finding::Accepted => return Ok(false),
-        Finding::Modules => (false, set_modules_line(line, tree, front, id)),
-        Finding::Refused(fault) => (true, set_refused_line(line, tree, front, fault)),
-    };
-    set.map_err(|_| RunError::Memory)?;
-    write_whole(line, output)?;
-    Ok(is_refused)
+    match finding {
+        Finding::Accepted => Ok(false),
+        Finding::Modules => {
+            set_modules_line(line, tree, front, id)?;
+            write_whole(line, output)?;
+            Ok(false)
+        }
+        Finding::Refused(fault) => {
+            set_refused_line(line, tree, front, fault)?;
+            write_whole(line, output)?;
+            Ok(true)
+        }
+    }
 }

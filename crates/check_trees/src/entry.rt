@@ -24,13 +24,21 @@ pub(crate) struct Front<'a> {
 pub(crate) fn front_of(front: &[u8]) -> Option<Front<'_>>
     ensures { option_map as_front result ≡ parsed_front front.now }
 {
-    // Most entries are files that are not executable.
+    // Most entries are files that are not executable, or directories.
     if front.len() >= 7 && is_word(&front[..7], b"100644 ") {
         return Some(Front {
             mode: &front[..6],
             kind: None,
             is_file: true,
             name: &front[7..],
+        });
+    }
+    if front.len() >= 6 && is_word(&front[..6], b"40000 ") {
+        return Some(Front {
+            mode: &front[..5],
+            kind: None,
+            is_file: false,
+            name: &front[6..],
         });
     }
     let (mode, name) = split_once(b' ', front)?;

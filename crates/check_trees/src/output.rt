@@ -12,18 +12,33 @@ use std::alloc::AllocError;
 use std::io;
 use std::io::Write;
 use streams::header::Object;
+use streams::outcome::RunError;
 use streams::output::{push_hex, push_quoted};
 
-/// Puts the line of a refused entry in place of the last one.
+/// Puts the line of a refused entry in place of the last one. Most entries have none.
+#[cold]
+#[inline(never)]
 pub(crate) fn set_refused_line(
     line: &mut Vec<u8>,
     tree: Object<'_>,
     front: Front<'_>,
     fault: ComponentError,
-) -> io::Result<()>
+) -> Result<(), RunError>
     ensures { OnOk result (line.new.items ≡ refused_line (as_object tree.entry) (as_front front.entry) fault) }
 {
     line.clear();
+    push_refused(line, tree, front, fault).map_err(|_| RunError::Memory)
+}
+
+/// Appends the line of a refused entry.
+fn push_refused(
+    line: &mut Vec<u8>,
+    tree: Object<'_>,
+    front: Front<'_>,
+    fault: ComponentError,
+) -> io::Result<()>
+    ensures { OnOk result (line.new.items ≡ line.old.items ++ refused_line (as_object tree.entry) (as_front front.entry) fault) }
+{
     push_place(line, tree, front)?;
     line.push(b' ')?;
     write!(line, "{fault}")?;
@@ -34,15 +49,29 @@ pub(crate) fn set_refused_line(
 
 /// Puts the line of a file that is read as `.gitmodules` in place of the last one. Its id is in
 /// bytes.
+#[cold]
+#[inline(never)]
 pub(crate) fn set_modules_line(
     line: &mut Vec<u8>,
     tree: Object<'_>,
     front: Front<'_>,
     id: &[u8],
-) -> io::Result<()>
+) -> Result<(), RunError>
     ensures { OnOk result (line.new.items ≡ modules_line (as_object tree.entry) (as_front front.entry) id.now) }
 {
     line.clear();
+    push_modules(line, tree, front, id).map_err(|_| RunError::Memory)
+}
+
+/// Appends the line of a file that is read as `.gitmodules`.
+fn push_modules(
+    line: &mut Vec<u8>,
+    tree: Object<'_>,
+    front: Front<'_>,
+    id: &[u8],
+) -> Result<(), AllocError>
+    ensures { OnOk result (line.new.items ≡ line.old.items ++ modules_line (as_object tree.entry) (as_front front.entry) id.now) }
+{
     line.extend_from_slice(b"modules ")?;
     push_hex(line, id)?;
     line.push(b' ')?;

@@ -62,6 +62,11 @@ abbrev pub Skips : ℕ → Option (List ℕ) → Option (List ℕ) → List ℕ 
 Skips count old new bytes true = Consumes old new bytes × (length bytes ≡ count)
 Skips count old new bytes false = Consumes old new bytes × (length bytes < count) × OnSome old (IsAtEnd new)
 
+-- the next byte was read, if one was left
+abbrev pub Nexts : Option (List ℕ) → Option (List ℕ) → Option ℕ → Type 0
+Nexts old new (Some byte) = Consumes old new (byte ∷ [])
+Nexts old new None = Consumes old new [] × OnSome old (IsAtEnd new)
+
 -- a front of these bytes was appended
 abbrev pub Begins : Option (List ℕ) → Option (List ℕ) → List ℕ → Type 0
 Begins old new bytes = (front : List ℕ) × Appends old new front × StartsWith bytes front

@@ -79,10 +79,10 @@ fn object_of<'a>(id: &'a [u8], kind: Kind, sized: &'a [u8]) -> Option<Header<'a>
 fn kind_of_word(word: &[u8]) -> Option<Kind>
     ensures { result ≡ kind_of_word word.now }
 {
-    if word == b"blob".as_slice() {
-        Some(Kind::Blob)
-    } else if word == b"tree".as_slice() {
+    if word == b"tree".as_slice() {
         Some(Kind::Tree)
+    } else if word == b"blob".as_slice() {
+        Some(Kind::Blob)
     } else if word == b"commit".as_slice() {
         Some(Kind::Commit)
     } else if word == b"tag".as_slice() {

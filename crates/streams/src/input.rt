@@ -3,7 +3,7 @@
 ghost use Rattle.std.specs.Prelude.{◌≡◌, ◌<◌, ◌≤◌, ℕ, true, List, [], ◌++◌, length, IfOk, IfSome, MatchOption, OnSome, Some};
 ghost use Rattle.std.specs.Io.KnownBytes.{Consumes, IsAtEnd};
 ghost use Rattle.gix_validate.specs.Bytes.{is_empty};
-ghost use Rattle.streams.specs.Promises.{Cuts, Fronts, Part, Skips};
+ghost use Rattle.streams.specs.Promises.{Cuts, Fronts, Nexts, Part, Skips};
 
 use crate::outcome::RunError;
 use memchr::memchr;
@@ -173,6 +173,38 @@ fn skip_part<R: BufRead>(input: &mut R, count: u64) -> Result<Option<u64>, RunEr
     let skipped = (available as u64).min(count);
     input.consume(skipped as usize);
     Ok(Some(skipped))
+}
+
+/// Reads a byte, if one is left. It does not allocate.
+///
+/// # Errors
+///
+/// [`RunError::Read`].
+pub fn read_byte<R: BufRead>(input: &mut R) -> Result<Option<u8>, RunError>
+    ensures byte { IfOk result (λ byte. Nexts (R.remaining input.old) (R.remaining input.new) byte) }
+{
+    for _ in 0..u64::MAX {
+        if let Some(byte) = next_part(input)? {
+            return Ok(byte);
+        }
+    }
+    Err(RunError::Read)
+}
+
+/// Reads the byte that the reader has at hand, where it could look.
+fn next_part<R: BufRead>(input: &mut R) -> Result<Option<Option<u8>>, RunError>
+    ensures { IfOk result (λ found. MatchOption found
+        (Consumes (R.remaining input.old) (R.remaining input.new) [])
+        (Nexts (R.remaining input.old) (R.remaining input.new))) }
+{
+    let byte = match input.fill_buf() {
+        Ok([]) => return Ok(Some(None)),
+        Ok([byte, ..]) => *byte,
+        Err(e) if e.kind() == ErrorKind::Interrupted => return Ok(None),
+        Err(_) => return Err(RunError::Read),
+    };
+    input.consume(1);
+    Ok(Some(Some(byte)))
 }
 
 /// Whether nothing is left. Nothing is read. It does not allocate.

@@ -8,7 +8,7 @@ ghost use Rattle.streams.specs.Promises.{Begins, Closes, Gives, as_object, body_
 ghost use Rattle.streams.specs.Spelled.{IsReportedInOrder, IsWellFormedOnlyIfSpelled};
 
 use crate::header::{Header, Object, header_of};
-use crate::input::{Found, read_before};
+use crate::input::read_byte;
 use crate::lines;
 use crate::lines::{Buffers, Ending, LineCheck};
 use crate::outcome::{Fault, RunError, Verdict};
@@ -73,23 +73,19 @@ fn check_and_close<C: ObjectCheck, R: BufRead, W: Write>(
         (R.remaining input.new) (W.contents output.old) (W.contents output.new) result) }
 {
     match check.check_object(object, input, output, buffers)? {
-        Ok(refused) => close(refused, input, &mut buffers.read),
+        Ok(refused) => close(refused, input),
         Err(fault) => Ok(Err(fault)),
     }
 }
 
 /// Reads the LF behind an object's bytes, and passes on whether something was refused.
-fn close<R: BufRead>(
-    refused: bool,
-    input: &mut R,
-    read: &mut Vec<u8>,
-) -> Result<Result<bool, Fault>, RunError>
+fn close<R: BufRead>(refused: bool, input: &mut R) -> Result<Result<bool, Fault>, RunError>
     ensures { IfSome (R.remaining input.old) (λ text. Closes refused text (R.remaining input.new) result) }
 {
-    match read_before(input, b'\n', 1, read)? {
-        Found::Byte => Ok(Ok(refused)),
-        Found::Limit => Ok(Err(Fault::LineEnd)),
-        Found::End => Ok(Err(Fault::Ended)),
+    match read_byte(input)? {
+        Some(b'\n') => Ok(Ok(refused)),
+        Some(_) => Ok(Err(Fault::LineEnd)),
+        None => Ok(Err(Fault::Ended)),
     }
 }
 

@@ -77,6 +77,7 @@ fn push_escape(line: &mut Vec<u8>, byte: u8) -> Result<(), AllocError>
 /// # Errors
 ///
 /// [`RunError::Write`]. What was written then is a front of the bytes.
+#[inline(never)]
 pub fn write_whole<W: Write>(bytes: &[u8], output: &mut W) -> Result<(), RunError>
     ensures ok { OnOk result (Appends (W.contents output.old) (W.contents output.new) bytes.now) }
     ensures err { OnErr result (Begins (W.contents output.old) (W.contents output.new) bytes.now) }

@@ -1,7 +1,10 @@
 use Rattle.std.proofs.Common.{sym, rules}
 use Rattle.std.proofs.lemmas.List.{take_rest}
-use Rattle.check_trees.proofs.EntryFronts.{plain_file}
+use Rattle.check_trees.proofs.EntryFronts.{plain_file, directory}
 use Rattle.check_trees.proofs.entry.front_of.Goals as goal
 
 pub returns-then-is_word : goal.returns-then-is_word
 returns-then-is_word c = rw take_rest (sym (plain_file c.args.front.now (search rules)))
+
+pub returns-then-is_word-2 : goal.returns-then-is_word-2
+returns-then-is_word-2 c = rw take_rest (sym (directory c.args.front.now (search rules)))

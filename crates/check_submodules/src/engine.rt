@@ -1,0 +1,140 @@
+//! The report of a stream of objects.
+
+ghost use Rattle.std.specs.Prelude.{◌≡◌, [], Some, false, IfOk, OnErr, IfSome, OnSome};
+ghost use Rattle.std.specs.Io.KnownBytes.{Appends, IsAtEnd};
+ghost use Rattle.streams.specs.Objects.{IsWholeStream};
+ghost use Rattle.streams.specs.Promises.{Begins, as_object};
+ghost use Rattle.streams.specs.Reports.{is_malformed, verdict_of};
+ghost use Rattle.streams.specs.Spelled.{IsReportedInOrder, IsWellFormedOnlyIfSpelled};
+ghost use Rattle.check_submodules.specs.Promises.{Reads};
+ghost use Rattle.check_submodules.specs.Report.{report, submodules_rule};
+ghost use Rattle.check_submodules.specs.Spelled.{IsEachHeaderReported, IsEachNameReported};
+
+use crate::report::{push_lines, push_too_large};
+use std::alloc::Global;
+use std::io::{BufRead, Write};
+use streams::header::{Kind, Object};
+use streams::input::{read_bytes, skip};
+use streams::lines::Buffers;
+use streams::objects;
+use streams::objects::ObjectCheck;
+use streams::outcome::{Fault, RunError, Verdict};
+use streams::output::write_whole;
+use streams::program::Check;
+
+/// The most bytes of a file that is read.
+const LARGEST: u64 = 16_777_216;
+
+/// What is asked of a run.
+#[derive(Debug, Clone, Copy, PartialEq, Eq)]
+pub struct Options {
+    /// Whether the input has to be whole: no object is missing, and the line `..end missing` ends it.
+    pub whole: bool,
+}
+
+/// Reads all of `input`, objects as `git cat-file --batch` prints them, and writes a line to
+/// `output` for each section of a submodule in a blob whose name is refused, and for each that can't
+/// be read (docs/RULES.md, "The names in a .gitmodules file"). Objects that are not blobs are
+/// skipped. A blob of more than 16,777,216 bytes is skipped too, and has a line that says so.
+///
+/// ```
+/// run(alloc, Options { whole: false }, &mut input, &mut output)?; // Verdict::Refused
+/// ```
+///
+/// The lines of a blob are written once all of it is read, and `output` is not flushed. A malformed
+/// object ends the run; what was found before it is written.
+///
+/// # Errors
+///
+/// [`RunError`] says whether reading, memory or writing failed. What was written then is the
+/// beginning of the report.
+///
+/// # Memory
+///
+/// The longest header line, of at most 65,536 bytes, and the largest file that is read, its longest
+/// name and its lines, of `alloc`.
+#[tactic(auto, using(crate::proofs::ReportedSections::each_name_reported, crate::proofs::ReportedSections::each_header_reported))]
+pub fn run<R: BufRead, W: Write>(
+    alloc: Global,
+    options: Options,
+    input: &mut R,
+    output: &mut W,
+) -> Result<Verdict, RunError>
+    ensures verdict { IfOk result (λ verdict. IfSome (R.remaining input.old) (λ text.
+        Appends (W.contents output.old) (W.contents output.new) (report options.whole text).said.lines
+        × (verdict ≡ verdict_of (report options.whole text)))) }
+    ensures end { IfOk result (λ verdict. is_malformed verdict ≡ false
+        → OnSome (R.remaining input.old) (IsAtEnd (R.remaining input.new))) }
+    ensures spent { IfOk result (λ verdict. is_malformed verdict ≡ false
+        → IfSome (R.remaining input.old) (λ _. R.remaining input.new ≡ Some [])) }
+    ensures stopped { OnErr result (IfSome (R.remaining input.old) (λ text.
+        Begins (W.contents output.old) (W.contents output.new) (report options.whole text).said.lines)) }
+    ensures spelled { IsReportedInOrder submodules_rule options.whole }
+    ensures well_formed { IsWellFormedOnlyIfSpelled submodules_rule options.whole }
+    ensures whole { IsWholeStream submodules_rule options.whole }
+    ensures names { IsEachNameReported }
+    ensures headers { IsEachHeaderReported }
+{
+    objects::run(alloc, options, options.whole, input, output)
+}
+
+impl Check for Options {
+    ghost report = { λ options. report options.whole };
+
+    fn run<R: BufRead, W: Write>(
+        self,
+        alloc: Global,
+        input: &mut R,
+        output: &mut W,
+    ) -> Result<Verdict, RunError> {
+        run(alloc, self, input, output)
+    }
+}
+
+impl ObjectCheck for Options {
+    ghost object_rule = { λ options. submodules_rule };
+
+    fn check_object<R: BufRead, W: Write>(
+        self,
+        object: Object<'_>,
+        input: &mut R,
+        output: &mut W,
+        buffers: &mut Buffers,
+    ) -> Result<Result<bool, Fault>, RunError> {
+        if !read_object(object, input, buffers)? {
+            return Ok(Err(Fault::Ended));
+        }
+        write_whole(&buffers.lines, output)?;
+        Ok(Ok(!buffers.lines.is_empty()))
+    }
+}
+
+/// Reads or skips the bytes of an object, puts its lines in place of the last ones, and says whether
+/// the input had all of it.
+fn read_object<R: BufRead>(
+    object: Object<'_>,
+    input: &mut R,
+    buffers: &mut Buffers,
+) -> Result<bool, RunError>
+    ensures { IfOk result (Reads (as_object object.entry) (R.remaining input.old) (R.remaining input.new) buffers.new.lines.items) }
+{
+    buffers.lines.clear();
+    if object.kind != Kind::Blob {
+        return skip(input, object.size);
+    }
+    if object.size > LARGEST {
+        push_too_large(object.id, &mut buffers.lines).map_err(|_| RunError::Memory)?;
+        return skip(input, object.size);
+    }
+    if !read_bytes(input, object.size as usize, &mut buffers.read)? {
+        return Ok(false);
+    }
+    push_lines(
+        object.id,
+        &buffers.read,
+        &mut buffers.part,
+        &mut buffers.lines,
+    )
+    .map_err(|_| RunError::Memory)?;
+    Ok(true)
+}

@@ -1,0 +1,85 @@
+//! Prints a line for each submodule of a `.gitmodules` file whose name is refused. Standard input
+//! has the files as `git cat-file --batch` prints objects.
+#![tactic(auto)]
+
+ghost use Rattle.std.specs.Prelude.{◌≡◌, ◌≤◌, Ok, IfSome, IsErr, map};
+ghost use Rattle.std.specs.Process.{exit_status};
+ghost use Rattle.std.specs.String.{string_bytes};
+ghost use Rattle.streams.specs.Reports.{verdict_of};
+ghost use Rattle.check_submodules.specs.Arguments.{request_of};
+ghost use Rattle.check_submodules.specs.Report.{report};
+
+mod arguments;
+mod engine;
+mod report;
+
+use arguments::Request;
+use engine::Options;
+use std::env;
+use std::io::{ErrorKind, Read, Write};
+use std::process::ExitCode;
+use streams::outcome::{RunError, Verdict};
+use streams::program::{exit_code, failed, printed};
+
+const NAME: &str = "check_submodules";
+
+const HELP: &str = "\
+Prints a line for each submodule in a .gitmodules file whose name is refused:
+
+    git cat-file --batch < IDS | check_submodules
+
+IDS has the ids of the .gitmodules files, one on each line. Standard input is
+what `git cat-file --batch` prints. Objects that are not blobs are skipped. A
+line has the id of the file, the offset of the section in it, in bytes, and what
+is wrong:
+
+    ID OFFSET \"NAME\" REASON
+    ID OFFSET a section can't be read
+    ID the file is larger than 16777216 bytes
+
+A section is looked for at each '[' of a file, in comments and values too.
+
+    --end        the input has to be whole: '..end missing', which Git prints for
+                 the word '..end', is its last line, and no object is missing
+    --help       prints this text
+    --version    prints the version
+
+The status is 0 if nothing is refused, 1 if a name, a section or a file is, and
+2 if the input is malformed, reading or writing fails, memory runs out, or an
+argument is wrong.";
+
+fn main(rt: HostRuntime) -> ExitCode {
+    let words: Vec<String> = match env::args(&rt) {
+        Ok(args) => match args.skip(1).collect(rt.alloc()) {
+            Ok(words) => words,
+            Err(_) => return failed(&rt, NAME, RunError::Memory),
+        },
+        Err(e) if e.kind() == ErrorKind::OutOfMemory => return failed(&rt, NAME, RunError::Memory),
+        Err(_) => return failed(&rt, NAME, "the arguments can't be read as UTF-8"),
+    };
+    answer(&rt, &words, rt.stdin(), rt.stdout())
+}
+
+/// Does what the arguments ask for, and gives the exit status.
+fn answer<R: Read + Drop, W: Write + Drop>(
+    rt: &HostRuntime,
+    words: &[String],
+    input: R,
+    output: W,
+) -> ExitCode
+    ensures clean { IfSome (R.remaining input) (λ text. (options : Options)
+        → request_of (map string_bytes words.now) ≡ Ok (Request.Check options)
+        → exit_status result ≡ 0 → verdict_of (report options.whole text) ≡ Verdict.Clean) }
+    ensures refused { IfSome (R.remaining input) (λ text. (options : Options)
+        → request_of (map string_bytes words.now) ≡ Ok (Request.Check options)
+        → exit_status result ≡ 1 → verdict_of (report options.whole text) ≡ Verdict.Refused) }
+    ensures unknown { IsErr (request_of (map string_bytes words.now)) → exit_status result ≡ 2 }
+    ensures status { exit_status result ≤ 2 }
+{
+    match arguments::request_of(words) {
+        Ok(Request::Check(options)) => exit_code(rt, NAME, "object", options, input, output),
+        Ok(Request::Help) => printed(rt, NAME, HELP),
+        Ok(Request::Version) => printed(rt, NAME, "check_submodules 2"),
+        Err(fault) => failed(rt, NAME, fault),
+    }
+}

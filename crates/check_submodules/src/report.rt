@@ -1,0 +1,88 @@
+//! What is printed of a `.gitmodules` file.
+
+ghost use Rattle.std.specs.Prelude.{◌≡◌, ◌++◌, OnOk};
+ghost use Rattle.gitmodules.specs.Sections.{sections};
+ghost use Rattle.gitmodules.specs.Headers.{section_pair};
+ghost use Rattle.check_submodules.specs.Lines.{line_of, lines_of, place, too_large_line};
+
+use bstr::BStr;
+use gitmodules::{Section, Sections};
+use gix_validate::submodule;
+use std::alloc::AllocError;
+use std::io;
+use std::io::Write;
+use streams::output::push_quoted;
+
+/// Appends the lines of a file: one for each section whose name [`submodule::name`] refuses, and for
+/// each that can't be read (docs/RULES.md, "The names in a .gitmodules file").
+///
+/// ```
+/// push_lines(id, b"[submodule \"..\"]\n", &mut name, &mut lines)?;
+/// // ID 0 ".." Submodules names must not contains '..'
+/// ```
+///
+/// # Errors
+///
+/// Where memory can't be allocated. A beginning of the lines may be appended then.
+///
+/// # Memory
+///
+/// `name` grows to the longest name. `lines` grows by the lines, each of which has the id, at most
+/// 20 digits, four bytes for each byte of the name, and the reason.
+pub(crate) fn push_lines(
+    id: &[u8],
+    file: &[u8],
+    name: &mut Vec<u8>,
+    lines: &mut Vec<u8>,
+) -> io::Result<()>
+    ensures { OnOk result (lines.new.items ≡ lines.old.items ++ lines_of id.now (sections 0 file.now)) }
+{
+    for section in Sections::new(file) {
+        push_line(id, &section, name, lines)?;
+    }
+    Ok(())
+}
+
+/// Appends the line of a section, if it has one.
+fn push_line(
+    id: &[u8],
+    section: &Section<'_>,
+    name: &mut Vec<u8>,
+    lines: &mut Vec<u8>,
+) -> io::Result<()>
+    ensures { OnOk result (lines.new.items ≡ lines.old.items ++ line_of id.now (section_pair section.now)) }
+{
+    let Some(escaped) = &section.name else {
+        push_place(id, section.offset, lines)?;
+        lines.extend_from_slice(b"a section can't be read\n")?;
+        return Ok(());
+    };
+    name.clear();
+    escaped.push_to(name)?;
+    if let Err(fault) = submodule::name(BStr::new(name)) {
+        push_place(id, section.offset, lines)?;
+        push_quoted(lines, name)?;
+        write!(lines, " {fault}\n")?;
+    }
+    Ok(())
+}
+
+/// Appends the beginning of a line: the file's id, and where the section begins in it.
+fn push_place(id: &[u8], offset: usize, lines: &mut Vec<u8>) -> io::Result<()>
+    ensures { OnOk result (lines.new.items ≡ lines.old.items ++ place id.now offset) }
+{
+    lines.extend_from_slice(id)?;
+    write!(lines, " {offset} ")
+}
+
+/// Appends the line of a file that is too large to be read.
+///
+/// # Errors
+///
+/// Where memory can't be allocated. A beginning of the line may be appended then.
+pub(crate) fn push_too_large(id: &[u8], lines: &mut Vec<u8>) -> Result<(), AllocError>
+    ensures { OnOk result (lines.new.items ≡ lines.old.items ++ too_large_line id.now) }
+{
+    lines.extend_from_slice(id)?;
+    lines.extend_from_slice(b" the file is larger than 16777216 bytes\n")
+}

@@ -1,0 +1,10 @@
+-- what was passed are blanks
+use Rattle.std.proofs.Common.{◌≡◌, length}
+use Rattle.gitmodules.specs.Sections.{without_blanks}
+use Rattle.gitmodules.proofs.reader.without_blanks.Given as goal
+
+abbrev pub invariant-loop-rest : goal.invariant-loop-rest
+invariant-loop-rest l = without_blanks l.rest ≡ without_blanks l.fn.bytes
+
+abbrev pub decreases-loop-rest : goal.decreases-loop-rest
+decreases-loop-rest l = length l.rest

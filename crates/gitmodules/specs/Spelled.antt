@@ -1,0 +1,81 @@
+-- How a section of a submodule is spelled in a file, and that the sections found are those that are spelled, whatever is before and after them.
+use Rattle.std.specs.Prelude.{◌≡◌, ◌≢◌, ◌↔◌, ℕ, ◌<◌, Bool, true, false, ◌==◌, ◌||◌, List, [], ◌∷◌, ◌++◌, codes, map, length, Option, Some, Contains}
+use Rattle.std.specs.Char.{to_ascii_lowercase}
+use Rattle.std.specs.List.{AllByRecursion, AllPairs}
+use Rattle.std.specs.Str.{byte}
+use Rattle.gitmodules.specs.Sections.{is_blank, is_never_in_name, is_word_byte, sections}
+
+-- a byte of a name, and whether a backslash is before it
+abbrev pub SpelledByte : Type 0
+SpelledByte = Bool × ℕ
+
+-- Each byte but the three that are never in a name may have a backslash, and a double quote and a backslash must.
+abbrev pub IsSpelled : SpelledByte → Type 0
+IsSpelled (true, b) = is_never_in_name b ≡ false
+IsSpelled (false, b) = (is_never_in_name b ≡ false) × (b ≢ byte "\"") × (b ≢ byte "\\")
+
+abbrev pub spelled_byte : SpelledByte → List ℕ
+spelled_byte (true, b) = byte "\\" ∷ b ∷ []
+spelled_byte (false, b) = b ∷ []
+
+abbrev pub spelled_name : List SpelledByte → List ℕ
+spelled_name [] = []
+spelled_name (b ∷ name) = spelled_byte b ++ spelled_name name
+
+abbrev pub name_of : List SpelledByte → List ℕ
+name_of [] = []
+name_of ((escaped, b) ∷ name) = b ∷ name_of name
+
+-- a section as Git reads it: `[`, the word in any letter case, blanks, the name between double quotes, `]`
+pub record IsSection (word blanks : List ℕ) (name : List SpelledByte) : Type 0 where
+  pub is_word : map to_ascii_lowercase word ≡ codes "submodule"
+  pub has_blanks : blanks ≢ []
+  pub are_blanks : AllByRecursion (λ b. is_blank b ≡ true) blanks
+  pub is_spelled : AllByRecursion IsSpelled name
+
+abbrev pub section_bytes : List ℕ → List ℕ → List SpelledByte → List ℕ
+section_bytes word blanks name = byte "[" ∷ word ++ blanks ++ byte "\"" ∷ spelled_name name ++ codes "\"]"
+
+-- the file has a section of this name at this offset
+pub record SectionAt (file : List ℕ) (offset : ℕ) (name : List ℕ) : Type 0 where
+  pub before : List ℕ
+  pub after : List ℕ
+  pub word : List ℕ
+  pub blanks : List ℕ
+  pub spelled : List SpelledByte
+  pub is_section : IsSection word blanks spelled
+  pub is_file : file ≡ before ++ section_bytes word blanks spelled ++ after
+  pub is_offset : length before ≡ offset
+  pub is_name : name_of spelled ≡ name
+
+-- the bytes begin with `]` or with a byte of a word, so the word `submodule` before them is a section without a name, or part of another word
+abbrev pub is_other : List ℕ → Bool
+is_other [] = false
+is_other (b ∷ bytes) = b == byte "]" || is_word_byte b
+
+-- the file has a `[` at this offset, and then the word `submodule`, and what follows is no other section
+pub record HeaderAt (file : List ℕ) (offset : ℕ) : Type 0 where
+  pub before : List ℕ
+  pub after : List ℕ
+  pub word : List ℕ
+  pub is_word : map to_ascii_lowercase word ≡ codes "submodule"
+  pub is_file : file ≡ before ++ byte "[" ∷ word ++ after
+  pub is_offset : length before ≡ offset
+  pub is_not_other : is_other after ≡ false
+
+-- a section that is spelled out is found: its name is among the sections of each file that has it, at its offset
+abbrev pub IsEachSectionFound : Type 0
+IsEachSectionFound = (before after word blanks : List ℕ) (name : List SpelledByte) → IsSection word blanks name
+    → Contains (sections 0 (before ++ section_bytes word blanks name ++ after)) (length before, Some (name_of name))
+
+-- each name that is found is spelled out at its offset
+abbrev pub IsEachNameSpelled : Type 0
+IsEachNameSpelled = (file : List ℕ) (offset : ℕ) (name : List ℕ) → Contains (sections 0 file) (offset, Some name) → SectionAt file offset name
+
+-- the offsets that are given are those of the headers, whether they can be read or not
+abbrev pub IsEachHeaderGiven : Type 0
+IsEachHeaderGiven = (file : List ℕ) (offset : ℕ) → HeaderAt file offset ↔ ((name : Option (List ℕ)) × Contains (sections 0 file) (offset, name))
+
+-- each offset is given once, in order
+abbrev pub IsInOrder : Type 0
+IsInOrder = (file : List ℕ) → AllPairs (λ a b. a.0 < b.0) (sections 0 file)

@@ -1,0 +1,95 @@
+//! The name in a section's header.
+
+ghost use Rattle.std.specs.Prelude.{◌≡◌, ◌++◌, ℕ, List, OnErr, OnOk, false, option_map};
+ghost use Rattle.gitmodules.specs.Sections.{escaped_name, is_never_in_name, unescaped};
+
+use std::alloc::AllocError;
+use std::marker::Model;
+
+/// The name in the header of a submodule's section, as it is in the file: between the double quotes,
+/// with its backslashes.
+///
+/// Contracts see it as the name's bytes, without the backslashes that escape. It borrows the bytes
+/// of the file. [`Sections`](crate::Sections) makes it.
+#[derive(Clone, Debug, Drop)]
+pub struct EscapedName<'a> {
+    /// The bytes between the double quotes.
+    bytes: &'a [u8],
+}
+
+impl<'a> Model for EscapedName<'a> {
+    ghost use Rattle.std.specs.Prelude.{ℕ, List, false};
+    ghost use Rattle.gitmodules.specs.Sections.{unescaped};
+
+    ghost Value = { List ℕ };
+
+    ghost view = { λ name. unescaped false name.bytes.now };
+}
+
+impl<'a> EscapedName<'a> {
+    /// The name that these bytes begin with, up to `"]`, if they begin with one. The first byte is
+    /// the one after the opening quote.
+    pub(crate) fn after_quote(bytes: &'a [u8]) -> Option<EscapedName<'a>>
+        ensures { result ≡ option_map (unescaped false) (escaped_name false bytes.now) }
+    {
+        Some(EscapedName {
+            bytes: escaped_name(bytes)?,
+        })
+    }
+
+    /// Appends the bytes of the name to `name`, without the backslashes that escape.
+    ///
+    /// ```
+    /// section_name.push_to(&mut name)?; // appends `a"b` where the file has `a\"b`
+    /// ```
+    ///
+    /// # Errors
+    ///
+    /// Where memory can't be allocated. A beginning of the name is then appended, which may be
+    /// empty.
+    ///
+    /// # Memory
+    ///
+    /// What the vector needs to hold the name, of the vector's allocator.
+    pub fn push_to(&self, name: &mut Vec<u8>) -> Result<(), AllocError>
+        ensures ok { OnOk result (name.new.items ≡ name.old.items ++ self.now) }
+        ensures err { OnErr result ((front : List ℕ) × (name.new.items ≡ name.old.items ++ front)
+            × ((rest : List ℕ) × (self.now ≡ front ++ rest))) }
+    {
+        let mut escaped = false;
+        for byte in self.bytes {
+            escaped = !escaped && *byte == b'\\';
+            if !escaped {
+                name.push(*byte)?;
+            }
+        }
+        Ok(())
+    }
+}
+
+/// The bytes before the `"]` that closes a name, if these bytes begin with a name that can be read.
+fn escaped_name(bytes: &[u8]) -> Option<&[u8]>
+    ensures { option_map (λ name. name.now) result ≡ escaped_name false bytes.now }
+{
+    let mut escaped = false;
+    for (offset, byte) in bytes.iter().enumerate() {
+        if is_never_in_name(*byte) {
+            return None;
+        }
+        if !escaped && *byte == b'"' {
+            return match &bytes[offset + 1..] {
+                [b']', ..] => Some(&bytes[..offset]),
+                _ => None,
+            };
+        }
+        escaped = !escaped && *byte == b'\\';
+    }
+    None
+}
+
+/// Whether the byte is in no name that can be read.
+fn is_never_in_name(byte: u8) -> bool
+    ensures { result ≡ is_never_in_name byte }
+{
+    matches!(byte, b'\0' | b'\n' | 0xff)
+}

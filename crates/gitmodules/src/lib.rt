@@ -1,0 +1,41 @@
+//! The reader of a `.gitmodules` file: it finds each section of a submodule and the section's name.
+//!
+//! [`Sections::new`] takes the bytes of the file. The iterator gives each `[` that begins a
+//! submodule's section, in order, with the section's name, or without one where the section can't
+//! be read. It looks at each `[` of the file, in comments and values too. The values are not read.
+//!
+//! ```
+//! let mut sections = Sections::new(b"[core]\n[submodule \"a\\\"b\"]\n\tpath = x\n[submodule.c]\n");
+//! // at offset 7, the name `a"b`
+//! // at offset 36, a section that can't be read
+//! ```
+//!
+//! **Why the values need not be read.** Git reads a section's header from a `[` on, and what it
+//! finds depends only on the bytes after that `[`. Whether Git looks for a header at a `[` depends
+//! on what is before it: a comment, a value with quotes, or a line that continues. This reader
+//! doesn't ask. It looks at every `[`, so it needs no rule for values, quotes and continuations,
+//! and no section that Git sees is missed. In exchange it also gives sections that Git doesn't see,
+//! as one in a comment.
+//!
+//! **A header**: after the `[` comes the word `submodule` in any ASCII letter case. Then:
+//!
+//! | Next bytes | What the `[` begins |
+//! |---|---|
+//! | `]`, or a letter, a digit or `-` | another section, which isn't given |
+//! | spaces, tabs or carriage returns (at least one), and a name between double quotes, closed by `"]` | a submodule's section |
+//! | anything else, as in the old form `[submodule.name]` | a section that can't be read |
+//!
+//! In a name a backslash makes the next byte a byte of the name. A NUL, a newline (LF) or the byte
+//! 0xFF ends the name for Git, in one way of its reading or another, so a section with one of them
+//! in its name can't be read.
+//!
+//! Offsets and lengths are in bytes. Only [`EscapedName::push_to`] allocates. The rule is in
+//! docs/RULES.md, "The names in a .gitmodules file", and the definitions that the contracts cite
+//! are in `specs/`.
+#![tactic(auto)]
+
+pub use crate::escaped::EscapedName;
+pub use crate::reader::{Section, Sections};
+
+mod escaped;
+mod reader;

@@ -1,0 +1,162 @@
+//! The sections of submodules, in the order of the file.
+
+ghost use Rattle.std.specs.Prelude.{◌≡◌, ◌+◌, ◌<◌, ◌≤◌, ◌++◌, [], ◌∷◌, MatchOption, drop, length};
+ghost use Rattle.gitmodules.specs.Sections.{begun, header_after_bracket, header_after_word, sections, without_blanks};
+ghost use Rattle.gitmodules.specs.Headers.{header_of};
+ghost use Rattle.gitmodules.specs.Spelled.{IsEachHeaderGiven, IsEachNameSpelled, IsEachSectionFound, IsInOrder};
+
+use crate::escaped::EscapedName;
+use memchr::memchr;
+use std::iter::FusedIterator;
+use std::marker::Model;
+
+/// A section of a submodule.
+#[derive(Clone, Debug, Drop)]
+pub struct Section<'a> {
+    /// The offset of the `[` in the file.
+    pub offset: usize,
+    /// The name, or `None` where the section can't be read.
+    pub name: Option<EscapedName<'a>>,
+}
+
+/// The sections of submodules in a `.gitmodules` file, in the order of their offsets.
+///
+/// Contracts see it as the list of the sections that are left: the offset of each, and its name or
+/// `None`.
+#[derive(Clone, Debug, Drop)]
+pub struct Sections<'a> {
+    file: &'a [u8],
+    /// The offset from which on the next section is looked for.
+    start: usize,
+}
+
+impl<'a> Model for Sections<'a> {
+    ghost use Rattle.std.specs.Prelude.{ℕ, List, Option, drop};
+    ghost use Rattle.gitmodules.specs.Sections.{sections};
+
+    ghost Value = { List (ℕ × Option (List ℕ)) };
+
+    ghost view = { λ it. sections it.start (drop it.start it.file.now) };
+}
+
+impl<'a> Sections<'a> {
+    /// The sections of submodules in a file with these bytes.
+    ///
+    /// ```
+    /// Sections::new(b"[submodule \"a\"]\n").next(); // the name `a` at offset 0
+    /// ```
+    ///
+    /// It doesn't allocate. A whole iteration reads each byte a bounded number of times.
+    pub fn new(file: &'a [u8]) -> Sections<'a>
+        ensures value { result ≡ sections 0 file.now }
+        ensures found { IsEachSectionFound }
+        ensures spelled { IsEachNameSpelled }
+        ensures given { IsEachHeaderGiven }
+        ensures ordered { IsInOrder }
+    {
+        Sections { file, start: 0 }
+    }
+}
+
+impl<'a> Iterator for Sections<'a> {
+    ghost use Rattle.std.specs.Iterator.{YieldsFirstBy, item_count};
+    ghost use Rattle.gitmodules.specs.Headers.{section_pair};
+
+    type Item = Section<'a>;
+
+    ghost next_gives = { YieldsFirstBy section_pair (λ left. left) };
+
+    ghost remaining = { item_count (λ left. left) };
+
+    fn next(&mut self) -> Option<Section<'a>> {
+        let section = section_from(self.file, self.start)?;
+        self.start = section.offset + 1;
+        Some(section)
+    }
+}
+
+impl<'a> FusedIterator for Sections<'a> {}
+
+/// What a `[` begins.
+enum Header<'a> {
+    /// A submodule's section of this name.
+    Named(EscapedName<'a>),
+    /// A submodule's section that can't be read.
+    Unreadable,
+    /// Another section, or none.
+    Other,
+}
+
+/// The first section of a submodule from this offset on.
+fn section_from(file: &[u8], start: usize) -> Option<Section<'_>>
+    ensures { let left = sections start (drop start file.now) in MatchOption result
+        (left ≡ [])
+        (λ s. (s.offset < length file.now)
+        × (left ≡ (s.offset, s.name) ∷ sections (s.offset + 1) (drop (s.offset + 1) file.now))) }
+{
+    let mut from = start;
+    while let Some(offset) = bracket_from(file, from) {
+        from = offset + 1;
+        match header_after_bracket(&file[from..]) {
+            Header::Named(name) => {
+                return Some(Section {
+                    offset,
+                    name: Some(name),
+                });
+            }
+            Header::Unreadable => return Some(Section { offset, name: None }),
+            Header::Other => {}
+        }
+    }
+    None
+}
+
+/// The offset of the first `[` from this offset on.
+fn bracket_from(file: &[u8], start: usize) -> Option<usize>
+    ensures { let left = sections start (drop start file.now) in MatchOption result
+        (left ≡ [])
+        (λ offset. (start ≤ offset) × (offset < length file.now)
+        × (left ≡ begun offset (header_after_bracket (drop (offset + 1) file.now)) ++ sections (offset + 1) (drop (offset + 1) file.now))) }
+{
+    let count = memchr(b'[', file.get(start..)?)?;
+    Some(start + count)
+}
+
+/// What a `[` before these bytes begins.
+#[tactic(auto, unfolding(crate::specs::Sections::header_after_bracket))]
+fn header_after_bracket(bytes: &[u8]) -> Header<'_>
+    ensures { header_of result ≡ header_after_bracket bytes.now }
+{
+    match bytes.split_at_checked(9) {
+        Some((word, after)) if word.eq_ignore_ascii_case(b"submodule") => header_after_word(after),
+        _ => Header::Other,
+    }
+}
+
+/// What a `[` and the word `submodule` before these bytes begin.
+fn header_after_word(bytes: &[u8]) -> Header<'_>
+    ensures { header_of result ≡ header_after_word bytes.now }
+{
+    match bytes {
+        [b' ' | b'\t' | b'\r', after @ ..] => match without_blanks(after) {
+            [b'"', quoted @ ..] => match EscapedName::after_quote(quoted) {
+                Some(name) => Header::Named(name),
+                None => Header::Unreadable,
+            },
+            _ => Header::Unreadable,
+        },
+        [b']' | b'a'..=b'z' | b'A'..=b'Z' | b'0'..=b'9' | b'-', ..] => Header::Other,
+        _ => Header::Unreadable,
+    }
+}
+
+/// The bytes from the first one on that is not a blank.
+fn without_blanks(bytes: &[u8]) -> &[u8]
+    ensures { result.now ≡ without_blanks bytes.now }
+{
+    let mut rest = bytes;
+    while let [b' ' | b'\t' | b'\r', after @ ..] = rest {
+        rest = after;
+    }
+    rest
+}

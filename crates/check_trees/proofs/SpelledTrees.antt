@@ -49,7 +49,7 @@ entry_spelled short width item more good =
       front_spelled item.mode item.name item.number good.0,
     )
 
-entries_spelled : (options : CheckOptions) (short : Fault) (tree : ParsedObject) (items : List Item) → AllByRecursion (IsItem (length tree.id / 2)) items
+pub entries_spelled : (options : CheckOptions) (short : Fault) (tree : ParsedObject) (items : List Item) → AllByRecursion (IsItem (length tree.id / 2)) items
     → entries options short tree (flat_map item_bytes items) ≡ (all_said (map (item_said options tree) items), None)
 entries_spelled options short tree [] each = grind (arith, entries_none)
 entries_spelled options short tree (item ∷ items) (first, each) =

@@ -1,13 +1,17 @@
--- The same from the other side: a tree that is written out, entry by entry.
-use Rattle.std.specs.Prelude.{◌≡◌, ◌≢◌, ◌↔◌, ℕ, ◌+◌, ◌/◌, ◌≤◌, false, List, [], ◌∷◌, ◌++◌, All, length, map, flat_map, Some, None}
+-- The same from the other side: a tree that is written out, entry by entry, and the streams of which nothing is refused.
+use Rattle.std.specs.Prelude.{◌≡◌, ◌≢◌, ◌↔◌, ℕ, ◌+◌, ◌/◌, ◌≤◌, false, List, [], ◌∷◌, ◌++◌, All, length, map, flat_map, Some, None, ⊤}
 use Rattle.std.specs.List.{AllByRecursion}
 use Rattle.std.specs.Str.{byte}
+use Rattle.gix_validate.specs.Component.{fault_of}
+use Rattle.streams.specs.declared.outcome.Verdict.{Verdict}
+use Rattle.streams.specs.declared.outcome.Verdict.TheVariants.{Clean}
 use Rattle.streams.specs.Texts.{number_of}
 use Rattle.streams.specs.Headers.{ParsedObject}
 use Rattle.streams.specs.Reports.{longest, Said, all_said}
 use Rattle.streams.specs.declared.header.Kind.TheVariants.{Tree}
+use Rattle.streams.specs.Spelled.{Spelled, Present, Absent, IsSpelled, spelling, end_of}
 use Rattle.check_trees.specs.declared.engine.CheckOptions.{CheckOptions}
-use Rattle.check_trees.specs.Entries.{nul, named}
+use Rattle.check_trees.specs.Entries.{nul, kind_of, named}
 use Rattle.check_trees.specs.Report.{entry_said, tree_rule}
 
 -- an entry of a tree: its mode and that as a number, its name, and the id of what it names
@@ -41,3 +45,27 @@ abbrev pub IsReadAsItems : CheckOptions → Type 0
 IsReadAsItems options =
     (tree : ParsedObject) (bytes : List ℕ) (said : Said) → tree.kind ≡ Tree
     → (tree_rule options false tree bytes ≡ (said, None)) ↔ IsTree options tree bytes said
+
+-- ---- nothing refused
+
+-- a tree of these bytes: its entries, each of whose names is accepted under the protections
+pub record IsAcceptedTree (options : CheckOptions) (tree : ParsedObject) (bytes : List ℕ) : Type 0 where
+  pub items : List Item
+  pub each : AllByRecursion (IsItem (length tree.id / 2)) items
+  pub accepted : AllByRecursion (λ item. fault_of options.protections (kind_of item.number) item.name ≡ None) items
+  pub bytes_are : bytes ≡ flat_map item_bytes items
+
+abbrev pub IsAcceptedObject : CheckOptions → Spelled → Type 0
+IsAcceptedObject options (Present object digits content) = object.kind ≡ Tree → IsAcceptedTree options object content
+IsAcceptedObject options (Absent id) = ⊤
+
+-- a stream each of whose trees is accepted
+pub record IsAcceptedStream (options : CheckOptions) (text : List ℕ) : Type 0 where
+  pub stream : List Spelled
+  pub each : AllByRecursion (IsSpelled (tree_rule options) options.whole) stream
+  pub accepted : AllByRecursion (IsAcceptedObject options) stream
+  pub text_is : text ≡ flat_map spelling stream ++ end_of options.whole
+
+-- A run finds a text clean if and only if it is such a stream.
+abbrev pub IsCleanIfAccepted : CheckOptions → Verdict → List ℕ → Type 0
+IsCleanIfAccepted options verdict text = (verdict ≡ Clean) ↔ IsAcceptedStream options text

@@ -8,7 +8,7 @@ ghost use Rattle.streams.specs.Promises.{Begins, Gives, as_object};
 ghost use Rattle.streams.specs.Spelled.{IsReportedInOrder, IsWellFormedOnlyIfSpelled};
 ghost use Rattle.gix_validate.specs.Component.{fault_of};
 ghost use Rattle.check_trees.specs.Report.{finding_by, finding_of, finding_said, is_gitmodules_fault, report, tree_rule};
-ghost use Rattle.check_trees.specs.Spelled.{IsReadAsItems};
+ghost use Rattle.check_trees.specs.Spelled.{IsCleanIfAccepted, IsReadAsItems};
 ghost use Rattle.check_trees.specs.Promises.{EntryGives, PassesId, Says, as_front, tree_report};
 
 use crate::entry::{Front, front_of};
@@ -67,6 +67,7 @@ pub fn run<R: BufRead, W: Write>(
     ensures verdict { IfOk result (λ verdict. IfSome (R.remaining input.old) (λ text.
         Appends (W.contents output.old) (W.contents output.new) (report options text).said.lines
         × (verdict ≡ verdict_of (report options text)))) }
+    ensures clean { IfOk result (λ verdict. IfSome (R.remaining input.old) (IsCleanIfAccepted options verdict)) }
     ensures end { IfOk result (λ verdict. is_malformed verdict ≡ false
         → OnSome (R.remaining input.old) (IsAtEnd (R.remaining input.new))) }
     ensures spent { IfOk result (λ verdict. is_malformed verdict ≡ false

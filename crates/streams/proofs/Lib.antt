@@ -7,3 +7,4 @@ pub mod ObjectsRead
 pub mod SpelledHeaders
 pub mod SpelledStreams
 pub mod WellFormedStreams
+pub mod CleanStreams

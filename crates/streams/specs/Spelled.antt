@@ -1,8 +1,10 @@
 -- The same from the other side: what is reported of a stream that is written out, object by object, and that no other
 -- text is well-formed.
-use Rattle.std.specs.Prelude.{◌≡◌, ◌≢◌, ℕ, ◌+◌, ◌<◌, Bool, true, false, if◌then◌else◌, List, [], ◌∷◌, ◌++◌, All, length, map, flat_map, codes, Option, None, Some, OnSome, IfSome}
+use Rattle.std.specs.Prelude.{◌≡◌, ◌≢◌, ◌↔◌, ℕ, ◌+◌, ◌<◌, Bool, true, false, if◌then◌else◌, List, [], ◌∷◌, ◌++◌, All, length, map, flat_map, codes, Option, None, Some, OnSome, IfSome}
 use Rattle.std.specs.List.{AllByRecursion}
 use Rattle.std.specs.Str.{byte}
+use Rattle.streams.specs.declared.outcome.Verdict.{Verdict}
+use Rattle.streams.specs.declared.outcome.Verdict.TheVariants.{Clean}
 use Rattle.streams.specs.Texts.{line_end, number_of, is_id}
 use Rattle.streams.specs.Headers.{ParsedObject, kind_word}
 use Rattle.streams.specs.Reports.{Said, nothing, all_said, longest, end_line, before_report, lines_from}
@@ -61,3 +63,16 @@ pub record IsStream (rule : ObjectRule) (whole : Bool) (text : List ℕ) (said :
 abbrev pub IsWellFormedOnlyIfSpelled : ObjectRule → Bool → Type 0
 IsWellFormedOnlyIfSpelled rule whole =
     (text : List ℕ) → (object_report rule whole text).malformed ≡ None → IsStream rule whole text (object_report rule whole text).said
+
+-- ---- nothing refused
+
+-- a stream of which nothing is refused
+pub record IsCleanStream (rule : ObjectRule) (whole : Bool) (text : List ℕ) : Type 0 where
+  pub stream : List Spelled
+  pub each : AllByRecursion (IsSpelled rule whole) stream
+  pub clean : AllByRecursion (λ object. (spelled_said rule object).refused ≡ false) stream
+  pub text_is : text ≡ flat_map spelling stream ++ end_of whole
+
+-- A run finds a text clean if and only if it is such a stream.
+abbrev pub IsCleanIfAccepted : ObjectRule → Bool → Verdict → List ℕ → Type 0
+IsCleanIfAccepted rule whole verdict text = (verdict ≡ Clean) ↔ IsCleanStream rule whole text

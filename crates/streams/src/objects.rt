@@ -5,7 +5,7 @@ ghost use Rattle.std.specs.Io.KnownBytes.{Appends, IsAtEnd};
 ghost use Rattle.streams.specs.Objects.{IsWholeStream, ObjectRule, ending_of, object_report, object_rule, object_step};
 ghost use Rattle.streams.specs.Reports.{end_line, is_malformed, verdict_of, with_rest};
 ghost use Rattle.streams.specs.Promises.{Begins, Closes, Gives, as_object, body_step};
-ghost use Rattle.streams.specs.Spelled.{IsReportedInOrder, IsWellFormedOnlyIfSpelled};
+ghost use Rattle.streams.specs.Spelled.{IsCleanIfAccepted, IsReportedInOrder, IsWellFormedOnlyIfSpelled};
 
 use crate::header::{Header, Object, header_of};
 use crate::input::read_byte;
@@ -104,7 +104,7 @@ fn close<R: BufRead>(refused: bool, input: &mut R) -> Result<Result<bool, Fault>
 /// # Memory
 ///
 /// The longest header line, of at most 65,536 bytes, and what `check` allocates, of `alloc`.
-#[tactic(auto, using(crate::proofs::SpelledStreams::reported_in_order, crate::proofs::WellFormedStreams::well_formed_only_if_spelled, crate::proofs::WholeStreams::whole_stream))]
+#[tactic(auto, using(crate::proofs::SpelledStreams::reported_in_order, crate::proofs::WellFormedStreams::well_formed_only_if_spelled, crate::proofs::WholeStreams::whole_stream, crate::proofs::CleanStreams::clean_if_accepted))]
 pub fn run<C: ObjectCheck, R: BufRead, W: Write>(
     alloc: Global,
     check: C,
@@ -115,6 +115,8 @@ pub fn run<C: ObjectCheck, R: BufRead, W: Write>(
     ensures verdict { IfOk result (λ verdict. IfSome (R.remaining input.old) (λ text.
         Appends (W.contents output.old) (W.contents output.new) (object_report (C.object_rule check) whole text).said.lines
         × (verdict ≡ verdict_of (object_report (C.object_rule check) whole text)))) }
+    ensures clean { IfOk result (λ verdict. IfSome (R.remaining input.old) (λ text.
+        IsCleanIfAccepted (C.object_rule check) whole verdict text)) }
     ensures end { IfOk result (λ verdict. is_malformed verdict ≡ false
         → OnSome (R.remaining input.old) (IsAtEnd (R.remaining input.new))) }
     ensures spent { IfOk result (λ verdict. is_malformed verdict ≡ false

@@ -1,0 +1,132 @@
+-- Nothing of a stream is refused if and only if each entry of each tree is accepted.
+use Rattle.std.proofs.Common.{◌≡◌, ◌↔◌, ℕ, ◌/◌, Bool, true, false, ◌||◌, List, [], ◌∷◌, Option, None, Some, length, map, refl, arith, ap, ◌∙◌, sym}
+use Rattle.std.proofs.Common.{Result, Ok, Err}
+use Rattle.std.proofs.lemmas.Option.{IfSome_then}
+use Rattle.std.specs.Prelude.{IfOk, IfSome}
+use Rattle.std.specs.Option.{is_some}
+use Rattle.std.specs.List.{AllByRecursion}
+use Rattle.gix_validate.specs.declared.path.ComponentError.{ComponentError}
+use Rattle.gix_validate.specs.Component.{fault_of}
+use Rattle.streams.specs.declared.header.Kind.{Kind}
+use Rattle.streams.specs.declared.header.Kind.TheVariants.{Blob, Tree, Commit, Tag}
+use Rattle.streams.specs.declared.outcome.Fault.TheVariants.{Entry}
+use Rattle.streams.specs.declared.outcome.Verdict.{Verdict}
+use Rattle.streams.specs.Headers.{ParsedObject}
+use Rattle.streams.specs.Reports.{Said, all_said}
+use Rattle.streams.specs.Objects.{Judged}
+use Rattle.streams.specs.Spelled as stream
+use Rattle.streams.specs.Spelled.{Spelled, Present, Absent, IsSpelled, spelled_said, IsCleanStream}
+use Rattle.check_trees.specs.declared.engine.CheckOptions.{CheckOptions}
+use Rattle.check_trees.specs.Entries.{ParsedEntry, kind_of, named}
+use Rattle.check_trees.specs.Report.{finding_by, finding_said, entries, judged_by_kind, tree_rule}
+use Rattle.check_trees.specs.Spelled.{Item, IsItem, item_bytes, item_said, IsTree, IsAcceptedTree, IsAcceptedObject, IsAcceptedStream, IsCleanIfAccepted}
+use Rattle.check_trees.proofs.SpelledTrees.{entries_spelled, read_as_items}
+
+neither : (a b : Bool) → (a || b) ≡ false → (a ≡ false) × (b ≡ false)
+neither true b e = grind arith
+neither false b e = (refl, e)
+
+-- ---- an entry
+
+refused_by : (tree : ParsedObject) (entry : ParsedEntry) (modules : Bool) (fault : Option ComponentError)
+    → (finding_said tree entry (finding_by modules fault)).refused ≡ is_some fault
+refused_by tree entry modules (Some fault) = refl
+refused_by tree entry true None = refl
+refused_by tree entry false None = refl
+
+module _ (options : CheckOptions) (tree : ParsedObject) where
+  abbrev IsAcceptedItem : Item → Type 0
+  IsAcceptedItem item = fault_of options.protections (kind_of item.number) item.name ≡ None
+
+  item_refused : (item : Item) → (item_said options tree item).refused ≡ is_some (fault_of options.protections (kind_of item.number) item.name)
+  item_refused item = refused_by tree (record { front = named item.mode item.name item.number; id = item.id }) _
+      (fault_of options.protections (kind_of item.number) item.name)
+
+  some_fault : (fault : Option ComponentError) → is_some fault ≡ false → fault ≡ None
+  some_fault None e = refl
+  some_fault (Some fault) e = grind arith
+
+  items_accept : (items : List Item) → (all_said (map (item_said options tree) items)).refused ≡ false → AllByRecursion IsAcceptedItem items
+  items_accept [] e = tt
+  items_accept (item ∷ items) e =
+      let both = neither (item_said options tree item).refused (all_said (map (item_said options tree) items)).refused e in
+      (some_fault _ (sym (item_refused item) ∙ both.0), items_accept items both.1)
+
+  items_accepted : (items : List Item) → AllByRecursion IsAcceptedItem items → (all_said (map (item_said options tree) items)).refused ≡ false
+  items_accepted [] each = refl
+  items_accepted (item ∷ items) (first, each) = grind (arith, item_refused item, items_accepted items each)
+
+-- ---- an object
+
+with_none : (judged : Judged) → judged.1 ≡ None → judged ≡ (judged.0, None)
+with_none (said, fault) e = ap (λ fault. (said, fault)) e
+
+module _ (options : CheckOptions) where
+  object_accepts : (whole : Bool) (object : Spelled) → IsSpelled (tree_rule options) whole object → (spelled_said (tree_rule options) object).refused ≡ false
+      → IsAcceptedObject options object
+  object_accepts whole (Present object digits content) (good, number, long, none, fits, right) clean = λ is.
+      let judged = tree_rule options false object content in
+      let tree = (read_as_items options object content judged.0 is).0 (with_none judged right) in
+      record {
+        items = tree.items;
+        each = tree.each;
+        accepted = items_accept options object tree.items (rw tree.said_is at clean);
+        bytes_are = tree.bytes_are;
+      }
+  object_accepts whole (Absent id) good clean = tt
+
+  tree_accepted : (object : ParsedObject) (content : List ℕ) → IsAcceptedTree options object content
+      → (entries options Entry object content).0.refused ≡ false
+  tree_accepted object content tree =
+      ap (λ (judged : Judged). judged.0.refused) (ap (entries options Entry object) tree.bytes_are ∙ entries_spelled options Entry object tree.items tree.each)
+      ∙ items_accepted options object tree.items tree.accepted
+
+  by_kind_accepted : (object : ParsedObject) (content : List ℕ) (kind : Kind) → (kind ≡ Tree → IsAcceptedTree options object content)
+      → (judged_by_kind options false object content kind).0.refused ≡ false
+  by_kind_accepted object content Tree accepted = tree_accepted object content (accepted refl)
+  by_kind_accepted object content Blob accepted = refl
+  by_kind_accepted object content Commit accepted = refl
+  by_kind_accepted object content Tag accepted = refl
+
+  object_accepted : (object : Spelled) → IsAcceptedObject options object → (spelled_said (tree_rule options) object).refused ≡ false
+  object_accepted (Present object digits content) accepted = by_kind_accepted object content object.kind accepted
+  object_accepted (Absent id) accepted = refl
+
+  all_accept : (whole : Bool) (stream : List Spelled) → AllByRecursion (IsSpelled (tree_rule options) whole) stream
+      → AllByRecursion (λ object. (spelled_said (tree_rule options) object).refused ≡ false) stream → AllByRecursion (IsAcceptedObject options) stream
+  all_accept whole [] each clean = tt
+  all_accept whole (object ∷ stream) (good, each) (first, clean) = (object_accepts whole object good first, all_accept whole stream each clean)
+
+  all_accepted : (stream : List Spelled) → AllByRecursion (IsAcceptedObject options) stream
+      → AllByRecursion (λ object. (spelled_said (tree_rule options) object).refused ≡ false) stream
+  all_accepted [] accepted = tt
+  all_accepted (object ∷ stream) (first, accepted) = (object_accepted object first, all_accepted stream accepted)
+
+  -- ---- a stream
+
+  accepted_if_clean : (text : List ℕ) → IsCleanStream (tree_rule options) options.whole text → IsAcceptedStream options text
+  accepted_if_clean text clean = record {
+    stream = clean.stream;
+    each = clean.each;
+    accepted = all_accept options.whole clean.stream clean.each clean.clean;
+    text_is = clean.text_is;
+  }
+
+  clean_if_each_accepted : (text : List ℕ) → IsAcceptedStream options text → IsCleanStream (tree_rule options) options.whole text
+  clean_if_each_accepted text good = record {
+    stream = good.stream;
+    each = good.each;
+    clean = all_accepted good.stream good.accepted;
+    text_is = good.text_is;
+  }
+
+clean_if_accepted : (options : CheckOptions) (verdict : Verdict) (text : List ℕ)
+    → stream.IsCleanIfAccepted (tree_rule options) options.whole verdict text → IsCleanIfAccepted options verdict text
+clean_if_accepted options verdict text both =
+    (λ e. accepted_if_clean options text (both.0 e), λ good. both.1 (clean_if_each_accepted options text good))
+
+pub clean_run : {E : Type 0} (options : CheckOptions) (r : Result Verdict E) (a : Option (List ℕ))
+    → IfOk r (λ verdict. IfSome a (λ text. stream.IsCleanIfAccepted (tree_rule options) options.whole verdict text))
+    → IfOk r (λ verdict. IfSome a (IsCleanIfAccepted options verdict))
+clean_run options (Ok verdict) a both = IfSome_then a both (λ text e. clean_if_accepted options verdict text e)
+clean_run options (Err stop) a both = tt

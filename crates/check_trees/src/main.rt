@@ -2,11 +2,11 @@
 //! as `git cat-file --batch` prints objects.
 #![tactic(auto)]
 
-ghost use Rattle.std.specs.Prelude.{◌≡◌, ◌≤◌, Ok, IfSome, map};
+ghost use Rattle.std.specs.Prelude.{◌≡◌, ◌≤◌, Ok, IfSome, IsErr, map};
 ghost use Rattle.std.specs.Process.{exit_status};
 ghost use Rattle.std.specs.String.{string_bytes};
 ghost use Rattle.streams.specs.Reports.{verdict_of};
-ghost use Rattle.check_trees.specs.Arguments as arguments_rule;
+ghost use Rattle.check_trees.specs.Arguments.{request_of};
 ghost use Rattle.check_trees.specs.Report.{report};
 
 mod arguments;
@@ -57,22 +57,23 @@ fn main(rt: HostRuntime) -> ExitCode {
         Err(e) if e.kind() == ErrorKind::OutOfMemory => return failed(&rt, NAME, RunError::Memory),
         Err(_) => return failed(&rt, NAME, "the arguments can't be read as UTF-8"),
     };
-    run(&rt, &words, rt.stdin(), rt.stdout())
+    answer(&rt, &words, rt.stdin(), rt.stdout())
 }
 
-/// Does what the arguments ask for.
-fn run<R: Read + Drop, W: Write + Drop>(
+/// Does what the arguments ask for, and gives the exit status.
+fn answer<R: Read + Drop, W: Write + Drop>(
     rt: &HostRuntime,
     words: &[String],
     input: R,
     output: W,
 ) -> ExitCode
     ensures clean { IfSome (R.remaining input) (λ text. (options : CheckOptions)
-        → arguments_rule.request_of (map string_bytes words.now) ≡ Ok (Request.Check options)
+        → request_of (map string_bytes words.now) ≡ Ok (Request.Check options)
         → exit_status result ≡ 0 → verdict_of (report options text) ≡ Verdict.Clean) }
     ensures refused { IfSome (R.remaining input) (λ text. (options : CheckOptions)
-        → arguments_rule.request_of (map string_bytes words.now) ≡ Ok (Request.Check options)
+        → request_of (map string_bytes words.now) ≡ Ok (Request.Check options)
         → exit_status result ≡ 1 → verdict_of (report options text) ≡ Verdict.Refused) }
+    ensures unknown { IsErr (request_of (map string_bytes words.now)) → exit_status result ≡ 2 }
     ensures status { exit_status result ≤ 2 }
 {
     match arguments::request_of(words) {

@@ -1,0 +1,6 @@
+pub mod SplitLines
+pub mod UpdateLines
+pub mod SpelledInputs
+pub mod CleanInputs
+pub mod ArgumentWords
+mod Rows

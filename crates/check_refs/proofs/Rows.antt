@@ -1,0 +1,83 @@
+-- The definitions computed on lines: what is printed of each, or that it says no update.
+use Rattle.std.proofs.Common.{◌≡◌, ℕ, true, false, refl, List, [], ◌∷◌, ◌++◌, Option, Some, None, map, codes}
+use Rattle.std.specs.Option.{option_map}
+use Rattle.gix_validate.specs.Bytes.{is_bad}
+use Rattle.gix_validate.specs.Faults.{at_first_place}
+use Rattle.gix_validate.specs.Reference.{partial_fault_of, full_fault_of, branch_fault_of}
+use Rattle.gix_validate.specs.Tag.{fault_of, faults_at, faults_between}
+use Rattle.streams.specs.Texts.{is_id}
+use Rattle.check_refs.specs.Refs.{parsed_update, line_of}
+
+-- no id, an id of SHA-1, and one of SHA-256
+abbrev none : List ℕ
+none = codes "0000000000000000000000000000000000000000"
+
+abbrev short : List ℕ
+short = codes "4b825dc642cb6eb9a060e54bf8d69288fbee4904"
+
+abbrev long : List ℕ
+long = codes "6ef19b41225c5369f1c104d45d8d85efa9b057b53b14b4b9b939dd74decc5321"
+
+abbrev line : List ℕ → List ℕ → List ℕ → List ℕ
+line old new rest = old ++ codes " " ++ new ++ rest
+
+-- a line, what is printed of it without an option, and what under both
+abbrev Row : Type 0
+Row = List ℕ × Option (List ℕ) × Option (List ℕ)
+
+abbrev rows : List Row
+rows =
+    (line none short (codes " refs/heads/main"), Some [], Some (short ++ codes "\n"))  -- a new branch
+    ∷ (line long long (codes " refs/heads/main"), Some [], Some (long ++ codes "\n"))  -- ids of SHA-256
+    ∷ (line short none (codes " refs/heads/a b"), Some [], Some [])  -- a deletion
+    ∷ (
+      line short short (codes " refs/heads/HEAD"),  -- reserved as a branch alone
+      Some (codes "ref \"refs/heads/HEAD\" Reference name is reserved and cannot be used: \"refs/heads/HEAD\"\n"),
+      Some (codes "ref \"refs/heads/HEAD\" Reference name is reserved and cannot be used: \"refs/heads/HEAD\"\n"),
+    )
+    ∷ (line none short (codes " refs/tags/HEAD"), Some [], Some (short ++ codes "\n"))  -- elsewhere a name like others
+    ∷ (
+      line none short (codes " refs/heads/a "),  -- the name is all the rest
+      Some (codes "ref \"refs/heads/a \" Reference name contains invalid byte: \" \"\n"),
+      Some (codes "ref \"refs/heads/a \" Reference name contains invalid byte: \" \"\n"),
+    )
+    ∷ (
+      line none short (codes " main"),  -- one level
+      Some (codes "ref \"main\" Standalone references must be all uppercased, like 'HEAD'\n"),
+      Some (codes "ref \"main\" Standalone references must be all uppercased, like 'HEAD'\n"),
+    )
+    ∷ (
+      line none short (codes " refs/replace/" ++ short),  -- a replacement
+      Some (codes "ref \"refs/replace/" ++ short ++ codes "\" replacement references are not allowed\n"),
+      Some (short ++ codes "\n"),
+    )
+    ∷ (
+      line none short (codes " refs/replace/"),  -- its fault comes first
+      Some (codes "ref \"refs/replace/\" Reference name cannot end with a slash\n"),
+      Some (codes "ref \"refs/replace/\" Reference name cannot end with a slash\n"),
+    )
+    ∷ (line short none (codes " refs/replace/" ++ short), Some [], Some [])  -- a replacement is deleted
+    ∷ (line none short (codes " refs/replacement/a"), Some [], Some (short ++ codes "\n"))  -- another folder
+    ∷ (
+      line none short (codes " refs/tags/" ++ 0xFF ∷ codes "\"*"),  -- a byte that is no text, and a quote
+      Some (codes "ref \"refs/tags/\\xff\\\"*\" Reference name cannot contain '*'\n"),
+      Some (codes "ref \"refs/tags/\\xff\\\"*\" Reference name cannot contain '*'\n"),
+    )
+    ∷ (line none short [], None, None)  -- no name
+    ∷ (line none short (codes " "), None, None)  -- an empty name
+    ∷ (line none (codes " " ++ short) (codes " refs/heads/main"), None, None)  -- two spaces
+    ∷ (line none long (codes " refs/heads/main"), None, None)  -- two lengths
+    ∷ (line none (codes "4B825DC642CB6EB9A060E54BF8D69288FBEE4904") (codes " refs/heads/main"), None, None)  -- capitals
+    ∷ (line (codes "4b825dc") (codes "4b825dc") (codes " refs/heads/main"), None, None)  -- ids cut short
+    ∷ ([], None, None)  -- an empty line
+    ∷ []
+
+printed_without : map (λ (row : Row). option_map (line_of (record { lists_ids = false; allows_replace = false })) (parsed_update row.0)) rows
+    ≡ map (λ (row : Row). row.1) rows
+unfolding parsed_update is_id partial_fault_of full_fault_of branch_fault_of fault_of faults_at faults_between at_first_place is_bad
+printed_without = refl
+
+printed_under_both : map (λ (row : Row). option_map (line_of (record { lists_ids = true; allows_replace = true })) (parsed_update row.0)) rows
+    ≡ map (λ (row : Row). row.2) rows
+unfolding parsed_update is_id partial_fault_of full_fault_of branch_fault_of fault_of faults_at faults_between at_first_place is_bad
+printed_under_both = refl

@@ -1,0 +1,58 @@
+-- The same from the other side: what is reported of updates that are written out, and that no other input is well-formed.
+use Rattle.std.specs.Prelude.{◌≡◌, ◌≢◌, ◌↔◌, ◌+◌, ◌<◌, true, List, [], ◌∷◌, ◌++◌, All, length, map, flat_map, ℕ, None, Some}
+use Rattle.std.specs.List.{AllByRecursion}
+use Rattle.std.specs.Str.{byte}
+use Rattle.streams.specs.declared.lines.Ending.TheVariants.{AfterALine}
+use Rattle.streams.specs.Texts.{line_end, is_id}
+use Rattle.streams.specs.Reports.{Said, all_said, longest, before_report, lines_from}
+use Rattle.check_refs.specs.declared.report.Options.{Options}
+use Rattle.check_refs.specs.Refs.{ParsedUpdate, parsed_update}
+use Rattle.check_refs.specs.Report.{said_of, update_rule, refs_report}
+
+-- ---- an update
+
+-- two ids of one length and a name
+pub record IsUpdate (update : ParsedUpdate) : Type 0 where
+  pub old : is_id update.old_id ≡ true
+  pub new : is_id update.new_id ≡ true
+  pub same_length : length update.old_id ≡ length update.new_id
+  pub named : update.name ≢ []
+
+-- the line of an update, without its end
+abbrev pub update_line : ParsedUpdate → List ℕ
+update_line update = update.old_id ++ byte " " ∷ update.new_id ++ byte " " ∷ update.name
+
+-- A line says an update if and only if it is that update's line.
+abbrev pub IsReadAsSpelled : List ℕ → Type 0
+IsReadAsSpelled line =
+    (update : ParsedUpdate) → (parsed_update line ≡ Some update) ↔ (IsUpdate update × (line ≡ update_line update))
+
+-- ---- an input
+
+-- an update whose name has no LF, and whose line fits
+abbrev pub IsSpelled : ParsedUpdate → Type 0
+IsSpelled update = IsUpdate update × All (λ b. b ≢ line_end) update.name × (length (update_line update) < longest)
+
+-- what Git writes of it
+abbrev pub spelling : ParsedUpdate → List ℕ
+spelling update = update_line update ++ line_end ∷ []
+
+-- Of updates that are written out just this is said, and then what follows them gives its own.
+abbrev pub IsReportedInOrder : Options → Type 0
+IsReportedInOrder options =
+    (updates : List ParsedUpdate) (rest : List ℕ) → AllByRecursion IsSpelled updates
+    → refs_report options (flat_map spelling updates ++ rest)
+    ≡ before_report (all_said (map (said_of options) updates)) (lines_from (update_rule options) AfterALine (1 + length updates) rest)
+
+-- some updates that are written out, and what is said of them
+pub record IsWrittenOut (options : Options) (text : List ℕ) (said : Said) : Type 0 where
+  pub updates : List ParsedUpdate
+  pub some : updates ≢ []
+  pub each : AllByRecursion IsSpelled updates
+  pub text_is : text ≡ flat_map spelling updates
+  pub said_is : said ≡ all_said (map (said_of options) updates)
+
+-- An input is well-formed only if it is some updates that are written out, and then just that is said.
+abbrev pub IsWellFormedOnlyIfSpelled : Options → Type 0
+IsWellFormedOnlyIfSpelled options =
+    (text : List ℕ) → (refs_report options text).malformed ≡ None → IsWrittenOut options text (refs_report options text).said

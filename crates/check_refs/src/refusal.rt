@@ -1,0 +1,68 @@
+//! Which names of references are refused, and why.
+
+ghost use Rattle.std.specs.Prelude.{◌≡◌};
+ghost use Rattle.check_refs.specs.Refs.{name_fault_of, refusal_of};
+
+use bstr::BStr;
+use gix_validate::reference;
+use gix_validate::reference::NameError;
+use std::fmt;
+
+/// Why a name of a reference is refused.
+#[derive(Debug, Drop)]
+pub enum Refusal {
+    /// The name is invalid.
+    Name(NameError),
+    /// The name is under `refs/replace/`. Git shows the object of such a reference in place of
+    /// another one.
+    Replacement,
+}
+
+/// The text is that of the name's error, or `replacement references are not allowed`.
+impl fmt::Display for Refusal {
+    ghost use Rattle.std.specs.Prelude.{Some};
+    ghost use Rattle.check_refs.specs.Refs.{refusal_text_of};
+
+    ghost output = { λ refusal. Some (refusal_text_of refusal) };
+
+    fn fmt<W: fmt::Write>(&self, f: &mut fmt::Formatter<W>) -> fmt::Result {
+        match self {
+            Refusal::Name(fault) => fault.fmt(f),
+            Refusal::Replacement => f.write_str("replacement references are not allowed"),
+        }
+    }
+}
+
+/// Why the name of a reference is refused, if it is (docs/RULES.md, "The report of references").
+///
+/// ```
+/// refusal_of(false, b"refs/heads/HEAD"); // Refusal::Name, with the fault `Reserved`
+/// refusal_of(false, b"refs/replace/a"); // Refusal::Replacement
+/// refusal_of(true, b"refs/replace/a"); // None
+/// ```
+///
+/// A name under `refs/heads/` has to pass [`reference::branch_name`], and any other name
+/// [`reference::name`]. A name under `refs/replace/` has to be allowed besides. It does not
+/// allocate.
+pub fn refusal_of(allows_replace: bool, name: &[u8]) -> Option<Refusal>
+    ensures { result ≡ refusal_of allows_replace name.now }
+{
+    if let Some(fault) = name_fault_of(name) {
+        return Some(Refusal::Name(fault));
+    }
+    if !allows_replace && name.starts_with(b"refs/replace/") {
+        return Some(Refusal::Replacement);
+    }
+    None
+}
+
+/// The fault of a name, if it has one.
+fn name_fault_of(name: &[u8]) -> Option<NameError>
+    ensures { result ≡ name_fault_of name.now }
+{
+    if name.starts_with(b"refs/heads/") {
+        reference::branch_name(BStr::new(name)).err()
+    } else {
+        reference::name(BStr::new(name)).err()
+    }
+}

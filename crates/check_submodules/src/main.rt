@@ -39,8 +39,8 @@ is wrong:
 
 A section is looked for at each '[' of a file, in comments and values too.
 
-    --end        the input has to be whole: '..end missing', which Git prints for
-                 the word '..end', is its last line, and no object is missing
+    --end        the input has to be whole: no object is missing, and its last
+                 line is '..end missing', as Git prints for '..end'
     --help       prints this text
     --version    prints the version
 

@@ -38,9 +38,8 @@ it is refused, and the rest of the tree's header line, if it is not empty.
                       and ntfs, or none. The default is all three
     --modules         prints a line, too, for each file that a checkout reads as
                       .gitmodules: 'modules', its id, and the place as above
-    --end             the input has to be whole: '..end missing', which Git prints
-                      for the word '..end', is its last line, and no object is
-                      missing
+    --end             the input has to be whole: no object is missing, and its
+                      last line is '..end missing', as Git prints for '..end'
     --help            prints this text
     --version         prints the version
 

@@ -1,1 +1,2 @@
 pub mod ReportedSections
+pub mod AcceptedFiles

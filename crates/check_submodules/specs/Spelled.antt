@@ -1,8 +1,15 @@
 -- Each section that a file has is reported, whatever is before and after it.
-use Rattle.std.specs.Prelude.{◌≡◌, ℕ, List, ◌++◌, Option, Some}
+use Rattle.std.specs.Prelude.{◌≡◌, ◌↔◌, ℕ, Bool, false, nat_lt, List, ◌++◌, flat_map, Option, Some, None, ⊤}
+use Rattle.std.specs.List.{AllByRecursion}
+use Rattle.gix_validate.specs.Submodule.{fault_of}
 use Rattle.gitmodules.specs.Sections.{sections}
 use Rattle.gitmodules.specs.Spelled.{SectionAt, HeaderAt}
+use Rattle.streams.specs.declared.header.Kind.TheVariants.{Blob}
+use Rattle.streams.specs.declared.outcome.Verdict.{Verdict}
+use Rattle.streams.specs.declared.outcome.Verdict.TheVariants.{Clean}
+use Rattle.streams.specs.Spelled.{Spelled, Present, Absent, IsSpelled, spelling, end_of}
 use Rattle.check_submodules.specs.Lines.{line_of, lines_of}
+use Rattle.check_submodules.specs.Report.{largest, submodules_rule}
 
 -- the lines of a file have the line of this section
 abbrev pub HasLine : List ℕ → List ℕ → ℕ × Option (List ℕ) → Type 0
@@ -15,3 +22,30 @@ IsEachNameReported = (id file : List ℕ) (offset : ℕ) (name : List ℕ) → S
 -- a header of a submodule's section has its line, whether the name can be read or not
 abbrev pub IsEachHeaderReported : Type 0
 IsEachHeaderReported = (id file : List ℕ) (offset : ℕ) → HeaderAt file offset → (name : Option (List ℕ)) × HasLine id file (offset, name)
+
+-- ---- nothing refused
+
+-- the section can be read, and its name is accepted
+abbrev pub IsAccepted : ℕ × Option (List ℕ) → Type 0
+IsAccepted (offset, Some name) = fault_of name ≡ None
+IsAccepted (offset, None) = ⊥
+
+-- the file is not too large, and each of its sections is accepted
+abbrev pub IsAcceptedFile : ℕ → List ℕ → Type 0
+IsAcceptedFile size bytes = (nat_lt largest size ≡ false) × AllByRecursion IsAccepted (sections 0 bytes)
+
+-- a blob is such a file; other objects are not read
+abbrev pub IsAcceptedObject : Spelled → Type 0
+IsAcceptedObject (Present object digits content) = object.kind ≡ Blob → IsAcceptedFile object.size content
+IsAcceptedObject (Absent id) = ⊤
+
+-- a stream of which each blob is accepted
+pub record IsAcceptedStream (whole : Bool) (text : List ℕ) : Type 0 where
+  pub stream : List Spelled
+  pub each : AllByRecursion (IsSpelled submodules_rule whole) stream
+  pub accepted : AllByRecursion IsAcceptedObject stream
+  pub text_is : text ≡ flat_map spelling stream ++ end_of whole
+
+-- A run finds a text clean if and only if it is such a stream.
+abbrev pub IsCleanIfAccepted : Bool → Verdict → List ℕ → Type 0
+IsCleanIfAccepted whole verdict text = (verdict ≡ Clean) ↔ IsAcceptedStream whole text

@@ -8,7 +8,7 @@ ghost use Rattle.streams.specs.Reports.{is_malformed, verdict_of};
 ghost use Rattle.streams.specs.Spelled.{IsReportedInOrder, IsWellFormedOnlyIfSpelled};
 ghost use Rattle.check_submodules.specs.Promises.{Reads};
 ghost use Rattle.check_submodules.specs.Report.{report, submodules_rule};
-ghost use Rattle.check_submodules.specs.Spelled.{IsEachHeaderReported, IsEachNameReported};
+ghost use Rattle.check_submodules.specs.Spelled.{IsCleanIfAccepted, IsEachHeaderReported, IsEachNameReported};
 
 use crate::report::{push_lines, push_too_large};
 use std::alloc::Global;
@@ -53,7 +53,6 @@ pub struct Options {
 ///
 /// The longest header line, of at most 65,536 bytes, and the largest file that is read, its longest
 /// name and its lines, of `alloc`.
-#[tactic(auto, using(crate::proofs::ReportedSections::each_name_reported, crate::proofs::ReportedSections::each_header_reported))]
 pub fn run<R: BufRead, W: Write>(
     alloc: Global,
     options: Options,
@@ -63,6 +62,7 @@ pub fn run<R: BufRead, W: Write>(
     ensures verdict { IfOk result (λ verdict. IfSome (R.remaining input.old) (λ text.
         Appends (W.contents output.old) (W.contents output.new) (report options.whole text).said.lines
         × (verdict ≡ verdict_of (report options.whole text)))) }
+    ensures clean { IfOk result (λ verdict. IfSome (R.remaining input.old) (IsCleanIfAccepted options.whole verdict)) }
     ensures end { IfOk result (λ verdict. is_malformed verdict ≡ false
         → OnSome (R.remaining input.old) (IsAtEnd (R.remaining input.new))) }
     ensures spent { IfOk result (λ verdict. is_malformed verdict ≡ false

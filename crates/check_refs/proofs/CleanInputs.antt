@@ -16,6 +16,7 @@ use Rattle.streams.specs.declared.outcome.Verdict.TheVariants.{Clean}
 use Rattle.streams.specs.declared.lines.Ending.TheVariants.{AfterALine}
 use Rattle.streams.specs.Reports.{all_said, before_report, Report, lines_from, verdict_of}
 use Rattle.streams.proofs.LinesRead.{lines_none}
+use Rattle.streams.proofs.CleanStreams.{neither, clean_by}
 use Rattle.check_refs.specs.declared.report.Options.{Options}
 use Rattle.check_refs.specs.Refs.{ParsedUpdate, is_deletion, name_fault_of, refusal_of, update_refusal_of}
 use Rattle.check_refs.specs.declared.refusal.Refusal.TheVariants.{Name, Replacement}
@@ -86,10 +87,6 @@ accepted : (options : Options) (update : ParsedUpdate) → IsAccepted options up
 accepted options update good = refused_law options update
     ∙ accepted_by (is_deletion update) (is_branch_name update.name) options.allows_replace (begins update.name (codes "refs/replace/")) good
 
-neither : (a b : Bool) → (a || b) ≡ false → (a ≡ false) × (b ≡ false)
-neither true b e = grind arith
-neither false b e = (refl, e)
-
 all_accept : (options : Options) (updates : List ParsedUpdate) → (all_said (map (said_of options) updates)).refused ≡ false → AllByRecursion (IsAccepted options) updates
 all_accept options [] e = tt
 all_accept options (update ∷ updates) e =
@@ -101,12 +98,6 @@ all_accepted options [] each = refl
 all_accepted options (update ∷ updates) (first, each) = grind (arith, accepted options update first, all_accepted options updates each)
 
 -- ---- an input
-
-clean_by : (report : Report) → verdict_of report ≡ Clean → (report.malformed ≡ None) × (report.said.refused ≡ false)
-clean_by report e = grind arith
-
-by_clean : (report : Report) → report.malformed ≡ None → report.said.refused ≡ false → verdict_of report ≡ Clean
-by_clean report none clean = grind arith
 
 pub only_accepted : (options : Options) (text : List ℕ) → verdict_of (refs_report options text) ≡ Clean → IsAcceptedInput options text
 only_accepted options text e =

@@ -16,15 +16,12 @@ use Rattle.streams.specs.Reports.{Said, all_said}
 use Rattle.streams.specs.Objects.{Judged}
 use Rattle.streams.specs.Spelled as stream
 use Rattle.streams.specs.Spelled.{Spelled, Present, Absent, IsSpelled, spelled_said, IsCleanStream}
+use Rattle.streams.proofs.CleanStreams.{neither}
 use Rattle.check_trees.specs.declared.engine.CheckOptions.{CheckOptions}
 use Rattle.check_trees.specs.Entries.{ParsedEntry, kind_of, named}
 use Rattle.check_trees.specs.Report.{finding_by, finding_said, entries, judged_by_kind, tree_rule}
 use Rattle.check_trees.specs.Spelled.{Item, IsItem, item_bytes, item_said, IsTree, IsAcceptedTree, IsAcceptedObject, IsAcceptedStream, IsCleanIfAccepted}
 use Rattle.check_trees.proofs.SpelledTrees.{entries_spelled, read_as_items}
-
-neither : (a b : Bool) → (a || b) ≡ false → (a ≡ false) × (b ≡ false)
-neither true b e = grind arith
-neither false b e = (refl, e)
 
 -- ---- an entry
 

@@ -17,6 +17,7 @@ use Rattle.streams.specs.Reports.{longest, Said, nothing, then_said, all_said}
 use Rattle.streams.specs.Objects.{Judged}
 use Rattle.streams.proofs.SplitTexts.{split_found, drop_both, IsCut, split_cuts, whole}
 use Rattle.streams.proofs.SpelledHeaders.{without, number_high}
+use Rattle.streams.proofs.WellFormedStreams.{each_after}
 use Rattle.check_trees.specs.declared.engine.CheckOptions.{CheckOptions}
 use Rattle.check_trees.specs.Entries.{nul, named, ParsedFront, ParsedEntry, parsed_front, entry_at, entry_with, entry_of}
 use Rattle.check_trees.specs.Report.{entry_said, entries_then, entries_within, entries, judged_by_kind, tree_rule}
@@ -74,10 +75,6 @@ IsFirst width bytes entry =
 if_ok : {T : Type 0} (test : Bool) (fault : Fault) (x : T) (P : T → Type 0) → (test ≡ false → P x) → IfOk (if test then Err fault else Ok x) P
 if_ok true fault x P holds = tt
 if_ok false fault x P holds = holds refl
-
-each_after : (P : ℕ → Type 0) (front rest : List ℕ) → AllByRecursion P (front ++ rest) → AllByRecursion P rest
-each_after P [] rest each = each
-each_after P (b ∷ front) rest (first, each) = each_after P front rest each
 
 module _ (short : Fault) (width : ℕ) where
   item_at : (bytes front : List ℕ) (parsed : Option ParsedFront) → bytes ≡ front ++ nul ∷ drop (length front + 1) bytes → length front < longest

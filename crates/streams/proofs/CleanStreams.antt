@@ -12,7 +12,7 @@ use Rattle.streams.proofs.LinesRead.{lines_none, lines_end}
 use Rattle.streams.proofs.SpelledStreams.{reported_in_order}
 use Rattle.streams.proofs.WellFormedStreams.{well_formed_only_if_spelled}
 
-neither : (a b : Bool) → (a || b) ≡ false → (a ≡ false) × (b ≡ false)
+pub neither : (a b : Bool) → (a || b) ≡ false → (a ≡ false) × (b ≡ false)
 neither true b e = grind arith
 neither false b e = (refl, e)
 
@@ -30,7 +30,7 @@ module _ (rule : ObjectRule) where
   clean_all [] each = refl
   clean_all (object ∷ stream) (first, each) = grind (arith, clean_all stream each)
 
-clean_by : (report : Report) → verdict_of report ≡ Clean → (report.malformed ≡ None) × (report.said.refused ≡ false)
+pub clean_by : (report : Report) → verdict_of report ≡ Clean → (report.malformed ≡ None) × (report.said.refused ≡ false)
 clean_by report e = grind arith
 
 by_clean : (report : Report) → report.malformed ≡ None → report.said.refused ≡ false → verdict_of report ≡ Clean

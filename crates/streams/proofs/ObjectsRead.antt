@@ -19,7 +19,7 @@ abbrev pub then_closed : Step → Step
 then_closed (said, Err fault) = (said, Err fault)
 then_closed (said, Ok text) = (said, closed_by text)
 
-next_drop : (size : ℕ) (text rest : List ℕ) (b : ℕ) → drop size text ≡ b ∷ rest → drop (size + 1) text ≡ rest
+pub next_drop : (size : ℕ) (text rest : List ℕ) (b : ℕ) → drop size text ≡ b ∷ rest → drop (size + 1) text ≡ rest
 next_drop size text rest b e = grind (arith, drop-drop 1 size text)
 
 end_dropped : (said : Said) (size : ℕ) (text after : List ℕ) → drop size text ≡ after

@@ -1,7 +1,7 @@
 -- A text that is reported as well-formed is a stream that is written out, object by object.
 use Rattle.std.proofs.Common.{◌≡◌, ◌≢◌, ℕ, zero, suc, ◌+◌, ◌<◌, ◌≤◌, Bool, true, false, cond, nat_lt, List, [], ◌∷◌, ◌++◌, Option, None, Some, All}
 use Rattle.std.proofs.Common.{Result, Ok, Err, length, take, drop, codes}
-use Rattle.std.proofs.Common.{refl, ap, sym, ◌∙◌, arith, append_assoc, append-nil, length-append, length-take, length-drop, take-append-drop, drop-drop}
+use Rattle.std.proofs.Common.{refl, ap, sym, ◌∙◌, arith, append_assoc, append-nil, length-append, length-take, length-drop, take-append-drop}
 use Rattle.std.specs.Prelude.{IfSome, IfOk, map, flat_map}
 use Rattle.std.specs.List.{AllByRecursion}
 use Rattle.std.specs.Option.{option_map, option_and_then}
@@ -20,10 +20,11 @@ use Rattle.streams.specs.Reports.{longest, Said, nothing, then_said, all_said, S
 use Rattle.streams.specs.Objects.{ObjectRule, Judged, size_with_end, closed, header_rule, object_rule, ending_of}
 use Rattle.streams.specs.Spelled.{Spelled, Present, Absent, rest_bytes, header_line, IsSpelled, spelling, spelled_said, end_of, IsStream, IsWellFormedOnlyIfSpelled}
 use Rattle.streams.proofs.SplitTexts.{IsCut, split_cuts, whole}
+use Rattle.streams.proofs.ObjectsRead.{next_drop}
 
 -- ---- a header line
 
-each_after : (P : ℕ → Type 0) (front rest : List ℕ) → AllByRecursion P (front ++ rest) → AllByRecursion P rest
+pub each_after : (P : ℕ → Type 0) (front rest : List ℕ) → AllByRecursion P (front ++ rest) → AllByRecursion P rest
 each_after P [] rest each = each
 each_after P (b ∷ front) rest (first, each) = each_after P front rest each
 
@@ -90,9 +91,6 @@ content_is : (size : ℕ) (text rest : List ℕ) → drop size text ≡ line_end
 content_is size text rest e =
     let long : length (drop size text) ≡ length (line_end ∷ rest) = ap length e in
     (grind (arith, length-take, length-drop), sym (take-append-drop size text) ∙ ap (λ t. take size text ++ t) e, grind (arith, nat_tests, length-drop))
-
-next_drop : (size : ℕ) (text rest : List ℕ) (b : ℕ) → drop size text ≡ b ∷ rest → drop (size + 1) text ≡ rest
-next_drop size text rest b e = grind (arith, drop-drop 1 size text)
 
 end_is : (size : ℕ) (text after : List ℕ) → drop size text ≡ after → IfOk (size_with_end size after) (λ count. drop size text ≡ line_end ∷ drop count text)
 end_is size text [] e = tt

@@ -8,8 +8,8 @@
 # - check_trees and check_submodules accept a stream only if its last line is `..end missing`. Git prints that line if it
 #   is asked for the object `..end`, and it is asked for that only after `git rev-list` has ended with status 0. So
 #   whatever dies on the way, Git or a subshell, cuts that line off, and the program's status is 2.
-# - Whatever runs in `$( )` prints `ended` last. If no such line arrives, nothing was checked. The status of `$( )`
-#   doesn't count: bash sets it to 0 where it could not even start a subshell.
+# - Whatever checks names in `$( )` prints `ended` last. If no such line arrives, nothing was checked. The status of
+#   `$( )` doesn't count: bash sets it to 0 where it could not even start a subshell.
 # - The shell passes ids as arguments. It writes no file and uses no here-document, so it needs no TMPDIR.
 {
     export LC_ALL=C

@@ -7,7 +7,7 @@ use Rattle.gix_validate.specs.Submodule.{fault_of as submodule_fault_of}
 use Rattle.gix_validate.specs.Windows.{is_device, is_device_form, device_form, devices}
 use Rattle.gix_validate.specs.Sanitized.{sanitized, cleaned, cut}
 use Rattle.gix_validate.specs.Faults.{at_first_place}
-use Rattle.gix_validate.specs.Tag.{fault_of, faults_at, faults_between}
+use Rattle.gix_validate.specs.Tag.{fault_of, faults_at, fault_table}
 use Rattle.check_names.specs.Lines.{lines, split_once, request_of}
 use Rattle.check_names.specs.Answers.{answer_of, answers, kinds}
 
@@ -66,23 +66,23 @@ no_space = refl
 -- ---- answers
 
 tag_of_version : answer_of (codes "tag v1.2.3") ≡ codes "ok"
-unfolding kinds answer_of split_once fault_of faults_at faults_between at_first_place is_bad
+unfolding kinds answer_of split_once fault_of faults_at fault_table at_first_place is_bad
 tag_of_version = refl
 
 tag_with_space : answer_of (codes "tag a b") ≡ codes "error: A ref must not contain invalid bytes or ascii control characters: \" \""
-unfolding kinds answer_of split_once fault_of faults_at faults_between at_first_place is_bad
+unfolding kinds answer_of split_once fault_of faults_at fault_table at_first_place is_bad
 tag_with_space = refl
 
 tag_with_carriage_return : answer_of (codes "tag a\r") ≡ codes "error: A ref must not contain invalid bytes or ascii control characters: \"\\r\""
-unfolding kinds answer_of split_once fault_of faults_at faults_between at_first_place is_bad
+unfolding kinds answer_of split_once fault_of faults_at fault_table at_first_place is_bad
 tag_with_carriage_return = refl
 
 tag_of_two_spaces : answer_of (codes "tag  x") ≡ codes "error: A ref must not contain invalid bytes or ascii control characters: \" \""
-unfolding kinds answer_of split_once fault_of faults_at faults_between at_first_place is_bad
+unfolding kinds answer_of split_once fault_of faults_at fault_table at_first_place is_bad
 tag_of_two_spaces = refl
 
 tag_without_name : answer_of (codes "tag ") ≡ codes "error: A ref must not be empty"
-unfolding kinds answer_of split_once fault_of faults_at faults_between at_first_place is_bad
+unfolding kinds answer_of split_once fault_of faults_at fault_table at_first_place is_bad
 tag_without_name = refl
 
 tag_without_space : answer_of (codes "tag") ≡ codes "unknown kind"
@@ -107,7 +107,7 @@ empty_line = refl
 
 stored_run : answers (codes "tag v1.2.3\ntag a b\ntag refs/heads/")
     ≡ codes "ok\nerror: A ref must not contain invalid bytes or ascii control characters: \" \"\nerror: A ref must not end with a '/'\n"
-unfolding kinds answers lines answer_of split_once fault_of faults_at faults_between at_first_place is_bad
+unfolding kinds answers lines answer_of split_once fault_of faults_at fault_table at_first_place is_bad
 stored_run = refl
 
 no_answers : answers [] ≡ []
@@ -121,15 +121,15 @@ answer_of_empty_line = refl
 -- ---- the other kinds
 
 reserved_name : answer_of (codes "partial @") ≡ codes "error: Reference name is reserved and cannot be used: \"@\""
-unfolding kinds answer_of split_once partial_fault_of fault_of faults_at faults_between at_first_place is_bad
+unfolding kinds answer_of split_once partial_fault_of fault_of faults_at fault_table at_first_place is_bad
 reserved_name = refl
 
 standalone_name : answer_of (codes "ref V1") ≡ codes "error: Standalone references must be all uppercased, like 'HEAD'"
-unfolding kinds answer_of split_once full_fault_of partial_fault_of fault_of faults_at faults_between at_first_place is_bad
+unfolding kinds answer_of split_once full_fault_of partial_fault_of fault_of faults_at fault_table at_first_place is_bad
 standalone_name = refl
 
 branch : answer_of (codes "branch refs/heads/main") ≡ codes "ok"
-unfolding kinds answer_of split_once branch_fault_of full_fault_of partial_fault_of fault_of faults_at faults_between at_first_place is_bad
+unfolding kinds answer_of split_once branch_fault_of full_fault_of partial_fault_of fault_of faults_at fault_table at_first_place is_bad
 branch = refl
 
 parent_part : answer_of (codes "submodule a/..") ≡ codes "error: Submodules names must not contains '..'"

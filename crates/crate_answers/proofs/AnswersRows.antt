@@ -4,7 +4,7 @@ use Rattle.std.specs.Prelude.{codes, ⊤}
 use Rattle.hex.specs.Hex.{decode_pairs, encode_with}
 use Rattle.gix_validate.specs.Bytes.{is_bad, lower_byte}
 use Rattle.gix_validate.specs.Faults.{at_first_place}
-use Rattle.gix_validate.specs.Tag.{fault_of, faults_at, faults_between}
+use Rattle.gix_validate.specs.Tag.{fault_of, faults_at, fault_table}
 use Rattle.gix_validate.specs.Reference.{partial_fault_of, full_fault_of, branch_fault_of}
 use Rattle.gix_validate.specs.Submodule.{fault_of as submodule_fault_of}
 use Rattle.gix_validate.specs.Sanitized.{sanitized, cleaned, cut}
@@ -19,7 +19,7 @@ use Rattle.crate_answers.specs.Answers.{answer_of, answers, kinds, names_answer,
 -- ---- what a row unfolds
 
 unfoldable faults_on_literals : ⊤
-unfolding fault_of faults_at faults_between at_first_place is_bad branch_fault_of full_fault_of partial_fault_of submodule_fault_of
+unfolding fault_of faults_at fault_table at_first_place is_bad branch_fault_of full_fault_of partial_fault_of submodule_fault_of
 faults_on_literals = tt
 
 unfoldable devices_on_literals : ⊤

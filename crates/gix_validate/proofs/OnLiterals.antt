@@ -10,13 +10,13 @@ use Rattle.gix_validate.specs.Ntfs.{ntfs_form, is_git_form, is_modules_form}
 use Rattle.gix_validate.specs.Reference.{is_partial_name, is_full_name, is_branch_name, partial_fault_of, full_fault_of, branch_fault_of}
 use Rattle.gix_validate.specs.Sanitized.{cleaned, cut, sanitized}
 use Rattle.gix_validate.specs.Submodule.{is_submodule_name, fault_of as submodule_fault_of}
-use Rattle.gix_validate.specs.Tag.{is_good_piece, is_tag_name, faults_between, faults_at, fault_of as tag_fault_of}
+use Rattle.gix_validate.specs.Tag.{is_good_piece, is_tag_name, fault_table, faults_at, fault_of as tag_fault_of}
 use Rattle.gix_validate.specs.Units.{first_unit_len, whole_sequences}
 use Rattle.gix_validate.specs.Windows.{device_form, devices, is_device_form, is_device, is_illegal_byte, is_illegal}
 
 -- the rules of tag names, reference names, submodule names and the repair
 unfoldable pub names_on_literals : ⊤
-unfolding is_bad is_good_piece is_tag_name faults_between faults_at at_first_place tag_fault_of
+unfolding is_bad is_good_piece is_tag_name fault_table faults_at at_first_place tag_fault_of
     is_partial_name is_full_name is_branch_name partial_fault_of full_fault_of branch_fault_of is_submodule_name submodule_fault_of cleaned cut sanitized
 names_on_literals = tt
 

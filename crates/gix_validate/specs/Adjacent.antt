@@ -8,7 +8,7 @@ use Rattle.gix_validate.specs.declared.adjacent.Relation.TheVariants.{Suspect, D
 use Rattle.gix_validate.specs.Bytes.{is_bad, is_among, ends}
 use Rattle.gix_validate.specs.Faults.{first_of, at_first_place}
 use Rattle.gix_validate.specs.Submodule.{is_separator}
-use Rattle.gix_validate.specs.Tag.{faults_between}
+use Rattle.gix_validate.specs.Tag.{fault_table}
 
 -- Behind the byte before it, the byte may be the place of a fault, or lead to one: it is one that no reference name
 -- has, a `*`, or a `{`, which may stand behind a `@`; or it is a dot or a slash behind a dot or a slash; or it is an
@@ -45,9 +45,9 @@ pub record IsClear (x : List ℕ) : Type 0 where
   pub end : (ends x (codes ".") || ends x (codes "/")) ≡ false
 
 -- the fault of the byte at a place by what stands before it, as if something followed
-unfoldable pub fault_before : List ℕ → ℕ → Option NameError
-fault_before x i = first_of (faults_between (take i x) (slice_index x i) (0 ∷ []))
+unfoldable pub fault_of_byte_at : List ℕ → ℕ → Option NameError
+fault_of_byte_at x i = first_of (fault_table (take i x) (slice_index x i) (0 ∷ []))
 
 -- the first such fault at the places from i on and before j
-unfoldable pub first_between : List ℕ → ℕ → ℕ → Option NameError
-first_between x i j = at_first_place (λ k. fault_before x (i + k)) (j - i)
+unfoldable pub first_fault_between : List ℕ → ℕ → ℕ → Option NameError
+first_fault_between x i j = at_first_place (λ k. fault_of_byte_at x (i + k)) (j - i)

@@ -27,8 +27,8 @@ is_tag_name x = list_all is_good_piece (pieces x) && not (ends x (codes "."))
 
 -- The table of the faults at one place of a text, a line each. The text is cut at the place into all that stands
 -- before it, the byte at it, and all that stands after it.
-unfoldable pub faults_between : List ℕ → ℕ → List ℕ → List (Option NameError)
-faults_between before b after =
+unfoldable pub fault_table : List ℕ → ℕ → List ℕ → List (Option NameError)
+fault_table before b after =
     when (is_bad b) (InvalidByte b)
     ∷ when (b == byte "*") Asterisk
     ∷ when (b == byte "." && ends before (codes ".")) RepeatedDot
@@ -41,7 +41,7 @@ faults_between before b after =
 
 -- the lines of the table at place i of x, where x has that place
 unfoldable pub faults_at : List ℕ → ℕ → List (Option NameError)
-faults_at x i = faults_between (take i x) (slice_index x i) (drop (i + 1) x)
+faults_at x i = fault_table (take i x) (slice_index x i) (drop (i + 1) x)
 
 -- At each place of the text at most one line of the table applies, so their order doesn't matter.
 abbrev pub HasAtMostOneFaultAPlace : List ℕ → Type 0

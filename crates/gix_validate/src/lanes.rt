@@ -68,38 +68,38 @@ pub(crate) fn has_nonzero(bytes: u8x16) -> bool
 
 /// Whether the byte is one of the text.
 #[inline(always)]
-pub(crate) fn holds(text: &[u8], byte: u8) -> bool
+pub(crate) fn contains_byte(text: &[u8], byte: u8) -> bool
     ensures { result ≡ list_any (λ b. b == byte) text.now }
 {
     if text.len() < 8 {
         return text.contains(&byte);
     }
     if text.len() < LANES {
-        return lanes_hold(halves(text, 0, text.len() - 8), byte);
+        return lanes_contain(halves(text, 0, text.len() - 8), byte);
     }
     let last = text.len() - LANES;
     let mut at = 0;
     while at < last {
-        if block_holds(text, at, byte) {
+        if block_contains(text, at, byte) {
             return true;
         }
         at += LANES;
     }
-    block_holds(text, last, byte)
+    block_contains(text, last, byte)
 }
 
 /// Whether the byte is one of the sixteen of the text from this place on.
 #[inline(always)]
-pub(crate) fn block_holds(text: &[u8], at: usize, byte: u8) -> bool
+pub(crate) fn block_contains(text: &[u8], at: usize, byte: u8) -> bool
     requires { at + LANES ≤ length text.now }
     ensures { result ≡ list_any (λ b. b == byte) (chunk at LANES text.now) }
 {
-    lanes_hold(u8x16::from_slice(&text[at..]), byte)
+    lanes_contain(u8x16::from_slice(&text[at..]), byte)
 }
 
 /// Whether the byte is in one of the lanes.
 #[inline(always)]
-fn lanes_hold(lanes: u8x16, byte: u8) -> bool
+fn lanes_contain(lanes: u8x16, byte: u8) -> bool
     ensures { result ≡ list_any (λ b. b == byte) lanes }
 {
     lanes.simd_eq(u8x16::splat(byte)).to_bitmask() != 0

@@ -19,7 +19,7 @@ ghost use Rattle.gix_validate.specs.Pieces.{joined};
 ghost use Rattle.gix_validate.specs.Reference.{is_standalone_byte, has_slash_or_stands_alone, is_partial_name, is_full_name, is_branch_name, reserved as reserved_fault, partial_fault_of, full_fault_of, branch_fault_of};
 ghost use Rattle.gix_validate.specs.Tag.{is_tag_name};
 
-use crate::lanes::holds;
+use crate::lanes::contains_byte;
 use crate::quoted::Quoted;
 use crate::tag;
 use arrayvec::ArrayVec;
@@ -248,7 +248,7 @@ fn unless_reserved<'a>(name: BStr<'a>, reserved: &[u8]) -> Result<BStr<'a>, Name
 fn has_slash_or_stands_alone(bytes: &[u8]) -> bool
     ensures { result ≡ has_slash_or_stands_alone bytes.now }
 {
-    holds(bytes, b'/') || stands_alone(bytes)
+    contains_byte(bytes, b'/') || stands_alone(bytes)
 }
 
 /// Whether each byte may stand alone. Most names that don't show it by their first letter.

@@ -5,8 +5,8 @@ ghost use Rattle.bstr.specs.BStr.{bstr_bytes};
 ghost use Rattle.gix_validate.specs.Bytes.{ends};
 ghost use Rattle.gix_validate.specs.Faults.{Validates, first_of, at_first_place};
 ghost use Rattle.gix_validate.specs.Pieces.{PiecesAreTheOnlySplit};
-ghost use Rattle.gix_validate.specs.Adjacent.{fault_before, first_between};
-ghost use Rattle.gix_validate.specs.Tag.{fault_of, faults_at, faults_between, is_tag_name, HasAtMostOneFaultAPlace};
+ghost use Rattle.gix_validate.specs.Adjacent.{fault_of_byte_at, first_fault_between};
+ghost use Rattle.gix_validate.specs.Tag.{fault_of, faults_at, fault_table, is_tag_name, HasAtMostOneFaultAPlace};
 
 use crate::adjacent::{Relation, block_has_none, is_clear};
 use crate::bytes::{is_bad_byte, may_be_faulty};
@@ -182,7 +182,7 @@ const LOCK_END: usize = 4;
 #[tactic(auto, using(crate::proofs::TagNames::ClearTexts::settled_none, crate::proofs::TagNames::Places::found_in_part, crate::proofs::TagNames::Places::from_place))]
 fn fault_by_blocks(bytes: &[u8]) -> Option<NameError>
     requires { 0 < length bytes.now }
-    ensures { result ≡ at_first_place (fault_before bytes.now) (length bytes.now) }
+    ensures { result ≡ at_first_place (fault_of_byte_at bytes.now) (length bytes.now) }
 {
     let mut at = 0;
     while bytes.len() - at >= LANES {
@@ -190,28 +190,28 @@ fn fault_by_blocks(bytes: &[u8]) -> Option<NameError>
             at += LANES;
         } else {
             let stop = bytes.len().min(at + ASKED + LOCK_END);
-            if let Some(fault) = fault_between(bytes, at, stop) {
+            if let Some(fault) = first_fault_between(bytes, at, stop) {
                 return Some(fault);
             }
             at = bytes.len().min(at + ASKED);
         }
     }
-    fault_between(bytes, at, bytes.len())
+    first_fault_between(bytes, at, bytes.len())
 }
 
 /// The first fault by what stands before a byte, from one place on and before another. Most bytes
 /// cost a look into a table.
 #[inline(always)]
-#[tactic(auto, using(crate::proofs::TagNames::Places::between_none, crate::proofs::TagNames::Places::between_more, crate::proofs::TagNames::FaultTable::quiet), unfolding(crate::specs::Adjacent::fault_before))]
-fn fault_between(bytes: &[u8], from: usize, to: usize) -> Option<NameError>
+#[tactic(auto, using(crate::proofs::TagNames::Places::between_none, crate::proofs::TagNames::Places::between_more, crate::proofs::TagNames::FaultTable::quiet), unfolding(crate::specs::Adjacent::fault_of_byte_at))]
+fn first_fault_between(bytes: &[u8], from: usize, to: usize) -> Option<NameError>
     requires in_order { from ≤ to }
     requires within { to ≤ length bytes.now }
-    ensures { result ≡ first_between bytes.now from to }
+    ensures { result ≡ first_fault_between bytes.now from to }
 {
     for place in from..to {
         let byte = bytes[place];
         if may_be_faulty(byte) {
-            if let Some(fault) = fault_after(&bytes[..place], byte) {
+            if let Some(fault) = fault_of_byte(&bytes[..place], byte) {
                 return Some(fault);
             }
         }
@@ -221,9 +221,9 @@ fn fault_between(bytes: &[u8], from: usize, to: usize) -> Option<NameError>
 
 /// The fault of a byte behind which something follows, by what stands before it.
 #[inline]
-#[tactic(auto, unfolding(crate::specs::Tag::faults_between, crate::specs::Bytes::is_bad))]
-fn fault_after(before: &[u8], byte: u8) -> Option<NameError>
-    ensures { (next : ℕ) (rest : List ℕ) → result ≡ first_of (faults_between before.now byte (next ∷ rest)) }
+#[tactic(auto, unfolding(crate::specs::Tag::fault_table, crate::specs::Bytes::is_bad))]
+fn fault_of_byte(before: &[u8], byte: u8) -> Option<NameError>
+    ensures { (next : ℕ) (rest : List ℕ) → result ≡ first_of (fault_table before.now byte (next ∷ rest)) }
 {
     match byte {
         b'*' => Some(NameError::Asterisk),

@@ -7,126 +7,126 @@ use Rattle.gix_validate.specs.Bytes.{is_bad}
 use Rattle.gix_validate.specs.Faults.{at_first_place}
 use Rattle.gix_validate.specs.Pieces.{pieces}
 use Rattle.gix_validate.specs.Quoted.{quoted}
-use Rattle.gix_validate.specs.Tag.{fault_of, faults_at, faults_between, is_tag_name, is_good_piece, text_of}
+use Rattle.gix_validate.specs.Tag.{fault_of, faults_at, fault_table, is_tag_name, is_good_piece, text_of}
 
 only_a_slash : fault_of (codes "/") ≡ Some EndsWithSlash
-unfolding fault_of faults_at faults_between at_first_place is_bad
+unfolding fault_of faults_at fault_table at_first_place is_bad
 only_a_slash = refl
 
 slash_first : fault_of (codes "/a") ≡ Some StartsWithSlash
-unfolding fault_of faults_at faults_between at_first_place is_bad
+unfolding fault_of faults_at fault_table at_first_place is_bad
 slash_first = refl
 
 nothing : fault_of [] ≡ Some Empty
-unfolding fault_of faults_at faults_between at_first_place is_bad
+unfolding fault_of faults_at fault_table at_first_place is_bad
 nothing = refl
 
 lock_then_slash : fault_of (codes ".lock/x") ≡ Some LockFileSuffix
-unfolding fault_of faults_at faults_between at_first_place is_bad
+unfolding fault_of faults_at fault_table at_first_place is_bad
 lock_then_slash = refl
 
 only_lock : fault_of (codes ".lock") ≡ Some StartsWithDot
-unfolding fault_of faults_at faults_between at_first_place is_bad
+unfolding fault_of faults_at fault_table at_first_place is_bad
 only_lock = refl
 
 two_dots : fault_of (codes "..") ≡ Some RepeatedDot
-unfolding fault_of faults_at faults_between at_first_place is_bad
+unfolding fault_of faults_at fault_table at_first_place is_bad
 two_dots = refl
 
 bad_byte_before_first_dot : fault_of (codes ".a b") ≡ Some (InvalidByte 0x20)
-unfolding fault_of faults_at faults_between at_first_place is_bad
+unfolding fault_of faults_at fault_table at_first_place is_bad
 bad_byte_before_first_dot = refl
 
 one_dot : fault_of (codes ".") ≡ Some StartsWithDot
-unfolding fault_of faults_at faults_between at_first_place is_bad
+unfolding fault_of faults_at fault_table at_first_place is_bad
 one_dot = refl
 
 dot_before_slash : fault_of (codes "a./b") ≡ None
-unfolding fault_of faults_at faults_between at_first_place is_bad
+unfolding fault_of faults_at fault_table at_first_place is_bad
 dot_before_slash = refl
 
 dot_last : fault_of (codes "a.") ≡ Some EndsWithDot
-unfolding fault_of faults_at faults_between at_first_place is_bad
+unfolding fault_of faults_at fault_table at_first_place is_bad
 dot_last = refl
 
 lock_in_capitals : fault_of (codes "a.LOCK") ≡ None
-unfolding fault_of faults_at faults_between at_first_place is_bad
+unfolding fault_of faults_at fault_table at_first_place is_bad
 lock_in_capitals = refl
 
 lock_before_slashes : fault_of (codes "a.lock//b") ≡ Some LockFileSuffix
-unfolding fault_of faults_at faults_between at_first_place is_bad
+unfolding fault_of faults_at fault_table at_first_place is_bad
 lock_before_slashes = refl
 
 lock_before_asterisk : fault_of (codes "a.lock/*") ≡ Some LockFileSuffix
-unfolding fault_of faults_at faults_between at_first_place is_bad
+unfolding fault_of faults_at fault_table at_first_place is_bad
 lock_before_asterisk = refl
 
 slashes_before_asterisk : fault_of (codes "a//*") ≡ Some RepeatedSlash
-unfolding fault_of faults_at faults_between at_first_place is_bad
+unfolding fault_of faults_at fault_table at_first_place is_bad
 slashes_before_asterisk = refl
 
 reflog : fault_of (codes "a@{b") ≡ Some ReflogPortion
-unfolding fault_of faults_at faults_between at_first_place is_bad
+unfolding fault_of faults_at fault_table at_first_place is_bad
 reflog = refl
 
 dot_after_slash : fault_of (codes "a/.b") ≡ Some StartsWithDot
-unfolding fault_of faults_at faults_between at_first_place is_bad
+unfolding fault_of faults_at fault_table at_first_place is_bad
 dot_after_slash = refl
 
 asterisk : fault_of (codes "a*") ≡ Some Asterisk
-unfolding fault_of faults_at faults_between at_first_place is_bad
+unfolding fault_of faults_at fault_table at_first_place is_bad
 asterisk = refl
 
 at_alone : fault_of (codes "@") ≡ None
-unfolding fault_of faults_at faults_between at_first_place is_bad
+unfolding fault_of faults_at fault_table at_first_place is_bad
 at_alone = refl
 
 lock_last : fault_of (codes "a.lock") ≡ Some LockFileSuffix
-unfolding fault_of faults_at faults_between at_first_place is_bad
+unfolding fault_of faults_at fault_table at_first_place is_bad
 lock_last = refl
 
 lock_and_more : fault_of (codes "a.lockx") ≡ None
-unfolding fault_of faults_at faults_between at_first_place is_bad
+unfolding fault_of faults_at fault_table at_first_place is_bad
 lock_and_more = refl
 
 slash_then_dot : fault_of (codes "/.a") ≡ Some StartsWithSlash
-unfolding fault_of faults_at faults_between at_first_place is_bad
+unfolding fault_of faults_at fault_table at_first_place is_bad
 slash_then_dot = refl
 
 lock_piece_begins_with_dot : fault_of (codes "a/.lock/b") ≡ Some StartsWithDot
-unfolding fault_of faults_at faults_between at_first_place is_bad
+unfolding fault_of faults_at fault_table at_first_place is_bad
 lock_piece_begins_with_dot = refl
 
 dots_first_and_last : fault_of (codes "..a.") ≡ Some RepeatedDot
-unfolding fault_of faults_at faults_between at_first_place is_bad
+unfolding fault_of faults_at fault_table at_first_place is_bad
 dots_first_and_last = refl
 
 reflog_after_two : fault_of (codes "@@{") ≡ Some ReflogPortion
-unfolding fault_of faults_at faults_between at_first_place is_bad
+unfolding fault_of faults_at fault_table at_first_place is_bad
 reflog_after_two = refl
 
 brace_first : fault_of (codes "{@") ≡ None
-unfolding fault_of faults_at faults_between at_first_place is_bad
+unfolding fault_of faults_at fault_table at_first_place is_bad
 brace_first = refl
 
 asterisk_then_slash_last : fault_of (codes "a*/") ≡ Some EndsWithSlash
-unfolding fault_of faults_at faults_between at_first_place is_bad
+unfolding fault_of faults_at fault_table at_first_place is_bad
 asterisk_then_slash_last = refl
 
 lock_then_slash_last : fault_of (codes "a.lock/") ≡ Some EndsWithSlash
-unfolding fault_of faults_at faults_between at_first_place is_bad
+unfolding fault_of faults_at fault_table at_first_place is_bad
 lock_then_slash_last = refl
 
 dot_then_slash_last : fault_of (codes "./") ≡ Some EndsWithSlash
-unfolding fault_of faults_at faults_between at_first_place is_bad
+unfolding fault_of faults_at fault_table at_first_place is_bad
 dot_then_slash_last = refl
 
 a_version : fault_of (codes "v1.2.3") ≡ None
-unfolding fault_of faults_at faults_between at_first_place is_bad
+unfolding fault_of faults_at fault_table at_first_place is_bad
 a_version = refl
 
 past_ascii : fault_of (0x80 ∷ 0xFF ∷ []) ≡ None
-unfolding fault_of faults_at faults_between at_first_place is_bad
+unfolding fault_of faults_at fault_table at_first_place is_bad
 past_ascii = refl
 
 -- The grammar by itself, without the table of faults.

@@ -7,7 +7,7 @@ use Rattle.std.specs.Prelude.{codes}
 use Rattle.gix_validate.specs.Bytes.{is_among, ends}
 use Rattle.gix_validate.specs.Tag.{fault_of}
 use Rattle.gix_validate.specs.Reference.{is_partial_name}
-use Rattle.gix_validate.specs.Adjacent.{is_suspect, NoneBetween, IsClear, fault_before}
+use Rattle.gix_validate.specs.Adjacent.{is_suspect, NoneBetween, IsClear, fault_of_byte_at}
 use Rattle.gix_validate.specs.declared.adjacent.Relation.TheVariants.{Suspect}
 use Rattle.gix_validate.proofs.Texts.Places.{at_first_place_none}
 use Rattle.gix_validate.proofs.Texts.Endings.{ends_read, lock_read}
@@ -19,7 +19,7 @@ use Rattle.std.proofs.lemmas.Bool.Decides.{nat_tests}
 
 -- no place from i on and before j has a fault by what stands before it
 abbrev pub NoFaultBetween : List ℕ → ℕ → ℕ → Type 0
-NoFaultBetween x i j = (p : ℕ) → i ≤ p → p < j → fault_before x p ≡ None
+NoFaultBetween x i j = (p : ℕ) → i ≤ p → p < j → fault_of_byte_at x p ≡ None
 
 -- No place below i has a fault by what stands before it, and no slash up to four places further ends a `.lock`.
 pub record IsSettled (x : List ℕ) (i : ℕ) : Type 0 where
@@ -33,7 +33,7 @@ inside x p c some e = grind (arith, common_steps)
 -- a byte that isn't suspect has no fault, where no dot or slash follows what it may not follow
 no_fault : (x : List ℕ) (i a : ℕ) → is_suspect a (get_or x i 0) ≡ false
     → (is_among (codes "./") a ≡ false → (ends (take i x) (codes ".") ≡ false) × (ends (take i x) (codes "/") ≡ false))
-    → (get_or x i 0 ≡ 47 → ends (take i x) (codes ".lock") ≡ false) → fault_before x i ≡ None
+    → (get_or x i 0 ≡ 47 → ends (take i x) (codes ".lock") ≡ false) → fault_of_byte_at x i ≡ None
 unfolding is_suspect
 no_fault x i a quiet near lock = grind (arith, nat_tests, before_is_after x i, none_after (take i x) (get_or x i 0))
 
@@ -74,7 +74,7 @@ settled_none x i start none = record { done = none; ahead = λ p from to within 
 
 settled_first : (x : List ℕ) → is_suspect 47 (get_or x 0 0) ≡ false → IsSettled x 1
 settled_first x quiet =
-    let first : fault_before x 0 ≡ None = no_fault x 0 47 quiet (λ none. grind arith) (λ slash. refl) in
+    let first : fault_of_byte_at x 0 ≡ None = no_fault x 0 47 quiet (λ none. grind arith) (λ slash. refl) in
     settled_none x 1 (omega arith) (λ p from to. grind (arith, first))
 
 pub clear_has_no_fault : (x : List ℕ) → IsClear x → fault_of x ≡ None
@@ -84,7 +84,7 @@ clear_has_no_fault (b ∷ x) clear =
     let y = b ∷ x in
     let n = length y in
     let s = settled_part y 1 n (omega arith) (omega arith) (omega arith) clear.between (settled_first y clear.first) in
-    let places = at_first_place_none (fault_before y) n (λ k small. s.done k (omega arith) small) in
+    let places = at_first_place_none (fault_of_byte_at y) n (λ k small. s.done k (omega arith) small) in
     let lock = no_lock y n (omega arith) (λ five. clear.between (n - 5) (omega arith) (omega arith)) in
     grind (arith, nat_tests, take_all, at_first_place_split y refl, places, lock, clear.end, clear.first)
 

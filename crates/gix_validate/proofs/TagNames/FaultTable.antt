@@ -2,12 +2,12 @@
 use Rattle.std.proofs.Common.{◌≡◌, ℕ, ◌<◌, Bool, false, not, ◌&&◌, ◌||◌, eqb, List, [], ◌∷◌, take, get_or, true, refl, Option, None}
 use Rattle.std.proofs.lemmas.Bool.{agree_below_at}
 use Rattle.gix_validate.specs.declared.bytes.TheConstants.{MAY_BE_FAULTY}
-use Rattle.gix_validate.specs.Adjacent.{fault_before}
+use Rattle.gix_validate.specs.Adjacent.{fault_of_byte_at}
 use Rattle.std.specs.Prelude.{codes, is_none}
 use Rattle.gix_validate.specs.declared.tag.NameError.{NameError}
 use Rattle.gix_validate.specs.Bytes.{is_bad, is_among, ends}
 use Rattle.gix_validate.specs.Faults.{when, first_of, ◌orelse◌}
-use Rattle.gix_validate.specs.Tag.{faults_between, faults_at, HasAtMostOneFaultAPlace}
+use Rattle.gix_validate.specs.Tag.{fault_table, faults_at, HasAtMostOneFaultAPlace}
 use Rattle.gix_validate.proofs.Texts.Endings.{ends_read, lock_read, ends_push_one}
 use native.Mathlib.Omega.{arith}
 use Rattle.std.proofs.lemmas.Bool.Decides.{nat_tests}
@@ -17,26 +17,26 @@ pub lock_ends_in_k : (y : List ℕ) → ends y (codes "k") ≡ false → ends y 
 lock_ends_in_k y other = grind (arith, lock_read, ends_read)
 
 pub one_fault_a_place : (x : List ℕ) → HasAtMostOneFaultAPlace x
-unfolding faults_at faults_between is_bad
+unfolding faults_at fault_table is_bad
 one_fault_a_place x i inside = grind (arith, nat_tests, lock_ends_in_k, ends_push_one)
 
 -- the fault of a byte by what stands before it, where something follows
-unfoldable pub fault_after : List ℕ → ℕ → Option NameError
-fault_after before b = first_of (faults_between before b (0 ∷ []))
+unfoldable pub fault_of_byte : List ℕ → ℕ → Option NameError
+fault_of_byte before b = first_of (fault_table before b (0 ∷ []))
 
-pub before_is_after : (x : List ℕ) (i : ℕ) → fault_before x i ≡ fault_after (take i x) (get_or x i 0)
-unfolding fault_before fault_after
+pub before_is_after : (x : List ℕ) (i : ℕ) → fault_of_byte_at x i ≡ fault_of_byte (take i x) (get_or x i 0)
+unfolding fault_of_byte_at fault_of_byte
 before_is_after x i = refl
 
 pub is_none-when : {A : Type 0} (t : Bool) (e : A) (o : Option A) → is_none (when t e orelse o) ≡ (not t && is_none o)
 is_none-when t e o = grind arith
 
 -- what the table says of a byte by what stands before it
-pub none_after : (before : List ℕ) (b : ℕ) → is_none (fault_after before b)
+pub none_after : (before : List ℕ) (b : ℕ) → is_none (fault_of_byte before b)
     ≡ (not (is_bad b) && (not (eqb b 42) && (not (eqb b 46 && ends before (codes "."))
     && (not (eqb b 46 && ends before (codes "/")) && (not (eqb b 123 && ends before (codes "@")) && (not (eqb b 47 && ends before (codes "/"))
     && (not (eqb b 47 && ends before (codes ".lock")) && true)))))))
-unfolding fault_after faults_between
+unfolding fault_of_byte fault_table
 none_after before b = simp is_none-when
 
 -- The table of bytes says no only of bytes that have no fault, whatever stands before them.
@@ -44,5 +44,5 @@ pub tabled : (b : ℕ) → b < 256 → get_or MAY_BE_FAULTY b false ≡ (is_bad 
 unfolding is_bad
 tabled b small = agree_below_at (λ b. get_or MAY_BE_FAULTY b false) (λ b. is_bad b || is_among (codes "*./{") b) 256 b refl small
 
-pub quiet : (x : List ℕ) (i : ℕ) → (is_bad (get_or x i 0) || is_among (codes "*./{") (get_or x i 0)) ≡ false → fault_before x i ≡ None
+pub quiet : (x : List ℕ) (i : ℕ) → (is_bad (get_or x i 0) || is_among (codes "*./{") (get_or x i 0)) ≡ false → fault_of_byte_at x i ≡ None
 quiet x i h = grind (arith, before_is_after x i, none_after (take i x) (get_or x i 0))

@@ -9,9 +9,9 @@ use Rattle.gix_validate.specs.declared.tag.NameError.{NameError}
 use Rattle.gix_validate.specs.declared.tag.NameError.TheVariants.{LockFileSuffix}
 use Rattle.gix_validate.specs.Bytes.{is_empty, ends}
 use Rattle.gix_validate.specs.Faults.{when, first_of, ◌orelse◌, at_first_place}
-use Rattle.gix_validate.specs.Tag.{faults_between, faults_at}
-use Rattle.gix_validate.specs.Adjacent.{fault_before}
-use Rattle.gix_validate.proofs.TagNames.FaultTable.{fault_after, before_is_after}
+use Rattle.gix_validate.specs.Tag.{fault_table, faults_at}
+use Rattle.gix_validate.specs.Adjacent.{fault_of_byte_at}
+use Rattle.gix_validate.proofs.TagNames.FaultTable.{fault_of_byte, before_is_after}
 use Rattle.gix_validate.proofs.Texts.Places.{orelse_assoc, at_first_place_more, at_first_place_none, at_first_place_same}
 
 -- the text ends in `.lock`, and isn't that alone
@@ -22,50 +22,50 @@ first_of-more : (t1 t2 t3 t4 t5 t6 t7 t8 : Option NameError)
     → first_of (t1 ∷ t2 ∷ t3 ∷ t4 ∷ t5 ∷ t6 ∷ t7 ∷ t8 ∷ []) ≡ (first_of (t1 ∷ t2 ∷ t3 ∷ t4 ∷ t5 ∷ t6 ∷ t7 ∷ None ∷ []) orelse t8)
 first_of-more t1 t2 t3 t4 t5 t6 t7 t8 = grind arith
 
-fault_inside : (before : List ℕ) (b : ℕ) (after : List ℕ) → 0 < length after → first_of (faults_between before b after) ≡ fault_after before b
-unfolding fault_after faults_between
+fault_inside : (before : List ℕ) (b : ℕ) (after : List ℕ) → 0 < length after → first_of (fault_table before b after) ≡ fault_of_byte before b
+unfolding fault_of_byte fault_table
 fault_inside before b [] some = absurd (omega arith)
 fault_inside before b (c ∷ after) some = refl
 
 -- at the end of the text the last line comes behind them
 fault_at_end : (before : List ℕ) (b : ℕ)
-    → first_of (faults_between before b []) ≡ (fault_after before b orelse when (ends_in_lock (before ++ b ∷ [])) LockFileSuffix)
-unfolding fault_after faults_between
+    → first_of (fault_table before b []) ≡ (fault_of_byte before b orelse when (ends_in_lock (before ++ b ∷ [])) LockFileSuffix)
+unfolding fault_of_byte fault_table
 fault_at_end before b = grind (arith, first_of-more)
 
 -- The fault at the least place: by the lines that look back alone, and then the last line.
 pub at_first_place_split : (x : List ℕ) → is_empty x ≡ false
-    → at_first_place (λ i. first_of (faults_at x i)) (length x) ≡ (at_first_place (fault_before x) (length x) orelse when (ends_in_lock x) LockFileSuffix)
-unfolding faults_at fault_before fault_after
+    → at_first_place (λ i. first_of (faults_at x i)) (length x) ≡ (at_first_place (fault_of_byte_at x) (length x) orelse when (ends_in_lock x) LockFileSuffix)
+unfolding faults_at fault_of_byte_at fault_of_byte
 at_first_place_split [] some = grind arith
 at_first_place_split (b ∷ x) some =
     let y = b ∷ x in
     let n = length x in
-    let same = at_first_place_same (λ i. first_of (faults_at y i)) (fault_before y) n
+    let same = at_first_place_same (λ i. first_of (faults_at y i)) (fault_of_byte_at y) n
     (λ i small. fault_inside (take i y) (get_or y i 0) (drop (i + 1) y) (omega (arith, length-drop (i + 1) y))) in
-    let last : first_of (faults_at y n) ≡ (fault_before y n orelse when (ends_in_lock y) LockFileSuffix) =
+    let last : first_of (faults_at y n) ≡ (fault_of_byte_at y n orelse when (ends_in_lock y) LockFileSuffix) =
     grind (arith, take_more, take_all, drop_all, fault_at_end (take n y) (get_or y n 0)) in
     grind (arith, at_first_place_more, orelse_assoc)
 
 -- a text that ends in `.lock` is longer, or is that
 pub lock_by_length : (x : List ℕ) → 0 < length x → at_first_place (λ i. first_of (faults_at x i)) (length x)
-    ≡ (at_first_place (fault_before x) (length x) orelse when (ends x (codes ".lock") && not (eqb (length x) 5)) LockFileSuffix)
+    ≡ (at_first_place (fault_of_byte_at x) (length x) orelse when (ends x (codes ".lock") && not (eqb (length x) 5)) LockFileSuffix)
 lock_by_length x some = grind (arith, at_first_place_split, bytes_eq-Decides)
 
 -- the faults from here on, what stands before growing by each byte
 unfoldable pub walked : List ℕ → List ℕ → Option NameError
 walked before [] = None
-walked before (b ∷ x) = fault_after before b orelse walked (before ++ b ∷ []) x
+walked before (b ∷ x) = fault_of_byte before b orelse walked (before ++ b ∷ []) x
 
-walked_push : (before x : List ℕ) (b : ℕ) → walked before (x ++ b ∷ []) ≡ (walked before x orelse fault_after (before ++ x) b)
+walked_push : (before x : List ℕ) (b : ℕ) → walked before (x ++ b ∷ []) ≡ (walked before x orelse fault_of_byte (before ++ x) b)
 unfolding walked
 walked_push before [] b = grind (arith, append-nil)
 walked_push before (c ∷ x) b = grind (arith, append_assoc, walked_push (before ++ c ∷ []) x b)
 
-walked_places : (x : List ℕ) (n : ℕ) → n ≤ length x → at_first_place (fault_before x) n ≡ walked [] (take n x)
+walked_places : (x : List ℕ) (n : ℕ) → n ≤ length x → at_first_place (fault_of_byte_at x) n ≡ walked [] (take n x)
 unfolding walked
-walked_places x zero h = at_first_place_none (fault_before x) zero (λ k small. absurd (omega arith))
+walked_places x zero h = at_first_place_none (fault_of_byte_at x) zero (λ k small. absurd (omega arith))
 walked_places x (suc n) h = grind (arith, at_first_place_more, before_is_after, take_more, walked_push [] (take n x), walked_places x n)
 
-pub at_first_place_walked : (x : List ℕ) → at_first_place (fault_before x) (length x) ≡ walked [] x
+pub at_first_place_walked : (x : List ℕ) → at_first_place (fault_of_byte_at x) (length x) ≡ walked [] x
 at_first_place_walked x = grind (arith, take_all, walked_places)

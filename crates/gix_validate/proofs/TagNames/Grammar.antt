@@ -8,7 +8,7 @@ use Rattle.gix_validate.specs.Pieces.{is_slash, pieces}
 use Rattle.gix_validate.specs.Tag.{is_good_piece, is_tag_name, fault_of}
 use Rattle.gix_validate.proofs.Texts.Pieces.{pieces_front, pieces_alone}
 use Rattle.gix_validate.proofs.Texts.Endings.{last_piece, last_piece_nothing, last_piece_push, ends_last_piece, slash_last, last_piece_apart, ends_cons}
-use Rattle.gix_validate.proofs.TagNames.FaultTable.{fault_after, is_none-when, none_after}
+use Rattle.gix_validate.proofs.TagNames.FaultTable.{fault_of_byte, is_none-when, none_after}
 use Rattle.gix_validate.proofs.TagNames.FaultsBefore.{walked, ends_in_lock, at_first_place_split, at_first_place_walked}
 use native.Mathlib.Omega.{arith}
 use Rattle.std.proofs.lemmas.Bool.Decides.{nat_tests}
@@ -53,7 +53,7 @@ goes_on_push p b = grind (arith, nat_tests, list_any_push, holds_push, table)
 
 -- The table says no more of a byte than the piece before it does.
 no_fault_after : (y : List ℕ) (b : ℕ) → is_empty y ≡ false
-    → is_none (fault_after y b) ≡ cond (is_slash b) (may_end (last_piece y)) (not (breaks (last_piece y) b))
+    → is_none (fault_of_byte y b) ≡ cond (is_slash b) (may_end (last_piece y)) (not (breaks (last_piece y) b))
 unfolding breaks is_refused is_bad may_end
 no_fault_after y b some =
     let dot = ends_last_piece (codes ".") refl y in

@@ -2,7 +2,7 @@
 use Rattle.std.proofs.Common.{◌≡◌, ◌+◌, ◌-◌, false, take, length}
 use Rattle.std.specs.List.{list_any}
 use Rattle.std.specs.Prelude.{◌==◌}
-use Rattle.gix_validate.proofs.lanes.holds.Given as goal
+use Rattle.gix_validate.proofs.lanes.contains_byte.Given as goal
 
 abbrev pub invariant-loop-at : goal.invariant-loop-at
 invariant-loop-at l = record { room : l.last + 16 ≡ length l.text; none : list_any (λ b. b == l.byte) (take l.at l.text) ≡ false }

@@ -5,7 +5,7 @@ use Rattle.gix_validate.specs.Component.{conditions, conditions_under, fault_of}
 use Rattle.gix_validate.specs.Ordinary.{switches}
 use Rattle.gix_validate.specs.Windows.{is_illegal}
 use Rattle.gix_validate.proofs.Components.Laws.{AllNone, first_from_AllNone}
-use Rattle.gix_validate.proofs.path.first_in_order.Goals as goal
+use Rattle.gix_validate.proofs.path.first_fault_in_order.Goals as goal
 
 pub returns-else-not-hfs : goal.returns-else-not-hfs
 unfolding fault_of conditions is_illegal lower_byte

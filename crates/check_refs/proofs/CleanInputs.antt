@@ -10,7 +10,7 @@ use Rattle.gix_validate.specs.declared.reference.NameError.{NameError}
 use Rattle.gix_validate.specs.Bytes.{begins}
 use Rattle.gix_validate.specs.Faults.{when, ◌orelse◌}
 use Rattle.gix_validate.specs.Reference.{is_partial_name, is_full_name, is_branch_name, partial_fault_of, full_fault_of, branch_fault_of}
-use Rattle.gix_validate.proofs.TagNames.Grammar.{grammar_law}
+use Rattle.gix_validate.proofs.TagNames.Grammar.{tag_grammar_law}
 use Rattle.streams.specs.declared.outcome.Verdict.{Verdict}
 use Rattle.streams.specs.declared.outcome.Verdict.TheVariants.{Clean}
 use Rattle.streams.specs.declared.lines.Ending.TheVariants.{AfterALine}
@@ -29,7 +29,7 @@ use Rattle.check_refs.proofs.SpelledInputs.{reported_in_order, well_formed_only_
 
 partial_law : (x : List ℕ) → is_partial_name x ≡ is_none (partial_fault_of x)
 unfolding is_partial_name partial_fault_of
-partial_law x = grind (arith, grammar_law x)
+partial_law x = grind (arith, tag_grammar_law x)
 
 full_law : (x : List ℕ) → is_full_name x ≡ is_none (full_fault_of x)
 unfolding is_full_name full_fault_of

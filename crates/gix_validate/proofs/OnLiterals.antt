@@ -26,10 +26,10 @@ unfolding component_fault_of is_component conditions lower_byte first_unit_len w
     is_git_form is_modules_form device_form devices is_device_form is_device is_illegal_byte is_illegal
 components_on_literals = tt
 
-repaired : sanitized (codes "refs//heads/../x.lock") ≡ codes "refs/heads/-/x"
+repair_computed : sanitized (codes "refs//heads/../x.lock") ≡ codes "refs/heads/-/x"
 unfolding names_on_literals
-repaired = refl
+repair_computed = refl
 
-component : component_fault_of no_protections None (codes "src") ≡ None
+component_computed : component_fault_of no_protections None (codes "src") ≡ None
 unfolding components_on_literals
-component = refl
+component_computed = refl

@@ -21,9 +21,9 @@ may_not_stand x h t = grind (arith, list_any_at, list_all-from_AllPass)
 -- what a comparison with a reserved name takes
 pub ruleset reserved_names = (bytes_eq-Decides)
 
-pub pieces-joined : (a b : List ℕ) → pieces (a ++ byte "/" ∷ b) ≡ pieces a ++ pieces b
-pieces-joined [] b = grind arith
-pieces-joined (c ∷ a) b = grind (arith, pieces_some, pieces-joined a b)
+pub pieces-at_slash : (a b : List ℕ) → pieces (a ++ byte "/" ∷ b) ≡ pieces a ++ pieces b
+pieces-at_slash [] b = grind arith
+pieces-at_slash (c ∷ a) b = grind (arith, pieces_some, pieces-at_slash a b)
 
 -- The end of the second text is that of the whole.
 drop-joined : (a b : List ℕ) (s : ℕ) → 0 < length b → drop (length (a ++ s ∷ b) - 1) (a ++ s ∷ b) ≡ drop (length b - 1) b
@@ -36,4 +36,4 @@ drop-joined (d ∷ a) b s some =
 
 pub joined_is_full : (a b : List ℕ) → IsTrue (is_tag_name a) → IsTrue (is_tag_name b) → IsTrue (is_full_name (joined (a ∷ b ∷ [])))
 unfolding is_full_name is_partial_name is_tag_name is_good_piece
-joined_is_full a b ha hb = grind (arith, common_steps, drop-joined, pieces-joined, list_all-append, list_any-append)
+joined_is_full a b ha hb = grind (arith, common_steps, drop-joined, pieces-at_slash, list_all-append, list_any-append)

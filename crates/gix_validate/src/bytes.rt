@@ -17,7 +17,7 @@ pub(crate) fn is_bad_byte(byte: u8) -> bool
 /// Whether a byte can have a fault, depending on what stands before it. All other bytes never have
 /// one.
 #[inline]
-#[tactic(auto, using(crate::proofs::TagNames::FaultTable::tabled))]
+#[tactic(auto, using(crate::proofs::TagNames::FaultTable::faulty_tabled))]
 pub(crate) fn may_be_faulty(byte: u8) -> bool
     ensures { result ≡ (is_bad byte || is_among (codes "*./{") byte) }
 {

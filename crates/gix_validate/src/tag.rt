@@ -98,7 +98,7 @@ impl Error for NameError {}
 ///
 /// It takes none. On `Ok` it gives the very value that it was given.
 #[inline(always)]
-#[tactic(auto, using(crate::proofs::TagNames::ClearTexts::clear_has_no_fault, crate::proofs::Texts::Pieces::pieces_are_the_only_split, crate::proofs::TagNames::FaultTable::one_fault_a_place, crate::proofs::TagNames::Grammar::grammar_law))]
+#[tactic(auto, using(crate::proofs::TagNames::ClearTexts::clear_has_no_fault, crate::proofs::Texts::Pieces::pieces_are_the_only_split, crate::proofs::TagNames::FaultTable::one_fault_a_place, crate::proofs::TagNames::Grammar::tag_grammar_law))]
 pub fn name<'a>(input: BStr<'a>) -> Result<BStr<'a>, NameError>
     ensures answer { Validates fault_of (bstr_bytes input.entry) result }
     ensures grammar { IsOk result ↔ IsTrue (is_tag_name (bstr_bytes input.entry)) }
@@ -115,7 +115,7 @@ pub fn name<'a>(input: BStr<'a>) -> Result<BStr<'a>, NameError>
 
 /// The answer of `name`, by the walk. Most names that are accepted are clear, and so aren't walked.
 #[inline(always)]
-#[tactic(auto, using(crate::proofs::TagNames::Grammar::grammar_law))]
+#[tactic(auto, using(crate::proofs::TagNames::Grammar::tag_grammar_law))]
 fn name_on_walk<'a>(input: BStr<'a>) -> Result<BStr<'a>, NameError>
     ensures answer { Validates fault_of (bstr_bytes input.entry) result }
     ensures grammar { IsOk result ↔ IsTrue (is_tag_name (bstr_bytes input.entry)) }

@@ -26,7 +26,7 @@ selected t f g [] = refl
 selected t f g (b ∷ v) = ap (λ r. cond (t b) (f b) (g b) ∷ r) (selected t f g v)
 
 abbrev from_dot : ℕ → ℕ
-from_dot b = bit_xor b 46
+from_dot b = bit_xor b (byte ".")
 
 abbrev less : ℕ → ℕ → ℕ
 less a b = cond (ltb a b) 255 0
@@ -36,15 +36,15 @@ abbrev reach : ℕ → ℕ
 reach b = cond (top 7 (less (from_dot b) 15)) (from_dot b) 15
 
 abbrev reaches : List ℕ → List ℕ
-reaches v = sel_l (map (top 7) (zip2 less (zip2 bit_xor v (replicate 16 46)) (replicate 16 15))) (zip2 bit_xor v (replicate 16 46)) (replicate 16 15)
+reaches v = sel_l (map (top 7) (zip2 less (zip2 bit_xor v (replicate 16 (byte "."))) (replicate 16 15))) (zip2 bit_xor v (replicate 16 (byte "."))) (replicate 16 15)
 
 reaches_are : (v : List ℕ) → IsBlock v → reaches v ≡ map reach v
 reaches_are v block =
-    let far = zip2_splat bit_xor v 16 46 block.0 in
+    let far = zip2_splat bit_xor v 16 (byte ".") block.0 in
     let most = splat_is_map v 16 15 block.0 in
     let lanes = zip2_of_maps less from_dot (λ _. 15) v far most in
-    ap (λ l. sel_l (map (top 7) l) (zip2 bit_xor v (replicate 16 46)) (replicate 16 15)) lanes
-    ∙ ap (λ l. sel_l l (zip2 bit_xor v (replicate 16 46)) (replicate 16 15)) (map-map (top 7) (λ b. less (from_dot b) 15) v)
+    ap (λ l. sel_l (map (top 7) l) (zip2 bit_xor v (replicate 16 (byte "."))) (replicate 16 15)) lanes
+    ∙ ap (λ l. sel_l l (zip2 bit_xor v (replicate 16 (byte "."))) (replicate 16 15)) (map-map (top 7) (λ b. less (from_dot b) 15) v)
     ∙ ap₂ (λ p q. sel_l (map (λ b. top 7 (less (from_dot b) 15)) v) p q) far most
     ∙ selected (λ b. top 7 (less (from_dot b) 15)) from_dot (λ _. 15) v
 
@@ -54,13 +54,13 @@ reach_small b small = ltb-true (reach b) 16 (agree_below_at (λ b. ltb (reach b)
 pub reaches_ok : (v : List ℕ) → IsBlock v → SwzOk w8 16 16 0 (reaches v)
 reaches_ok v block = may_look reach v (reaches v) block (reaches_are v block) reach_small
 
-abbrev pub asked : ℕ → ℕ
-asked b = if b == byte "." then BEHIND_DOT else if b == byte "/" then BEHIND_SLASH else ANYWHERE
+abbrev pub classes_behind : ℕ → ℕ
+classes_behind b = if b == byte "." then BEHIND_DOT else if b == byte "/" then BEHIND_SLASH else ANYWHERE
 
-pub suspect_classes : (v : List ℕ) → IsBlock v → swz_l w8 16 SUSPECT_BEHIND 0 (reaches v) ≡ map asked v
+pub suspect_classes : (v : List ℕ) → IsBlock v → swz_l w8 16 SUSPECT_BEHIND 0 (reaches v) ≡ map classes_behind v
 suspect_classes v block =
     looked_up SUSPECT_BEHIND reach v (reaches v) block (reaches_are v block) reach_small
-    ∙ same_bytes (λ b. get_or SUSPECT_BEHIND (reach b) 0) asked v block.1 refl
+    ∙ same_bytes (λ b. get_or SUSPECT_BEHIND (reach b) 0) classes_behind v block.1 refl
 
 abbrev pub class : ℕ → ℕ
 class b = bit_and (get_or CLASSES_BY_LOW_NIBBLE (b % 16) 0) (get_or CLASSES_BY_HIGH_NIBBLE (b / 16) 0)
@@ -72,25 +72,25 @@ suspect_if dot slash b = is_bad b || is_among (codes "*{") b || ((dot || (slash 
 table_if : Bool → Bool → ℕ → Bool
 table_if dot slash b = is_nonzero (bit_and (class b) (if dot then BEHIND_DOT else if slash then BEHIND_SLASH else ANYWHERE))
 
-tabled : (dot slash : Bool) (b : ℕ) → b < 256 → table_if dot slash b ≡ suspect_if dot slash b
+suspect_tabled : (dot slash : Bool) (b : ℕ) → b < 256 → table_if dot slash b ≡ suspect_if dot slash b
 unfolding is_bad suspect_if table_if
-tabled true slash b small = agree_below_at (table_if true true) (suspect_if true true) 256 b refl small
-tabled false true b small = agree_below_at (table_if false true) (suspect_if false true) 256 b refl small
-tabled false false b small = agree_below_at (table_if false false) (suspect_if false false) 256 b refl small
+suspect_tabled true slash b small = agree_below_at (table_if true true) (suspect_if true true) 256 b refl small
+suspect_tabled false true b small = agree_below_at (table_if false true) (suspect_if false true) 256 b refl small
+suspect_tabled false false b small = agree_below_at (table_if false false) (suspect_if false false) 256 b refl small
 
-pub suspect_lanes : (before bytes classes behind : List ℕ) → IsBlock before → IsBlock bytes → classes ≡ map class bytes → behind ≡ map asked before
+pub suspect_lanes : (before bytes classes behind : List ℕ) → IsBlock before → IsBlock bytes → classes ≡ map class bytes → behind ≡ map classes_behind before
     → (list_any is_nonzero (zip2 bit_and classes behind) ≡ false) ↔ ((k : ℕ) → k < 16 → is_suspect (get_or before k 0) (get_or bytes k 0) ≡ false)
 unfolding is_suspect suspect_if table_if
 suspect_lanes before bytes classes behind ba bb ek eb =
-    no_lane is_nonzero class asked bytes before classes behind (bb.0, ba.0) ek eb (λ b a. is_suspect a b) (λ k.
-    tabled (get_or before k 0 == byte ".") (get_or before k 0 == byte "/") (get_or bytes k 0) (lane_fits bytes k bb.1))
+    no_lane is_nonzero class classes_behind bytes before classes behind (bb.0, ba.0) ek eb (λ b a. is_suspect a b) (λ k.
+    suspect_tabled (get_or before k 0 == byte ".") (get_or before k 0 == byte "/") (get_or bytes k 0) (lane_fits bytes k bb.1))
 
 -- the same of dots
 abbrev equals : ℕ → ℕ → ℕ
 equals a b = cond (eqb a b) 255 0
 
-abbrev slash : ℕ → ℕ
-slash a = bit_or (equals a 47) (equals a 92)
+abbrev any_slash : ℕ → ℕ
+any_slash a = bit_or (equals a (byte "/")) (equals a (byte "\\"))
 
 -- an empty mask of the lanes that pass two tests
 masked : (f g : ℕ → ℕ) (p q left right : List ℕ) → (length p ≡ 16) × (length q ≡ 16) → left ≡ map f p → right ≡ map g q
@@ -108,20 +108,20 @@ masked f g p q left right long el er r is =
     not-false t h = grind arith
 
 pub dots_lanes : (p q : List ℕ) → IsBlock p → IsBlock q
-    → (eqb (mask_l (map (top 7) (zip2 bit_and (zip2 equals p (replicate 16 46)) (zip2 equals q (replicate 16 46)))) % 2 ^ 64) 0 ≡ true)
-    ↔ ((k : ℕ) → k < 16 → (eqb (get_or p k 0) 46 && eqb (get_or q k 0) 46) ≡ false)
+    → (eqb (mask_l (map (top 7) (zip2 bit_and (zip2 equals p (replicate 16 (byte "."))) (zip2 equals q (replicate 16 (byte "."))))) % 2 ^ 64) 0 ≡ true)
+    ↔ ((k : ℕ) → k < 16 → (eqb (get_or p k 0) (byte ".") && eqb (get_or q k 0) (byte ".")) ≡ false)
 dots_lanes p q pb qb =
-    masked (λ a. equals a 46) (λ b. equals b 46) p q _ _ (pb.0, qb.0) (zip2_splat equals p 16 46 pb.0) (zip2_splat equals q 16 46 qb.0)
-    (λ a b. eqb a 46 && eqb b 46) (λ a b. grind arith)
+    masked (λ a. equals a (byte ".")) (λ b. equals b (byte ".")) p q _ _ (pb.0, qb.0) (zip2_splat equals p 16 (byte ".") pb.0) (zip2_splat equals q 16 (byte ".") qb.0)
+    (λ a b. eqb a (byte ".") && eqb b (byte ".")) (λ a b. grind arith)
 
 pub last_dot_lanes : (p q : List ℕ) → IsBlock p → IsBlock q
-    → (eqb (mask_l (map (top 7) (zip2 bit_and (zip2 equals p (replicate 16 46))
-    (zip2 bit_or (zip2 equals q (replicate 16 47)) (zip2 equals q (replicate 16 92))))) % 2 ^ 64) 0 ≡ true)
-    ↔ ((k : ℕ) → k < 16 → (eqb (get_or p k 0) 46 && (eqb (get_or q k 0) 47 || eqb (get_or q k 0) 92)) ≡ false)
+    → (eqb (mask_l (map (top 7) (zip2 bit_and (zip2 equals p (replicate 16 (byte ".")))
+    (zip2 bit_or (zip2 equals q (replicate 16 (byte "/"))) (zip2 equals q (replicate 16 (byte "\\")))))) % 2 ^ 64) 0 ≡ true)
+    ↔ ((k : ℕ) → k < 16 → (eqb (get_or p k 0) (byte ".") && (eqb (get_or q k 0) (byte "/") || eqb (get_or q k 0) (byte "\\"))) ≡ false)
 last_dot_lanes p q pb qb =
-    masked (λ a. equals a 46) slash p q _ _ (pb.0, qb.0) (zip2_splat equals p 16 46 pb.0)
-    (zip2_of_maps bit_or (λ b. equals b 47) (λ b. equals b 92) q (zip2_splat equals q 16 47 qb.0) (zip2_splat equals q 16 92 qb.0))
-    (λ a b. eqb a 46 && (eqb b 47 || eqb b 92)) (λ a b. either (eqb a 46) (eqb b 47) (eqb b 92))
+    masked (λ a. equals a (byte ".")) any_slash p q _ _ (pb.0, qb.0) (zip2_splat equals p 16 (byte ".") pb.0)
+    (zip2_of_maps bit_or (λ b. equals b (byte "/")) (λ b. equals b (byte "\\")) q (zip2_splat equals q 16 (byte "/") qb.0) (zip2_splat equals q 16 (byte "\\") qb.0))
+    (λ a b. eqb a (byte ".") && (eqb b (byte "/") || eqb b (byte "\\"))) (λ a b. either (eqb a (byte ".")) (eqb b (byte "/")) (eqb b (byte "\\")))
   where
     either : (u s t : Bool) → top 7 (bit_and (cond u 255 0) (bit_or (cond s 255 0) (cond t 255 0))) ≡ (u && (s || t))
     either u s t = grind arith
@@ -155,14 +155,14 @@ all_pairs r n x before bytes all ps qs =
       λ s k h. lane k h ∙ law.1 (λ j within. s j (omega arith) (omega arith)) k h,
     )
 
-regroup : (w s d l c : Bool) → (w || (s || (d || (l || (c || false))))) ≡ ((w || (s || (c || false)) || (true && (d || (l || false)))) || false)
-regroup w s d l c = grind arith
+suspect_regrouped : (w s d l c : Bool) → (w || (s || (d || (l || (c || false))))) ≡ ((w || (s || (c || false)) || (true && (d || (l || false)))) || false)
+suspect_regrouped w s d l c = grind arith
 
-pub suspect_letter : (a b : ℕ) → b ≡ 108 → (a == byte ".") ≡ is_suspect a b
+pub suspect_letter : (a b : ℕ) → b ≡ byte "l" → (a == byte ".") ≡ is_suspect a b
 unfolding is_suspect is_bad
 suspect_letter a b e = grind arith
 
-pub suspect_other : (a b : ℕ) → (b ≡ 108 → ⊥)
+pub suspect_other : (a b : ℕ) → (b ≡ byte "l" → ⊥)
     → ((is_bad b || is_among (codes "*./{") b) && (not (is_among (codes "./") b) || is_among (codes "./") a)) ≡ is_suspect a b
 unfolding is_suspect is_bad
 suspect_other a b letter = grind (arith, nat_tests)
@@ -173,4 +173,4 @@ pub clear_by_looks : (x : List ℕ) → 0 < length x
     ↔ (((is_bad (get_or x 0 0) || is_among (codes "*./{") (get_or x 0 0)) ≡ false)
     × ((ends x (codes ".") || ends x (codes "/")) ≡ false) × NoneBetween Suspect x 0 (length x))
 unfolding is_suspect
-clear_by_looks x some = grind (arith, nat_tests, regroup)
+clear_by_looks x some = grind (arith, nat_tests, suspect_regrouped)

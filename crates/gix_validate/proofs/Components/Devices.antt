@@ -15,25 +15,25 @@ use Rattle.gix_validate.specs.Ordinary.{stays_in_form}
 use Rattle.gix_validate.specs.declared.path.windows.TheConstants.{BY_FIRST, BY_SECOND, BY_THIRD}
 use Rattle.gix_validate.proofs.Texts.Words.{device_keeps, word_head, none_left, form_left, form_all_left, form_word}
 
-abbrev pub is_cut : ℕ → Bool
-is_cut b = is_among (codes ".:") b
+abbrev pub is_device_cut : ℕ → Bool
+is_device_cut b = is_among (codes ".:") b
 
-abbrev pub is_trimmed : ℕ → Bool
-is_trimmed b = b == byte " "
+abbrev pub is_device_trimmed : ℕ → Bool
+is_device_trimmed b = b == byte " "
 
 pub device_left : (x : List ℕ) (i : ℕ) → i < length x
-    → is_empty (device_form (drop i x)) ≡ (is_cut (get_or x i 0) || (is_trimmed (get_or x i 0) && is_empty (device_form (drop (i + 1) x))))
+    → is_empty (device_form (drop i x)) ≡ (is_device_cut (get_or x i 0) || (is_device_trimmed (get_or x i 0) && is_empty (device_form (drop (i + 1) x))))
 unfolding device_form
-device_left x i h = grind (arith, form_left is_cut is_trimmed x i h)
+device_left x i h = grind (arith, form_left is_device_cut is_device_trimmed x i h)
 
 pub device_all_left : (x : List ℕ) (i : ℕ) → length x ≤ i → is_empty (device_form (drop i x)) ≡ true
 unfolding device_form
-device_all_left = form_all_left is_cut is_trimmed
+device_all_left = form_all_left is_device_cut is_device_trimmed
 
 pub device_word : (word x : List ℕ) → IsTrue (list_all stays_in_form word)
     → bytes_eq (lower (device_form x)) (lower word) ≡ (begins (lower x) (lower word) && is_empty (device_form (drop (length word) x)))
 unfolding device_form
-device_word = form_word is_cut is_trimmed device_keeps
+device_word = form_word is_device_cut is_device_trimmed device_keeps
 
 -- ---- a name by its first three letters
 
@@ -44,7 +44,7 @@ unfolding device_form lower_byte
 in_front [] w ws some small plain = grind arith
 in_front (b ∷ x) w ws some small plain =
     ap (λ v. bytes_eq (lower (device_form (b ∷ x))) (v ∷ ws)) (sym small)
-    ∙ word_head is_cut is_trimmed device_keeps b x w ws plain
+    ∙ word_head is_device_cut is_device_trimmed device_keeps b x w ws plain
     ∙ ap (λ v. eqb (lower_byte b) v && bytes_eq (lower (device_form x)) ws) small
 
 -- the byte is the small letter or its capital
@@ -56,7 +56,7 @@ unfoldable pub are_letters : List ℕ → List ℕ → Bool
 are_letters x word = is_letter (get_or x 0 0) (get_or word 0 0) && (is_letter (get_or x 1 0) (get_or word 1 0) && is_letter (get_or x 2 0) (get_or word 2 0))
 
 is_small : ℕ → Bool
-is_small l = nat_le 97 l && nat_le l 122
+is_small l = nat_le (byte "a") l && nat_le l (byte "z")
 
 letter_head : (x : List ℕ) (l : ℕ) (ws : List ℕ) → is_small l ≡ true
     → bytes_eq (lower (device_form x)) (l ∷ ws) ≡ (is_letter (get_or x 0 0) l && bytes_eq (lower (device_form (drop 1 x))) ws)
@@ -142,9 +142,9 @@ digit_first x [] are = grind arith
 digit_first x (d ∷ set) are = grind (arith, in_front, digit_first x set)
 
 pub ends_in_digit : (x : List ℕ)
-    → is_any (digits (codes "0123456789")) x ≡ (nat_le 48 (get_or x 0 0) && nat_le (get_or x 0 0) 57 && is_empty (device_form (drop 1 x)))
+    → is_any (digits (codes "0123456789")) x ≡ (nat_le (byte "0") (get_or x 0 0) && nat_le (get_or x 0 0) (byte "9") && is_empty (device_form (drop 1 x)))
 ends_in_digit x = grind (arith, nat_tests, digit_first x (codes "0123456789") refl)
 
 pub ends_in_nonzero_digit : (x : List ℕ)
-    → is_any (digits (codes "123456789")) x ≡ (nat_le 49 (get_or x 0 0) && nat_le (get_or x 0 0) 57 && is_empty (device_form (drop 1 x)))
+    → is_any (digits (codes "123456789")) x ≡ (nat_le (byte "1") (get_or x 0 0) && nat_le (get_or x 0 0) (byte "9") && is_empty (device_form (drop 1 x)))
 ends_in_nonzero_digit x = grind (arith, nat_tests, digit_first x (codes "123456789") refl)

@@ -18,15 +18,15 @@ abbrev pub is_next : ℕ → Bool
 is_next b = is_within (0x80, 0xBF) b
 
 -- the range has such bytes alone
-abbrev pub goes_on : ℕ × ℕ → Bool
-goes_on range = nat_le 0x80 range.0 && nat_le range.1 0xBF
+abbrev pub is_tail_range : ℕ × ℕ → Bool
+is_tail_range range = nat_le 0x80 range.0 && nat_le range.1 0xBF
 
 -- each range of the row but the first one
-abbrev pub tail_goes_on : List (ℕ × ℕ) → Bool
-tail_goes_on [] = true
-tail_goes_on (range ∷ row) = list_all goes_on row
+abbrev pub has_tail_ranges : List (ℕ × ℕ) → Bool
+has_tail_ranges [] = true
+has_tail_ranges (range ∷ row) = list_all is_tail_range row
 
-next-take_fitting : (row : List (ℕ × ℕ)) → list_all goes_on row ≡ true → (x : List ℕ) → list_all is_next (take (fitting_len row x) x) ≡ true
+next-take_fitting : (row : List (ℕ × ℕ)) → list_all is_tail_range row ≡ true → (x : List ℕ) → list_all is_next (take (fitting_len row x) x) ≡ true
 next-take_fitting [] on x = refl
 next-take_fitting (range ∷ row) on [] = refl
 next-take_fitting (range ∷ row) on (b ∷ x) =
@@ -36,31 +36,31 @@ next-take_fitting (range ∷ row) on (b ∷ x) =
     ]
 
 -- the bytes of the front of n bytes that stand behind its first one
-abbrev GoesOn : ℕ → List ℕ → Type 0
-GoesOn n x = list_all is_next (take (n - 1) x) ≡ true
+abbrev HasTail : ℕ → List ℕ → Type 0
+HasTail n x = list_all is_next (take (n - 1) x) ≡ true
 
-GoesOn-more : (n : ℕ) (x : List ℕ) → list_all is_next (take n x) ≡ true → GoesOn (1 + n) x
-GoesOn-more n x h = grind arith
+HasTail-more : (n : ℕ) (x : List ℕ) → list_all is_next (take n x) ≡ true → HasTail (1 + n) x
+HasTail-more n x h = grind arith
 
-GoesOn-fitting : (row : List (ℕ × ℕ)) → tail_goes_on row ≡ true → (b : ℕ) (x : List ℕ) → GoesOn (fitting_len row (b ∷ x)) x
-GoesOn-fitting row on b x = grind (arith, GoesOn-more, next-take_fitting)
+HasTail-fitting : (row : List (ℕ × ℕ)) → has_tail_ranges row ≡ true → (b : ℕ) (x : List ℕ) → HasTail (fitting_len row (b ∷ x)) x
+HasTail-fitting row on b x = grind (arith, HasTail-more, next-take_fitting)
 
-GoesOn-max : (m n : ℕ) (x : List ℕ) → GoesOn m x → GoesOn n x → GoesOn (max m n) x
-GoesOn-max m n x first second = grind arith
+HasTail-max : (m n : ℕ) (x : List ℕ) → HasTail m x → HasTail n x → HasTail (max m n) x
+HasTail-max m n x first second = grind arith
 
-GoesOn-table : (rows : List (List (ℕ × ℕ))) → list_all tail_goes_on rows ≡ true → (b : ℕ) (x : List ℕ) (other : ℕ) → GoesOn other x
-    → GoesOn (begun_len rows (b ∷ x)) x × GoesOn (unwrap_or (whole_len rows (b ∷ x)) other) x
-GoesOn-table [] on b x other otherwise = (refl, otherwise)
-GoesOn-table (row ∷ rows) on b x other otherwise =
+HasTail-table : (rows : List (List (ℕ × ℕ))) → list_all has_tail_ranges rows ≡ true → (b : ℕ) (x : List ℕ) (other : ℕ) → HasTail other x
+    → HasTail (begun_len rows (b ∷ x)) x × HasTail (unwrap_or (whole_len rows (b ∷ x)) other) x
+HasTail-table [] on b x other otherwise = (refl, otherwise)
+HasTail-table (row ∷ rows) on b x other otherwise =
     let parts = and_parts _ _ on in
-    let later = GoesOn-table rows parts.1 b x other otherwise in
-    grind (arith, GoesOn-max, GoesOn-fitting)
+    let later = HasTail-table rows parts.1 b x other otherwise in
+    grind (arith, HasTail-max, HasTail-fitting)
 
-GoesOn-first_unit : (b : ℕ) (x : List ℕ) → GoesOn (first_unit_len (b ∷ x)) x
+HasTail-first_unit : (b : ℕ) (x : List ℕ) → HasTail (first_unit_len (b ∷ x)) x
 unfolding first_unit_len whole_sequences
-GoesOn-first_unit b x =
-    let begun = (GoesOn-table whole_sequences refl b x 1 refl).0 in
-    (GoesOn-table whole_sequences refl b x _ (GoesOn-max 1 _ x refl begun)).1
+HasTail-first_unit b x =
+    let begun = (HasTail-table whole_sequences refl b x 1 refl).0 in
+    (HasTail-table whole_sequences refl b x _ (HasTail-max 1 _ x refl begun)).1
 
 first_unit_len-pos : (x : List ℕ) → 1 ≤ first_unit_len x
 unfolding first_unit_len whole_sequences
@@ -100,7 +100,7 @@ unfolding is_ignored
 three a b c x is = three_bytes a b c x (grind arith) (grind arith) (grind arith)
 
 -- a front whose later bytes begin nothing stays whole
-hfs_form-front : (n b : ℕ) (x : List ℕ) → 1 ≤ n → GoesOn n x → begins_ignored (b ∷ x) ≡ false
+hfs_form-front : (n b : ℕ) (x : List ℕ) → 1 ≤ n → HasTail n x → begins_ignored (b ∷ x) ≡ false
     → hfs_form (b ∷ x) ≡ take n (b ∷ x) ++ hfs_form (drop n (b ∷ x))
 hfs_form-front n b x some goes begins = grind (arith, hfs_form-kept, hfs_form-next)
 
@@ -112,7 +112,7 @@ hfs_form-units zero [] enough = refl
 hfs_form-units (suc n) [] enough = refl
 hfs_form-units zero (b ∷ x) enough = absurd (omega arith)
 hfs_form-units (suc n) (b ∷ x) enough =
-    grind (arith, nat_tests, first_unit_len-pos, length-drop, three, hfs_form-front, GoesOn-first_unit, begins_from_unit, hfs_form-units n)
+    grind (arith, nat_tests, first_unit_len-pos, length-drop, three, hfs_form-front, HasTail-first_unit, begins_from_unit, hfs_form-units n)
 
 -- one byte of the form and one of a word, put off
 pub both_begin : (x rest word : List ℕ) (b i : ℕ) → i < length word → hfs_form x ≡ b ∷ hfs_form rest

@@ -10,13 +10,9 @@ use Rattle.std.proofs.lemmas.List.Sums.{list_all-from_AllPass}
 use Rattle.gix_validate.specs.Pieces.{pieces, joined, has_no_slash}
 use Rattle.gix_validate.specs.Component.{fault_of}
 use Rattle.gix_validate.specs.ComponentLaws.{no_protections, IsBasicName}
-use Rattle.gix_validate.proofs.Texts.Pieces.{pieces-joined}
+use Rattle.gix_validate.proofs.Texts.Pieces.{pieces-joined, joined-push}
 use Rattle.gix_validate.proofs.Components.Laws.{basic_law}
 use Rattle.std.proofs.lemmas.Grind.{common_steps}
-
-joined-push : (text : List ℕ) (texts : List (List ℕ)) (last : List ℕ) → joined (text ∷ (texts ++ last ∷ [])) ≡ joined (text ∷ texts) ++ (byte "/" ∷ last)
-joined-push text [] last = grind arith
-joined-push text (next ∷ texts) last = grind (arith, append_assoc, joined-push next texts last)
 
 -- The first texts joined are no longer than all.
 pub joined-take-le : (texts : List (List ℕ)) (i : ℕ) → length (joined (take i texts)) ≤ length (joined texts)

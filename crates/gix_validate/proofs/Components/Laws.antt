@@ -27,7 +27,7 @@ use Rattle.std.proofs.Math.ListN.{get_or-map}
 
 -- The first unit is as long in lower case: no range of the table parts a letter from its small letter.
 skips : ℕ × ℕ → Bool
-skips range = agree_below (λ k. is_within range (k + 97)) (λ k. is_within range (k + 65)) 26
+skips range = agree_below (λ k. is_within range (k + byte "a")) (λ k. is_within range (k + byte "A")) 26
 
 fitting_len-lower : (row : List (ℕ × ℕ)) → list_all skips row ≡ true → (x : List ℕ) → fitting_len row (lower x) ≡ fitting_len row x
 unfolding skips
@@ -83,15 +83,15 @@ pub device_form_law : (x : List ℕ) → DeviceGoesByForm x
 unfolding is_device
 device_form_law x = λ y same. ap is_device_form same
 
-none_of : (lines : List (Option ComponentError)) → list_all is_none lines ≡ is_none (first_of lines)
-none_of [] = refl
-none_of (None ∷ lines) = none_of lines
-none_of (Some fault ∷ lines) = refl
+all_none-first_of : (lines : List (Option ComponentError)) → list_all is_none lines ≡ is_none (first_of lines)
+all_none-first_of [] = refl
+all_none-first_of (None ∷ lines) = all_none-first_of lines
+all_none-first_of (Some fault ∷ lines) = refl
 
 -- A text is a component exactly where it has no fault.
-pub grammar_law : (options : ComponentOptions) (mode : Option ComponentMode) (x : List ℕ) → is_component options mode x ≡ is_none (fault_of options mode x)
+pub component_grammar_law : (options : ComponentOptions) (mode : Option ComponentMode) (x : List ℕ) → is_component options mode x ≡ is_none (fault_of options mode x)
 unfolding is_component fault_of
-grammar_law options mode x = none_of (conditions_under options mode x)
+component_grammar_law options mode x = all_none-first_of (conditions_under options mode x)
 
 -- None of the conditions holds, each by itself.
 abbrev pub AllNone : List (Option ComponentError) → Type 0
@@ -149,4 +149,4 @@ pub units_law : (x : List ℕ) → FormIsKeptUnits x
 units_law x = hfs_form-units (length x) x (omega arith)
 
 -- what `component` takes from above
-pub ruleset component_laws = (grammar_law, fewer_law, case_law, units_law, basic_law)
+pub ruleset component_laws = (component_grammar_law, fewer_law, case_law, units_law, basic_law)

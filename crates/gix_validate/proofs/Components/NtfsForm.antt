@@ -9,46 +9,46 @@ use Rattle.gix_validate.specs.Ordinary.{stays_in_form}
 use Rattle.gix_validate.proofs.Components.Forms.{form_at}
 use Rattle.gix_validate.proofs.Texts.Words.{ntfs_keeps, other_head, form_left, form_all_left, form_word}
 
-abbrev pub is_cut : ℕ → Bool
-is_cut b = is_among (codes ":\\") b
+abbrev pub is_ntfs_cut : ℕ → Bool
+is_ntfs_cut b = is_among (codes ":\\") b
 
-abbrev pub is_trimmed : ℕ → Bool
-is_trimmed b = is_among (codes " .") b
+abbrev pub is_ntfs_trimmed : ℕ → Bool
+is_ntfs_trimmed b = is_among (codes " .") b
 
 pub ntfs_form-none : is_empty (ntfs_form []) ≡ true
 unfolding ntfs_form
 ntfs_form-none = refl
 
-pub ntfs_form-at : (b : ℕ) (x : List ℕ) → ntfs_form (b ∷ x) ≡ cond (is_cut b) [] (cond (is_trimmed b && is_empty (ntfs_form x)) [] (b ∷ ntfs_form x))
+pub ntfs_form-at : (b : ℕ) (x : List ℕ) → ntfs_form (b ∷ x) ≡ cond (is_ntfs_cut b) [] (cond (is_ntfs_trimmed b && is_empty (ntfs_form x)) [] (b ∷ ntfs_form x))
 unfolding ntfs_form
-ntfs_form-at b x = form_at is_cut is_trimmed b x
+ntfs_form-at b x = form_at is_ntfs_cut is_ntfs_trimmed b x
 
 pub ntfs_left : (x : List ℕ) (i : ℕ) → i < length x
-    → is_empty (ntfs_form (drop i x)) ≡ (is_cut (get_or x i 0) || (is_trimmed (get_or x i 0) && is_empty (ntfs_form (drop (i + 1) x))))
+    → is_empty (ntfs_form (drop i x)) ≡ (is_ntfs_cut (get_or x i 0) || (is_ntfs_trimmed (get_or x i 0) && is_empty (ntfs_form (drop (i + 1) x))))
 unfolding ntfs_form
-ntfs_left x i h = grind (arith, form_left is_cut is_trimmed x i h)
+ntfs_left x i h = grind (arith, form_left is_ntfs_cut is_ntfs_trimmed x i h)
 
 pub ntfs_all_left : (x : List ℕ) (i : ℕ) → length x ≤ i → is_empty (ntfs_form (drop i x)) ≡ true
 unfolding ntfs_form
-ntfs_all_left = form_all_left is_cut is_trimmed
+ntfs_all_left = form_all_left is_ntfs_cut is_ntfs_trimmed
 
 pub ntfs_word : (word x : List ℕ) → IsTrue (list_all stays_in_form word)
     → bytes_eq (lower (ntfs_form x)) (lower word) ≡ (begins (lower x) (lower word) && is_empty (ntfs_form (drop (length word) x)))
 unfolding ntfs_form
-ntfs_word = form_word is_cut is_trimmed ntfs_keeps
+ntfs_word = form_word is_ntfs_cut is_ntfs_trimmed ntfs_keeps
 
-dot_before : (f : List ℕ) (w : ℕ) (ws : List ℕ) → bytes_eq (lower (cond (is_empty f) [] (46 ∷ f))) (46 ∷ w ∷ ws) ≡ bytes_eq (lower f) (w ∷ ws)
+dot_before : (f : List ℕ) (w : ℕ) (ws : List ℕ) → bytes_eq (lower (cond (is_empty f) [] (byte "." ∷ f))) (byte "." ∷ w ∷ ws) ≡ bytes_eq (lower f) (w ∷ ws)
 unfolding lower_byte
 dot_before f w ws = grind arith
 
 -- a dot in front stays where something of the form follows it
-pub dot_stays : (x : List ℕ) (w : ℕ) (ws : List ℕ) → bytes_eq (lower (ntfs_form (46 ∷ x))) (46 ∷ w ∷ ws) ≡ bytes_eq (lower (ntfs_form x)) (w ∷ ws)
-dot_stays x w ws = ap (λ f. bytes_eq (lower f) (46 ∷ w ∷ ws)) (ntfs_form-at 46 x) ∙ dot_before (ntfs_form x) w ws
+pub dot_stays : (x : List ℕ) (w : ℕ) (ws : List ℕ) → bytes_eq (lower (ntfs_form (byte "." ∷ x))) (byte "." ∷ w ∷ ws) ≡ bytes_eq (lower (ntfs_form x)) (w ∷ ws)
+dot_stays x w ws = ap (λ f. bytes_eq (lower f) (byte "." ∷ w ∷ ws)) (ntfs_form-at (byte ".") x) ∙ dot_before (ntfs_form x) w ws
 
 -- a form that begins otherwise than with a dot or the word's first letter
 pub ntfs_other : (b : ℕ) (x : List ℕ) (w : ℕ) (ws : List ℕ) → eqb (lower_byte b) w ≡ false → bytes_eq (lower (ntfs_form (b ∷ x))) (w ∷ ws) ≡ false
 unfolding ntfs_form
-ntfs_other b x w ws other = other_head is_cut is_trimmed b x w ws other
+ntfs_other b x w ws other = other_head is_ntfs_cut is_ntfs_trimmed b x w ws other
 
 -- a form that stands for `.git` begins with a dot or with a `g`
 pub git_by_first : (x : List ℕ) → is_git_form (lower (ntfs_form x))

@@ -82,10 +82,10 @@ no_form f clean git modules =
 
 -- an ordinary name
 
-parts : (x : List ℕ) → is_ordinary x ≡ true → (0 < length x) × (ends x (codes ".") ≡ false) × (ends x (codes " ") ≡ false)
+ordinary_parts : (x : List ℕ) → is_ordinary x ≡ true → (0 < length x) × (ends x (codes ".") ≡ false) × (ends x (codes " ") ≡ false)
     × (list_any is_classed x ≡ false) × (bytes_eq (lower x) (codes ".git") ≡ false) × (bytes_eq (lower x) (codes ".gitmodules") ≡ false)
 unfolding is_ordinary
-parts x ordinary = grind arith
+ordinary_parts x ordinary = grind arith
 
 -- a text that ends otherwise is another text
 other_end : (x : List ℕ) → ends x (codes ".") ≡ false → (bytes_eq x (codes ".") || bytes_eq x (codes "..")) ≡ false
@@ -94,9 +94,9 @@ other_end x other = grind (arith, bytes_eq-Decides)
 pub ordinary_fault : (options : ComponentOptions) (mode : Option ComponentMode) (x : List ℕ) → is_ordinary x ≡ true
     → fault_of options mode x ≡ when (options.protect_windows && options.protect_ntfs && is_device x) WindowsReservedName
 unfolding fault_of conditions is_illegal ntfs_form
-ordinary_fault options mode [] ordinary = absurd (omega (arith, (parts [] ordinary).0))
+ordinary_fault options mode [] ordinary = absurd (omega (arith, (ordinary_parts [] ordinary).0))
 ordinary_fault options mode (b ∷ x) ordinary =
-    let has = parts (b ∷ x) ordinary in
+    let has = ordinary_parts (b ∷ x) ordinary in
     let none = unclassed (b ∷ x) has.3 in
     let hfs = hfs_form_same (b ∷ x) none.1 in
     let last : is_among (codes " .") (get_or (b ∷ x) (length x) 0) ≡ false = grind (arith, ends_read) in

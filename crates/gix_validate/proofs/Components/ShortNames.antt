@@ -103,7 +103,7 @@ whole_is_modules : (w : List ℕ) → bytes_eq w (codes ".gitmodules") ≡ true 
 unfolding is_modules_form
 whole_is_modules w whole = rw whole refl
 
-dot_or_none : (x : List ℕ) → (lower (ntfs_form (46 ∷ x)) ≡ []) ⊎ (get_or (lower (ntfs_form (46 ∷ x))) 0 0 ≡ byte ".")
+dot_or_none : (x : List ℕ) → (lower (ntfs_form (byte "." ∷ x)) ≡ []) ⊎ (get_or (lower (ntfs_form (byte "." ∷ x))) 0 0 ≡ byte ".")
 unfolding lower_byte
 dot_or_none x = grind (arith, ntfs_form-at)
 

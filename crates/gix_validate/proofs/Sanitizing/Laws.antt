@@ -48,10 +48,10 @@ repaired_from : (ms : List (List ℕ)) (j : List ℕ) → pieces j ≡ ms → pi
     → list_all is_good_piece ms ≡ true → is_empty j ≡ false → Repaired ms (repaired_nothing (repaired_at (repaired_dot j)))
 repaired_from ms j split dashed good some = grind (arith, common_steps, dash_last_of-good, bytes_eq-Decides, ends-false, same_from_push, false_from_ne_true)
 
-repaired : (ms : List (List ℕ)) → ms ≢ [] → list_all is_good_piece ms ≡ true → list_all has_no_slash ms ≡ true
+repaired_pieces : (ms : List (List ℕ)) → ms ≢ [] → list_all is_good_piece ms ≡ true → list_all has_no_slash ms ≡ true
     → Repaired ms (repaired_nothing (repaired_at (repaired_dot (joined ms))))
-repaired [] some good apart = absurd (some refl)
-repaired (p ∷ ps) some good apart =
+repaired_pieces [] some good apart = absurd (some refl)
+repaired_pieces (p ∷ ps) some good apart =
     let split = pieces-joined (p ∷ ps) some apart in
     let dashed : pieces (dash_last (joined (p ∷ ps))) ≡ dash_last_of (p ∷ ps) =
     let dashes = pieces-joined (dash_last_of (p ∷ ps)) (λ none. grind (arith, dash_last_of-cons p ps)) (dash_last_of-apart (p ∷ ps) apart) in
@@ -65,7 +65,7 @@ sanitized_none x none = ap (λ v. repaired_nothing (repaired_at (repaired_dot (j
 sanitized_some : (x : List ℕ) → nonempty_pieces x ≢ [] → Repaired (mended_pieces x) (sanitized x)
 unfolding sanitized
 sanitized_some x some =
-    repaired (mended_pieces x) (λ none. some (nil_from_length (nonempty_pieces x) (grind (arith, length-map (nonempty_pieces x) (λ p. cut (cleaned p))))))
+    repaired_pieces (mended_pieces x) (λ none. some (nil_from_length (nonempty_pieces x) (grind (arith, length-map (nonempty_pieces x) (λ p. cut (cleaned p))))))
     (mended_of-good (pieces x)) (mended_of-apart (pieces x) (pieces_apart x))
 
 partial_dash : is_partial_name (codes "-") ≡ true

@@ -13,11 +13,8 @@ use Rattle.gix_validate.specs.Tag.{is_good_piece}
 use Rattle.gix_validate.specs.Pieces.{is_slash, has_no_slash}
 use Rattle.gix_validate.specs.Sanitized.{Dots, Other, dot_before, runs, byte_of, bytes_of, allowed, cleaned, cut, is_locks, dash_last}
 use Rattle.gix_validate.proofs.Texts.Endings.{ends-false, ends-no}
+use Rattle.gix_validate.proofs.TagNames.Grammar.{is_refused}
 use Rattle.gix_validate.proofs.Sanitizing.LockSuffixes.{cut_front, cut_open, cut-own, length-cut}
-
--- a byte that no good piece has
-abbrev pub is_refused : ℕ → Bool
-is_refused b = is_bad b || b == byte "*"
 
 -- the byte may stand behind this one, or first in a piece
 abbrev pub may_follow : Option ℕ → ℕ → Bool
@@ -29,23 +26,23 @@ abbrev pub each_may_follow : Option ℕ → List ℕ → Bool
 each_may_follow before [] = true
 each_may_follow before (b ∷ p) = may_follow before b && each_may_follow (Some b) p
 
-regroup : (x y z x' y' z' : Bool)
+may_follow_regrouped : (x y z x' y' z' : Bool)
     → ((not x && (not y && not z)) && (not x' && (not y' && not z'))) ≡ (not (x || x') && (not (y || y') && not (z || z')))
-regroup x y z x' y' z' = grind arith
+may_follow_regrouped x y z x' y' z' = grind arith
 
-regroup_first : (x d x' y z e : Bool)
+may_begin_regrouped : (x d x' y z e : Bool)
     → (((((true && not (x || x')) && not d) && not y) && not z) && not e) ≡ (((not x && not d) && (not x' && (not y && not z))) && not e)
-regroup_first x d x' y z e = grind arith
+may_begin_regrouped x d x' y z e = grind arith
 
 each_after : (a : ℕ) (p : List ℕ)
     → each_may_follow (Some a) p ≡ (not (list_any is_refused p) && (not (holds (a ∷ p) (codes "..")) && not (holds (a ∷ p) (codes "@{"))))
 each_after a [] = grind arith
-each_after a (b ∷ p) = grind (arith, regroup, each_after b p)
+each_after a (b ∷ p) = grind (arith, may_follow_regrouped, each_after b p)
 
 pub is_good_piece-bytes : (p : List ℕ) → is_good_piece p ≡ (not (is_empty p) && (each_may_follow None p && not (ends p (codes ".lock"))))
-unfolding is_good_piece
+unfolding is_good_piece is_refused
 is_good_piece-bytes [] = grind arith
-is_good_piece-bytes (b ∷ p) = grind (arith, regroup_first, each_after)
+is_good_piece-bytes (b ∷ p) = grind (arith, may_begin_regrouped, each_after)
 
 -- A front of such a text is one too.
 pub each_may_follow-front : (before : Option ℕ) (f r : List ℕ) → each_may_follow before (f ++ r) ≡ true → each_may_follow before f ≡ true
@@ -54,7 +51,7 @@ each_may_follow-front before (b ∷ f) r h = grind (arith, each_may_follow-front
 
 -- A dash may stand behind each byte, and first.
 pub each_may_follow-dash : (before : Option ℕ) (f : List ℕ) → each_may_follow before f ≡ true → each_may_follow before (f ++ codes "-") ≡ true
-unfolding is_bad
+unfolding is_bad is_refused
 each_may_follow-dash before [] h = grind arith
 each_may_follow-dash before (b ∷ f) h = grind (arith, each_may_follow-dash (Some b) f)
 
@@ -109,7 +106,7 @@ length-written last [] = grind arith
 length-written last (b ∷ p) = grind (arith, length-written last p, length-written (Some (written_for last b)) p)
 
 written_for-own : (last : Option ℕ) (b : ℕ) → may_follow last b ≡ true → written_for last b ≡ b
-unfolding written_for
+unfolding written_for is_refused
 written_for-own None b h = grind (arith, nat_tests)
 written_for-own (Some a) b h = grind (arith, nat_tests)
 
@@ -125,7 +122,7 @@ written-own last (b ∷ p) h =
     rw (not_dots b p parts.1, written_for-own last b parts.0) (ap (λ v. b ∷ v) (written-own (Some b) p parts.1))
 
 written_for-follows : (last : Option ℕ) (b : ℕ) → ((b == byte ".") ≡ true → is_after (byte ".") last ≡ false) → may_follow last (written_for last b) ≡ true
-unfolding is_bad written_for
+unfolding is_bad written_for is_refused
 written_for-follows None b h = grind (arith, nat_tests)
 written_for-follows (Some a) b h = grind (arith, nat_tests)
 

@@ -11,7 +11,7 @@ use Rattle.gix_validate.specs.Sanitized.{allowed, cut, mended_pieces}
 use Rattle.gix_validate.proofs.Sanitizing.LockSuffixes.{cut-append}
 use Rattle.gix_validate.proofs.Sanitizing.MendedPieces.{is_after, dot_first, written_for, written_by, written_some, cleaned-written}
 use Rattle.gix_validate.proofs.Sanitizing.Laws.{mended_of}
-use Rattle.gix_validate.proofs.Texts.Pieces.{pieces_front}
+use Rattle.gix_validate.proofs.Texts.Pieces.{pieces_front, joined-push}
 
 -- what a byte adds to its piece
 abbrev pub added : List ℕ → ℕ → ℕ
@@ -39,17 +39,13 @@ abbrev mended_from : List (List ℕ) → List ℕ → Option ℕ → List (List 
 mended_from texts piece last [] = texts ++ kept piece
 mended_from texts piece last (p ∷ ps) = texts ++ (kept (piece ++ written_by last p) ++ mended_of ps)
 
-joined-push : (q : List ℕ) (ps : List (List ℕ)) (p : List ℕ) → joined (q ∷ (ps ++ p ∷ [])) ≡ (joined (q ∷ ps) ++ codes "/") ++ p
-joined-push q [] p = grind (arith, append_assoc)
-joined-push q (r ∷ ps) p = grind (arith, append_assoc, joined-push r ps p)
-
 closed-slashed : (texts : List (List ℕ)) (piece : List ℕ) → closed (slashed texts) piece ≡ slashed (texts ++ kept piece)
 closed-slashed [] piece = grind arith
 closed-slashed (q ∷ ps) piece = grind (arith, append-nil, append_assoc, joined-push)
 
 finished-slashed : (texts : List (List ℕ)) (piece : List ℕ) → finished (slashed texts) piece ≡ joined (texts ++ kept piece)
 finished-slashed [] piece = grind arith
-finished-slashed (q ∷ ps) piece = grind (arith, append-nil, joined-push, take_at, length-append)
+finished-slashed (q ∷ ps) piece = grind (arith, append-nil, append_assoc, joined-push, take_at, length-append)
 
 mended_from-start : (texts ps : List (List ℕ)) → mended_from texts [] None ps ≡ texts ++ mended_of ps
 mended_from-start texts [] = refl

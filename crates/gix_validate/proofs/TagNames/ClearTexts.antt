@@ -4,6 +4,7 @@ use Rattle.std.proofs.lemmas.Bool.{cases_lt, false_from_ne_true}
 use Rattle.std.proofs.lemmas.List.{take_all, get_or-take}
 use Rattle.std.proofs.lemmas.Slice.Eq.{bytes_eq-Decides}
 use Rattle.std.specs.Prelude.{codes}
+use Rattle.std.specs.Str.{byte}
 use Rattle.gix_validate.specs.Bytes.{is_among, ends}
 use Rattle.gix_validate.specs.Tag.{fault_of}
 use Rattle.gix_validate.specs.Reference.{is_partial_name}
@@ -13,7 +14,7 @@ use Rattle.gix_validate.proofs.Texts.Places.{at_first_place_none}
 use Rattle.gix_validate.proofs.Texts.Endings.{ends_read, lock_read}
 use Rattle.gix_validate.proofs.TagNames.FaultTable.{before_is_after, none_after}
 use Rattle.gix_validate.proofs.TagNames.FaultsBefore.{at_first_place_split}
-use Rattle.gix_validate.proofs.TagNames.Grammar.{grammar_law}
+use Rattle.gix_validate.proofs.TagNames.Grammar.{tag_grammar_law}
 use Rattle.std.proofs.lemmas.Grind.{common_steps}
 use Rattle.std.proofs.lemmas.Bool.Decides.{nat_tests}
 
@@ -24,7 +25,7 @@ NoFaultBetween x i j = (p : ℕ) → i ≤ p → p < j → fault_of_byte_at x p 
 -- No place below i has a fault by what stands before it, and no slash up to four places further ends a `.lock`.
 pub record IsSettled (x : List ℕ) (i : ℕ) : Type 0 where
   pub done : NoFaultBetween x 0 i
-  pub ahead : (p : ℕ) → i ≤ p → p < i + 4 → p < length x → get_or x p 0 ≡ 47 → ends (take p x) (codes ".lock") ≡ false
+  pub ahead : (p : ℕ) → i ≤ p → p < i + 4 → p < length x → get_or x p 0 ≡ byte "/" → ends (take p x) (codes ".lock") ≡ false
 
 -- a byte within the text
 pub inside : (x : List ℕ) (p c : ℕ) → 0 < c → get_or x p 0 ≡ c → p < length x
@@ -33,7 +34,7 @@ inside x p c some e = grind (arith, common_steps)
 -- a byte that isn't suspect has no fault, where no dot or slash follows what it may not follow
 no_fault : (x : List ℕ) (i a : ℕ) → is_suspect a (get_or x i 0) ≡ false
     → (is_among (codes "./") a ≡ false → (ends (take i x) (codes ".") ≡ false) × (ends (take i x) (codes "/") ≡ false))
-    → (get_or x i 0 ≡ 47 → ends (take i x) (codes ".lock") ≡ false) → fault_of_byte_at x i ≡ None
+    → (get_or x i 0 ≡ byte "/" → ends (take i x) (codes ".lock") ≡ false) → fault_of_byte_at x i ≡ None
 unfolding is_suspect
 no_fault x i a quiet near lock = grind (arith, nat_tests, before_is_after x i, none_after (take i x) (get_or x i 0))
 
@@ -47,7 +48,7 @@ no_lock : (x : List ℕ) (p : ℕ) → p ≤ length x → (5 ≤ p → is_suspec
 unfolding is_suspect
 no_lock x p within quiet = grind (arith, nat_tests, false_from_ne_true, lock_read, get_or-take, length-take)
 
-quiet_lock : (x : List ℕ) (i j p : ℕ) → 1 ≤ i → NoneBetween Suspect x (i - 1) j → IsSettled x i → i ≤ p → p < j + 4 → p < length x → get_or x p 0 ≡ 47
+quiet_lock : (x : List ℕ) (i j p : ℕ) → 1 ≤ i → NoneBetween Suspect x (i - 1) j → IsSettled x i → i ≤ p → p < j + 4 → p < length x → get_or x p 0 ≡ byte "/"
     → ends (take p x) (codes ".lock") ≡ false
 quiet_lock x i j p some quiet s from to within slash =
     elim (cases_lt p (i + 4)) [
@@ -72,9 +73,9 @@ settled_part x i j some order within quiet s = record {
 pub settled_none : (x : List ℕ) (i : ℕ) → i < 2 → NoFaultBetween x 0 i → IsSettled x i
 settled_none x i start none = record { done = none; ahead = λ p from to within slash. no_lock x p (omega arith) (λ five. absurd (omega arith)) }
 
-settled_first : (x : List ℕ) → is_suspect 47 (get_or x 0 0) ≡ false → IsSettled x 1
+settled_first : (x : List ℕ) → is_suspect (byte "/") (get_or x 0 0) ≡ false → IsSettled x 1
 settled_first x quiet =
-    let first : fault_of_byte_at x 0 ≡ None = no_fault x 0 47 quiet (λ none. grind arith) (λ slash. refl) in
+    let first : fault_of_byte_at x 0 ≡ None = no_fault x 0 (byte "/") quiet (λ none. grind arith) (λ slash. refl) in
     settled_none x 1 (omega arith) (λ p from to. grind (arith, first))
 
 pub clear_has_no_fault : (x : List ℕ) → IsClear x → fault_of x ≡ None
@@ -91,4 +92,4 @@ clear_has_no_fault (b ∷ x) clear =
 -- A clear text of two bytes or more is a partial name.
 pub clear_is_partial : (x : List ℕ) → 1 < length x → IsClear x → is_partial_name x ≡ true
 unfolding is_partial_name
-clear_is_partial x long clear = grind (arith, grammar_law, clear_has_no_fault, bytes_eq-Decides)
+clear_is_partial x long clear = grind (arith, tag_grammar_law, clear_has_no_fault, bytes_eq-Decides)

@@ -1,6 +1,7 @@
 -- The table of the faults at a place: no two of its lines apply, and what each byte may have of them.
 use Rattle.std.proofs.Common.{◌≡◌, ℕ, ◌<◌, Bool, false, not, ◌&&◌, ◌||◌, eqb, List, [], ◌∷◌, take, get_or, true, refl, Option, None}
 use Rattle.std.proofs.lemmas.Bool.{agree_below_at}
+use Rattle.std.specs.Str.{byte}
 use Rattle.gix_validate.specs.declared.bytes.TheConstants.{MAY_BE_FAULTY}
 use Rattle.gix_validate.specs.Adjacent.{fault_of_byte_at}
 use Rattle.std.specs.Prelude.{codes, is_none}
@@ -33,16 +34,16 @@ is_none-when t e o = grind arith
 
 -- what the table says of a byte by what stands before it
 pub none_after : (before : List ℕ) (b : ℕ) → is_none (fault_of_byte before b)
-    ≡ (not (is_bad b) && (not (eqb b 42) && (not (eqb b 46 && ends before (codes "."))
-    && (not (eqb b 46 && ends before (codes "/")) && (not (eqb b 123 && ends before (codes "@")) && (not (eqb b 47 && ends before (codes "/"))
-    && (not (eqb b 47 && ends before (codes ".lock")) && true)))))))
+    ≡ (not (is_bad b) && (not (eqb b (byte "*")) && (not (eqb b (byte ".") && ends before (codes "."))
+    && (not (eqb b (byte ".") && ends before (codes "/")) && (not (eqb b (byte "{") && ends before (codes "@")) && (not (eqb b (byte "/") && ends before (codes "/"))
+    && (not (eqb b (byte "/") && ends before (codes ".lock")) && true)))))))
 unfolding fault_of_byte fault_table
 none_after before b = simp is_none-when
 
 -- The table of bytes says no only of bytes that have no fault, whatever stands before them.
-pub tabled : (b : ℕ) → b < 256 → get_or MAY_BE_FAULTY b false ≡ (is_bad b || is_among (codes "*./{") b)
+pub faulty_tabled : (b : ℕ) → b < 256 → get_or MAY_BE_FAULTY b false ≡ (is_bad b || is_among (codes "*./{") b)
 unfolding is_bad
-tabled b small = agree_below_at (λ b. get_or MAY_BE_FAULTY b false) (λ b. is_bad b || is_among (codes "*./{") b) 256 b refl small
+faulty_tabled b small = agree_below_at (λ b. get_or MAY_BE_FAULTY b false) (λ b. is_bad b || is_among (codes "*./{") b) 256 b refl small
 
 pub quiet : (x : List ℕ) (i : ℕ) → (is_bad (get_or x i 0) || is_among (codes "*./{") (get_or x i 0)) ≡ false → fault_of_byte_at x i ≡ None
 quiet x i h = grind (arith, before_is_after x i, none_after (take i x) (get_or x i 0))

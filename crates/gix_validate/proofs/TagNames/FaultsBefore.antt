@@ -15,8 +15,8 @@ use Rattle.gix_validate.proofs.TagNames.FaultTable.{fault_of_byte, before_is_aft
 use Rattle.gix_validate.proofs.Texts.Places.{orelse_assoc, at_first_place_more, at_first_place_none, at_first_place_same}
 
 -- the text ends in `.lock`, and isn't that alone
-abbrev pub ends_in_lock : List ℕ → Bool
-ends_in_lock x = ends x (codes ".lock") && not (bytes_eq x (codes ".lock"))
+abbrev pub has_lock_suffix : List ℕ → Bool
+has_lock_suffix x = ends x (codes ".lock") && not (bytes_eq x (codes ".lock"))
 
 first_of-more : (t1 t2 t3 t4 t5 t6 t7 t8 : Option NameError)
     → first_of (t1 ∷ t2 ∷ t3 ∷ t4 ∷ t5 ∷ t6 ∷ t7 ∷ t8 ∷ []) ≡ (first_of (t1 ∷ t2 ∷ t3 ∷ t4 ∷ t5 ∷ t6 ∷ t7 ∷ None ∷ []) orelse t8)
@@ -29,13 +29,13 @@ fault_inside before b (c ∷ after) some = refl
 
 -- at the end of the text the last line comes behind them
 fault_at_end : (before : List ℕ) (b : ℕ)
-    → first_of (fault_table before b []) ≡ (fault_of_byte before b orelse when (ends_in_lock (before ++ b ∷ [])) LockFileSuffix)
+    → first_of (fault_table before b []) ≡ (fault_of_byte before b orelse when (has_lock_suffix (before ++ b ∷ [])) LockFileSuffix)
 unfolding fault_of_byte fault_table
 fault_at_end before b = grind (arith, first_of-more)
 
 -- The fault at the least place: by the lines that look back alone, and then the last line.
 pub at_first_place_split : (x : List ℕ) → is_empty x ≡ false
-    → at_first_place (λ i. first_of (faults_at x i)) (length x) ≡ (at_first_place (fault_of_byte_at x) (length x) orelse when (ends_in_lock x) LockFileSuffix)
+    → at_first_place (λ i. first_of (faults_at x i)) (length x) ≡ (at_first_place (fault_of_byte_at x) (length x) orelse when (has_lock_suffix x) LockFileSuffix)
 unfolding faults_at fault_of_byte_at fault_of_byte
 at_first_place_split [] some = grind arith
 at_first_place_split (b ∷ x) some =
@@ -43,7 +43,7 @@ at_first_place_split (b ∷ x) some =
     let n = length x in
     let same = at_first_place_same (λ i. first_of (faults_at y i)) (fault_of_byte_at y) n
     (λ i small. fault_inside (take i y) (get_or y i 0) (drop (i + 1) y) (omega (arith, length-drop (i + 1) y))) in
-    let last : first_of (faults_at y n) ≡ (fault_of_byte_at y n orelse when (ends_in_lock y) LockFileSuffix) =
+    let last : first_of (faults_at y n) ≡ (fault_of_byte_at y n orelse when (has_lock_suffix y) LockFileSuffix) =
     grind (arith, take_more, take_all, drop_all, fault_at_end (take n y) (get_or y n 0)) in
     grind (arith, at_first_place_more, orelse_assoc)
 

@@ -1,21 +1,22 @@
 -- A text is a tag name exactly where it has no fault.
 use Rattle.std.proofs.Common.{◌≡◌, ℕ, Bool, true, false, not, ◌&&◌, ◌||◌, cond, eqb, List, [], ◌∷◌, ◌++◌, refl}
 use Rattle.std.proofs.lemmas.List.{append-nil, append_assoc}
-use Rattle.std.specs.Prelude.{codes, is_none}
+use Rattle.std.specs.Prelude.{codes, is_none, ◌==◌}
 use Rattle.std.specs.List.{list_all, list_any}
+use Rattle.std.specs.Str.{byte}
 use Rattle.gix_validate.specs.Bytes.{is_bad, is_empty, begins, ends, holds}
 use Rattle.gix_validate.specs.Pieces.{is_slash, pieces}
 use Rattle.gix_validate.specs.Tag.{is_good_piece, is_tag_name, fault_of}
 use Rattle.gix_validate.proofs.Texts.Pieces.{pieces_front, pieces_alone}
 use Rattle.gix_validate.proofs.Texts.Endings.{last_piece, last_piece_nothing, last_piece_push, ends_last_piece, slash_last, last_piece_apart, ends_cons}
 use Rattle.gix_validate.proofs.TagNames.FaultTable.{fault_of_byte, is_none-when, none_after}
-use Rattle.gix_validate.proofs.TagNames.FaultsBefore.{walked, ends_in_lock, at_first_place_split, at_first_place_walked}
+use Rattle.gix_validate.proofs.TagNames.FaultsBefore.{walked, has_lock_suffix, at_first_place_split, at_first_place_walked}
 use native.Mathlib.Omega.{arith}
 use Rattle.std.proofs.lemmas.Bool.Decides.{nat_tests}
 
--- a byte that no piece has
-unfoldable is_refused : ℕ → Bool
-is_refused b = is_bad b || eqb b 42
+-- a byte that no good piece has
+unfoldable pub is_refused : ℕ → Bool
+is_refused b = is_bad b || b == byte "*"
 
 -- what a piece may not have, but for its end
 unfoldable goes_on : List ℕ → Bool
@@ -23,7 +24,7 @@ goes_on p = not (list_any is_refused p) && not (begins p (codes ".")) && not (ho
 
 -- the byte may not follow in the piece
 unfoldable breaks : List ℕ → ℕ → Bool
-breaks p b = is_refused b || ((eqb b 46 && (is_empty p || ends p (codes "."))) || (eqb b 123 && ends p (codes "@")))
+breaks p b = is_refused b || ((eqb b (byte ".") && (is_empty p || ends p (codes "."))) || (eqb b (byte "{") && ends p (codes "@")))
 
 -- the piece may end there
 unfoldable may_end : List ℕ → Bool
@@ -43,13 +44,13 @@ holds_push [] b a c = grind arith
 holds_push (x ∷ []) b a c = grind arith
 holds_push (x ∷ y ∷ p) b a c = grind (arith, ends_cons (a ∷ []) x (y ∷ p), holds_push (y ∷ p) b a c)
 
-table : (a x g c e k d f m : Bool) → (not (a || x) && not g && not (c || (e && k)) && not (d || (f && m)))
+goes_on_regrouped : (a x g c e k d f m : Bool) → (not (a || x) && not g && not (c || (e && k)) && not (d || (f && m)))
     ≡ ((not a && not g && not c && not d) && not (x || ((k && e) || (m && f))))
-table a x g c e k d f m = grind arith
+goes_on_regrouped a x g c e k d f m = grind arith
 
 goes_on_push : (p : List ℕ) (b : ℕ) → goes_on (p ++ b ∷ []) ≡ (goes_on p && not (breaks p b))
 unfolding goes_on breaks
-goes_on_push p b = grind (arith, nat_tests, list_any_push, holds_push, table)
+goes_on_push p b = grind (arith, nat_tests, list_any_push, holds_push, goes_on_regrouped)
 
 -- The table says no more of a byte than the piece before it does.
 no_fault_after : (y : List ℕ) (b : ℕ) → is_empty y ≡ false
@@ -75,22 +76,22 @@ walked_good y (b ∷ x) some =
 
 -- From the first byte on, which is neither a slash nor a dot.
 begun_good : (b : ℕ) (x : List ℕ) → list_all is_good_piece (pieces (b ∷ x))
-    ≡ ((not (eqb b 47) && not (eqb b 46)) && (is_none (walked [] (b ∷ x)) && may_end (last_piece (b ∷ x))))
+    ≡ ((not (eqb b (byte "/")) && not (eqb b (byte "."))) && (is_none (walked [] (b ∷ x)) && may_end (last_piece (b ∷ x))))
 unfolding walked is_good_piece breaks is_refused
 begun_good b x =
     grind (arith, walked_good (b ∷ []) x refl, last_piece_push [] b, last_piece_nothing, goes_on_push [] b, nothing_goes_on, none_after [] b)
 
-none_of : (x : List ℕ) → is_empty x ≡ false → is_none (fault_of x) ≡ (not (ends x (codes "/")) && (not (begins x (codes "/"))
-    && ((is_none (walked [] x) && not (ends_in_lock x)) && (not (begins x (codes ".")) && not (ends x (codes "."))))))
+is_none-parts : (x : List ℕ) → is_empty x ≡ false → is_none (fault_of x) ≡ (not (ends x (codes "/")) && (not (begins x (codes "/"))
+    && ((is_none (walked [] x) && not (has_lock_suffix x)) && (not (begins x (codes ".")) && not (ends x (codes "."))))))
 unfolding fault_of
-none_of x some = grind (arith, is_none-when, at_first_place_split, at_first_place_walked)
+is_none-parts x some = grind (arith, is_none-when, at_first_place_split, at_first_place_walked)
 
 law_begun : (b : ℕ) (x : List ℕ) → is_tag_name (b ∷ x) ≡ is_none (fault_of (b ∷ x))
 unfolding is_tag_name may_end
-law_begun b x = grind (arith, nat_tests, begun_good, none_of, slash_last, ends_last_piece (codes ".lock") refl (b ∷ x))
+law_begun b x = grind (arith, nat_tests, begun_good, is_none-parts, slash_last, ends_last_piece (codes ".lock") refl (b ∷ x))
 
 -- the grammar, and the table with its order: a text is a tag name exactly where it has no fault
-pub grammar_law : (x : List ℕ) → is_tag_name x ≡ is_none (fault_of x)
+pub tag_grammar_law : (x : List ℕ) → is_tag_name x ≡ is_none (fault_of x)
 unfolding is_tag_name fault_of is_good_piece
-grammar_law [] = refl
-grammar_law (b ∷ x) = law_begun b x
+tag_grammar_law [] = refl
+tag_grammar_law (b ∷ x) = law_begun b x

@@ -2,6 +2,7 @@
 use Rattle.std.proofs.Common.{◌≡◌, ℕ, ◌+◌, ◌-◌, ◌<◌, ◌≤◌, min, false, List, length, take, get_or, sym, ap, ◌∙◌, arith, Some, None, inl, inr}
 use Rattle.std.proofs.lemmas.Bool.{cases_lt}
 use Rattle.std.specs.Prelude.{codes}
+use Rattle.std.specs.Str.{byte}
 use Rattle.gix_validate.specs.declared.tag.NameError.{NameError}
 use Rattle.gix_validate.specs.Bytes.{ends}
 use Rattle.gix_validate.specs.Faults.{at_first_place}
@@ -42,7 +43,7 @@ none_between x i j none p from to =
     let there : i + (p - i) ≡ p = omega arith in
     ap (fault_of_byte_at x) (sym there) ∙ none_below (λ k. fault_of_byte_at x (i + k)) (j - i) (p - i) (omega arith) none
 
-slash_quiet : (x : List ℕ) (p : ℕ) → get_or x p 0 ≡ 47 → fault_of_byte_at x p ≡ None → ends (take p x) (codes ".lock") ≡ false
+slash_quiet : (x : List ℕ) (p : ℕ) → get_or x p 0 ≡ byte "/" → fault_of_byte_at x p ≡ None → ends (take p x) (codes ".lock") ≡ false
 slash_quiet x p slash none = grind (arith, nat_tests, before_is_after x p, none_after (take p x) (get_or x p 0))
 
 -- Each byte up to j was asked, and the four behind it too, as far as there are some.

@@ -6,7 +6,7 @@ use Rattle.std.proofs.lemmas.List.{take-append-drop, drop_at}
 use Rattle.std.proofs.lemmas.List.Folds.{list_all-append}
 use Rattle.std.proofs.lemmas.Bool.{false_from_ne_true}
 use Rattle.std.specs.Prelude.{codes}
-use Rattle.std.specs.Str.{bytes_eq}
+use Rattle.std.specs.Str.{byte, bytes_eq}
 use Rattle.gix_validate.specs.Bytes.{is_empty, ends}
 use Rattle.gix_validate.specs.Pieces.{is_slash, has_no_slash}
 use Rattle.std.proofs.lemmas.Grind.{common_steps}
@@ -29,7 +29,7 @@ ends_push_one y b c = grind (arith, common_steps)
 
 -- where the bytes of `.lock` stand
 pub lock_read : (x : List ℕ) → ends x (codes ".lock") ≡ true
-    → (5 ≤ length x) × (get_or x (length x - 5) 0 ≡ 46) × (get_or x (length x - 4) 0 ≡ 108) × (get_or x (length x - 1) 0 ≡ 107)
+    → (5 ≤ length x) × (get_or x (length x - 5) 0 ≡ byte ".") × (get_or x (length x - 4) 0 ≡ byte "l") × (get_or x (length x - 1) 0 ≡ byte "k")
 lock_read x h = let e : x ≡ take (length x - 5) x ++ codes ".lock" = ends-true x (codes ".lock") h in grind (arith, common_steps)
 
 -- what follows the last slash, or the whole text where there is none

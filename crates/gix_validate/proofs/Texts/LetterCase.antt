@@ -2,7 +2,7 @@
 use Rattle.std.proofs.Common.{true, false, eqb, ◌≡◌, ℕ, ◌+◌, ◌-◌, ◌<◌, Bool, not, nat_eq, List, [], ◌∷◌, reverse}
 use Rattle.std.proofs.Common.{length, take, refl, inl, inr, arith}
 use Rattle.std.specs.List.{list_any, list_all, prefix_len, before_first}
-use Rattle.std.specs.Str.{bytes_eq}
+use Rattle.std.specs.Str.{byte, bytes_eq}
 use Rattle.std.proofs.lemmas.Bool.{cases_lt, agree_below, agree_below_at, and_parts}
 use Rattle.std.proofs.lemmas.List.{length-map, take-map, drop-map}
 use mathlib.Core.List.{reverse_aux}
@@ -36,17 +36,17 @@ begins_short (b ∷ x) (w ∷ word) h = rw (begins_short x word (omega arith)) (
 
 -- a test gives one answer at each letter and at its small letter
 abbrev pub SkipsCase : (ℕ → Bool) → Type 0
-SkipsCase p = agree_below (λ k. p (k + 97)) (λ k. p (k + 65)) 26 ≡ true
+SkipsCase p = agree_below (λ k. p (k + byte "a")) (λ k. p (k + byte "A")) 26 ≡ true
 
 pub test-lower_byte : (p : ℕ → Bool) → SkipsCase p → (b : ℕ) → p (lower_byte b) ≡ p b
 unfolding lower_byte
 test-lower_byte p skips b =
-    elim (cases_lt b 65) [
+    elim (cases_lt b (byte "A")) [
       | inl small ↦ grind arith
       | inr large ↦
-          let here : b - 65 + 65 ≡ b = omega arith in
-          let there : b - 65 + 97 ≡ b + 32 = omega arith in
-          grind (arith, agree_below_at (λ k. p (k + 97)) (λ k. p (k + 65)) 26 (b - 65) skips)
+          let here : b - byte "A" + byte "A" ≡ b = omega arith in
+          let there : b - byte "A" + byte "a" ≡ b + 32 = omega arith in
+          grind (arith, agree_below_at (λ k. p (k + byte "a")) (λ k. p (k + byte "A")) 26 (b - byte "A") skips)
     ]
 
 pub lower-lower : (x : List ℕ) → lower (lower x) ≡ lower x
@@ -64,7 +64,7 @@ prefix_len-lower p skips (b ∷ x) = rw (test-lower_byte p skips b, prefix_len-l
 
 -- no byte of the word is a letter
 abbrev pub has_no_letter : List ℕ → Bool
-has_no_letter word = list_all (λ c. agree_below (λ k. nat_eq (k + 97) c) (λ k. nat_eq (k + 65) c) 26) word
+has_no_letter word = list_all (λ c. agree_below (λ k. nat_eq (k + byte "a") c) (λ k. nat_eq (k + byte "A") c) 26) word
 
 pub bytes_eq-lower : (word : List ℕ) → has_no_letter word ≡ true → (x : List ℕ) → bytes_eq (lower x) word ≡ bytes_eq x word
 bytes_eq-lower [] none [] = refl

@@ -1,7 +1,8 @@
 -- The pieces of a text are the only nonempty list of texts without a slash that joins to it.
-use Rattle.std.proofs.Common.{◌≡◌, ◌≢◌, ℕ, true, List, [], ◌∷◌, ◌++◌, sym, ap, ◌∙◌}
+use Rattle.std.proofs.Common.{◌≡◌, ◌≢◌, ℕ, true, List, [], ◌∷◌, ◌++◌, sym, ap, ◌∙◌, append_assoc}
 use Rattle.std.proofs.lemmas.List.Splits.{join_with_byte-slice_split}
 use Rattle.std.specs.List.{list_all}
+use Rattle.std.specs.Str.{byte}
 use Rattle.gix_validate.specs.Pieces.{pieces, joined, has_no_slash, PiecesAreTheOnlySplit}
 use native.Mathlib.Omega.{arith}
 
@@ -16,7 +17,7 @@ pieces_apart [] = grind arith
 pieces_apart (b ∷ x) = grind (arith, pieces_apart x)
 
 -- the first piece ends at the first slash
-pub pieces_front : (t rest : List ℕ) → has_no_slash t ≡ true → pieces (t ++ 47 ∷ rest) ≡ t ∷ pieces rest
+pub pieces_front : (t rest : List ℕ) → has_no_slash t ≡ true → pieces (t ++ byte "/" ∷ rest) ≡ t ∷ pieces rest
 pieces_front [] rest h = grind arith
 pieces_front (b ∷ t) rest h = grind (arith, pieces_front t rest)
 
@@ -33,6 +34,11 @@ pieces-joined (t ∷ u ∷ texts) some h = grind (arith, pieces_front, pieces-jo
 
 pub pieces_are_the_only_split : (x : List ℕ) → PiecesAreTheOnlySplit x
 pieces_are_the_only_split x = record {
-  these = record { some = pieces_some x; apart = pieces_apart x; whole = join_with_byte-slice_split 47 x };
+  these = record { some = pieces_some x; apart = pieces_apart x; whole = join_with_byte-slice_split (byte "/") x };
   only = λ texts h. sym (pieces-joined texts h.some h.apart) ∙ ap pieces h.whole;
 }
+
+-- one text more behind the others
+pub joined-push : (text : List ℕ) (texts : List (List ℕ)) (last : List ℕ) → joined (text ∷ (texts ++ last ∷ [])) ≡ joined (text ∷ texts) ++ (byte "/" ∷ last)
+joined-push text [] last = grind arith
+joined-push text (next ∷ texts) last = grind (arith, append_assoc, joined-push next texts last)

@@ -7,7 +7,8 @@ use Rattle.std.specs.List.{list_any}
 use Rattle.std.specs.Str.{byte, bytes_eq}
 use Rattle.gix_validate.specs.declared.adjacent.Relation.TheVariants.{Dots}
 use Rattle.gix_validate.specs.Submodule.{is_separator, parts, has_parent_part}
-use Rattle.gix_validate.specs.Adjacent.{NoneBetween, is_parent_before, NoParentBetween}
+use Rattle.gix_validate.specs.Private.Adjacent.{NoneBetween}
+use Rattle.gix_validate.specs.Private.Parents.{is_parent_before, NoParentBetween}
 use Rattle.gix_validate.proofs.TagNames.ClearTexts.{inside}
 use Rattle.std.proofs.lemmas.Grind.{common_steps}
 

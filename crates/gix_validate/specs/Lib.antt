@@ -1,10 +1,8 @@
 pub mod Bytes
 pub mod Pieces
-pub mod Lanes
 pub mod Faults
 pub mod Quoted
 pub mod Tag
-pub mod Adjacent
 pub mod Reference
 pub mod Submodule
 pub mod Sanitized
@@ -13,5 +11,5 @@ pub mod Hfs
 pub mod Ntfs
 pub mod Windows
 pub mod Component
-pub mod Ordinary
 pub mod ComponentLaws
+pub mod Private

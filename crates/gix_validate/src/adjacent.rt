@@ -3,8 +3,7 @@
 ghost use Rattle.std.specs.Prelude.{◌≡◌, ◌↔◌, ◌<◌, ◌≤◌, ◌+◌, ◌==◌, ◌||◌, ◌&&◌, ℕ, false, if◌then◌else◌, IsTrue, map, length, slice_index, codes};
 ghost use Rattle.std.specs.Str.{byte};
 ghost use Rattle.gix_validate.specs.Bytes.{is_among, ends};
-ghost use Rattle.gix_validate.specs.Submodule.{is_separator};
-ghost use Rattle.gix_validate.specs.Adjacent.{is_suspect, relates, IsClear, NoneBetween};
+ghost use Rattle.gix_validate.specs.Private.Adjacent.{is_suspect, relates, IsClear, NoneBetween};
 
 use crate::bytes::may_be_faulty;
 use crate::lanes::{LANES, classify, halves, has_nonzero, quarters};
@@ -265,7 +264,8 @@ fn has_no_dots(before: u8x16, bytes: u8x16) -> bool
 /// Whether in no lane a dot stands before a slash of either class.
 #[inline(always)]
 fn has_no_last_dot(before: u8x16, bytes: u8x16) -> bool
-    ensures { IsTrue result ↔ ((k : ℕ) → k < LANES → (slice_index before k == byte "." && is_separator (slice_index bytes k)) ≡ false) }
+    ensures { IsTrue result ↔ ((k : ℕ) → k < LANES → (slice_index before k == byte "."
+        && (slice_index bytes k == byte "/" || slice_index bytes k == byte "\\")) ≡ false) }
 {
     let slashes = bytes.simd_eq(u8x16::splat(b'/')) | bytes.simd_eq(u8x16::splat(b'\\'));
     (before.simd_eq(u8x16::splat(b'.')) & slashes).to_bitmask() == 0

@@ -3,7 +3,7 @@
 ghost use Rattle.std.specs.Prelude.{◌≡◌, ◌≤◌, ◌+◌, ◌/◌, ◌%◌, ◌==◌, map, length, slice_index, bit_and};
 ghost use Rattle.std.specs.List.{list_any};
 ghost use Rattle.std.specs.Simd.Lanes.{chunk};
-ghost use Rattle.gix_validate.specs.Lanes.{HasParts, is_nonzero};
+ghost use Rattle.gix_validate.specs.Private.Lanes.{HasParts, is_nonzero};
 
 use std::simd::prelude::*;
 

@@ -4,7 +4,7 @@
 
 ghost use Rattle.std.specs.Prelude.{◌≡◌, ◌↔◌, ◌+◌, ◌≤◌, length, IsOk, IfOk, IsTrue};
 ghost use Rattle.bstr.specs.BStr.{bstr_bytes};
-ghost use Rattle.gix_validate.specs.Adjacent.{is_parent_before, NoParentBetween};
+ghost use Rattle.gix_validate.specs.Private.Parents.{is_parent_before, NoParentBetween};
 ghost use Rattle.gix_validate.specs.Faults.{Validates};
 ghost use Rattle.gix_validate.specs.Submodule.{fault_of, has_parent_part, is_separator, is_submodule_name};
 

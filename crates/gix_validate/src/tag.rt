@@ -1,12 +1,12 @@
 //! Tag names: the rule that all reference names build on.
 
-ghost use Rattle.std.specs.Prelude.{◌≡◌, ◌↔◌, ◌<◌, ◌≤◌, ℕ, List, ◌∷◌, length, codes, Some, IsOk, IfOk, IsTrue};
+ghost use Rattle.std.specs.Prelude.{◌≡◌, ◌↔◌, ◌<◌, ◌≤◌, length, codes, Some, IsOk, IfOk, IsTrue};
 ghost use Rattle.bstr.specs.BStr.{bstr_bytes};
 ghost use Rattle.gix_validate.specs.Bytes.{ends};
 ghost use Rattle.gix_validate.specs.Faults.{Validates, first_of, at_first_place};
 ghost use Rattle.gix_validate.specs.Pieces.{PiecesAreTheOnlySplit};
-ghost use Rattle.gix_validate.specs.Adjacent.{fault_of_byte_at, first_fault_between};
-ghost use Rattle.gix_validate.specs.Tag.{fault_of, faults_at, fault_table, is_tag_name, HasAtMostOneFaultAPlace};
+ghost use Rattle.gix_validate.specs.Private.TagWalk.{fault_of_byte, fault_of_byte_at, first_fault_between};
+ghost use Rattle.gix_validate.specs.Tag.{fault_of, faults_at, is_tag_name, HasAtMostOneFaultAPlace};
 
 use crate::adjacent::{Relation, block_has_none, is_clear};
 use crate::bytes::{is_bad_byte, may_be_faulty};
@@ -202,7 +202,7 @@ fn fault_by_blocks(bytes: &[u8]) -> Option<NameError>
 /// The first fault by what stands before a byte, from one place on and before another. Most bytes
 /// cost a look into a table.
 #[inline(always)]
-#[tactic(auto, using(crate::proofs::TagNames::Places::between_none, crate::proofs::TagNames::Places::between_more, crate::proofs::TagNames::FaultTable::quiet), unfolding(crate::specs::Adjacent::fault_of_byte_at))]
+#[tactic(auto, using(crate::proofs::TagNames::Places::between_none, crate::proofs::TagNames::Places::between_more, crate::proofs::TagNames::FaultTable::quiet))]
 fn first_fault_between(bytes: &[u8], from: usize, to: usize) -> Option<NameError>
     requires in_order { from ≤ to }
     requires within { to ≤ length bytes.now }
@@ -219,11 +219,11 @@ fn first_fault_between(bytes: &[u8], from: usize, to: usize) -> Option<NameError
     None
 }
 
-/// The fault of a byte behind which something follows, by what stands before it.
+/// The fault of a byte by what stands before it, where something follows.
 #[inline]
-#[tactic(auto, unfolding(crate::specs::Tag::fault_table, crate::specs::Bytes::is_bad))]
+#[tactic(auto, unfolding(crate::specs::Private::TagWalk::fault_of_byte, crate::specs::Tag::fault_table, crate::specs::Bytes::is_bad))]
 fn fault_of_byte(before: &[u8], byte: u8) -> Option<NameError>
-    ensures { (next : ℕ) (rest : List ℕ) → result ≡ first_of (fault_table before.now byte (next ∷ rest)) }
+    ensures { result ≡ fault_of_byte before.now byte }
 {
     match byte {
         b'*' => Some(NameError::Asterisk),

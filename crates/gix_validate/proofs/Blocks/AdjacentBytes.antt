@@ -10,8 +10,8 @@ use lib.Lanes.{zip2, sel_l, chunk, top, mask_l}
 use Rattle.gix_validate.specs.declared.adjacent.TheConstants.{CLASSES_BY_LOW_NIBBLE, CLASSES_BY_HIGH_NIBBLE, SUSPECT_BEHIND, BEHIND_DOT, BEHIND_SLASH, ANYWHERE}
 use Rattle.std.specs.List.{list_any}
 use Rattle.gix_validate.specs.Bytes.{is_bad, is_among, ends}
-use Rattle.gix_validate.specs.Lanes.{HasParts, place_of, is_nonzero}
-use Rattle.gix_validate.specs.Adjacent.{is_suspect, relates, NoneBetween, IsClear}
+use Rattle.gix_validate.specs.Private.Lanes.{HasParts, place_of, is_nonzero}
+use Rattle.gix_validate.specs.Private.Adjacent.{is_suspect, relates, NoneBetween, IsClear}
 use Rattle.gix_validate.specs.declared.adjacent.Relation.{Relation}
 use Rattle.gix_validate.specs.declared.adjacent.Relation.TheVariants.{Suspect}
 use Rattle.gix_validate.proofs.Blocks.Lanes.{IsBlock, lane_fits, same_bytes, may_look, looked_up, no_lane, mask_of}

@@ -8,11 +8,13 @@ use Rattle.std.proofs.lemmas.Nat.{le_or_l}
 use Rattle.std.proofs.lemmas.Simd.{zip2_splat}
 use lib.Lanes.{zip2, Each1, chunk}
 use Rattle.gix_validate.proofs.Blocks.Parts.{any_overlap, whole_chunk, AreAll, parts_cover}
-use Rattle.gix_validate.specs.Lanes.{HasParts, is_nonzero}
+use Rattle.gix_validate.specs.Private.Lanes.{HasParts, is_nonzero}
 use Rattle.gix_validate.proofs.Blocks.Lanes.{same_bytes}
 use Rattle.gix_validate.specs.declared.path.classes.TheConstants.{BY_LOW_NIBBLE, BY_HIGH_NIBBLE}
 use Rattle.gix_validate.specs.Windows.{is_illegal_byte}
-use Rattle.gix_validate.specs.Ordinary.{slash_bit, backslash_bit, illegal_bits, lead_bit, any_bits, is_classed, class_of, any_class, HaveClassesOf, Describes}
+use Rattle.gix_validate.specs.Private.Ordinary.{is_classed}
+use Rattle.gix_validate.specs.Private.Classes.{class_of, any_class, HaveClassesOf, Describes}
+use Rattle.gix_validate.specs.declared.path.classes.TheConstants.{SLASH, BACKSLASH, ILLEGAL, LEAD, ANY}
 use Rattle.std.proofs.lemmas.Grind.{common_steps}
 use Rattle.std.proofs.lemmas.Bool.Decides.{nat_tests}
 
@@ -98,9 +100,9 @@ tells mask q classes x fit have same =
 pub classes_describe : (classes x : List ℕ) → ((i : ℕ) → Fits w8 (get_or x i 0)) → HaveClassesOf classes x → Describes classes x
 unfolding class_of is_illegal_byte is_classed
 classes_describe classes x fit have = record {
-  slash = tells slash_bit _ classes x fit have refl;
-  backslash = tells backslash_bit _ classes x fit have refl;
-  illegal = tells illegal_bits _ classes x fit have refl;
-  lead = tells lead_bit _ classes x fit have refl;
-  classed = tells any_bits _ classes x fit have refl;
+  slash = tells SLASH _ classes x fit have refl;
+  backslash = tells BACKSLASH _ classes x fit have refl;
+  illegal = tells ILLEGAL _ classes x fit have refl;
+  lead = tells LEAD _ classes x fit have refl;
+  classed = tells ANY _ classes x fit have refl;
 }

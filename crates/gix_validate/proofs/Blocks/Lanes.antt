@@ -8,7 +8,7 @@ use Rattle.std.proofs.lemmas.Simd.{Each1-from_get_or, get_or-zip2, zip2_splat, z
 use Rattle.std.proofs.lemmas.Simd.{swz_l, SwzOk, SwzOk-from_below, length-swz_l, get_or-swz_l_below}
 use Rattle.std.specs.List.{list_any}
 use lib.Lanes.{zip2, mask_l, top, Each1}
-use Rattle.gix_validate.specs.Lanes.{is_nonzero}
+use Rattle.gix_validate.specs.Private.Lanes.{is_nonzero}
 use Rattle.gix_validate.proofs.Blocks.Parts.{none_at}
 
 -- sixteen lanes of bytes

@@ -11,7 +11,7 @@ use Rattle.std.proofs.lemmas.List.{get_or-drop, drop-drop, take_all, length-drop
 use Rattle.gix_validate.specs.Bytes.{is_empty, is_among, lower, lower_byte, begins}
 use Rattle.gix_validate.specs.Ntfs.{is_digit}
 use Rattle.gix_validate.specs.Windows.{device_form, devices, is_device, is_device_form}
-use Rattle.gix_validate.specs.Ordinary.{stays_in_form}
+use Rattle.gix_validate.specs.Private.Forms.{stays_in_form}
 use Rattle.gix_validate.specs.declared.path.windows.TheConstants.{BY_FIRST, BY_SECOND, BY_THIRD}
 use Rattle.gix_validate.proofs.Texts.Words.{device_keeps, word_head, none_left, form_left, form_all_left, form_word}
 

@@ -9,7 +9,7 @@ use Rattle.std.proofs.lemmas.Grind.{common_steps}
 use Rattle.std.proofs.lemmas.List.{length-drop}
 use Rattle.gix_validate.specs.Bytes.{lower, lower_byte}
 use Rattle.gix_validate.specs.Hfs.{is_ignored, hfs_form, is_ignored_unit}
-use Rattle.gix_validate.specs.Ordinary.{is_lead}
+use Rattle.gix_validate.specs.Private.Ordinary.{is_lead}
 use Rattle.gix_validate.specs.Units.{is_within, fitting_len, whole_len, begun_len, whole_sequences, first_unit_len, units_within}
 use Rattle.gix_validate.proofs.Texts.LetterCase.{lower_byte-is}
 

@@ -5,7 +5,7 @@ use Rattle.std.specs.List.{list_all}
 use Rattle.std.specs.Str.{byte, bytes_eq}
 use Rattle.gix_validate.specs.Bytes.{is_empty, is_among, lower, lower_byte, begins}
 use Rattle.gix_validate.specs.Ntfs.{ntfs_form, is_git_form}
-use Rattle.gix_validate.specs.Ordinary.{stays_in_form}
+use Rattle.gix_validate.specs.Private.Forms.{stays_in_form}
 use Rattle.gix_validate.proofs.Components.Forms.{form_at}
 use Rattle.gix_validate.proofs.Texts.Words.{ntfs_keeps, other_head, form_left, form_all_left, form_word}
 

@@ -16,7 +16,7 @@ use Rattle.gix_validate.specs.Units.{first_unit_len}
 use Rattle.gix_validate.specs.Ntfs.{ntfs_form, is_git_form, is_modules_form, is_short_name}
 use Rattle.gix_validate.specs.Windows.{is_device, is_illegal, is_illegal_byte}
 use Rattle.gix_validate.specs.Component.{conditions, fault_of}
-use Rattle.gix_validate.specs.Ordinary.{is_lead, is_classed, is_ordinary}
+use Rattle.gix_validate.specs.Private.Ordinary.{is_lead, is_classed, is_ordinary}
 use Rattle.gix_validate.proofs.Components.Laws.{case_law}
 use Rattle.gix_validate.proofs.Texts.LetterCase.{list_any-lower}
 use Rattle.gix_validate.proofs.Texts.Endings.{ends_read}

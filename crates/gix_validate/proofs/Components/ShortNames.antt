@@ -14,7 +14,7 @@ use Rattle.std.proofs.lemmas.Bool.Decides.{nat_tests}
 use Rattle.std.proofs.lemmas.Grind.{common_steps}
 use Rattle.gix_validate.specs.Bytes.{is_empty, lower, lower_byte}
 use Rattle.gix_validate.specs.Ntfs.{ntfs_form, is_modules_form, is_short_name, is_digit}
-use Rattle.gix_validate.specs.Ordinary.{stays_in_form}
+use Rattle.gix_validate.specs.Private.Forms.{stays_in_form}
 use Rattle.gix_validate.proofs.Texts.LetterCase.{SkipsCase, test-lower_byte}
 use Rattle.gix_validate.proofs.Components.NtfsForm.{ntfs_form-at, ntfs_form-none, dot_stays, ntfs_other}
 

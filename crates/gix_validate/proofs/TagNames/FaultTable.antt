@@ -3,7 +3,7 @@ use Rattle.std.proofs.Common.{◌≡◌, ℕ, ◌<◌, Bool, false, not, ◌&&�
 use Rattle.std.proofs.lemmas.Bool.{agree_below_at}
 use Rattle.std.specs.Str.{byte}
 use Rattle.gix_validate.specs.declared.bytes.TheConstants.{MAY_BE_FAULTY}
-use Rattle.gix_validate.specs.Adjacent.{fault_of_byte_at}
+use Rattle.gix_validate.specs.Private.TagWalk.{fault_of_byte, fault_of_byte_at}
 use Rattle.std.specs.Prelude.{codes, is_none}
 use Rattle.gix_validate.specs.declared.tag.NameError.{NameError}
 use Rattle.gix_validate.specs.Bytes.{is_bad, is_among, ends}
@@ -20,14 +20,6 @@ lock_ends_in_k y other = grind (arith, lock_read, ends_read)
 pub one_fault_a_place : (x : List ℕ) → HasAtMostOneFaultAPlace x
 unfolding faults_at fault_table is_bad
 one_fault_a_place x i inside = grind (arith, nat_tests, lock_ends_in_k, ends_push_one)
-
--- the fault of a byte by what stands before it, where something follows
-unfoldable pub fault_of_byte : List ℕ → ℕ → Option NameError
-fault_of_byte before b = first_of (fault_table before b (0 ∷ []))
-
-pub before_is_after : (x : List ℕ) (i : ℕ) → fault_of_byte_at x i ≡ fault_of_byte (take i x) (get_or x i 0)
-unfolding fault_of_byte_at fault_of_byte
-before_is_after x i = refl
 
 pub is_none-when : {A : Type 0} (t : Bool) (e : A) (o : Option A) → is_none (when t e orelse o) ≡ (not t && is_none o)
 is_none-when t e o = grind arith
@@ -46,4 +38,4 @@ unfolding is_bad
 faulty_tabled b small = agree_below_at (λ b. get_or MAY_BE_FAULTY b false) (λ b. is_bad b || is_among (codes "*./{") b) 256 b refl small
 
 pub quiet : (x : List ℕ) (i : ℕ) → (is_bad (get_or x i 0) || is_among (codes "*./{") (get_or x i 0)) ≡ false → fault_of_byte_at x i ≡ None
-quiet x i h = grind (arith, before_is_after x i, none_after (take i x) (get_or x i 0))
+quiet x i h = grind (arith, none_after (take i x) (get_or x i 0))

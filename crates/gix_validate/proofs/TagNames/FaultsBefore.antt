@@ -10,8 +10,7 @@ use Rattle.gix_validate.specs.declared.tag.NameError.TheVariants.{LockFileSuffix
 use Rattle.gix_validate.specs.Bytes.{is_empty, ends}
 use Rattle.gix_validate.specs.Faults.{when, first_of, ◌orelse◌, at_first_place}
 use Rattle.gix_validate.specs.Tag.{fault_table, faults_at}
-use Rattle.gix_validate.specs.Adjacent.{fault_of_byte_at}
-use Rattle.gix_validate.proofs.TagNames.FaultTable.{fault_of_byte, before_is_after}
+use Rattle.gix_validate.specs.Private.TagWalk.{fault_of_byte, fault_of_byte_at}
 use Rattle.gix_validate.proofs.Texts.Places.{orelse_assoc, at_first_place_more, at_first_place_none, at_first_place_same}
 
 -- the text ends in `.lock`, and isn't that alone
@@ -36,7 +35,7 @@ fault_at_end before b = grind (arith, first_of-more)
 -- The fault at the least place: by the lines that look back alone, and then the last line.
 pub at_first_place_split : (x : List ℕ) → is_empty x ≡ false
     → at_first_place (λ i. first_of (faults_at x i)) (length x) ≡ (at_first_place (fault_of_byte_at x) (length x) orelse when (has_lock_suffix x) LockFileSuffix)
-unfolding faults_at fault_of_byte_at fault_of_byte
+unfolding faults_at fault_of_byte
 at_first_place_split [] some = grind arith
 at_first_place_split (b ∷ x) some =
     let y = b ∷ x in
@@ -65,7 +64,7 @@ walked_push before (c ∷ x) b = grind (arith, append_assoc, walked_push (before
 walked_places : (x : List ℕ) (n : ℕ) → n ≤ length x → at_first_place (fault_of_byte_at x) n ≡ walked [] (take n x)
 unfolding walked
 walked_places x zero h = at_first_place_none (fault_of_byte_at x) zero (λ k small. absurd (omega arith))
-walked_places x (suc n) h = grind (arith, at_first_place_more, before_is_after, take_more, walked_push [] (take n x), walked_places x n)
+walked_places x (suc n) h = grind (arith, at_first_place_more, take_more, walked_push [] (take n x), walked_places x n)
 
 pub at_first_place_walked : (x : List ℕ) → at_first_place (fault_of_byte_at x) (length x) ≡ walked [] x
 at_first_place_walked x = grind (arith, take_all, walked_places)

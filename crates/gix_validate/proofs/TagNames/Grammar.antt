@@ -6,10 +6,11 @@ use Rattle.std.specs.List.{list_all, list_any}
 use Rattle.std.specs.Str.{byte}
 use Rattle.gix_validate.specs.Bytes.{is_bad, is_empty, begins, ends, holds}
 use Rattle.gix_validate.specs.Pieces.{is_slash, pieces}
+use Rattle.gix_validate.specs.Private.TagWalk.{fault_of_byte}
 use Rattle.gix_validate.specs.Tag.{is_good_piece, is_tag_name, fault_of}
 use Rattle.gix_validate.proofs.Texts.Pieces.{pieces_front, pieces_alone}
 use Rattle.gix_validate.proofs.Texts.Endings.{last_piece, last_piece_nothing, last_piece_push, ends_last_piece, slash_last, last_piece_apart, ends_cons}
-use Rattle.gix_validate.proofs.TagNames.FaultTable.{fault_of_byte, is_none-when, none_after}
+use Rattle.gix_validate.proofs.TagNames.FaultTable.{is_none-when, none_after}
 use Rattle.gix_validate.proofs.TagNames.FaultsBefore.{walked, has_lock_suffix, at_first_place_split, at_first_place_walked}
 use native.Mathlib.Omega.{arith}
 use Rattle.std.proofs.lemmas.Bool.Decides.{nat_tests}

@@ -6,9 +6,9 @@ use Rattle.std.specs.Str.{byte}
 use Rattle.gix_validate.specs.declared.tag.NameError.{NameError}
 use Rattle.gix_validate.specs.Bytes.{ends}
 use Rattle.gix_validate.specs.Faults.{at_first_place}
-use Rattle.gix_validate.specs.Adjacent.{fault_of_byte_at, first_fault_between}
+use Rattle.gix_validate.specs.Private.TagWalk.{fault_of_byte_at, first_fault_between}
 use Rattle.gix_validate.proofs.Texts.Places.{at_first_place_none, at_first_place_more, at_first_place_from, none_below, found_below}
-use Rattle.gix_validate.proofs.TagNames.FaultTable.{before_is_after, none_after}
+use Rattle.gix_validate.proofs.TagNames.FaultTable.{none_after}
 use Rattle.std.proofs.lemmas.Bool.Decides.{nat_tests}
 use Rattle.gix_validate.proofs.TagNames.ClearTexts.{IsSettled, NoFaultBetween}
 
@@ -44,7 +44,7 @@ none_between x i j none p from to =
     ap (fault_of_byte_at x) (sym there) ∙ none_below (λ k. fault_of_byte_at x (i + k)) (j - i) (p - i) (omega arith) none
 
 slash_quiet : (x : List ℕ) (p : ℕ) → get_or x p 0 ≡ byte "/" → fault_of_byte_at x p ≡ None → ends (take p x) (codes ".lock") ≡ false
-slash_quiet x p slash none = grind (arith, nat_tests, before_is_after x p, none_after (take p x) (get_or x p 0))
+slash_quiet x p slash none = grind (arith, nat_tests, none_after (take p x) (get_or x p 0))
 
 -- Each byte up to j was asked, and the four behind it too, as far as there are some.
 pub settled_by_asking : (x : List ℕ) (i j e : ℕ) → i ≤ j → j ≤ e → min (length x) (j + 4) ≤ e

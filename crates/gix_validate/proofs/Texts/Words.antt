@@ -6,7 +6,7 @@ use Rattle.std.specs.List.{list_all}
 use Rattle.std.specs.Str.{byte, bytes_eq}
 use Rattle.std.proofs.lemmas.Bool.Decides.{nat_tests}
 use Rattle.gix_validate.specs.Bytes.{is_empty, is_among, lower, lower_byte, begins}
-use Rattle.gix_validate.specs.Ordinary.{stays_in_form}
+use Rattle.gix_validate.specs.Private.Forms.{stays_in_form}
 use Rattle.gix_validate.proofs.Components.Forms.{form, form_at}
 use Rattle.gix_validate.proofs.Texts.LetterCase.{test-lower_byte, eqb_turned}
 use Rattle.std.proofs.lemmas.Grind.{common_steps}

@@ -1,7 +1,7 @@
 //! One look at the bytes of a name.
 
 ghost use Rattle.std.specs.Prelude.{◌≡◌, ◌<◌, not, length, map};
-ghost use Rattle.gix_validate.specs.Ordinary.{slash_bit, backslash_bit, lead_bit, illegal_bits, any_bits, any_class, class_of, HaveClassesOf, Describes};
+ghost use Rattle.gix_validate.specs.Private.Classes.{any_class, class_of, HaveClassesOf, Describes};
 
 use crate::lanes::{LANES, classify, halves, has_nonzero, pairs, quarters};
 use std::simd::prelude::*;
@@ -84,7 +84,7 @@ impl Classes {
     /// Whether nothing was seen for which a condition asks.
     #[inline(always)]
     pub(super) fn is_nothing(&self) -> bool
-        ensures { result ≡ not (any_class any_bits self.now.lanes) }
+        ensures { result ≡ not (any_class ANY self.now.lanes) }
     {
         !has_class(self.lanes, ANY)
     }
@@ -92,7 +92,7 @@ impl Classes {
     /// Whether a `/` was seen.
     #[inline(always)]
     pub(super) fn slash(&self) -> bool
-        ensures { result ≡ any_class slash_bit self.now.lanes }
+        ensures { result ≡ any_class SLASH self.now.lanes }
     {
         has_class(self.lanes, SLASH)
     }
@@ -100,7 +100,7 @@ impl Classes {
     /// Whether a `\` was seen.
     #[inline(always)]
     pub(super) fn backslash(&self) -> bool
-        ensures { result ≡ any_class backslash_bit self.now.lanes }
+        ensures { result ≡ any_class BACKSLASH self.now.lanes }
     {
         has_class(self.lanes, BACKSLASH)
     }
@@ -108,7 +108,7 @@ impl Classes {
     /// Whether a byte was seen that is illegal on Windows.
     #[inline(always)]
     pub(super) fn illegal(&self) -> bool
-        ensures { result ≡ any_class illegal_bits self.now.lanes }
+        ensures { result ≡ any_class ILLEGAL self.now.lanes }
     {
         has_class(self.lanes, ILLEGAL)
     }
@@ -116,7 +116,7 @@ impl Classes {
     /// Whether a byte was seen with which a character begins that HFS+ may ignore.
     #[inline(always)]
     pub(super) fn lead(&self) -> bool
-        ensures { result ≡ any_class lead_bit self.now.lanes }
+        ensures { result ≡ any_class LEAD self.now.lanes }
     {
         has_class(self.lanes, LEAD)
     }

@@ -5,7 +5,7 @@ ghost use Rattle.std.specs.List.{list_any};
 ghost use Rattle.std.specs.Str.{bytes_eq};
 ghost use Rattle.gix_validate.specs.Bytes.{lower};
 ghost use Rattle.gix_validate.specs.Hfs.{hfs_form, is_ignored};
-ghost use Rattle.gix_validate.specs.Ordinary.{is_lead};
+ghost use Rattle.gix_validate.specs.Private.Ordinary.{is_lead};
 
 use crate::path::ascii_case::{bytes_eq_ignore_ascii_case, eq_ignore_ascii_case};
 

@@ -7,7 +7,7 @@ ghost use Rattle.gix_validate.specs.Bytes.{lower, is_empty, ends};
 ghost use Rattle.gix_validate.specs.Units.{first_unit_len};
 ghost use Rattle.gix_validate.specs.Ntfs.{is_digit};
 ghost use Rattle.gix_validate.specs.Windows.{device_form, is_device, is_illegal_byte};
-ghost use Rattle.gix_validate.specs.Ordinary.{stays_in_form};
+ghost use Rattle.gix_validate.specs.Private.Forms.{stays_in_form};
 
 use crate::path::ascii_case::strip_prefix_ignore_ascii_case;
 use crate::path::units::first_unit_len;

@@ -2,7 +2,7 @@
 use Rattle.std.proofs.Common.{drop, arith}
 use Rattle.gix_validate.specs.Bytes.{lower_byte}
 use Rattle.gix_validate.specs.Component.{conditions, conditions_under, fault_of}
-use Rattle.gix_validate.specs.Ordinary.{switches}
+use Rattle.gix_validate.specs.Private.Ordinary.{switches}
 use Rattle.gix_validate.specs.Windows.{is_illegal}
 use Rattle.gix_validate.proofs.Components.Laws.{AllNone, first_from_AllNone}
 use Rattle.gix_validate.proofs.path.first_fault_in_order.Goals as goal

@@ -2,7 +2,7 @@ use Rattle.std.proofs.Common.{◌-◌, length, map, drop, bit_or, ap, ◌∙◌,
 use Rattle.std.proofs.lemmas.List.{length-map}
 use Rattle.std.proofs.lemmas.Simd.{length-chunk, length-zip2}
 use lib.Lanes.{chunk, zip2}
-use Rattle.gix_validate.specs.Ordinary.{any_class, class_of}
+use Rattle.gix_validate.specs.Private.Classes.{any_class, class_of}
 use Rattle.gix_validate.proofs.Blocks.ByteClasses.{any_more}
 use Rattle.gix_validate.proofs.path.classes.classes_of_blocks.Goals as goal
 

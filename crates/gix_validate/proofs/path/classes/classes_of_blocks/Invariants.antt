@@ -1,5 +1,5 @@
 use Rattle.std.proofs.Common.{◌≡◌, ℕ, ◌+◌, ◌-◌, ◌||◌, map, take, drop, length}
-use Rattle.gix_validate.specs.Ordinary.{any_class, class_of}
+use Rattle.gix_validate.specs.Private.Classes.{any_class, class_of}
 use Rattle.gix_validate.proofs.path.classes.classes_of_blocks.Given as goal
 
 abbrev pub invariant-loop-at : goal.invariant-loop-at

@@ -1,0 +1,37 @@
+-- The classes of the bytes of a name, a bit for each, and what they say about the name.
+use Rattle.std.specs.Prelude.{◌≡◌, ℕ, Bool, ◌==◌, not, nat_lt, if◌then◌else◌, List, codes, map, bit_and}
+use Rattle.std.specs.List.{list_any}
+use Rattle.std.specs.Str.{byte}
+use Rattle.gix_validate.specs.declared.path.classes.TheConstants.{CONTROL, QUOTE_OR_STAR, COLON_ANGLE_OR_MARK, BACKSLASH, PIPE, LEAD, SLASH, TILDE, ILLEGAL, ANY}
+use Rattle.gix_validate.specs.Bytes.{is_among}
+use Rattle.gix_validate.specs.Windows.{is_illegal_byte}
+use Rattle.gix_validate.specs.Private.Ordinary.{is_lead, is_classed}
+
+-- The class of a byte. A byte for which no condition asks has none.
+unfoldable pub class_of : ℕ → ℕ
+class_of b =
+    if nat_lt b 0x20 then CONTROL
+    else if is_among (codes "\"*") b then QUOTE_OR_STAR
+    else if is_among (codes ":<>?") b then COLON_ANGLE_OR_MARK
+    else if b == byte "|" then PIPE
+    else if b == byte "\\" then BACKSLASH
+    else if b == byte "/" then SLASH
+    else if b == byte "~" then TILDE
+    else if is_lead b then LEAD
+    else 0
+
+-- one of the classes has a bit of the mask
+unfoldable pub any_class : ℕ → List ℕ → Bool
+any_class mask classes = list_any (λ class. not (bit_and class mask == 0)) classes
+
+-- under each mask the classes say what those of the bytes of the text say
+abbrev pub HaveClassesOf : List ℕ → List ℕ → Type 0
+HaveClassesOf classes x = (mask : ℕ) → any_class mask classes ≡ any_class mask (map class_of x)
+
+-- What the classes of the bytes of a name say about it, a mask for each question.
+pub record Describes (classes x : List ℕ) : Type 0 where
+  pub slash : any_class SLASH classes ≡ is_among x (byte "/")
+  pub backslash : any_class BACKSLASH classes ≡ is_among x (byte "\\")
+  pub illegal : any_class ILLEGAL classes ≡ list_any is_illegal_byte x
+  pub lead : any_class LEAD classes ≡ list_any is_lead x
+  pub classed : any_class ANY classes ≡ list_any is_classed x

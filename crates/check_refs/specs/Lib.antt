@@ -3,4 +3,4 @@ pub mod Report
 pub mod Spelled
 pub mod Accepted
 pub mod Arguments
-pub mod Steps
+pub mod Private

@@ -3,7 +3,7 @@
 ghost use Rattle.std.specs.Prelude.{◌≡◌, ◌++◌, OnOk, IfOk};
 ghost use Rattle.check_refs.specs.Refs.{id_line, refused_line};
 ghost use Rattle.check_refs.specs.Report.{said_of};
-ghost use Rattle.check_refs.specs.Steps.{as_parsed};
+ghost use Rattle.check_refs.specs.Private.{as_parsed};
 
 use crate::refusal::{Refusal, refusal_of};
 use crate::update::{Update, is_deletion};

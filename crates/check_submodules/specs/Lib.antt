@@ -1,5 +1,5 @@
 pub mod Lines
 pub mod Report
-pub mod Promises
+pub mod Private
 pub mod Spelled
 pub mod Arguments

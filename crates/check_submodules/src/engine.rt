@@ -6,7 +6,7 @@ ghost use Rattle.streams.specs.Objects.{IsWholeStream};
 ghost use Rattle.streams.specs.Promises.{Begins, as_object};
 ghost use Rattle.streams.specs.Reports.{is_malformed, verdict_of};
 ghost use Rattle.streams.specs.Spelled.{IsReportedInOrder, IsWellFormedOnlyIfSpelled};
-ghost use Rattle.check_submodules.specs.Promises.{Reads};
+ghost use Rattle.check_submodules.specs.Private.{Reads};
 ghost use Rattle.check_submodules.specs.Report.{report, submodules_rule};
 ghost use Rattle.check_submodules.specs.Spelled.{IsCleanIfAccepted, IsEachHeaderReported, IsEachNameReported};
 

@@ -21,7 +21,7 @@ use Rattle.check_trees.specs.declared.engine.Finding.{Finding}
 use Rattle.check_trees.specs.declared.engine.Finding.TheVariants.{Accepted, Modules, Refused}
 use Rattle.check_trees.specs.Entries.{nul, ParsedFront, ParsedEntry, parsed_front, entry_at, entry_with, entry_of}
 use Rattle.check_trees.specs.Report.{short_of, finding_of, finding_said, entry_said}
-use Rattle.check_trees.specs.Promises.{first_entry, EntryGives, PassesId}
+use Rattle.check_trees.specs.Private.{first_entry, EntryGives, PassesId}
 
 -- ---- an entry of these bytes
 

@@ -17,7 +17,7 @@ use Rattle.check_trees.specs.declared.engine.CheckOptions.{CheckOptions}
 use Rattle.check_trees.specs.declared.engine.Checked.{Checked}
 use Rattle.check_trees.specs.Entries.{nul, ParsedEntry, entry_of}
 use Rattle.check_trees.specs.Report.{entry_said, entries_then, entries_within, entries, short_of}
-use Rattle.check_trees.specs.Promises.{first_entry, first_said, tree_report, EntryGives}
+use Rattle.check_trees.specs.Private.{first_entry, first_said, tree_report, EntryGives}
 use Rattle.check_trees.proofs.FirstEntry.{entry_shorter, first_cut}
 
 -- ---- the fuel says nothing, where there is enough

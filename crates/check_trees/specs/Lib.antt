@@ -1,5 +1,5 @@
 pub mod Entries
 pub mod Report
 pub mod Spelled
-pub mod Promises
+pub mod Private
 pub mod Arguments

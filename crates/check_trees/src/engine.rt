@@ -9,7 +9,7 @@ ghost use Rattle.streams.specs.Spelled.{IsReportedInOrder, IsWellFormedOnlyIfSpe
 ghost use Rattle.gix_validate.specs.Component.{fault_of};
 ghost use Rattle.check_trees.specs.Report.{finding_by, finding_of, finding_said, is_gitmodules_fault, report, tree_rule};
 ghost use Rattle.check_trees.specs.Spelled.{IsCleanIfAccepted, IsReadAsItems};
-ghost use Rattle.check_trees.specs.Promises.{EntryGives, PassesId, Says, as_front, tree_report};
+ghost use Rattle.check_trees.specs.Private.{EntryGives, PassesId, Says, as_front, tree_report};
 
 use crate::entry::{Front, front_of};
 use crate::output::{set_modules_line, set_refused_line};

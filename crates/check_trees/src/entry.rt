@@ -4,7 +4,7 @@ ghost use Rattle.std.specs.Prelude.{◌≡◌};
 ghost use Rattle.std.specs.Option.{option_map};
 ghost use Rattle.std.specs.Str.{bytes_eq};
 ghost use Rattle.check_trees.specs.Entries.{is_file, kind_of, parsed_front};
-ghost use Rattle.check_trees.specs.Promises.{as_front};
+ghost use Rattle.check_trees.specs.Private.{as_front};
 
 use gix_validate::path::ComponentMode;
 use streams::text::{number_of, split_once};

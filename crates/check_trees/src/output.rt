@@ -4,7 +4,7 @@ ghost use Rattle.std.specs.Prelude.{◌≡◌, ◌++◌, OnOk};
 ghost use Rattle.std.specs.Option.{option_map};
 ghost use Rattle.streams.specs.Promises.{as_object};
 ghost use Rattle.check_trees.specs.Report.{in_path, modules_line, place, refused_line};
-ghost use Rattle.check_trees.specs.Promises.{as_front};
+ghost use Rattle.check_trees.specs.Private.{as_front};
 
 use crate::entry::Front;
 use gix_validate::path::ComponentError;

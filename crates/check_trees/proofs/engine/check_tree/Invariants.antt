@@ -1,7 +1,7 @@
 -- what was said of the entries so far is appended, and what is said of those that are left follows
 use Rattle.streams.specs.Promises.{as_object}
 use Rattle.streams.proofs.ReportSoFar.{SoFar}
-use Rattle.check_trees.specs.Promises.{tree_report}
+use Rattle.check_trees.specs.Private.{tree_report}
 use Rattle.check_trees.proofs.engine.check_tree.Given as goal
 
 abbrev pub invariant-loop-left : goal.invariant-loop-left

@@ -92,6 +92,7 @@ no_parent_begins x i end none alone b =
       | inr s ↦ true≢false (sym (and_from _ _ s ended) ∙ none (i + 2) (omega arith) (separator_inside x (i + 2) s))
     ]
 
+-- No part is `..` where none ends at the end of the text, and none at a separator.
 pub no_parent : (x : List ℕ) → is_parent_before x (length x) ≡ false → NoParentBetween x 0 (length x) → has_parent_part x ≡ false
 no_parent x end none =
     first_or_later_parent (parts x)
@@ -100,6 +101,7 @@ no_parent x end none =
     let here : suc i - 1 ≡ i = omega arith in
     no_parent_begins x (suc i) end none (inr (ap (λ j. is_separator (get_or x j 0)) here ∙ s)) b))
 
+-- Some part is `..` where one ends at the end of the text, or at a separator.
 pub some_parent : (x : List ℕ) (k : ℕ) → (length x ≡ k) ⊎ (is_separator (get_or x k 0) ≡ true) → is_parent_before x k ≡ true → has_parent_part x ≡ true
 some_parent x k end h =
     let e = parent_ends x k h in
@@ -111,6 +113,7 @@ some_parent x k end h =
 
 -- ---- what the looks say
 
+-- A text without two dots in a row has no part `..`.
 pub no_dots : (x : List ℕ) → NoneBetween Dots x 0 (length x) → has_parent_part x ≡ false
 no_dots x none = no_parent x (nothing (length x)) (λ k from to. and_right _ _ (nothing k))
   where
@@ -120,20 +123,23 @@ no_dots x none = no_parent x (nothing (length x)) (λ k from to. and_right _ _ (
         let next : get_or x (k - 2 + 1) 0 ≡ byte "." = grind (arith, e.last, e.long) in
         true≢false (sym (and_from _ _ (eq-eqb _ (byte ".") e.first) (eq-eqb _ (byte ".") next)) ∙ none (k - 2) (omega arith) (inside x (k - 2 + 1) (byte ".") (omega arith) next)))
 
+-- Two ranges in which no separator ends such a part, and which meet or overlap, are one.
 pub no_parent_across : (x : List ℕ) (i j k m : ℕ) → (j ≤ i) × (m ≤ k) → NoParentBetween x 0 i → NoParentBetween x j k → NoParentBetween x 0 m
 no_parent_across x i j k m near front back p from to = elim (cases_lt p i) [
   | inl early ↦ front p from early
   | inr late ↦ back p (omega arith) (omega arith)
 ]
 
-pub none_more : (x : List ℕ) (i j : ℕ) → NoParentBetween x i j → (is_separator (get_or x j 0) && is_parent_before x j) ≡ false → NoParentBetween x i (j + 1)
-none_more x i j none here k from to = elim (cases_lt k j) [
+-- The range with one place more, which is no separator that ends such a part.
+pub no_parent_more : (x : List ℕ) (i j : ℕ) → NoParentBetween x i j → (is_separator (get_or x j 0) && is_parent_before x j) ≡ false → NoParentBetween x i (j + 1)
+no_parent_more x i j none here k from to = elim (cases_lt k j) [
   | inl early ↦ none k from early
   | inr late ↦
       let same : j ≡ k = omega arith in
       subst (λ k. (is_separator (get_or x k 0) && is_parent_before x k) ≡ false) same here
 ]
 
+-- A look at a range that finds something finds a part `..` of the text.
 pub parent_between : (x : List ℕ) (i j : ℕ) (r : Bool) → (r ≡ true) ↔ NoParentBetween x i j → r ≡ false → has_parent_part x ≡ true
 parent_between x i j r law other = elim (cases_Bool (has_parent_part x)) [
   | inl some ↦ some
@@ -143,6 +149,7 @@ parent_between x i j r law other = elim (cases_Bool (has_parent_part x)) [
       true≢false (sym (some_parent x k (inr p.0) p.1) ∙ none)))) ∙ other))
 ]
 
+-- Where only this range is left, what the look at it finds is whether the text has such a part.
 pub parent_by_looks : (x : List ℕ) (i j : ℕ) (r : Bool) → (r ≡ true) ↔ NoParentBetween x i j → (NoParentBetween x i j → has_parent_part x ≡ false)
     → not r ≡ has_parent_part x
 parent_by_looks x i j true law none = sym (none (law.0 refl))

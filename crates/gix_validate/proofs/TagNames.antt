@@ -1,6 +1,7 @@
 -- Tag names: their faults, and that a name without one is grammatical.
 pub mod FaultTable
-pub mod FaultsBefore
+pub mod FaultsOfBytes
 pub mod Places
 pub mod Grammar
 pub mod ClearTexts
+pub mod Laws

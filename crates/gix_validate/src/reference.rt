@@ -152,7 +152,7 @@ pub fn name_partial<'a>(path: BStr<'a>) -> Result<BStr<'a>, NameError>
 /// # Errors
 ///
 /// The fault of [`name_partial`], where it has one, and otherwise `SomeLowercase`.
-#[tactic(auto, using(crate::proofs::References::may_stand, crate::proofs::References::may_not_stand), unfolding(crate::specs::Reference::full_fault_of, crate::specs::Reference::is_full_name))]
+#[tactic(auto, using(crate::proofs::References::standing), unfolding(crate::specs::Reference::full_fault_of, crate::specs::Reference::is_full_name))]
 #[inline(always)]
 pub fn name<'a>(path: BStr<'a>) -> Result<BStr<'a>, NameError>
     ensures answer { Validates full_fault_of (bstr_bytes path.entry) result }

@@ -113,7 +113,7 @@ fn block_has_no_parent(bytes: &[u8], at: usize) -> bool
 }
 
 /// Whether no part that is `..` ends at a separator from one place on and before another.
-#[tactic(auto, using(crate::proofs::Submodules::none_more))]
+#[tactic(auto, using(crate::proofs::Submodules::no_parent_more))]
 fn has_no_parent_between(bytes: &[u8], from: usize, to: usize) -> bool
     requires { to ≤ length bytes.now }
     ensures { IsTrue result ↔ NoParentBetween bytes.now from to }

@@ -98,7 +98,7 @@ impl Error for NameError {}
 ///
 /// It takes none. On `Ok` it gives the very value that it was given.
 #[inline(always)]
-#[tactic(auto, using(crate::proofs::TagNames::ClearTexts::clear_has_no_fault, crate::proofs::Texts::Pieces::pieces_are_the_only_split, crate::proofs::TagNames::FaultTable::one_fault_a_place, crate::proofs::TagNames::Grammar::tag_grammar_law))]
+#[tactic(auto, using(crate::proofs::TagNames::Laws::tag_name_laws))]
 pub fn name<'a>(input: BStr<'a>) -> Result<BStr<'a>, NameError>
     ensures answer { Validates fault_of (bstr_bytes input.entry) result }
     ensures grammar { IsOk result ↔ IsTrue (is_tag_name (bstr_bytes input.entry)) }
@@ -179,7 +179,7 @@ const LOCK_END: usize = 4;
 /// The fault at the least place that has one by what stands before it. A block in which nothing is
 /// suspect has none. From any other block on, and from the start, the bytes are asked, and the next
 /// four too, in which a `.lock` that begins before them may end.
-#[tactic(auto, using(crate::proofs::TagNames::ClearTexts::settled_none, crate::proofs::TagNames::Places::found_in_part, crate::proofs::TagNames::Places::from_place))]
+#[tactic(auto, using(crate::proofs::TagNames::Places::part_by_part))]
 fn fault_by_blocks(bytes: &[u8]) -> Option<NameError>
     requires { 0 < length bytes.now }
     ensures { result ≡ at_first_place (fault_of_byte_at bytes.now) (length bytes.now) }
@@ -202,7 +202,7 @@ fn fault_by_blocks(bytes: &[u8]) -> Option<NameError>
 /// The first fault by what stands before a byte, from one place on and before another. Most bytes
 /// cost a look into a table.
 #[inline(always)]
-#[tactic(auto, using(crate::proofs::TagNames::Places::between_none, crate::proofs::TagNames::Places::between_more, crate::proofs::TagNames::FaultTable::quiet))]
+#[tactic(auto, using(crate::proofs::TagNames::Places::place_by_place))]
 fn first_fault_between(bytes: &[u8], from: usize, to: usize) -> Option<NameError>
     requires in_order { from ≤ to }
     requires within { to ≤ length bytes.now }

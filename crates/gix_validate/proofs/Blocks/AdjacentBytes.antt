@@ -51,17 +51,21 @@ reaches_are v block =
 reach_small : (b : ℕ) → b < 256 → reach b < 16
 reach_small b small = ltb-true (reach b) 16 (agree_below_at (λ b. ltb (reach b) 16) (λ _. true) 256 b refl small)
 
+-- A table of sixteen may be read at how far each byte is from a dot.
 pub reaches_ok : (v : List ℕ) → IsBlock v → SwzOk w8 16 16 0 (reaches v)
 reaches_ok v block = may_look reach v (reaches v) block (reaches_are v block) reach_small
 
+-- the classes that are suspect behind the byte
 abbrev pub classes_behind : ℕ → ℕ
 classes_behind b = if b == byte "." then BEHIND_DOT else if b == byte "/" then BEHIND_SLASH else ANYWHERE
 
+-- Read there, the table gives for each byte the classes that are suspect behind it.
 pub suspect_classes : (v : List ℕ) → IsBlock v → swz_l w8 16 SUSPECT_BEHIND 0 (reaches v) ≡ map classes_behind v
 suspect_classes v block =
     looked_up SUSPECT_BEHIND reach v (reaches v) block (reaches_are v block) reach_small
     ∙ same_bytes (λ b. get_or SUSPECT_BEHIND (reach b) 0) classes_behind v block.1 refl
 
+-- the classes that both tables have for the byte
 abbrev pub class : ℕ → ℕ
 class b = bit_and (get_or CLASSES_BY_LOW_NIBBLE (b % 16) 0) (get_or CLASSES_BY_HIGH_NIBBLE (b / 16) 0)
 
@@ -78,6 +82,7 @@ suspect_tabled true slash b small = agree_below_at (table_if true true) (suspect
 suspect_tabled false true b small = agree_below_at (table_if false true) (suspect_if false true) 256 b refl small
 suspect_tabled false false b small = agree_below_at (table_if false false) (suspect_if false false) 256 b refl small
 
+-- In no lane is the class of the byte among those that are suspect behind the byte before it, exactly where no byte is suspect.
 pub suspect_lanes : (before bytes classes behind : List ℕ) → IsBlock before → IsBlock bytes → classes ≡ map class bytes → behind ≡ map classes_behind before
     → (list_any is_nonzero (zip2 bit_and classes behind) ≡ false) ↔ ((k : ℕ) → k < 16 → is_suspect (get_or before k 0) (get_or bytes k 0) ≡ false)
 unfolding is_suspect suspect_if table_if
@@ -107,6 +112,7 @@ masked f g p q left right long el er r is =
     not-false : (t : Bool) → not t ≡ false → t ≡ true
     not-false t h = grind arith
 
+-- The mask of the lanes in which both bytes are dots is empty exactly where there is no such lane.
 pub dots_lanes : (p q : List ℕ) → IsBlock p → IsBlock q
     → (eqb (mask_l (map (top 7) (zip2 bit_and (zip2 equals p (replicate 16 (byte "."))) (zip2 equals q (replicate 16 (byte "."))))) % 2 ^ 64) 0 ≡ true)
     ↔ ((k : ℕ) → k < 16 → (eqb (get_or p k 0) (byte ".") && eqb (get_or q k 0) (byte ".")) ≡ false)
@@ -114,6 +120,7 @@ dots_lanes p q pb qb =
     masked (λ a. equals a (byte ".")) (λ b. equals b (byte ".")) p q _ _ (pb.0, qb.0) (zip2_splat equals p 16 (byte ".") pb.0) (zip2_splat equals q 16 (byte ".") qb.0)
     (λ a b. eqb a (byte ".") && eqb b (byte ".")) (λ a b. grind arith)
 
+-- The same of the lanes in which a dot stands before a slash of either kind.
 pub last_dot_lanes : (p q : List ℕ) → IsBlock p → IsBlock q
     → (eqb (mask_l (map (top 7) (zip2 bit_and (zip2 equals p (replicate 16 (byte ".")))
     (zip2 bit_or (zip2 equals q (replicate 16 (byte "/"))) (zip2 equals q (replicate 16 (byte "\\")))))) % 2 ^ 64) 0 ≡ true)
@@ -132,6 +139,7 @@ last_dot_lanes p q pb qb =
 abbrev pair : Relation → List ℕ → ℕ → Bool
 pair r x j = relates r (get_or x j 0) (get_or x (j + 1) 0)
 
+-- Sixteen lanes without a related pair are as many places of the text, from this one on, without one.
 pub block_places : (r : Relation) (x : List ℕ) (at : ℕ) → at + 17 ≤ length x
     → ((k : ℕ) → k < 16 → relates r (get_or (chunk at 16 x) k 0) (get_or (chunk (at + 1) 16 x) k 0) ≡ false) ↔ NoneBetween r x at (at + 17)
 block_places r x at room =
@@ -158,10 +166,12 @@ all_pairs r n x before bytes all ps qs =
 suspect_regrouped : (w s d l c : Bool) → (w || (s || (d || (l || (c || false))))) ≡ ((w || (s || (c || false)) || (true && (d || (l || false)))) || false)
 suspect_regrouped w s d l c = grind arith
 
+-- An `l` is suspect exactly behind a dot.
 pub suspect_letter : (a b : ℕ) → b ≡ byte "l" → (a == byte ".") ≡ is_suspect a b
 unfolding is_suspect is_bad
 suspect_letter a b e = grind arith
 
+-- Any other byte is suspect where it may be faulty, and a dot or a slash only behind a dot or a slash.
 pub suspect_other : (a b : ℕ) → (b ≡ byte "l" → ⊥)
     → ((is_bad b || is_among (codes "*./{") b) && (not (is_among (codes "./") b) || is_among (codes "./") a)) ≡ is_suspect a b
 unfolding is_suspect is_bad

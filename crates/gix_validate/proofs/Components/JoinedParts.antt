@@ -57,3 +57,5 @@ apart texts basic = list_all-from_AllPass has_no_slash texts (λ k d within. (ba
 pub pieces_joined_parts : {X : Type 0} (f : X → List ℕ) (xs : List X) → 0 < length xs → All (λ x. fault_of no_protections None (f x) ≡ None) xs
     → pieces (joined (map f xs)) ≡ map f xs
 pieces_joined_parts f xs some accepted = grind (arith, common_steps, pieces-joined, apart, basic_parts)
+
+pub ruleset joined_path_laws = (pieces_joined_parts, basic_parts)

@@ -150,3 +150,5 @@ units_law x = hfs_form-units (length x) x (omega arith)
 
 -- what `component` takes from above
 pub ruleset component_laws = (component_grammar_law, fewer_law, case_law, units_law, basic_law)
+
+pub ruleset device_laws = (device_case_law, device_form_law)

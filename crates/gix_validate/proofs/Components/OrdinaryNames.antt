@@ -123,3 +123,6 @@ pub slash_fault : (options : ComponentOptions) (mode : Option ComponentMode) (x 
     → fault_of options mode x ≡ Some PathSeparator
 unfolding conditions fault_of
 slash_fault options mode x long slash = grind (arith, bytes_eq-Decides)
+
+-- what the fast way to the fault of a component needs
+pub ruleset faults_by_looks = (ordinary_fault, git_fault)

@@ -82,6 +82,7 @@ list_all-lower p skips (b ∷ x) = rw (test-lower_byte p skips b, list_all-lower
 eight_long : (x : List ℕ) → eqb (lower_byte (get_or x 0 0)) (byte ".") ≡ false → is_modules_form (lower (ntfs_form x)) ≡ true → length (ntfs_form x) ≡ 8
 eight_long x other modules = grind (arith, common_steps, other_is_plain, ntfs_form-none, ntfs_other)
 
+-- A name that begins with no dot stands for `.gitmodules` exactly where its first eight bytes do, and the form ends behind them.
 pub modules_elsewhere : (x : List ℕ) → eqb (lower_byte (get_or x 0 0)) (byte ".") ≡ false → 8 ≤ length x
     → is_modules_form (lower (ntfs_form x)) ≡ (is_modules_form (lower (take 8 x)) && is_empty (ntfs_form (drop 8 x)))
 modules_elsewhere x other long = bool_same _ _ forward back
@@ -96,6 +97,7 @@ modules_elsewhere x other long = bool_same _ _ forward back
         let plain = (other_is_plain (lower (take 8 x)) (not_eleven _ eight) parts.0).1 in
         ap (λ f. is_modules_form (lower f)) (plain_front 8 x (sym (list_all-lower stays_in_form refl (take 8 x)) ∙ plain) parts.1) ∙ parts.0
 
+-- With fewer bytes it never does.
 pub modules_too_short : (x : List ℕ) → eqb (lower_byte (get_or x 0 0)) (byte ".") ≡ false → length x < 8 → is_modules_form (lower (ntfs_form x)) ≡ false
 modules_too_short x other short = grind (arith, eight_long, form_is_front)
 
@@ -107,6 +109,7 @@ dot_or_none : (x : List ℕ) → (lower (ntfs_form (byte "." ∷ x)) ≡ []) ⊎
 unfolding lower_byte
 dot_or_none x = grind (arith, ntfs_form-at)
 
+-- A name that begins with a dot does exactly where the form of what follows is `gitmodules`.
 pub modules_at_dot : (x : List ℕ) → get_or x 0 0 ≡ byte "."
     → is_modules_form (lower (ntfs_form x)) ≡ bytes_eq (lower (ntfs_form (drop 1 x))) (codes "gitmodules")
 modules_at_dot [] at = grind arith
@@ -116,6 +119,7 @@ number_lower : (x : List ℕ) → is_tilde_number (lower x) ≡ is_tilde_number 
 unfolding lower_byte
 number_lower x = grind (arith, list_all-lower is_digit refl (drop 2 x))
 
+-- A short name in any letter case by its parts: so many letters of `gi7eba`, and a tilde with a number.
 pub hashed_name : (k : ℕ) (w : List ℕ) → length w ≡ 8 → k < 7
     → is_short_name k (lower w) ≡ (bytes_eq (lower (take k w)) (lower (take k (codes "gi7eba"))) && is_tilde_number (drop k w))
 unfolding lower_byte
@@ -123,6 +127,7 @@ hashed_name k w eight few =
     let letters = take-map lower_byte k (codes "gi7eba") in
     rw (short_by_parts k (lower w), length-map w lower_byte, eight, take-map lower_byte k w, drop-map lower_byte k w, number_lower (drop k w), ← letters) refl
 
+-- Eight bytes stand for `.gitmodules` exactly where they are one of its short names, of either kind.
 pub eight_is_short : (w : List ℕ) → length w ≡ 8
     → is_modules_form (lower w) ≡ (list_any (λ digit. bytes_eq (lower w) (codes "gitmod~" ++ digit ∷ [])) (codes "1234")
     || list_any (λ k. is_short_name k (lower w)) (range_with_len 0 7))
@@ -133,16 +138,25 @@ eight_is_short w eight = grind (arith, length-map, not_eleven)
 unfoldable pub is_short_from : ℕ → List ℕ → Bool
 is_short_from k w = list_any (λ j. is_short_name j w) (drop k (range_with_len 0 7))
 
+-- With no letter or more it is any of the seven kinds.
 pub short_from_none : (w : List ℕ) → is_short_from 0 w ≡ list_any (λ j. is_short_name j w) (range_with_len 0 7)
 unfolding is_short_from
 short_from_none w = refl
 
+-- With k letters or more: with k letters, or with more.
 pub short_step : (k : ℕ) (w : List ℕ) → k < 7 → is_short_from k w ≡ (is_short_name k w || is_short_from (k + 1) w)
 unfolding is_short_from
 short_step k w few =
     let at : get_or (range_with_len 0 7) k 0 ≡ k = omega (arith, get_or-range_with_len 0 7 k 0 few) in
     at_drop_more (list_any (λ j. is_short_name j w)) (range_with_len 0 7) k 0 few ∙ ap (λ j. is_short_name j w || is_short_from (k + 1) w) at
 
+-- No short name has seven letters.
 pub short_end : (k : ℕ) (w : List ℕ) → 7 ≤ k → is_short_from k w ≡ false
 unfolding is_short_from
 short_end k w past = grind (arith, common_steps)
+
+-- what stands for `.gitmodules`, by its first byte
+pub ruleset modules_by_first = (common_steps, modules_at_dot, modules_elsewhere, modules_too_short)
+
+-- the seven kinds of short names, one after the other
+pub ruleset short_by_letters = (short_from_none, short_step, short_end)

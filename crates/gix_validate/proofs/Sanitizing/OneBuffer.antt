@@ -37,6 +37,7 @@ take-uncut text start end some within other =
     let last = get_or_push (f ++ codes ".loc") (byte "k") 0 (end - start - 1) in grind (arith, append_assoc, length-append)) in
     grind (arith, take-add)
 
+-- where a written piece ends once it is cut
 pub ruleset part_ends = (nat_tests, take-front, take-uncut)
 
 slice_more : (text : List ℕ) (start end w : ℕ) → start ≤ end → end < length text

@@ -13,8 +13,8 @@ use Rattle.gix_validate.specs.Private.TagWalk.{fault_of_byte_at}
 use Rattle.gix_validate.specs.declared.adjacent.Relation.TheVariants.{Suspect}
 use Rattle.gix_validate.proofs.Texts.Places.{at_first_place_none}
 use Rattle.gix_validate.proofs.Texts.Endings.{ends_read, lock_read}
-use Rattle.gix_validate.proofs.TagNames.FaultTable.{none_after}
-use Rattle.gix_validate.proofs.TagNames.FaultsBefore.{at_first_place_split}
+use Rattle.gix_validate.proofs.TagNames.FaultTable.{is_none-fault_of_byte}
+use Rattle.gix_validate.proofs.TagNames.FaultsOfBytes.{at_first_place_split}
 use Rattle.gix_validate.proofs.TagNames.Grammar.{tag_grammar_law}
 use Rattle.std.proofs.lemmas.Grind.{common_steps}
 use Rattle.std.proofs.lemmas.Bool.Decides.{nat_tests}
@@ -37,7 +37,7 @@ no_fault : (x : List ℕ) (i a : ℕ) → is_suspect a (get_or x i 0) ≡ false
     → (is_among (codes "./") a ≡ false → (ends (take i x) (codes ".") ≡ false) × (ends (take i x) (codes "/") ≡ false))
     → (get_or x i 0 ≡ byte "/" → ends (take i x) (codes ".lock") ≡ false) → fault_of_byte_at x i ≡ None
 unfolding is_suspect
-no_fault x i a quiet near lock = grind (arith, nat_tests, none_after (take i x) (get_or x i 0))
+no_fault x i a quiet near lock = grind (arith, nat_tests, is_none-fault_of_byte (take i x) (get_or x i 0))
 
 -- the byte before place i
 last_read : (x : List ℕ) (i c : ℕ) → 0 < i → i ≤ length x → ends (take i x) (c ∷ []) ≡ eqb (get_or x (i - 1) 0) c

@@ -25,12 +25,12 @@ pub is_none-when : {A : Type 0} (t : Bool) (e : A) (o : Option A) → is_none (w
 is_none-when t e o = grind arith
 
 -- what the table says of a byte by what stands before it
-pub none_after : (before : List ℕ) (b : ℕ) → is_none (fault_of_byte before b)
+pub is_none-fault_of_byte : (before : List ℕ) (b : ℕ) → is_none (fault_of_byte before b)
     ≡ (not (is_bad b) && (not (eqb b (byte "*")) && (not (eqb b (byte ".") && ends before (codes "."))
     && (not (eqb b (byte ".") && ends before (codes "/")) && (not (eqb b (byte "{") && ends before (codes "@")) && (not (eqb b (byte "/") && ends before (codes "/"))
     && (not (eqb b (byte "/") && ends before (codes ".lock")) && true)))))))
 unfolding fault_of_byte fault_table
-none_after before b = simp is_none-when
+is_none-fault_of_byte before b = simp is_none-when
 
 -- The table of bytes says no only of bytes that have no fault, whatever stands before them.
 pub faulty_tabled : (b : ℕ) → b < 256 → get_or MAY_BE_FAULTY b false ≡ (is_bad b || is_among (codes "*./{") b)
@@ -38,4 +38,4 @@ unfolding is_bad
 faulty_tabled b small = agree_below_at (λ b. get_or MAY_BE_FAULTY b false) (λ b. is_bad b || is_among (codes "*./{") b) 256 b refl small
 
 pub quiet : (x : List ℕ) (i : ℕ) → (is_bad (get_or x i 0) || is_among (codes "*./{") (get_or x i 0)) ≡ false → fault_of_byte_at x i ≡ None
-quiet x i h = grind (arith, none_after (take i x) (get_or x i 0))
+quiet x i h = grind (arith, is_none-fault_of_byte (take i x) (get_or x i 0))

@@ -10,8 +10,8 @@ use Rattle.gix_validate.specs.Private.TagWalk.{fault_of_byte}
 use Rattle.gix_validate.specs.Tag.{is_good_piece, is_tag_name, fault_of}
 use Rattle.gix_validate.proofs.Texts.Pieces.{pieces_front, pieces_alone}
 use Rattle.gix_validate.proofs.Texts.Endings.{last_piece, last_piece_nothing, last_piece_push, ends_last_piece, slash_last, last_piece_apart, ends_cons}
-use Rattle.gix_validate.proofs.TagNames.FaultTable.{is_none-when, none_after}
-use Rattle.gix_validate.proofs.TagNames.FaultsBefore.{walked, has_lock_suffix, at_first_place_split, at_first_place_walked}
+use Rattle.gix_validate.proofs.TagNames.FaultTable.{is_none-when, is_none-fault_of_byte}
+use Rattle.gix_validate.proofs.TagNames.FaultsOfBytes.{walked, has_lock_suffix, at_first_place_split, at_first_place_walked}
 use native.Mathlib.Omega.{arith}
 use Rattle.std.proofs.lemmas.Bool.Decides.{nat_tests}
 
@@ -54,13 +54,13 @@ unfolding goes_on breaks
 goes_on_push p b = grind (arith, nat_tests, list_any_push, holds_push, goes_on_regrouped)
 
 -- The table says no more of a byte than the piece before it does.
-no_fault_after : (y : List ℕ) (b : ℕ) → is_empty y ≡ false
+no_fault_of_byte : (y : List ℕ) (b : ℕ) → is_empty y ≡ false
     → is_none (fault_of_byte y b) ≡ cond (is_slash b) (may_end (last_piece y)) (not (breaks (last_piece y) b))
 unfolding breaks is_refused is_bad may_end
-no_fault_after y b some =
+no_fault_of_byte y b some =
     let dot = ends_last_piece (codes ".") refl y in
     let at = ends_last_piece (codes "@") refl y in
-    grind (arith, nat_tests, none_after, slash_last, dot, at, ends_last_piece (codes ".lock") refl y)
+    grind (arith, nat_tests, is_none-fault_of_byte, slash_last, dot, at, ends_last_piece (codes ".lock") refl y)
 
 nothing_goes_on : goes_on [] ≡ true
 unfolding goes_on
@@ -73,14 +73,14 @@ unfolding walked
 walked_good y [] some = grind (arith, append-nil, pieces_alone, good_piece_parts, last_piece_apart)
 walked_good y (b ∷ x) some =
     let further = walked_good (y ++ b ∷ []) x in
-    grind (arith, append_assoc, pieces_front, last_piece_apart, good_piece_parts, last_piece_push, goes_on_push, no_fault_after, nothing_goes_on, further)
+    grind (arith, append_assoc, pieces_front, last_piece_apart, good_piece_parts, last_piece_push, goes_on_push, no_fault_of_byte, nothing_goes_on, further)
 
 -- From the first byte on, which is neither a slash nor a dot.
 begun_good : (b : ℕ) (x : List ℕ) → list_all is_good_piece (pieces (b ∷ x))
     ≡ ((not (eqb b (byte "/")) && not (eqb b (byte "."))) && (is_none (walked [] (b ∷ x)) && may_end (last_piece (b ∷ x))))
 unfolding walked is_good_piece breaks is_refused
 begun_good b x =
-    grind (arith, walked_good (b ∷ []) x refl, last_piece_push [] b, last_piece_nothing, goes_on_push [] b, nothing_goes_on, none_after [] b)
+    grind (arith, walked_good (b ∷ []) x refl, last_piece_push [] b, last_piece_nothing, goes_on_push [] b, nothing_goes_on, is_none-fault_of_byte [] b)
 
 is_none-parts : (x : List ℕ) → is_empty x ≡ false → is_none (fault_of x) ≡ (not (ends x (codes "/")) && (not (begins x (codes "/"))
     && ((is_none (walked [] x) && not (has_lock_suffix x)) && (not (begins x (codes ".")) && not (ends x (codes "."))))))

@@ -8,9 +8,9 @@ use Rattle.gix_validate.specs.Bytes.{ends}
 use Rattle.gix_validate.specs.Faults.{at_first_place}
 use Rattle.gix_validate.specs.Private.TagWalk.{fault_of_byte_at, first_fault_between}
 use Rattle.gix_validate.proofs.Texts.Places.{at_first_place_none, at_first_place_more, at_first_place_from, none_below, found_below}
-use Rattle.gix_validate.proofs.TagNames.FaultTable.{none_after}
+use Rattle.gix_validate.proofs.TagNames.FaultTable.{is_none-fault_of_byte, quiet}
 use Rattle.std.proofs.lemmas.Bool.Decides.{nat_tests}
-use Rattle.gix_validate.proofs.TagNames.ClearTexts.{IsSettled, NoFaultBetween}
+use Rattle.gix_validate.proofs.TagNames.ClearTexts.{IsSettled, NoFaultBetween, settled_none}
 
 -- where nothing is found before a part, the part says what is found
 pub from_place : (x : List ℕ) (i j : ℕ) → i ≤ j → NoFaultBetween x 0 i → at_first_place (fault_of_byte_at x) j ≡ first_fault_between x i j
@@ -44,7 +44,7 @@ none_between x i j none p from to =
     ap (fault_of_byte_at x) (sym there) ∙ none_below (λ k. fault_of_byte_at x (i + k)) (j - i) (p - i) (omega arith) none
 
 slash_quiet : (x : List ℕ) (p : ℕ) → get_or x p 0 ≡ byte "/" → fault_of_byte_at x p ≡ None → ends (take p x) (codes ".lock") ≡ false
-slash_quiet x p slash none = grind (arith, nat_tests, none_after (take p x) (get_or x p 0))
+slash_quiet x p slash none = grind (arith, nat_tests, is_none-fault_of_byte (take p x) (get_or x p 0))
 
 -- Each byte up to j was asked, and the four behind it too, as far as there are some.
 pub settled_by_asking : (x : List ℕ) (i j e : ℕ) → i ≤ j → j ≤ e → min (length x) (j + 4) ≤ e
@@ -53,3 +53,8 @@ settled_by_asking x i j e order more far s none = record {
   done = λ p from to. elim (cases_lt p i) [ inl early ↦ s.done p from early | inr late ↦ none_between x i e none p late (omega arith) ];
   ahead = λ p from to within slash. slash_quiet x p slash (none_between x i e none p (omega arith) (omega arith));
 }
+
+-- what the walk over single bytes needs, and what the walk over parts of the text does
+pub ruleset place_by_place = (between_none, between_more, between_found, quiet)
+
+pub ruleset part_by_part = (settled_none, found_in_part, from_place)

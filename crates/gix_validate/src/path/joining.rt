@@ -29,7 +29,7 @@ use std::alloc::{AllocError, Global};
 ///
 /// The call asks for it once, before it writes a byte. A length above `isize::MAX` bytes counts as
 /// out of memory.
-#[tactic(auto, using(crate::proofs::Components::JoinedParts::pieces_joined_parts, crate::proofs::Components::JoinedParts::basic_parts))]
+#[tactic(auto, using(crate::proofs::Components::JoinedParts::joined_path_laws))]
 pub fn join(alloc: Global, parts: &[BStr<'_>]) -> Result<BString, AllocError>
     requires some { 0 < length parts.now }
     requires components { All

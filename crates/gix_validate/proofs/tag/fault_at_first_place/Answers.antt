@@ -1,7 +1,7 @@
 -- The last line of the table, where no other applies.
 use Rattle.std.proofs.Common.{arith}
 use Rattle.std.proofs.lemmas.Bool.Decides.{nat_tests}
-use Rattle.gix_validate.proofs.TagNames.FaultsBefore.{lock_by_length}
+use Rattle.gix_validate.proofs.TagNames.FaultsOfBytes.{lock_by_length}
 use Rattle.gix_validate.proofs.tag.fault_at_first_place.Goals as goal
 
 pub returns-in-Some : goal.returns-in-Some

@@ -9,7 +9,8 @@
 //! | [`path`] | path components, and their join to a path |
 //!
 //! Only the joins and `reference::name_partial_or_sanitize` take memory. The rules are in
-//! docs/RULES.md, and the definitions that the contracts cite in `specs/`.
+//! docs/RULES.md, and the definitions that the contracts cite in `specs/`. Those in `specs/Private`
+//! serve contracts of private functions alone.
 #![tactic(auto)]
 
 mod adjacent;

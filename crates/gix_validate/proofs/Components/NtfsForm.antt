@@ -37,13 +37,13 @@ pub ntfs_word : (word x : List ℕ) → IsTrue (list_all stays_in_form word)
 unfolding ntfs_form
 ntfs_word = form_word is_ntfs_cut is_ntfs_trimmed ntfs_keeps
 
-dot_before : (f : List ℕ) (w : ℕ) (ws : List ℕ) → bytes_eq (lower (cond (is_empty f) [] (byte "." ∷ f))) (byte "." ∷ w ∷ ws) ≡ bytes_eq (lower f) (w ∷ ws)
+dot_in_front : (f : List ℕ) (w : ℕ) (ws : List ℕ) → bytes_eq (lower (cond (is_empty f) [] (byte "." ∷ f))) (byte "." ∷ w ∷ ws) ≡ bytes_eq (lower f) (w ∷ ws)
 unfolding lower_byte
-dot_before f w ws = grind arith
+dot_in_front f w ws = grind arith
 
 -- a dot in front stays where something of the form follows it
 pub dot_stays : (x : List ℕ) (w : ℕ) (ws : List ℕ) → bytes_eq (lower (ntfs_form (byte "." ∷ x))) (byte "." ∷ w ∷ ws) ≡ bytes_eq (lower (ntfs_form x)) (w ∷ ws)
-dot_stays x w ws = ap (λ f. bytes_eq (lower f) (byte "." ∷ w ∷ ws)) (ntfs_form-at (byte ".") x) ∙ dot_before (ntfs_form x) w ws
+dot_stays x w ws = ap (λ f. bytes_eq (lower f) (byte "." ∷ w ∷ ws)) (ntfs_form-at (byte ".") x) ∙ dot_in_front (ntfs_form x) w ws
 
 -- a form that begins otherwise than with a dot or the word's first letter
 pub ntfs_other : (b : ℕ) (x : List ℕ) (w : ℕ) (ws : List ℕ) → eqb (lower_byte b) w ≡ false → bytes_eq (lower (ntfs_form (b ∷ x))) (w ∷ ws) ≡ false

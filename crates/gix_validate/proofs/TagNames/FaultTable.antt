@@ -1,13 +1,12 @@
 -- The table of the faults at a place: no two of its lines apply, and what each byte may have of them.
-use Rattle.std.proofs.Common.{◌≡◌, ℕ, ◌<◌, Bool, false, not, ◌&&◌, ◌||◌, eqb, List, [], ◌∷◌, take, get_or, true, refl, Option, None}
+use Rattle.std.proofs.Common.{◌≡◌, ℕ, ◌<◌, Bool, false, not, ◌&&◌, ◌||◌, eqb, List, take, get_or, true, refl, Option, None}
 use Rattle.std.proofs.lemmas.Bool.{agree_below_at}
 use Rattle.std.specs.Str.{byte}
 use Rattle.gix_validate.specs.declared.bytes.TheConstants.{MAY_BE_FAULTY}
 use Rattle.gix_validate.specs.Private.TagWalk.{fault_of_byte, fault_of_byte_at}
 use Rattle.std.specs.Prelude.{codes, is_none}
-use Rattle.gix_validate.specs.declared.tag.NameError.{NameError}
 use Rattle.gix_validate.specs.Bytes.{is_bad, is_among, ends}
-use Rattle.gix_validate.specs.Faults.{when, first_of, ◌orelse◌}
+use Rattle.gix_validate.specs.Faults.{when, ◌orelse◌}
 use Rattle.gix_validate.specs.Tag.{fault_table, faults_at, HasAtMostOneFaultAPlace}
 use Rattle.gix_validate.proofs.Texts.Endings.{ends_read, lock_read, ends_push_one}
 use native.Mathlib.Omega.{arith}

@@ -1,4 +1,5 @@
--- Definitions computed on literal texts, a line each.
+-- Definitions computed on literal texts, in tables.
+pub mod Tables
 pub mod TagNames
 pub mod References
 pub mod Submodules

@@ -18,35 +18,35 @@ use Rattle.gix_validate.specs.Windows.{is_device, is_illegal}
 abbrev pub all_protections : ComponentOptions
 all_protections = record { protect_windows = true; protect_hfs = true; protect_ntfs = true }
 
--- The conditions, a line each, by what a name reads as on NTFS, under the switches for Windows, HFS and NTFS, and for a
--- name of a symlink. (After the last byte `slice_index` finds 0, which is not a colon.)
-unfoldable pub conditions : (List ℕ → List ℕ) → Bool → Bool → Bool → Bool → List ℕ → List (Option ComponentError)
-conditions form windows hfs ntfs symlink x =
+-- The conditions, a line each, under options, and a mode if there is one. (The one mode is that of a symlink. After the
+-- last byte `slice_index` finds 0, which is not a colon.)
+unfoldable pub conditions : ComponentOptions → Option ComponentMode → List ℕ → List (Option ComponentError)
+conditions options mode x =
+    let windows = options.protect_windows in
+    let hfs = options.protect_hfs in
+    let ntfs = options.protect_ntfs in
+    let symlink = is_some mode in
     when (is_empty x) Empty
     ∷ when (bytes_eq x (codes ".") || bytes_eq x (codes "..")) Relative
     ∷ when (is_among x (byte "/") || (windows && is_among x (byte "\\"))) PathSeparator
     ∷ when (windows && slice_index x (first_unit_len x) == byte ":") WindowsPathPrefix
     ∷ when (hfs && bytes_eq (lower (hfs_form x)) (codes ".git")) DotGitDir
     ∷ when (hfs && symlink && bytes_eq (lower (hfs_form x)) (codes ".gitmodules")) SymlinkedGitModules
-    ∷ when (ntfs && is_git_form (lower (form x))) DotGitDir
-    ∷ when (ntfs && symlink && is_modules_form (lower (form x))) SymlinkedGitModules
+    ∷ when (ntfs && is_git_form (lower (ntfs_form x))) DotGitDir
+    ∷ when (ntfs && symlink && is_modules_form (lower (ntfs_form x))) SymlinkedGitModules
     ∷ when (windows && ntfs && is_device x) WindowsReservedName
     ∷ when (windows && ntfs && is_illegal x) WindowsIllegalCharacter
     ∷ when (not hfs && not ntfs && bytes_eq (lower x) (codes ".git")) DotGitDir
     ∷ when (not hfs && not ntfs && symlink && bytes_eq (lower x) (codes ".gitmodules")) SymlinkedGitModules
     ∷ []
 
--- the same under options, and a mode if there is one (the one mode is that of a symlink)
-abbrev pub conditions_under : ComponentOptions → Option ComponentMode → List ℕ → List (Option ComponentError)
-conditions_under options mode x = conditions ntfs_form options.protect_windows options.protect_hfs options.protect_ntfs (is_some mode) x
-
 -- The fault of a component: the first condition that holds.
 unfoldable pub fault_of : ComponentOptions → Option ComponentMode → List ℕ → Option ComponentError
-fault_of options mode x = first_of (conditions_under options mode x)
+fault_of options mode x = first_of (conditions options mode x)
 
 -- The text is a component: none of the conditions holds.
 unfoldable pub is_component : ComponentOptions → Option ComponentMode → List ℕ → Bool
-is_component options mode x = list_all is_none (conditions_under options mode x)
+is_component options mode x = list_all is_none (conditions options mode x)
 
 -- What an error prints.
 abbrev pub text_of : ComponentError → List ℕ

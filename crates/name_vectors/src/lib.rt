@@ -1,5 +1,5 @@
-//! The tests of `gix_validate`, `typed_names` and `uses`, and laws about the rules. A crate that has
-//! tests is proved a second time with them, so these three have none. The crate holds four things:
+//! The tests of `gix_validate`, `typed_names` and `uses`. A crate that has tests is proved a second
+//! time with them, so these three have none. The crate holds three things:
 //!
 //! - Names and texts whose answers are written out, for calls that take memory, for the typed names
 //!   and for their callers.
@@ -9,11 +9,8 @@
 //!   compares fronts. Only the types of the faults are the library's.
 //! - Tests that give tens of thousands of texts, all texts of up to two bytes among them, to each
 //!   call of `gix_validate` and to the second writing, and compare the answers.
-//! - Laws about the first writing, which are proved: in [`laws`] that it agrees with what the crate
-//!   `bstr` decodes, and in [`versions`] what version 2 changed in it.
 //!
-//! The second writing is built for the tests alone, so callers see only the laws. The functions
-//! that carry them do nothing: the contract of each is the law.
+//! All of it is built for the tests alone.
 #![tactic(auto)]
 
 /// The callers of `uses`.
@@ -25,7 +22,6 @@ mod component;
 mod fault;
 #[cfg(test)]
 mod forms;
-pub mod laws;
 #[cfg(test)]
 mod reference;
 #[cfg(test)]
@@ -41,7 +37,6 @@ mod text;
 mod typed;
 #[cfg(test)]
 mod units;
-pub mod versions;
 
 /// Names whose answers are written out, for the calls that take memory or copy a value.
 #[cfg(test)]

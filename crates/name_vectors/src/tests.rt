@@ -2,6 +2,7 @@
 
 mod exhaustive;
 mod printed;
+mod rows;
 mod single;
 mod tables;
 

@@ -16,7 +16,7 @@ use Rattle.gix_validate.specs.Units.{is_within, fitting_len, whole_len, begun_le
 use Rattle.gix_validate.specs.Hfs.{is_ignored, hfs_form}
 use Rattle.gix_validate.specs.Ntfs.{ntfs_form, is_git_form, is_modules_form}
 use Rattle.gix_validate.specs.Windows.{device_form, is_device_form, is_device, is_illegal_byte, is_illegal}
-use Rattle.gix_validate.specs.Component.{conditions, conditions_under, fault_of, is_component}
+use Rattle.gix_validate.specs.Component.{conditions, fault_of, is_component}
 use Rattle.gix_validate.specs.ComponentLaws.{HasOnlySwitchesOf, PassesFewer, FaultIgnoresCase, FormIsKeptUnits}
 use Rattle.gix_validate.specs.ComponentLaws.{IsBasicName, DeviceIgnoresCase, DeviceGoesByForm}
 use Rattle.gix_validate.proofs.Components.HfsForm.{hfs_form-units}
@@ -91,7 +91,7 @@ all_none-first_of (Some fault ∷ lines) = refl
 -- A text is a component exactly where it has no fault.
 pub component_grammar_law : (options : ComponentOptions) (mode : Option ComponentMode) (x : List ℕ) → is_component options mode x ≡ is_none (fault_of options mode x)
 unfolding is_component fault_of
-component_grammar_law options mode x = all_none-first_of (conditions_under options mode x)
+component_grammar_law options mode x = all_none-first_of (conditions options mode x)
 
 -- None of the conditions holds, each by itself.
 abbrev pub AllNone : List (Option ComponentError) → Type 0
@@ -123,7 +123,7 @@ unfolding hfs_form is_ignored ntfs_form is_modules_form
 modules_forms = plain_forms (codes ".gitmodules") is_modules_form refl refl
 
 none_under_fewer : (options fewer : ComponentOptions) (mode other : Option ComponentMode) → HasOnlySwitchesOf fewer options
-    → (IsTrue (is_some other) → IsTrue (is_some mode)) → (x : List ℕ) → AllNone (conditions_under options mode x) → fault_of fewer other x ≡ None
+    → (IsTrue (is_some other) → IsTrue (is_some mode)) → (x : List ℕ) → AllNone (conditions options mode x) → fault_of fewer other x ≡ None
 unfolding conditions fault_of
 none_under_fewer options fewer mode other part less x none = grind (arith, git_forms, modules_forms)
 
@@ -131,7 +131,7 @@ none_under_fewer options fewer mode other part less x none = grind (arith, git_f
 pub fewer_law : (options : ComponentOptions) (mode : Option ComponentMode) (x : List ℕ) → fault_of options mode x ≡ None → PassesFewer options mode x
 unfolding fault_of
 fewer_law options mode x none =
-    let lines = AllNone-from_first (conditions_under options mode x) none in
+    let lines = AllNone-from_first (conditions options mode x) none in
     let under = none_under_fewer options in
     λ fewer part. (under fewer mode mode part (λ on. on) x lines, under fewer mode None part (λ on. absurd (false≢true on)) x lines)
 

@@ -84,6 +84,19 @@ fn texts_of_units() -> &'static [(&'static [u8], &'static [&'static [u8]])] {
         (b"\xF0\x90\xE2\x80\x8C", &[b"\xF0\x90", b"\xE2\x80\x8C"]),
         (b"\xC0:", &[b"\xC0", b":"]),
         (b"\xE0\x80:", &[b"\xE0", b"\x80", b":"]),
+        (
+            b".g\xE2\xE2\x80\x8C\x80\x8Dit",
+            &[
+                b".",
+                b"g",
+                b"\xE2",
+                b"\xE2\x80\x8C",
+                b"\x80",
+                b"\x8D",
+                b"i",
+                b"t",
+            ],
+        ),
     ]
 }
 

@@ -1,5 +1,5 @@
 -- What a backslash changes in the NTFS form, why version 1 found nothing where it does, and how the answers of the versions differ.
-use Rattle.std.proofs.Common.{◌≡◌, ℕ, ◌+◌, ◌≤◌, Bool, true, false, not, ◌&&◌, ◌||◌, cond, Option, Some, None, List, [], ◌∷◌, ◌++◌}
+use Rattle.std.proofs.Common.{◌≡◌, ℕ, ◌+◌, ◌≤◌, Bool, true, false, not, ◌&&◌, ◌||◌, cond, Option, Some, None, is_some, List, [], ◌∷◌, ◌++◌}
 use Rattle.std.proofs.Common.{length, take, drop, get_or, refl, sym, ◌∙◌, arith, codes}
 use Rattle.std.specs.Prelude.{◌==◌}
 use Rattle.std.specs.List.{list_any, list_all, range_with_len}
@@ -13,11 +13,15 @@ use Rattle.std.proofs.lemmas.Grind.{common_steps, reverse_onto}
 use Rattle.gix_validate.proofs.OnLiterals.{components_on_literals}
 use Rattle.gix_validate.specs.declared.path.ComponentError.{ComponentError}
 use Rattle.gix_validate.specs.declared.path.ComponentError.TheVariants.{DotGitDir, SymlinkedGitModules}
-use Rattle.gix_validate.specs.Bytes.{is_among, is_empty, lower, lower_byte}
+use Rattle.gix_validate.specs.declared.path.ComponentOptions.{ComponentOptions}
+use Rattle.gix_validate.specs.declared.path.ComponentMode.{ComponentMode}
 use Rattle.gix_validate.specs.Faults.{when, first_of, ◌orelse◌}
-use Rattle.gix_validate.specs.Ntfs.{without_end, ntfs_form, is_git_form, is_modules_form, is_short_name, is_digit}
+use Rattle.gix_validate.specs.Ntfs.{ntfs_form}
 use Rattle.gix_validate.specs.Component.{conditions, fault_of}
-use Rattle.name_vectors.specs.Version1.{old_ntfs_form, old_fault_of, front, added_fault_of, ReadsTheFront, OldFaultsComeFirst, StaysElsewhere, ShowsTheChange}
+use Rattle.rule_laws.specs.Version1.{is_among, is_empty, lower, without_end, is_git_form, is_modules_form, is_digit, is_short_name}
+use Rattle.rule_laws.specs.Version1.{ntfs_form as old_ntfs_form, fault_of as old_fault_of}
+use Rattle.rule_laws.specs.Version2.{front, added_fault_of, ReadsTheFront, OldFaultsComeFirst, StaysElsewhere, ShowsTheChange}
+use Rattle.rule_laws.proofs.Version1Lemmas.{version_1_on_literals, conditions_by, present_conditions, past_conditions}
 
 -- The forms, with one byte more in front.
 
@@ -62,7 +66,6 @@ none_in_form [] none = refl
 none_in_form (b ∷ x) none = grind (arith, old_at, none_in_form x)
 
 none_by_lower : (x : List ℕ) → has_backslash (lower x) ≡ has_backslash x
-unfolding lower_byte
 none_by_lower [] = refl
 none_by_lower (b ∷ x) = grind (arith, none_by_lower x)
 
@@ -111,38 +114,44 @@ after (None ∷ lines) new old more rest = after lines new old more rest
 after (Some fault ∷ lines) new old more rest = refl
 
 -- what version 2 adds
-abbrev added : Bool → Bool → Bool → Bool → List ℕ → Option ComponentError
-added w h n s x =
-    let here = n && not w && has_backslash x in
+abbrev added : ComponentOptions → Option ComponentMode → List ℕ → Option ComponentError
+added options mode x =
+    let here = options.protect_ntfs && not options.protect_windows && has_backslash x in
     when (here && is_git_form (lower (ntfs_form x))) DotGitDir
-    orelse when (here && s && is_modules_form (lower (ntfs_form x))) SymlinkedGitModules
+    orelse when (here && is_some mode && is_modules_form (lower (ntfs_form x))) SymlinkedGitModules
 
-rest_differs : (w h n s : Bool) (x : List ℕ) → (w && has_backslash x) ≡ false
-    → first_of (drop 6 (conditions ntfs_form w h n s x)) ≡ (first_of (drop 6 (conditions old_ntfs_form w h n s x)) orelse added w h n s x)
+abbrev switches : Bool → Bool → Bool → ComponentOptions
+switches w h n = record { protect_windows = w; protect_hfs = h; protect_ntfs = n }
+
+rest_differs : (w h n : Bool) (mode : Option ComponentMode) (x : List ℕ) → (w && has_backslash x) ≡ false
+    → first_of (drop 6 (conditions_by ntfs_form (switches w h n) mode x))
+    ≡ (first_of (drop 6 (conditions_by old_ntfs_form (switches w h n) mode x)) orelse added (switches w h n) mode x)
 unfolding conditions
-rest_differs w h false s x none = orelse_none _
-rest_differs true h true s x none = rw (same_form x (none_in_form x none)) (orelse_none _)
-rest_differs false h true s x none =
+rest_differs w h false mode x none = orelse_none _
+rest_differs true h true mode x none = rw (same_form x (none_in_form x none)) (orelse_none _)
+rest_differs false h true mode x none =
     let form = lower (old_ntfs_form x) in
     grind (arith, none_in_form x, same_form x, none_by_lower (old_ntfs_form x), none_in_git form, none_in_modules form)
 
-table_differs : (w h n s : Bool) (x : List ℕ)
-    → first_of (conditions ntfs_form w h n s x) ≡ (first_of (conditions old_ntfs_form w h n s x) orelse added w h n s x)
+table_differs : (options : ComponentOptions) (mode : Option ComponentMode) (x : List ℕ)
+    → first_of (conditions_by ntfs_form options mode x) ≡ (first_of (conditions_by old_ntfs_form options mode x) orelse added options mode x)
 unfolding conditions
-table_differs w h n s x =
-    let lines = conditions ntfs_form w h n s x in
-    after (take 6 lines) (drop 6 lines) (drop 6 (conditions old_ntfs_form w h n s x)) _ (λ none. rest_differs w h n s x (grind arith))
+table_differs options mode x =
+    let lines = conditions options mode x in
+    after (take 6 lines) (drop 6 (conditions_by ntfs_form options mode x)) (drop 6 (conditions_by old_ntfs_form options mode x)) _
+    (λ none. rest_differs options.protect_windows options.protect_hfs options.protect_ntfs mode x (grind arith))
 
 pub old_faults_first : OldFaultsComeFirst
 unfolding fault_of old_fault_of added_fault_of
-old_faults_first options mode x = rw (sym (form_of_front x)) (table_differs options.protect_windows options.protect_hfs options.protect_ntfs _ x)
+old_faults_first options mode x =
+    rw (sym (form_of_front x), present_conditions options mode x, past_conditions options mode x) (table_differs options mode x)
 
 pub stays_elsewhere : StaysElsewhere
 unfolding added_fault_of
 stays_elsewhere options mode x off = grind (arith, old_faults_first options mode x)
 
 pub shows_the_change : ShowsTheChange
-unfolding old_fault_of old_ntfs_form components_on_literals
+unfolding version_1_on_literals components_on_literals
 shows_the_change = (refl, refl)
 
 -- what `only_backslashes_changed` takes from here

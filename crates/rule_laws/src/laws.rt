@@ -1,6 +1,6 @@
 //! Laws about the definitions of the rules: what they agree with outside the library.
 
-ghost use Rattle.name_vectors.specs.Decoded.{FirstUnitIsDecoded};
+ghost use Rattle.rule_laws.specs.Decoded.{FirstUnitIsDecoded};
 
 /// The first unit of a text (docs/RULES.md, "Path components") is as long as what the crate `bstr`
 /// decodes first: a whole UTF-8 sequence, or else what it reads as one replacement character.

@@ -5,7 +5,7 @@ use Rattle.std.proofs.lemmas.Bool.{false≢true}
 use Rattle.std.proofs.lemmas.Bool.Decides.{nat_tests}
 use Rattle.bstr.specs.Utf8.{second, decoded}
 use Rattle.gix_validate.specs.Units.{is_within, fitting_len, whole_len, begun_len, first_unit_len, whole_sequences}
-use Rattle.name_vectors.specs.Decoded.{FirstUnitIsDecoded}
+use Rattle.rule_laws.specs.Decoded.{FirstUnitIsDecoded}
 
 -- the ranges behind the byte in the row that begins with it
 abbrev behind : List (List (ℕ × ℕ)) → ℕ → List (ℕ × ℕ)

@@ -1,9 +1,5 @@
--- The rule of version 1 for path components, in which a backslash didn't end an NTFS name, and what has changed since.
---
--- The NTFS form is version 1's own. All else is shared with the present rule on purpose, since version 2 left it as it
--- was: the twelve conditions and their order, the HFS form, the words that stand for `.git` and `.gitmodules`, the first
--- unit, the devices, and what Windows forbids. A later version that changes one of these has to write out here what it
--- was before: until then these words would speak of the new rule.
+-- What version 2 changed in the rule of version 1 for path components: a backslash ends an NTFS name too. The rule of
+-- version 2 is the library's own.
 use Rattle.std.specs.Prelude.{◌≡◌, ℕ, Bool, true, false, ◌==◌, ◌&&◌, not, is_some, List, codes, Option, Some, None}
 use Rattle.std.specs.List.{before_first}
 use Rattle.std.specs.Str.{byte}
@@ -11,19 +7,10 @@ use Rattle.gix_validate.specs.declared.path.ComponentError.{ComponentError}
 use Rattle.gix_validate.specs.declared.path.ComponentError.TheVariants.{DotGitDir, SymlinkedGitModules}
 use Rattle.gix_validate.specs.declared.path.ComponentOptions.{ComponentOptions}
 use Rattle.gix_validate.specs.declared.path.ComponentMode.{ComponentMode}
-use Rattle.gix_validate.specs.Bytes.{is_among, lower}
-use Rattle.gix_validate.specs.Faults.{when, first_of, ◌orelse◌}
-use Rattle.gix_validate.specs.Ntfs.{without_end, ntfs_form, is_git_form, is_modules_form}
-use Rattle.gix_validate.specs.Component.{conditions, fault_of}
-
--- The front before the first colon, or the whole name where there is none, without the spaces and dots at its end.
-unfoldable pub old_ntfs_form : List ℕ → List ℕ
-old_ntfs_form x = without_end (is_among (codes " .")) (before_first (λ b. b == byte ":") x)
-
--- The fault of a component in version 1: the first condition that holds, by that form.
-unfoldable pub old_fault_of : ComponentOptions → Option ComponentMode → List ℕ → Option ComponentError
-old_fault_of options mode x =
-    first_of (conditions old_ntfs_form options.protect_windows options.protect_hfs options.protect_ntfs (is_some mode) x)
+use Rattle.gix_validate.specs.Faults.{when, ◌orelse◌}
+use Rattle.gix_validate.specs.Ntfs.{ntfs_form}
+use Rattle.gix_validate.specs.Component.{fault_of}
+use Rattle.rule_laws.specs.Version1.{is_among, lower, is_git_form, is_modules_form, ntfs_form as old_ntfs_form, fault_of as old_fault_of}
 
 -- the front of the name before its first backslash, or the whole name where there is none
 abbrev pub front : List ℕ → List ℕ

@@ -1,0 +1,59 @@
+//! What the call for path components returns, under each of the sixteen settings.
+
+use crate::questions::agreed;
+use bstr::BStr;
+use gix_validate::path::{self, ComponentError, ComponentMode, ComponentOptions};
+use std::alloc::{AllocError, Global};
+use typed_names::Component;
+
+/// How many answers there are: one for each setting.
+pub const ANSWERS: usize = 16;
+
+/// The letters for a component, one for each setting in the order of its number, each of the
+/// library and of the typed name.
+pub fn answers(alloc: Global, name: BStr<'_>) -> Result<Vec<String>, AllocError> {
+    let mut letters = Vec::with_capacity(alloc, ANSWERS)?;
+    for setting in 0..ANSWERS {
+        let (mode, options) = (mode_of(setting), options_of(setting));
+        letters.push(agreed(
+            alloc,
+            String::from_str(alloc, letter(path::component(name, mode, options)))?,
+            String::from_str(alloc, letter(Component::new(name, mode, options)))?,
+        )?)?;
+    }
+    Ok(letters)
+}
+
+/// The switches of a setting: its number is the sum of 1 for Windows, 2 for HFS, 4 for NTFS, and 8
+/// for a symlink.
+fn options_of(setting: usize) -> ComponentOptions {
+    ComponentOptions {
+        protect_windows: setting & 1 != 0,
+        protect_hfs: setting & 2 != 0,
+        protect_ntfs: setting & 4 != 0,
+    }
+}
+
+/// The mode of a setting.
+fn mode_of(setting: usize) -> Option<ComponentMode> {
+    if setting & 8 != 0 {
+        Some(ComponentMode::Symlink)
+    } else {
+        None
+    }
+}
+
+/// The letter of a result.
+fn letter<T: Drop>(answer: Result<T, ComponentError>) -> &'static str {
+    match answer {
+        Ok(_) => ".",
+        Err(ComponentError::Empty) => "E",
+        Err(ComponentError::Relative) => "R",
+        Err(ComponentError::PathSeparator) => "S",
+        Err(ComponentError::WindowsPathPrefix) => "P",
+        Err(ComponentError::WindowsReservedName) => "D",
+        Err(ComponentError::WindowsIllegalCharacter) => "I",
+        Err(ComponentError::DotGitDir) => "G",
+        Err(ComponentError::SymlinkedGitModules) => "M",
+    }
+}

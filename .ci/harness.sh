@@ -1,0 +1,121 @@
+# shellcheck shell=bash disable=SC2154
+# What the test scripts share: cases that have names, checks that are counted, and an end that can't be missed.
+#
+# A script sets `suite`, its name in messages, and sources this. That reads these words from the script's arguments, and
+# leaves the others:
+#
+#     --list         prints the names of the cases
+#     --case NAME    runs this case alone; it can be given more than once
+#
+# A case is a function test_NAME of the script, which runs it by `try test_NAME` and in the end calls `finish`. `pass` and
+# `no` count. Each check is a line in a file, so that a process that is cut short takes none with it. A case that is due
+# and made no check is a failure, and so is a script that doesn't come to `finish`.
+
+mapfile -t cases < <(sed -n 's/^\(test_[a-z_]*\)() {$/\1/p' "$0")
+chosen=()
+while [[ ${1-} == --list || ${1-} == --case ]]; do
+    if [[ $1 == --list ]]; then
+        printf '%s\n' "${cases[@]}"
+        exit
+    fi
+    if [[ " ${cases[*]} " != *" ${2:-no name} "* ]]; then
+        echo "$suite: there is no case '${2-}'; --list prints their names" >&2
+        exit 2
+    fi
+    chosen+=("$2")
+    shift 2
+done
+((${#chosen[@]} > 0)) || chosen=("${cases[@]}")
+due=("${chosen[@]}")
+
+# A folder for the script, which goes when it ends.
+room=$(mktemp -d)
+tally=$(mktemp)
+started=()
+current='no case'
+is_whole=
+trap 'ended $?' EXIT
+
+ended() {
+    if [[ -z $is_whole ]]; then
+        echo "$suite: FAILED: it stopped before its end"
+        set -- 1
+    fi
+    rm -rf -- "$room" "$tally"
+    exit "$1"
+}
+
+# Ends the script before it has run a case. leave STATUS
+leave() {
+    is_whole=1
+    exit "$1"
+}
+
+tell() {
+    printf '%s\n' "$*" >> "$tally"
+}
+
+pass() {
+    tell "pass $current"
+}
+
+# no WHAT: a check failed. A script can have a function `show`, which prints what the check saw.
+no() {
+    tell "fail $current"
+    echo "FAILED: $current: ${1:0:500}"
+    ! declare -F show > /dev/null || show | cat -v | sed 's/^/    /' || true
+}
+
+# check WHAT COMMAND..
+check() {
+    if "${@:2}"; then pass; else no "$1"; fi
+}
+
+# Some cases can't run here. not_run WHY CASE..
+not_run() {
+    echo "not run: $1"
+    for current in "${@:2}"; do
+        tell "skip $current"
+    done
+    current='no case'
+}
+
+# Runs a case, if it is to run. try CASE ARGUMENT..
+try() {
+    [[ " ${chosen[*]} " == *" $1 "* ]] || return 0
+    current=$1
+    "$@"
+    current='no case'
+}
+
+# Runs a command in a process of its own, once less than so many run. part MOST COMMAND..
+part() {
+    while (($(jobs -rp | wc -l) >= $1)); do
+        wait -n || true
+    done
+    started+=("${*:2}")
+    { "${@:2}"; tell "end ${*:2}"; } > "$room/part ${#started[@]}" 2>&1 &
+}
+
+# Waits for all parts, and shows what they printed.
+end_parts() {
+    local number
+    wait
+    for number in "${!started[@]}"; do
+        cat -- "$room/part $((number + 1))"
+        grep -q -x -F -e "end ${started[number]}" -- "$tally" || no "it stopped before its end: ${started[number]}"
+    done
+    started=()
+}
+
+# Prints the last line. The status is 0 if each check passed.
+finish() {
+    local passed failed
+    for current in "${due[@]}"; do
+        grep -q -x -e "[a-z]* $current" -- "$tally" || no 'it made no check'
+    done
+    passed=$(grep -c '^pass' -- "$tally") || true
+    failed=$(grep -c '^fail' -- "$tally") || true
+    echo "$suite: $passed passed, $failed failed"
+    leave $((failed > 0 || passed == 0))
+}

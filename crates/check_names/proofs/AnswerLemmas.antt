@@ -23,45 +23,53 @@ use Rattle.std.proofs.lemmas.Bool.Decides.{nat_tests}
 
 -- ---- one line
 
--- the line of a kind has the answer of its row
+-- A line of the kind `tag` has the verdict of the rule of tag names.
 pub asked_tag : (line name : List ℕ) → line ≡ codes "tag " ++ name → answer_of line ≡ verdict (Tag.fault_of name) Tag.text_of
 unfolding answer_of split_once kinds
 asked_tag line name is = ap answer_of is
 
+-- A line of the kind `partial` has the verdict of the rule of partial names.
 pub asked_partial : (line name : List ℕ) → line ≡ codes "partial " ++ name → answer_of line ≡ verdict (Reference.partial_fault_of name) Reference.text_of
 unfolding answer_of split_once kinds
 asked_partial line name is = ap answer_of is
 
+-- A line of the kind `ref` has the verdict of the rule of full names.
 pub asked_ref : (line name : List ℕ) → line ≡ codes "ref " ++ name → answer_of line ≡ verdict (Reference.full_fault_of name) Reference.text_of
 unfolding answer_of split_once kinds
 asked_ref line name is = ap answer_of is
 
+-- A line of the kind `branch` has the verdict of the rule of names of branches.
 pub asked_branch : (line name : List ℕ) → line ≡ codes "branch " ++ name → answer_of line ≡ verdict (Reference.branch_fault_of name) Reference.text_of
 unfolding answer_of split_once kinds
 asked_branch line name is = ap answer_of is
 
+-- A line of the kind `submodule` has the verdict of the rule of submodule names.
 pub asked_submodule : (line name : List ℕ) → line ≡ codes "submodule " ++ name → answer_of line ≡ verdict (Submodule.fault_of name) Submodule.text_of
 unfolding answer_of split_once kinds
 asked_submodule line name is = ap answer_of is
 
+-- A line of the kind `path` has the verdict of the rule of components, under all protections and without a mode.
 pub asked_path : (line name : List ℕ) → line ≡ codes "path " ++ name → answer_of line ≡ verdict (Component.fault_of all_protections None name) Component.text_of
 unfolding answer_of split_once kinds
 asked_path line name is = ap answer_of is
 
+-- A line of the kind `symlink` has the verdict of that rule for a symbolic link.
 pub asked_symlink : (line name : List ℕ) → line ≡ codes "symlink " ++ name
     → answer_of line ≡ verdict (Component.fault_of all_protections (Some Symlink) name) Component.text_of
 unfolding answer_of split_once kinds
 asked_symlink line name is = ap answer_of is
 
+-- A line of the kind `device` is answered by whether its name is a device.
 pub asked_device : (line name : List ℕ) → line ≡ codes "device " ++ name → answer_of line ≡ device_answer name
 unfolding answer_of split_once kinds
 asked_device line name is = ap answer_of is
 
+-- A line of the kind `sanitize` is answered by the sanitised name.
 pub asked_sanitize : (line name : List ℕ) → line ≡ codes "sanitize " ++ name → answer_of line ≡ sanitized name
 unfolding answer_of split_once kinds
 asked_sanitize line name is = ap answer_of is
 
--- a line that begins with what has a space asks for something
+-- A line that begins with a text that has a space asks for something.
 pub asks_something : (line front name : List ℕ) → line ≡ front ++ name → list_any (λ b. b == byte " ") front ≡ true → request_of line ≢ None
 unfolding split_once
 asks_something line front name is spaced none = grind (arith, nat_tests, list_any-append, false≢true)
@@ -83,7 +91,7 @@ another-kind : (line word kind name : List ℕ) → ((rest : List ℕ) → line 
 another-kind line word kind name lacks is = false_from_ne_true _ (λ same.
     lacks name (is ∙ ap (λ front. front ++ byte " " ∷ name) ((bytes_eq-Decides kind word).0 same) ∙ sym (append_assoc word (byte " " ∷ []) name)))
 
--- a line that begins with no kind and a space
+-- A line that begins with no kind and a space has the answer `unknown kind`.
 pub asked_otherwise : (line : List ℕ) → ((rest : List ℕ) → line ≢ codes "ref " ++ rest) → ((rest : List ℕ) → line ≢ codes "tag " ++ rest)
     → ((rest : List ℕ) → line ≢ codes "partial " ++ rest) → ((rest : List ℕ) → line ≢ codes "branch " ++ rest)
     → ((rest : List ℕ) → line ≢ codes "submodule " ++ rest)
@@ -108,7 +116,7 @@ asked_otherwise line n1 n2 n3 n4 n5 n6 n7 n8 n9 = elim (cases_Bool (list_any (λ
   | inr none ↦ rw none refl
 ]
 
--- what was answered by a rule of faults, whatever else it says of a name that passed, printed as a verdict
+-- a result by a rule of faults, printed as a verdict, whatever else it says of a name that passed
 verdict-of : {Name E : Type 0} (Also : Name → Type 0) (fault : List ℕ → Option E) (text_of : E
     → List ℕ) (name : List ℕ) (result : Result Name E) (old new : List ℕ)
     → MatchResult result (λ passed. (fault name ≡ None) × Also passed) (λ e. fault name ≡ Some e)
@@ -116,14 +124,14 @@ verdict-of : {Name E : Type 0} (Also : Name → Type 0) (fault : List ℕ → Op
     → new ≡ old ++ verdict (fault name) text_of
 verdict-of Also fault text_of name result old new hh1 hh2 = grind (arith, nat_tests, append_assoc)
 
--- what a validator answered, printed as a verdict, is the answer where its rule is asked
+-- If a validator returns by this rule of faults, and its result is printed, the verdict of the rule was printed.
 pub verdict-of_validator : {E : Type 0} (fault : List ℕ → Option E) (text_of : E → List ℕ) (name : List ℕ) (result : Result BStr E) (old new : List ℕ)
     → Validates fault name result
     → MatchResult result (λ _. new ≡ old ++ codes "ok") (λ e. new ≡ old ++ codes "error: " ++ text_of e)
     → new ≡ old ++ verdict (fault name) text_of
 verdict-of_validator fault text_of name = verdict-of (λ passed. bstr_bytes passed ≡ name) fault text_of name
 
--- the same of a validator whose answer is kept as a typed name
+-- The same of a constructor of a typed name.
 pub verdict-of_kept : {Name E : Type 0} (kept : Name → BStr) (fault : List ℕ → Option E) (text_of : E
     → List ℕ) (text : BStr) (result : Result Name E) (old new : List ℕ)
     → Keeps kept fault text result
@@ -133,19 +141,21 @@ verdict-of_kept kept fault text_of text = verdict-of (λ passed. kept passed ≡
 
 -- ---- all lines
 
+-- The empty text has no answers.
 pub answers_nil : answers [] ≡ []
 unfolding answers lines
 answers_nil = refl
 
+-- The answers of a text are the answer of its first line with an end, and then the answers of what follows that line.
 pub answers-first : (text line rest : List ℕ) → lines text ≡ line ∷ lines rest → answers text ≡ (answer_of line ++ line_end ∷ []) ++ answers rest
 unfolding answers
 answers-first text line rest first = rw first
 
--- one line's answer moves from what is left to what is written
+-- The answers written so far and those of the rest stay all answers when the first line of the rest is answered.
 pub answers-more : (written answer rest after all answered now : List ℕ) → answered ≡ written ++ answer → now ≡ answered ++ line_end ∷ []
     → rest ≡ (answer ++ line_end ∷ []) ++ after → written ++ rest ≡ all → now ++ after ≡ all
 answers-more written answer rest after all answered now one ended first whole = grind (arith, nat_tests, append_assoc)
 
--- nothing is left
+-- Where no text is left, all answers are written.
 pub answers-done : (written rest text : List ℕ) → rest ≡ [] → written ++ answers rest ≡ answers text → written ≡ answers text
 answers-done written rest text none whole = grind (arith, nat_tests, append-nil, answers_nil)

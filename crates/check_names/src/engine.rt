@@ -1,53 +1,27 @@
 //! The answers to the lines of a text.
 
-ghost use Rattle.std.specs.Prelude.{◌≡◌, ◌≢◌, ◌+◌, ◌<◌, [], ◌∷◌, ◌++◌, ℕ, List, codes, length, vec_len, vec_capacity, Some, None, Err, IsOk, IsOkUnless, IfOk, OnOk, OnErr, IfSome, MatchOption, MatchResult};
+ghost use Rattle.std.specs.Prelude.{◌≡◌, ◌≢◌, ◌+◌, ◌<◌, [], ◌∷◌, ◌++◌, ℕ, List, codes, length, vec_len, vec_capacity, Some, None, Err, IsOk, IsOkUnless, IfErr, IfOk, OnOk, OnErr, IfSome, MatchOption, MatchResult};
 ghost use Rattle.std.specs.Io.KnownBytes.{Appends, IsAtEnd};
 ghost use Rattle.bstr.specs.BStr.{bstr_bytes};
 ghost use Rattle.gix_validate.specs.Component.{all_protections, fault_of, text_of as component_text};
 ghost use Rattle.gix_validate.specs.Sanitized.{sanitized};
 ghost use Rattle.check_names.specs.Answers.{answer_of, answers, device_answer, unknown_kind, verdict};
 ghost use Rattle.check_names.specs.Lines.{lines, request_of};
+ghost use Rattle.streams.specs.Promises.{Begins};
 
 use bstr::BStr;
 use gix_validate::path::{ComponentMode, ComponentOptions};
 use gix_validate::{path, reference, submodule};
 use memchr::memchr;
 use std::alloc::{AllocError, Global};
-use std::error::Error;
 use std::fmt::{Display, Write as _};
 use std::io::{Read, Write};
 use std::{fmt, io};
+use streams::outcome::RunError;
+use streams::output::write_whole;
 use typed_names::{Component, FullName, PartialName, TagName};
 
 const UNKNOWN_KIND: &[u8] = b"unknown kind";
-
-/// Why a run stopped before its end.
-#[derive(Debug, Drop)]
-pub enum RunError {
-    /// Reading to the end failed, or there was no memory for the bytes that were read. Nothing was
-    /// written.
-    Read,
-    /// There was no memory for the answers. Nothing was written.
-    Memory,
-    /// Writing or flushing failed. How much was written is unknown.
-    Write,
-}
-
-impl Display for RunError {
-    ghost use Rattle.check_names.specs.Stops.{text_of};
-
-    ghost output = { λ e. Some (text_of e) };
-
-    fn fmt<W: fmt::Write>(&self, f: &mut fmt::Formatter<W>) -> fmt::Result {
-        f.write_str(match self {
-            RunError::Read => "read failed",
-            RunError::Memory => "out of memory",
-            RunError::Write => "write failed",
-        })
-    }
-}
-
-impl Error for RunError {}
 
 /// Reads all of `input`, answers each of its lines by one line, writes the answers to `output` by
 /// one call, and flushes it once (`docs/RULES.md`, "The program's lines").
@@ -61,13 +35,14 @@ impl Error for RunError {}
 /// are the readers `&[u8]`, `Cursor`, `VecDeque<u8>` and `Empty`, the writers `Vec<u8>` and
 /// `VecDeque<u8>`, and over them `&mut`, `Box`, `Take`, `Chain` and the buffers of `BufReader`,
 /// `BufWriter` and `LineWriter`. They are not a terminal, a file, a pipe, a socket, `&mut [u8]` as
-/// a writer or the writers of `Cursor`. `ok` depends on both sides; `end`, `spent` and `empty` on
-/// the reader alone; `read` and `memory` on neither.
+/// a writer or the writers of `Cursor`. `ok` and `stopped` depend on both sides; `end`, `spent` and
+/// `empty` on the reader alone; `read` and `memory` on neither.
 ///
 /// # Errors
 ///
-/// [`RunError`] says which of the three steps failed. Only a failed `Write` can leave anything
-/// written.
+/// [`RunError::Read`] if reading to the end failed, or there was no memory for what was read;
+/// [`RunError::Memory`] if there was none for the answers; [`RunError::Write`] if writing or
+/// flushing failed. Only the last can leave anything written, and that begins the answers.
 pub fn run<R: Read, W: Write>(alloc: Global, input: &mut R, output: &mut W) -> Result<(), RunError>
     ensures ok { OnOk result (IfSome (R.remaining input.old)
         (λ text. Appends (W.contents output.old) (W.contents output.new) (answers text))) }
@@ -76,12 +51,14 @@ pub fn run<R: Read, W: Write>(alloc: Global, input: &mut R, output: &mut W) -> R
         (λ _. R.remaining input.new ≡ Some []) }
     ensures read { result ≡ Err RunError.Read → output.new ≡ output.old }
     ensures memory { result ≡ Err RunError.Memory → output.new ≡ output.old }
+    ensures stopped { OnErr result (IfSome (R.remaining input.old) (λ text.
+        Begins (W.contents output.old) (W.contents output.new) (answers text))) }
     ensures empty { R.remaining input.old ≡ Some [] → IsOkUnless result RunError.Read
         × (output.new ≡ output.old) }
 {
     let text = read_all(alloc, input).map_err(|_| RunError::Read)?;
     let answers = answer_all(alloc, &text).map_err(|_| RunError::Memory)?;
-    write_once(&answers, output).map_err(|_| RunError::Write)
+    write_once(&answers, output)
 }
 
 /// All that the reader has left.
@@ -96,15 +73,17 @@ fn read_all<R: Read>(alloc: Global, input: &mut R) -> io::Result<Vec<u8>>
 }
 
 /// Writes the bytes and flushes, unless there are none.
-fn write_once<W: Write>(bytes: &[u8], output: &mut W) -> io::Result<()>
+fn write_once<W: Write>(bytes: &[u8], output: &mut W) -> Result<(), RunError>
     ensures ok { OnOk result (Appends (W.contents output.old) (W.contents output.new) bytes.now) }
     ensures none { bytes.now ≡ [] → IsOk result × (output.new ≡ output.old) }
+    ensures err { OnErr result (Begins (W.contents output.old) (W.contents output.new) bytes.now) }
+    ensures stop { IfErr result (λ stop. stop ≡ RunError.Write) }
 {
     if bytes.is_empty() {
         return Ok(());
     }
-    output.write_all(bytes)?;
-    output.flush()
+    write_whole(bytes, output)?;
+    output.flush().map_err(|_| RunError::Write)
 }
 
 /// The answers to the lines of a text. No memory is asked for where there is no line.
@@ -262,5 +241,3 @@ impl fmt::Write for Appender<'_> {
 mod refused_memory;
 #[cfg(test)]
 mod tests;
-#[cfg(test)]
-mod vectors;

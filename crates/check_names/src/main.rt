@@ -1,16 +1,110 @@
 //! Answers, for each line of standard input, whether the name on it is accepted.
 #![tactic(auto)]
 
+ghost use Rattle.std.specs.Prelude.{◌≡◌, ◌≢◌, ◌≤◌, Ok, IfSome, IsErr, map};
+ghost use Rattle.std.specs.Io.KnownBytes.{Appends};
+ghost use Rattle.std.specs.Process.{exit_status};
+ghost use Rattle.std.specs.String.{string_bytes};
+ghost use Rattle.streams.specs.Promises.{Begins};
+ghost use Rattle.check_names.specs.Answers.{answers};
+ghost use Rattle.check_names.specs.Arguments.{AsksForAnswers, request_of};
+ghost use Rattle.check_names.specs.Messages.{message_of};
+
+mod arguments;
 mod engine;
 
+use arguments::Request;
+use std::io::{Read, Write};
 use std::process::ExitCode;
+use streams::outcome::RunError;
+use streams::output::write_whole;
+use streams::program::{failed, printed, words};
+
+const NAME: &str = "check_names";
+
+const HELP: &str = "\
+Answers each line of standard input by one line, once the input has ended:
+
+    printf 'tag v1.2.3\\ntag a..b\\n' | check_names
+
+A line is a kind, a space and a name; the name is all that follows the first
+space, up to the line's end.
+
+    tag          ok, or error: and the fault of the name as a tag name
+    partial      the same of a reference name that may be short, as main
+    ref          the same of a full reference name, as HEAD or refs/heads/main
+    branch       the same of the full name of a branch
+    submodule    the same of a submodule name
+    path         the same of one name in a directory
+    symlink      the same of one name in a directory that is to be a symbolic
+                 link
+    device       yes or no: whether Windows takes the name for a device
+    sanitize     the name itself if it is a partial name, and else its repair
+
+Any other kind, and a line without a space, is answered by: unknown kind
+
+    --help       prints this text
+    --version    prints the version
+
+The status is 0 whatever the answers are, 1 if reading or writing fails or
+memory runs out, and 2 if an argument is wrong.";
 
 fn main(rt: HostRuntime) -> ExitCode {
-    match engine::run(rt.alloc(), &mut rt.stdin(), &mut rt.stdout()) {
-        Ok(()) => ExitCode::SUCCESS,
-        Err(fault) => {
-            let _ = eprintln!(rt; "check_names: {fault}");
-            ExitCode::FAILURE
-        }
+    match words(&rt, NAME) {
+        Ok(words) => answer(
+            &rt,
+            &words,
+            &mut rt.stdin(),
+            &mut rt.stdout(),
+            &mut rt.stderr(),
+        ),
+        Err(status) => status,
+    }
+}
+
+/// Does what the arguments ask for, and gives the exit status.
+fn answer<R: Read, W: Write, E: Write>(
+    rt: &HostRuntime,
+    words: &[String],
+    input: &mut R,
+    output: &mut W,
+    errors: &mut E,
+) -> ExitCode
+    ensures answered { AsksForAnswers words.now → exit_status result ≡ 0 → IfSome (R.remaining input.old) (λ text.
+        Appends (W.contents output.old) (W.contents output.new) (answers text)) }
+    ensures begun { AsksForAnswers words.now → exit_status result ≢ 0 → IfSome (R.remaining input.old) (λ text.
+        Begins (W.contents output.old) (W.contents output.new) (answers text)) }
+    ensures stopped { AsksForAnswers words.now → exit_status result ≢ 0 → exit_status result ≡ 1 }
+    ensures message { AsksForAnswers words.now → exit_status result ≢ 0 → (stop : RunError)
+        × Begins (E.contents errors.old) (E.contents errors.new) (message_of stop)
+        × (stop ≢ RunError.Write → output.new ≡ output.old) }
+    ensures quiet { AsksForAnswers words.now → exit_status result ≡ 0 → errors.new ≡ errors.old }
+    ensures unread { request_of (map string_bytes words.now) ≢ Ok Request.Answer
+        → (input.new ≡ input.old) × (output.new ≡ output.old) }
+    ensures unknown { IsErr (request_of (map string_bytes words.now)) → exit_status result ≡ 2 }
+    ensures status { exit_status result ≤ 2 }
+{
+    match arguments::request_of(words) {
+        Ok(Request::Answer) => match engine::run(rt.alloc(), input, output) {
+            Ok(()) => ExitCode::SUCCESS,
+            Err(stop) => {
+                let _ = write_whole(message_of(stop), errors);
+                ExitCode::FAILURE
+            }
+        },
+        Ok(Request::Help) => printed(rt, NAME, HELP),
+        Ok(Request::Version) => printed(rt, NAME, "check_names 2"),
+        Err(fault) => failed(rt, NAME, fault),
+    }
+}
+
+/// The line on standard error of a run that stopped.
+fn message_of(stop: RunError) -> &'static [u8]
+    ensures { result.now ≡ message_of stop }
+{
+    match stop {
+        RunError::Read => b"check_names: read failed\n",
+        RunError::Memory => b"check_names: out of memory\n",
+        RunError::Write => b"check_names: write failed\n",
     }
 }

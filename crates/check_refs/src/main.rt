@@ -19,11 +19,10 @@ mod update;
 use arguments::Request;
 use report::Options;
 use std::alloc::Global;
-use std::env;
-use std::io::{BufRead, ErrorKind, Read, Write};
+use std::io::{BufRead, Read, Write};
 use std::process::ExitCode;
 use streams::outcome::{RunError, Verdict};
-use streams::program::{Check, exit_code, failed, printed};
+use streams::program::{Check, exit_code, failed, printed, words};
 
 const NAME: &str = "check_refs";
 
@@ -69,15 +68,10 @@ impl Check for Options {
 }
 
 fn main(rt: HostRuntime) -> ExitCode {
-    let words: Vec<String> = match env::args(&rt) {
-        Ok(args) => match args.skip(1).collect(rt.alloc()) {
-            Ok(words) => words,
-            Err(_) => return failed(&rt, NAME, RunError::Memory),
-        },
-        Err(e) if e.kind() == ErrorKind::OutOfMemory => return failed(&rt, NAME, RunError::Memory),
-        Err(_) => return failed(&rt, NAME, "the arguments can't be read as UTF-8"),
-    };
-    answer(&rt, &words, rt.stdin(), rt.stdout())
+    match words(&rt, NAME) {
+        Ok(words) => answer(&rt, &words, rt.stdin(), rt.stdout()),
+        Err(status) => status,
+    }
 }
 
 /// Does what the arguments ask for, and gives the exit status.

@@ -15,11 +15,10 @@ mod report;
 
 use arguments::Request;
 use engine::Options;
-use std::env;
-use std::io::{ErrorKind, Read, Write};
+use std::io::{Read, Write};
 use std::process::ExitCode;
-use streams::outcome::{RunError, Verdict};
-use streams::program::{exit_code, failed, printed};
+use streams::outcome::Verdict;
+use streams::program::{exit_code, failed, printed, words};
 
 const NAME: &str = "check_submodules";
 
@@ -49,15 +48,10 @@ The status is 0 if nothing is refused, 1 if a name, a section or a file is, and
 argument is wrong.";
 
 fn main(rt: HostRuntime) -> ExitCode {
-    let words: Vec<String> = match env::args(&rt) {
-        Ok(args) => match args.skip(1).collect(rt.alloc()) {
-            Ok(words) => words,
-            Err(_) => return failed(&rt, NAME, RunError::Memory),
-        },
-        Err(e) if e.kind() == ErrorKind::OutOfMemory => return failed(&rt, NAME, RunError::Memory),
-        Err(_) => return failed(&rt, NAME, "the arguments can't be read as UTF-8"),
-    };
-    answer(&rt, &words, rt.stdin(), rt.stdout())
+    match words(&rt, NAME) {
+        Ok(words) => answer(&rt, &words, rt.stdin(), rt.stdout()),
+        Err(status) => status,
+    }
 }
 
 /// Does what the arguments ask for, and gives the exit status.

@@ -272,12 +272,12 @@ fn say<W: Write>(
     match finding {
         Finding::Accepted => Ok(false),
         Finding::Modules => {
-            set_modules_line(line, tree, front, id)?;
+            set_modules_line(line, tree, front, id).map_err(|_| RunError::Memory)?;
             write_whole(line, output)?;
             Ok(false)
         }
         Finding::Refused(fault) => {
-            set_refused_line(line, tree, front, fault)?;
+            set_refused_line(line, tree, front, fault).map_err(|_| RunError::Memory)?;
             write_whole(line, output)?;
             Ok(true)
         }

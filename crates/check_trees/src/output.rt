@@ -9,10 +9,8 @@ ghost use Rattle.check_trees.specs.Private.{as_front};
 use crate::entry::Front;
 use gix_validate::path::ComponentError;
 use std::alloc::AllocError;
-use std::io;
 use std::io::Write;
 use streams::header::Object;
-use streams::outcome::RunError;
 use streams::output::{push_hex, push_quoted};
 
 /// Puts the line of a refused entry in place of the last one. Most entries have none.
@@ -23,11 +21,11 @@ pub(crate) fn set_refused_line(
     tree: Object<'_>,
     front: Front<'_>,
     fault: ComponentError,
-) -> Result<(), RunError>
+) -> Result<(), AllocError>
     ensures { OnOk result (line.new.items ≡ refused_line (as_object tree.entry) (as_front front.entry) fault) }
 {
     line.clear();
-    push_refused(line, tree, front, fault).map_err(|_| RunError::Memory)
+    push_refused(line, tree, front, fault)
 }
 
 /// Appends the line of a refused entry.
@@ -36,12 +34,12 @@ fn push_refused(
     tree: Object<'_>,
     front: Front<'_>,
     fault: ComponentError,
-) -> io::Result<()>
+) -> Result<(), AllocError>
     ensures { OnOk result (line.new.items ≡ line.old.items ++ refused_line (as_object tree.entry) (as_front front.entry) fault) }
 {
     push_place(line, tree, front)?;
     line.push(b' ')?;
-    write!(line, "{fault}")?;
+    write!(line, "{fault}").map_err(|_| AllocError)?;
     push_path(line, tree.rest)?;
     line.push(b'\n')?;
     Ok(())
@@ -56,11 +54,11 @@ pub(crate) fn set_modules_line(
     tree: Object<'_>,
     front: Front<'_>,
     id: &[u8],
-) -> Result<(), RunError>
+) -> Result<(), AllocError>
     ensures { OnOk result (line.new.items ≡ modules_line (as_object tree.entry) (as_front front.entry) id.now) }
 {
     line.clear();
-    push_modules(line, tree, front, id).map_err(|_| RunError::Memory)
+    push_modules(line, tree, front, id)
 }
 
 /// Appends the line of a file that is read as `.gitmodules`.

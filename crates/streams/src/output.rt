@@ -1,6 +1,6 @@
 //! What is written: quoted names, ids in hexadecimal digits, and whole lines.
 
-ghost use Rattle.std.specs.Prelude.{◌≡◌, ◌++◌, flat_map, OnOk, OnErr};
+ghost use Rattle.std.specs.Prelude.{◌≡◌, ◌++◌, flat_map, IfErr, OnOk, OnErr};
 ghost use Rattle.std.specs.Io.KnownBytes.{Appends};
 ghost use Rattle.gix_validate.specs.Quoted.{escape_of, quoted};
 ghost use Rattle.streams.specs.Texts.{hex_pair};
@@ -81,6 +81,7 @@ fn push_escape(line: &mut Vec<u8>, byte: u8) -> Result<(), AllocError>
 pub fn write_whole<W: Write>(bytes: &[u8], output: &mut W) -> Result<(), RunError>
     ensures ok { OnOk result (Appends (W.contents output.old) (W.contents output.new) bytes.now) }
     ensures err { OnErr result (Begins (W.contents output.old) (W.contents output.new) bytes.now) }
+    ensures stop { IfErr result (λ stop. stop ≡ RunError.Write) }
 {
     let mut written = 0;
     for _ in 0..u64::MAX {

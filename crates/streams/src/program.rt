@@ -1,14 +1,16 @@
-//! What a program does around a run: buffers, the message of a failure, and the exit status.
+//! What a program does around a run: arguments, buffers, the message of a failure, and the exit
+//! status.
 
-ghost use Rattle.std.specs.Prelude.{◌≡◌, ◌≤◌, ℕ, List, IfOk, IfSome};
+ghost use Rattle.std.specs.Prelude.{◌≡◌, ◌≤◌, ℕ, List, IfErr, IfOk, IfSome};
 ghost use Rattle.std.specs.Io.KnownBytes.{Appends};
 ghost use Rattle.std.specs.Process.{exit_status};
 ghost use Rattle.streams.specs.Reports.{Report, verdict_of};
 
 use crate::outcome::{RunError, Verdict};
 use std::alloc::Global;
+use std::env;
 use std::fmt::Display;
-use std::io::{BufRead, BufReader, BufWriter, Read, Write};
+use std::io::{BufRead, BufReader, BufWriter, ErrorKind, Read, Write};
 use std::process::ExitCode;
 
 /// How many bytes are read or written at once.
@@ -28,6 +30,24 @@ pub trait Check: Copy {
         ensures verdict { IfOk result (λ verdict. IfSome (R.remaining input.old) (λ text.
             Appends (W.contents output.old) (W.contents output.new) (report self text).said.lines
             × (verdict ≡ verdict_of (report self text)))) };
+}
+
+/// The arguments of the program `name`, without its own name.
+///
+/// # Errors
+///
+/// The status 2, with a message on standard error, if an argument is not UTF-8 or memory runs out.
+pub fn words(rt: &HostRuntime, name: &str) -> Result<Vec<String>, ExitCode>
+    ensures status { IfErr result (λ status. exit_status status ≡ 2) }
+{
+    match env::args(rt) {
+        Ok(args) => match args.skip(1).collect(rt.alloc()) {
+            Ok(words) => Ok(words),
+            Err(_) => Err(failed(rt, name, RunError::Memory)),
+        },
+        Err(e) if e.kind() == ErrorKind::OutOfMemory => Err(failed(rt, name, RunError::Memory)),
+        Err(_) => Err(failed(rt, name, "the arguments can't be read as UTF-8")),
+    }
 }
 
 /// Checks the input, and gives the status that the program `name` ends with: 0 if nothing is

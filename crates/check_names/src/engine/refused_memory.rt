@@ -1,10 +1,10 @@
-//! Calls that take memory, asked again where they are refused it. `.ci/refused_memory` builds these
-//! tests once, has the twelfth request of each refused, and counts what they print.
+//! Calls that allocate, made again if they are refused memory. `.ci/refused_memory` builds these
+//! tests once, has the same allocation of each refused, and counts what they print.
 //!
-//! Together the calls make eleven requests. A test is named after the one that is refused in it: it
-//! makes so many requests of its own first that this one is its twelfth. In the last test none is
-//! refused.
+//! A test is named after the allocation of the calls that is refused in it: it makes so many of its
+//! own first that this one is the one that is refused. In the last test none of the calls is.
 
+use super::tests::{ANSWERS, LINES};
 use super::{RunError, run};
 use bstr::{BStr, BString};
 use gix_validate::path::{ComponentError, ComponentOptions, join as path_join};
@@ -15,50 +15,71 @@ use std::process::Abort;
 use std::test::Fail;
 use typed_names::Component;
 
-/// Lines of each kind. (Behind a call, so that the proofs of the tests don't carry the text.)
-fn lines() -> &'static [u8] {
-    b"partial @
-ref V1
-branch refs/heads/main
-submodule a/..
-path .git
-symlink .gitmodules
-device nul.txt
-sanitize a b.lock
-bogus x
-tag
-
-tag \n"
+/// A call that allocates once.
+#[derive(Clone, Copy)]
+enum Call {
+    SanitizeNothing,
+    SanitizePieces,
+    JoinNames,
+    JoinComponents,
 }
 
-/// The answers to the lines.
-fn answers() -> &'static [u8] {
-    b"error: Reference name is reserved and cannot be used: \"@\"
-error: Standalone references must be all uppercased, like 'HEAD'
-ok
-error: Submodules names must not contains '..'
-error: The .git name may never be used
-error: The .gitmodules file must not be a symlink
-yes
-a-b
-unknown kind
-unknown kind
-unknown kind
-error: A ref must not be empty
-"
-}
-
-/// Makes requests of its own until the given one of the calls is the twelfth, and then asks each
-/// call.
-fn ask_with_refused<R: Abort + AllocGlobal + Print>(rt: &R, request: u8) -> Result<(), Fail> {
-    for _ in request..12 {
-        Vec::from_slice(rt.alloc(), b" ")?;
+/// How a call is printed.
+fn name_of(call: Call) -> &'static str {
+    match call {
+        Call::SanitizeNothing => "sanitize_nothing",
+        Call::SanitizePieces => "sanitize_pieces",
+        Call::JoinNames => "reference_join",
+        Call::JoinComponents => "path_join",
     }
-    sanitizes_nothing(rt)?;
-    sanitizes_pieces(rt)?;
-    joins_names(rt)?;
-    joins_components(rt)?;
-    answers_lines(rt)
+}
+
+/// What a call gives.
+fn given(alloc: Global, call: Call) -> Result<BString, AllocError> {
+    match call {
+        Call::SanitizeNothing => name_partial_or_sanitize(alloc, BStr::new(b"")),
+        Call::SanitizePieces => {
+            name_partial_or_sanitize(alloc, BStr::new(b"refs//heads/../x.lock.lock/.y*"))
+        }
+        Call::JoinNames => join_names(alloc, BStr::new(b"@"), BStr::new(b"v1.0")),
+        Call::JoinComponents => join_components(alloc),
+    }
+}
+
+/// What it has to give.
+fn wanted(call: Call) -> &'static [u8] {
+    match call {
+        Call::SanitizeNothing => b"-",
+        Call::SanitizePieces => b"refs/heads/-/x/-y-",
+        Call::JoinNames => b"@/v1.0",
+        Call::JoinComponents => b"src/.github/a.rs",
+    }
+}
+
+/// The join of two names; empty if one is not a tag name.
+fn join_names(alloc: Global, a: BStr<'_>, b: BStr<'_>) -> Result<BString, AllocError> {
+    match (tag::name(a), tag::name(b)) {
+        (Ok(a), Ok(b)) => reference_join(alloc, a, b),
+        _ => Ok(BString::new(Vec::new(alloc))),
+    }
+}
+
+/// A component by the default options.
+fn part(name: &'static [u8]) -> Result<Component<'static>, ComponentError> {
+    Component::new(BStr::new(name), None, ComponentOptions::default())
+}
+
+/// The join of three components.
+fn join_components(alloc: Global) -> Result<BString, AllocError> {
+    match (part(b"src"), part(b".github"), part(b"a.rs")) {
+        (Ok(a), Ok(b), Ok(c)) => path_join(alloc, &[a.as_bstr(), b.as_bstr(), c.as_bstr()]),
+        _ => Ok(BString::new(Vec::new(alloc))),
+    }
+}
+
+/// Whether a call gives what it has to.
+fn is_right(alloc: Global, call: Call) -> Result<bool, AllocError> {
+    Ok(given(alloc, call)?.as_bytes() == wanted(call))
 }
 
 /// Prints what became of a call.
@@ -67,129 +88,51 @@ fn say<R: Print>(rt: &R, call: &str, outcome: &str) -> Result<(), Fail> {
     Ok(())
 }
 
-/// Compares bytes.
-fn expect<R: Abort>(rt: &R, bytes: &[u8], want: &[u8]) {
-    assert_eq!(rt; bytes, want);
-}
-
-/// The repair of a text. (It has no contract, so that the proofs of the tests don't carry one. So
-/// have the calls below.)
-fn sanitize(alloc: Global, text: BStr<'_>) -> Result<BString, AllocError> {
-    name_partial_or_sanitize(alloc, text)
-}
-
-/// Repairs the empty text.
-fn sanitizes_nothing<R: Abort + AllocGlobal + Print>(rt: &R) -> Result<(), Fail> {
-    let text = BStr::new(b"");
-    let name = match sanitize(rt.alloc(), text) {
-        Ok(name) => name,
+/// Makes a call, and once more if it is refused memory.
+fn ask<R: Abort + AllocGlobal + Print>(rt: &R, call: Call) -> Result<(), Fail> {
+    let right = match is_right(rt.alloc(), call) {
+        Ok(right) => right,
         Err(AllocError) => {
-            say(rt, "sanitize_nothing", "refused")?;
-            sanitize(rt.alloc(), text)?
+            say(rt, name_of(call), "refused")?;
+            is_right(rt.alloc(), call)?
         }
     };
-    expect(rt, name.as_bytes(), b"-");
-    say(rt, "sanitize_nothing", "answered")
+    assert!(rt; right);
+    say(rt, name_of(call), "answered")
 }
 
-/// Repairs a text of many pieces.
-fn sanitizes_pieces<R: Abort + AllocGlobal + Print>(rt: &R) -> Result<(), Fail> {
-    let text = BStr::new(b"refs//heads/../x.lock.lock/.y*");
-    let name = match sanitize(rt.alloc(), text) {
-        Ok(name) => name,
-        Err(AllocError) => {
-            say(rt, "sanitize_pieces", "refused")?;
-            expect(rt, text.as_bytes(), b"refs//heads/../x.lock.lock/.y*");
-            sanitize(rt.alloc(), text)?
-        }
-    };
-    expect(rt, name.as_bytes(), b"refs/heads/-/x/-y-");
-    say(rt, "sanitize_pieces", "answered")
-}
-
-/// The join of two names, if both are tag names.
-fn join_names(alloc: Global, a: BStr<'_>, b: BStr<'_>) -> Result<Option<BString>, AllocError> {
-    let (Ok(a), Ok(b)) = (tag::name(a), tag::name(b)) else {
-        return Ok(None);
-    };
-    Ok(Some(reference_join(alloc, a, b)?))
-}
-
-/// Joins two tag names.
-fn joins_names<R: Abort + AllocGlobal + Print>(rt: &R) -> Result<(), Fail> {
-    let (a, b) = (BStr::new(b"@"), BStr::new(b"v1.0"));
-    let name = match join_names(rt.alloc(), a, b) {
-        Ok(name) => name,
-        Err(AllocError) => {
-            say(rt, "reference_join", "refused")?;
-            expect(rt, a.as_bytes(), b"@");
-            expect(rt, b.as_bytes(), b"v1.0");
-            join_names(rt.alloc(), a, b)?
-        }
-    };
-    let Some(name) = name else {
-        panic!(rt; "both are tag names");
-    };
-    expect(rt, name.as_bytes(), b"@/v1.0");
-    say(rt, "reference_join", "answered")
-}
-
-/// A component by the default options.
-fn part(name: BStr<'_>) -> Result<Component<'_>, ComponentError> {
-    Component::new(name, None, ComponentOptions::default())
-}
-
-/// The join of three names, if they are components.
-fn join_components(alloc: Global, parts: &[BStr<'_>; 3]) -> Result<Option<BString>, AllocError> {
-    let [folder, inner, file] = *parts;
-    let (Ok(folder), Ok(inner), Ok(file)) = (part(folder), part(inner), part(file)) else {
-        return Ok(None);
-    };
-    let parts = [folder.as_bstr(), inner.as_bstr(), file.as_bstr()];
-    Ok(Some(path_join(alloc, &parts)?))
-}
-
-/// Joins three components.
-fn joins_components<R: Abort + AllocGlobal + Print>(rt: &R) -> Result<(), Fail> {
-    let parts = [BStr::from("src"), BStr::from(".github"), BStr::from("a.rs")];
-    let name = match join_components(rt.alloc(), &parts) {
-        Ok(name) => name,
-        Err(AllocError) => {
-            say(rt, "path_join", "refused")?;
-            for (part, text) in parts.iter().zip([b"src".as_slice(), b".github", b"a.rs"]) {
-                expect(rt, part.as_bytes(), text);
-            }
-            join_components(rt.alloc(), &parts)?
-        }
-    };
-    let Some(name) = name else {
-        panic!(rt; "each is a component");
-    };
-    expect(rt, name.as_bytes(), b"src/.github/a.rs");
-    say(rt, "path_join", "answered")
-}
-
-/// Answers the lines.
-fn run_on_lines(alloc: Global, output: &mut &mut [u8]) -> Result<(), RunError> {
-    run(alloc, &mut &*lines(), output)
-}
-
-/// Answers lines of each kind.
-fn answers_lines<R: Abort + AllocGlobal + Print>(rt: &R) -> Result<(), Fail> {
-    let mut room = [0; 400];
+/// Whether a run writes the answers, into a writer that doesn't allocate.
+fn run_is_right(alloc: Global) -> Result<bool, RunError> {
+    let mut room = [0; 8];
     let mut output = room.as_mut_slice();
-    match run_on_lines(rt.alloc(), &mut output) {
-        Ok(()) => {}
-        Err(RunError::Write) => panic!(rt; "the writer has room"),
+    run(alloc, &mut &*LINES, &mut output)?;
+    Ok(room.starts_with(ANSWERS))
+}
+
+/// Answers the lines, and once more if that is refused memory.
+fn ask_run<R: Abort + AllocGlobal + Print>(rt: &R) -> Result<(), Fail> {
+    let right = match run_is_right(rt.alloc()) {
+        Ok(right) => right,
         Err(stop) => {
             println!(rt; "run: refused, {stop}")?;
-            assert_eq!(rt; output.len(), 400);
-            run_on_lines(rt.alloc(), &mut output)?;
+            run_is_right(rt.alloc())?
         }
-    }
-    assert_eq!(rt; output.len().saturating_add(answers().len()), 400);
-    assert!(rt; room.starts_with(answers()));
+    };
+    assert!(rt; right);
     say(rt, "run", "answered")
+}
+
+/// Allocates until the given allocation of the calls is the one that is refused, and then makes each
+/// call.
+fn ask_with_refused<R: Abort + AllocGlobal + Print>(rt: &R, request: u8) -> Result<(), Fail> {
+    for _ in request..8 {
+        Vec::from_slice(rt.alloc(), b" ")?;
+    }
+    ask(rt, Call::SanitizeNothing)?;
+    ask(rt, Call::SanitizePieces)?;
+    ask(rt, Call::JoinNames)?;
+    ask(rt, Call::JoinComponents)?;
+    ask_run(rt)
 }
 
 #[test]
@@ -230,24 +173,4 @@ fn request_7(rt: HostRuntime) -> Result<(), Fail> {
 #[test]
 fn request_8(rt: HostRuntime) -> Result<(), Fail> {
     ask_with_refused(&rt, 8)
-}
-
-#[test]
-fn request_9(rt: HostRuntime) -> Result<(), Fail> {
-    ask_with_refused(&rt, 9)
-}
-
-#[test]
-fn request_10(rt: HostRuntime) -> Result<(), Fail> {
-    ask_with_refused(&rt, 10)
-}
-
-#[test]
-fn request_11(rt: HostRuntime) -> Result<(), Fail> {
-    ask_with_refused(&rt, 11)
-}
-
-#[test]
-fn request_12(rt: HostRuntime) -> Result<(), Fail> {
-    ask_with_refused(&rt, 12)
 }

@@ -16,4 +16,4 @@ returns-clause-empty g c = λ none.
     let no_answers : answers c.deref.result.now ≡ [] = ap answers (c.deref.ensures.value ∙ no_text) ∙ answers_nil in
     let none_written : c.deref-2.result.now ≡ [] = grind (arith, common_steps) in
     let written = c.write_once.ensures.none none_written in
-    (IfErr-from_ok _ _ (c.map_err-3.ensures.variant ∙ written.0), written.1)
+    (IfErr-from_ok _ _ written.0, written.1)

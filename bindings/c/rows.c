@@ -273,6 +273,7 @@ static void check_null(void) {
     EXPECT(gix_validate_sanitize(NULL, 0, NULL, 0) == 0);
     EXPECT(gix_validate_sanitize_in_place(NULL, 0, 0) == 0);
     EXPECT(gix_validate_sanitize_in_place(NULL, 0, 1) == 0);
+    EXPECT(gix_validate_sanitize((const uint8_t *)"a", 1, NULL, 0) == 0);
     uint8_t text[GIX_VALIDATE_TEXT_MAX];
     EXPECT(gix_validate_submodule_text(NULL, 0, text, sizeof text) == strlen("Submodule names cannot be empty"));
 }

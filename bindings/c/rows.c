@@ -297,7 +297,7 @@ static void check_helpers(void) {
     EXPECT(gix_validate_component_text((const uint8_t *)"a.", 2, GIX_VALIDATE_PROTECT_ALL, NULL, 0) ==
            GIX_VALIDATE_TEXT_MAX);
     EXPECT(gix_validate_fault_name(GIX_VALIDATE_RELATIVE + 1) == NULL);
-    EXPECT(gix_validate_version() == 2000000);
+    EXPECT(gix_validate_version() == GIX_VALIDATE_VERSION);
 }
 
 int main(int count, char **arguments) {

@@ -17,7 +17,8 @@ DotGitDir - The .git name may never be used
 A name is bytes, of any values; a str or None is a TypeError. The functions have no state and may be called from any
 thread.
 
-The shared object is that of bindings/out, or the one whose path is in the environment variable GIX_VALIDATE_LIBRARY.
+The shared object is the one beside this module, as the wheel has it, or that of bindings/out. The environment variable
+GIX_VALIDATE_LIBRARY may name another path.
 Its major version has to be that of this module, and it may not be older; otherwise the import is an ImportError.
 """
 
@@ -41,7 +42,7 @@ __all__ = [
     "version",
 ]
 
-_VERSION = (2, 0, 0)
+_VERSION = (2, 1, 0)
 _TEXT_MAX = 134
 
 
@@ -104,14 +105,15 @@ class InvalidName(ValueError):
 
 
 def _library() -> ctypes.CDLL:
-    default = Path(__file__).resolve().parent.parent / "out" / "libgix_validate_c.so"
+    beside = Path(__file__).resolve().with_name("libgix_validate_c.so")
+    default = beside if beside.exists() else beside.parent.parent / "out" / beside.name
     path = os.environ.get("GIX_VALIDATE_LIBRARY") or str(default)
     try:
         library = ctypes.CDLL(path)
     except OSError as error:
         raise ImportError(
             f"gix_validate needs its shared object: {error}. "
-            "Build it by bindings/build, or name its path in GIX_VALIDATE_LIBRARY."
+            "The wheel has it, and bindings/build builds it; GIX_VALIDATE_LIBRARY may name its path."
         ) from error
     found = _version_of(library)
     if found[0] != _VERSION[0] or found < _VERSION:

@@ -11,8 +11,10 @@ const VARIABLE: &str = "GIX_VALIDATE_LIB_DIR";
 
 fn main() {
     let here = PathBuf::from(required("CARGO_MANIFEST_DIR"));
-    let folder =
-        env::var_os(VARIABLE).map_or_else(|| here.join("../out"), |named| here.join(named));
+    let folder = match env::var_os(VARIABLE) {
+        Some(named) => here.join(named),
+        None => shipped(&here).unwrap_or_else(|| here.join("../out")),
+    };
     println!("cargo:rerun-if-env-changed={VARIABLE}");
     println!("cargo:rerun-if-changed={}", folder.join(ARCHIVE).display());
     if !folder.join(ARCHIVE).is_file() {
@@ -21,6 +23,27 @@ fn main() {
     check_version(&folder);
     println!("cargo:rustc-link-search=native={}", folder.display());
     println!("cargo:rustc-link-lib=static=gix_validate_c");
+}
+
+/// The folder with the archive for the target, as a release has it.
+fn shipped(here: &Path) -> Option<PathBuf> {
+    let native = here.join("native");
+    if !native.is_dir() {
+        return None;
+    }
+    let parts = ["ARCH", "OS", "ENDIAN"].map(|part| required(&format!("CARGO_CFG_TARGET_{part}")));
+    let [arch, os, endian] = parts
+        .each_ref()
+        .map(|part| part.to_str().unwrap_or_default());
+    let folder = native.join(format!("{arch}-unknown-{os}-gnu"));
+    if endian == "little" && folder.join(ARCHIVE).is_file() {
+        return Some(folder);
+    }
+    eprintln!(
+        "gix-validate has archives for x86-64 Linux and AArch64 Linux, and none for {arch} {os}; \
+         {VARIABLE} can name a folder with another"
+    );
+    exit(1)
 }
 
 /// Stops if the archive has another major version than this crate, or is older: its numbers of faults may then be
@@ -90,6 +113,6 @@ fn not_built(folder: &Path) -> ! {
         "gix-validate links the archive {ARCHIVE}, which is not in {}",
         folder.display()
     );
-    eprintln!("build it by bindings/build, or name the folder that has it in {VARIABLE}");
+    eprintln!("bindings/build builds it in a clone of the repository, or name the folder that has it in {VARIABLE}");
     exit(1)
 }

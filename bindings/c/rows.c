@@ -273,6 +273,7 @@ static void check_null(void) {
     EXPECT(gix_validate_sanitize(NULL, 0, NULL, 0) == 0);
     EXPECT(gix_validate_sanitize_in_place(NULL, 0, 0) == 0);
     EXPECT(gix_validate_sanitize_in_place(NULL, 0, 1) == 0);
+    EXPECT(gix_validate_sanitize((const uint8_t *)"a", 1, NULL, 0) == 0);
     uint8_t text[GIX_VALIDATE_TEXT_MAX];
     EXPECT(gix_validate_submodule_text(NULL, 0, text, sizeof text) == strlen("Submodule names cannot be empty"));
 }
@@ -296,7 +297,7 @@ static void check_helpers(void) {
     EXPECT(gix_validate_component_text((const uint8_t *)"a.", 2, GIX_VALIDATE_PROTECT_ALL, NULL, 0) ==
            GIX_VALIDATE_TEXT_MAX);
     EXPECT(gix_validate_fault_name(GIX_VALIDATE_RELATIVE + 1) == NULL);
-    EXPECT(gix_validate_version() == 2000000);
+    EXPECT(gix_validate_version() == GIX_VALIDATE_VERSION);
 }
 
 int main(int count, char **arguments) {

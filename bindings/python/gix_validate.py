@@ -1,6 +1,6 @@
 """Validation of the names that Git uses, and the repair of a bad reference name.
 
-Each function asks a proved call of the Rattle crate gix_validate_c, through its shared object. The rules are those
+Each function calls a proved function of the Rattle crate gix_validate_c, in its shared object. The rules are those
 of docs/RULES.md; docs/BINDINGS.md says what is proved and what is not.
 
 >>> import gix_validate
@@ -11,13 +11,15 @@ b'refs/heads/-/x'
 >>> try:
 ...     gix_validate.path_component(b".GIT ")
 ... except gix_validate.InvalidName as error:
-...     print(error.fault.name, "-", error)
-DOT_GIT_DIR - The .git name may never be used
+...     print(error.fault, "-", error)
+DotGitDir - The .git name may never be used
 
 A name is bytes, of any values; a str or None is a TypeError. The functions have no state and may be called from any
 thread.
 
-The shared object is that of bindings/out, or the one whose path is in the environment variable GIX_VALIDATE_LIBRARY.
+The shared object is the one beside this module, as the wheel has it, or that of bindings/out. The environment variable
+GIX_VALIDATE_LIBRARY may name another path.
+Its major version has to be that of this module, and it may not be older; otherwise the import is an ImportError.
 """
 
 import ctypes
@@ -40,11 +42,15 @@ __all__ = [
     "version",
 ]
 
+_VERSION = (2, 1, 0)
 _TEXT_MAX = 134
 
 
 class Fault(enum.IntEnum):
-    """Why a name is refused. The numbers are stable, and those of gix_validate.h."""
+    """Why a name is invalid. The numbers are stable, and those of gix_validate.h.
+
+    str() and format() give the spelling of the Rust crate and of gix_validate_fault_name in C, as "RepeatedDot".
+    """
 
     INVALID_BYTE = 1
     STARTS_WITH_SLASH = 2
@@ -68,21 +74,27 @@ class Fault(enum.IntEnum):
     SYMLINKED_GIT_MODULES = 20
     RELATIVE = 21
 
+    def __str__(self) -> str:
+        return "".join(word.capitalize() for word in self.name.split("_"))
+
+    def __format__(self, specification: str) -> str:
+        return format(str(self), specification)
+
 
 class InvalidName(ValueError):
-    """A name that is refused.
+    """A name that is invalid.
 
     str() of it is the text of the fault.
     """
 
     name: bytes
-    """The name that was asked about."""
+    """The name that was checked."""
     fault: Fault
-    """Its first fault; `fault.name` is the fault's name, as "REPEATED_DOT"."""
+    """Its first fault."""
     text: str
     """The text of the fault, in English."""
     byte: Optional[int]
-    """The invalid byte where the fault is INVALID_BYTE, and else None."""
+    """The invalid byte if the fault is INVALID_BYTE, and else None."""
 
     def __init__(self, name: bytes, fault: Fault, text: str, byte: Optional[int] = None) -> None:
         super().__init__(name, fault, text, byte)
@@ -93,15 +105,31 @@ class InvalidName(ValueError):
 
 
 def _library() -> ctypes.CDLL:
-    default = Path(__file__).resolve().parent.parent / "out" / "libgix_validate_c.so"
+    beside = Path(__file__).resolve().with_name("libgix_validate_c.so")
+    default = beside if beside.exists() else beside.parent.parent / "out" / beside.name
     path = os.environ.get("GIX_VALIDATE_LIBRARY") or str(default)
     try:
-        return ctypes.CDLL(path)
+        library = ctypes.CDLL(path)
     except OSError as error:
         raise ImportError(
             f"gix_validate needs its shared object: {error}. "
-            "Build it by bindings/build, or name its path in GIX_VALIDATE_LIBRARY."
+            "The wheel has it, and bindings/build builds it; GIX_VALIDATE_LIBRARY may name its path."
         ) from error
+    found = _version_of(library)
+    if found[0] != _VERSION[0] or found < _VERSION:
+        wanted, given = (".".join(map(str, version)) for version in (_VERSION, found))
+        raise ImportError(
+            f"gix_validate {wanted} needs a shared object of the same major version that isn't older: "
+            f"{path} has {given}."
+        )
+    return library
+
+
+def _version_of(library: ctypes.CDLL) -> Tuple[int, int, int]:
+    version = library.gix_validate_version
+    version.argtypes, version.restype = [], ctypes.c_uint32
+    number = version()
+    return number // 1_000_000, number // 1000 % 1000, number % 1000
 
 
 _loaded = _library()
@@ -129,22 +157,20 @@ _component, _component_text = _code_and_text("component", ctypes.c_uint32)
 _invalid_byte = _function("invalid_byte", ctypes.c_uint32)
 _is_windows_device = _function("is_windows_device", ctypes.c_bool)
 _sanitize = _function("sanitize", ctypes.c_size_t, ctypes.c_char_p, ctypes.c_size_t)
-_version = _loaded.gix_validate_version
-_version.argtypes, _version.restype = [], ctypes.c_uint32
 
 
 def tag_name(name: bytes) -> bytes:
-    """Gives `name` back where it is a valid name of a tag, as b"v1.2.3"; else raises InvalidName."""
+    """Returns `name` if it is a valid name of a tag, as b"v1.2.3"; else raises InvalidName."""
     return _accepted(name, _tag, _tag_text)
 
 
 def partial_name(name: bytes) -> bytes:
-    """Gives `name` back where it is a valid partial name of a reference, as b"main"; else raises InvalidName."""
+    """Returns `name` if it is a valid partial name of a reference, as b"main"; else raises InvalidName."""
     return _accepted(name, _partial, _partial_text)
 
 
 def full_name(name: bytes) -> bytes:
-    """Gives `name` back where it is a valid full name of a reference; else raises InvalidName.
+    """Returns `name` if it is a valid full name of a reference; else raises InvalidName.
 
     A full name has a slash, as b"refs/heads/main", or has no byte but A to Z and _, as b"HEAD".
     """
@@ -152,7 +178,7 @@ def full_name(name: bytes) -> bytes:
 
 
 def branch_name(name: bytes) -> bytes:
-    """Gives `name` back where it is a full name that a branch may have; else raises InvalidName.
+    """Returns `name` if it is a full name that a branch may have; else raises InvalidName.
 
     b"refs/heads/HEAD" is reserved.
     """
@@ -160,62 +186,67 @@ def branch_name(name: bytes) -> bytes:
 
 
 def submodule_name(name: bytes) -> bytes:
-    """Gives `name` back where it is a valid name of a submodule, as b"vendor/package"; else raises InvalidName."""
+    """Returns `name` if it is a valid name of a submodule, as b"vendor/package"; else raises InvalidName."""
     return _accepted(name, _submodule, _submodule_text)
 
 
 def path_component(
     name: bytes, *, windows: bool = True, hfs: bool = True, ntfs: bool = True, symlink: bool = False
 ) -> bytes:
-    """Gives `name` back where it may be one component of a path, as b"src"; else raises InvalidName.
+    """Returns `name` if it may be one component of a path, as b"src"; else raises InvalidName.
 
     `windows`, `hfs` and `ntfs` protect against what these systems read otherwise. `symlink` says that the component
     is to be a symbolic link, which .gitmodules may not be.
+
+    The default, all three, is right for a server, and wherever it isn't known where a name will be checked out.
+    Devices, as b"NUL" and b"aux.c", and what Windows forbids in a name, as a dot at its end, are refused only if
+    `windows` and `ntfs` are both set. `ntfs` without `windows` accepts b"a\\.git", which Windows reads as a path and
+    `git fsck` refuses.
     """
     flags = bool(windows) | bool(hfs) << 1 | bool(ntfs) << 2 | bool(symlink) << 3
     return _accepted(name, _component, _component_text, flags)
 
 
 def is_windows_device(name: bytes) -> bool:
-    """Does Windows take `name` for a device, as b"NUL" or b"com1.txt"?"""
-    if not isinstance(name, bytes):
-        raise _not_bytes(name)
-    answer: bool = _is_windows_device(name, len(name))
-    return answer
+    """Whether Windows takes `name` for a device, as b"NUL" or b"com1.txt"."""
+    result: bool = _is_windows_device(name, _length(name))
+    return result
 
 
 def sanitize(name: bytes) -> bytes:
-    """Repairs any bytes to a valid partial name of a reference. Those that are one are given back."""
-    if not isinstance(name, bytes):
-        raise _not_bytes(name)
-    if not _partial(name, len(name)):
+    """Repairs any bytes to a valid partial name of a reference. A valid one is returned as it is."""
+    length = _length(name)
+    if not _partial(name, length):
         return name
-    buffer = ctypes.create_string_buffer(max(1, len(name)))
-    return ctypes.string_at(buffer, _sanitize(name, len(name), buffer, len(buffer)))
+    buffer = ctypes.create_string_buffer(max(1, length))
+    return ctypes.string_at(buffer, _sanitize(name, length, buffer, len(buffer)))
 
 
 def version() -> Tuple[int, int, int]:
-    """The version of the rules: major, minor, patch."""
-    number = _version()
-    return number // 1_000_000, number // 1000 % 1000, number % 1000
+    """The version of the library: major, minor, patch."""
+    return _version_of(_loaded)
 
 
-def _not_bytes(name: object) -> TypeError:
-    return TypeError(f"a name has to be bytes, not {type(name).__name__}")
+def _length(name: bytes) -> int:
+    """How many bytes the name has, whatever the `__len__` of a subclass says."""
+    if not isinstance(name, bytes):
+        raise TypeError(f"a name has to be bytes, not {type(name).__name__}")
+    return bytes.__len__(name)
 
 
 def _accepted(name: bytes, code_of: Callable[..., int], text_of: Callable[..., int], *flags: int) -> bytes:
-    if not isinstance(name, bytes):
-        raise _not_bytes(name)
-    code = code_of(name, len(name), *flags)
+    length = _length(name)
+    code = code_of(name, length, *flags)
     if code:
-        raise _refused(name, code, text_of, flags)
+        raise _refused(name, length, code, text_of, flags)
     return name
 
 
-def _refused(name: bytes, code: int, text_of: Callable[..., int], flags: Tuple[int, ...]) -> InvalidName:
-    text = ctypes.create_string_buffer(_TEXT_MAX)
-    length = text_of(name, len(name), *flags, text, len(text))
+def _refused(
+    name: bytes, length: int, code: int, text_of: Callable[..., int], flags: Tuple[int, ...]
+) -> InvalidName:
+    buffer = ctypes.create_string_buffer(_TEXT_MAX)
+    written = text_of(name, length, *flags, buffer, len(buffer))
     fault = Fault(code)
-    byte = _invalid_byte(name, len(name)) if fault is Fault.INVALID_BYTE else None
-    return InvalidName(name, fault, text.raw[:length].decode("ascii"), byte)
+    byte = _invalid_byte(name, length) if fault is Fault.INVALID_BYTE else None
+    return InvalidName(name, fault, buffer.raw[:written].decode("ascii"), byte)

@@ -6,6 +6,7 @@ import pickle
 import re
 import subprocess
 import sys
+import tempfile
 import threading
 import unittest
 from pathlib import Path
@@ -93,6 +94,34 @@ class Interface(unittest.TestCase):
 
         self.assertEqual(gix_validate.tag_name(Name(b"v1")), b"v1")
 
+    def test_a_subclass_that_lies_about_its_length(self) -> None:
+        class Name(bytes):
+            def __len__(self) -> int:
+                return 1_000_000
+
+        for call in CALLS.values():
+            self.assertEqual(call(Name(b"refs/heads/x")), b"refs/heads/x")
+        self.assertEqual(gix_validate.path_component(Name(b"x")), b"x")
+        self.assertIs(gix_validate.is_windows_device(Name(b"nul")), True)
+        self.assertEqual(gix_validate.sanitize(Name(b"a//b")), b"a/b")
+        with self.assertRaises(InvalidName) as refused:
+            gix_validate.tag_name(Name(b"a b"))
+        self.assertEqual(refused.exception.byte, 0x20)
+
+    def test_the_spelling_of_faults(self) -> None:
+        self.assertEqual(str(Fault.SYMLINKED_GIT_MODULES), "SymlinkedGitModules")
+        self.assertEqual(f"{Fault.INVALID_BYTE}", "InvalidByte")
+        self.assertEqual(f"{Fault.EMPTY:>6}", " Empty")
+        self.assertEqual([fault_of(str(fault)) for fault in Fault], list(Fault))
+
+    def test_windows_and_ntfs_together(self) -> None:
+        for name in (b"NUL", b"aux.c", b"a."):
+            self.assertEqual(gix_validate.path_component(name, ntfs=False), name)
+            self.assertEqual(gix_validate.path_component(name, windows=False), name)
+            with self.assertRaises(InvalidName):
+                gix_validate.path_component(name)
+        self.assertEqual(gix_validate.path_component(b"a\\.git", windows=False), b"a\\.git")
+
     def test_the_default_protects_against_all(self) -> None:
         for name, setting in ((b"a\\b", "windows"), (b".g\xe2\x80\x8cit", "hfs"), (b"git~1", "ntfs")):
             with self.assertRaises(InvalidName):
@@ -136,16 +165,34 @@ class Interface(unittest.TestCase):
     def test_the_examples_of_the_docstring(self) -> None:
         self.assertEqual(doctest.testmod(gix_validate).failed, 0)
 
-    def test_a_library_that_is_not_there(self) -> None:
+    def imported(self, library: Path) -> str:
+        """What an import with that shared object says as it fails."""
         run = subprocess.run(
             [sys.executable, "-c", "import gix_validate"],
-            env={**os.environ, "GIX_VALIDATE_LIBRARY": str(HERE / "none.so")},
+            env={**os.environ, "GIX_VALIDATE_LIBRARY": str(library)},
             cwd=HERE,
             stderr=subprocess.PIPE,
             text=True,
         )
         self.assertNotEqual(run.returncode, 0)
-        self.assertRegex(run.stderr, "ImportError: .*none.so.*bindings/build.*GIX_VALIDATE_LIBRARY")
+        return run.stderr
+
+    def test_a_library_that_is_not_there(self) -> None:
+        self.assertRegex(
+            self.imported(HERE / "none.so"), "ImportError: .*none.so.*bindings/build.*GIX_VALIDATE_LIBRARY"
+        )
+
+    def test_a_library_of_another_version(self) -> None:
+        for number, version in ((3_000_000, "3.0.0"), (1_999_999, "1.999.999")):
+            with tempfile.TemporaryDirectory() as folder:
+                library = Path(folder) / "other.so"
+                subprocess.run(
+                    [os.environ.get("CC", "cc"), "-shared", "-fPIC", "-x", "c", "-o", str(library), "-"],
+                    input=f"unsigned gix_validate_version(void) {{ return {number}; }}",
+                    text=True,
+                    check=True,
+                )
+                self.assertRegex(self.imported(library), rf"ImportError: gix_validate 2\..*other\.so has {version}")
 
 
 if __name__ == "__main__":

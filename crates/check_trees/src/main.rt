@@ -44,7 +44,10 @@ it is refused, and the rest of the tree's header line, if it is not empty.
 
 The status is 0 if nothing is refused, 1 if something is, and 2 if the input is
 malformed, reading or writing fails, memory runs out, or an argument is wrong.
-Names are checked for Windows if both windows and ntfs are protected.";
+The default is right for a server. Devices, as NUL and aux.c, and what Windows
+forbids in a name, as a dot at its end, are refused only if windows and ntfs are
+both protected. ntfs without windows accepts a\\.git, which Windows reads as a
+path, and which `git fsck` refuses.";
 
 fn main(rt: HostRuntime) -> ExitCode {
     match words(&rt, NAME) {

@@ -2,7 +2,7 @@
 
 ghost use Rattle.std.specs.Prelude.{◌≡◌, ◌↔◌, ◌≤◌, ℕ, List, length, IsOk, MatchResult};
 
-use crate::text::{Text, plain, quoting};
+use crate::printing::{Text, plain, quoting};
 use bstr::BStr;
 use gix_validate::path::ComponentError;
 use gix_validate::{reference, submodule, tag};

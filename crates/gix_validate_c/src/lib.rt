@@ -16,7 +16,7 @@
 mod fault;
 mod flags;
 pub mod names;
+mod printing;
 pub mod sanitize;
-mod text;
 pub mod texts;
 pub mod version;

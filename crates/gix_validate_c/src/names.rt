@@ -4,7 +4,7 @@
 //! its fault (docs/RULES.md, "Calls for C"). Lengths are bytes. The calls take no memory and never
 //! fail.
 
-ghost use Rattle.std.specs.Prelude.{◌≡◌, ◌↔◌, ◌≤◌, ◌%◌, IsTrue};
+ghost use Rattle.std.specs.Prelude.{◌≡◌, ◌⊎◌, ◌↔◌, ◌≤◌, ◌%◌, IsTrue};
 ghost use Rattle.gix_validate.specs.Tag as tag;
 ghost use Rattle.gix_validate.specs.Reference.{partial_fault_of, full_fault_of, branch_fault_of, is_partial_name, is_full_name, is_branch_name};
 ghost use Rattle.gix_validate.specs.Submodule as submodule;
@@ -32,6 +32,7 @@ const NO_BYTE: u32 = 256;
 pub extern "C" fn gix_validate_tag(name: &[u8]) -> u32
     ensures answer { result ≡ code_by tag_number (tag.fault_of name.now) }
     ensures grammar { (result ≡ 0) ↔ IsTrue (tag.is_tag_name name.now) }
+    ensures range { result ≤ 11 }
 {
     code(tag::name(BStr::new(name)))
 }
@@ -49,6 +50,7 @@ pub extern "C" fn gix_validate_tag(name: &[u8]) -> u32
 pub extern "C" fn gix_validate_partial(name: &[u8]) -> u32
     ensures answer { result ≡ code_by reference_number (partial_fault_of name.now) }
     ensures grammar { (result ≡ 0) ↔ IsTrue (is_partial_name name.now) }
+    ensures range { result ≤ 13 }
     ensures as_tag { let number = code_by tag_number (tag.fault_of name.now) in 1 ≤ number → result ≡ number }
 {
     code(reference::name_partial(BStr::new(name)))
@@ -67,6 +69,7 @@ pub extern "C" fn gix_validate_partial(name: &[u8]) -> u32
 pub extern "C" fn gix_validate_full(name: &[u8]) -> u32
     ensures answer { result ≡ code_by reference_number (full_fault_of name.now) }
     ensures grammar { (result ≡ 0) ↔ IsTrue (is_full_name name.now) }
+    ensures range { result ≤ 13 }
     ensures as_tag { let number = code_by tag_number (tag.fault_of name.now) in 1 ≤ number → result ≡ number }
 {
     code(reference::name(BStr::new(name)))
@@ -85,6 +88,7 @@ pub extern "C" fn gix_validate_full(name: &[u8]) -> u32
 pub extern "C" fn gix_validate_branch(name: &[u8]) -> u32
     ensures answer { result ≡ code_by reference_number (branch_fault_of name.now) }
     ensures grammar { (result ≡ 0) ↔ IsTrue (is_branch_name name.now) }
+    ensures range { result ≤ 13 }
     ensures as_tag { let number = code_by tag_number (tag.fault_of name.now) in 1 ≤ number → result ≡ number }
 {
     code(reference::branch_name(BStr::new(name)))
@@ -101,6 +105,7 @@ pub extern "C" fn gix_validate_branch(name: &[u8]) -> u32
 pub extern "C" fn gix_validate_submodule(name: &[u8]) -> u32
     ensures answer { result ≡ code_by submodule_number (submodule.fault_of name.now) }
     ensures grammar { (result ≡ 0) ↔ IsTrue (submodule.is_submodule_name name.now) }
+    ensures range { (result ≡ 0) ⊎ (result ≡ 11) ⊎ (result ≡ 14) }
 {
     code(submodule::name(BStr::new(name)))
 }
@@ -120,6 +125,7 @@ pub extern "C" fn gix_validate_submodule(name: &[u8]) -> u32
 pub extern "C" fn gix_validate_component(name: &[u8], flags: u32) -> u32
     ensures answer { result ≡ code_by component_number (component.fault_of (options_of flags) (mode_of flags) name.now) }
     ensures grammar { (result ≡ 0) ↔ IsTrue (component.is_component (options_of flags) (mode_of flags) name.now) }
+    ensures range { (result ≡ 0) ⊎ (result ≡ 11) ⊎ ((15 ≤ result) × (result ≤ 21)) }
     ensures low_bits { let low = flags % 16 in
         result ≡ code_by component_number (component.fault_of (options_of low) (mode_of low) name.now) }
 {

@@ -18,13 +18,10 @@ ghost use Rattle.gix_validate_c.specs.Texts.{text_by, with_text};
 
 use crate::fault::Fault;
 use crate::flags;
-use crate::text::write_whole;
+pub use crate::printing::LONGEST_TEXT;
+use crate::printing::write_whole;
 use bstr::BStr;
 use gix_validate::{path, reference, submodule, tag};
-
-/// How many bytes the longest text has: that of `WindowsIllegalCharacter`. Each text fits a buffer
-/// of this size.
-pub const LONGEST_TEXT: usize = 134;
 
 /// The text of the fault that the name has as a tag name.
 ///

@@ -5,15 +5,15 @@ ghost use Rattle.gix_validate_c.specs.Numbers.{version_number};
 
 const MAJOR: u32 = 2;
 
-const MINOR: u32 = 0;
+const MINOR: u32 = 1;
 
 const PATCH: u32 = 0;
 
 /// The version as one number, which grows from version to version: a million for each major
-/// version, a thousand for each minor one, and one for each patch. 2.0.0 is 2,000,000.
+/// version, a thousand for each minor one, and one for each patch. 2.1.0 is 2,001,000.
 #[unsafe(no_mangle)]
 pub extern "C" fn gix_validate_version() -> u32
-    ensures { result ≡ version_number 2 0 0 }
+    ensures { result ≡ version_number 2 1 0 }
 {
     MAJOR * 1_000_000 + MINOR * 1_000 + PATCH
 }

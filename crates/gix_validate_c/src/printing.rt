@@ -5,8 +5,11 @@ ghost use Rattle.arrayvec.specs.ArrayVec.{array_vec_len};
 ghost use Rattle.gix_validate.specs.Quoted.{quoted, escape_of, hex_digit};
 ghost use Rattle.gix_validate_c.specs.Texts.{with_text};
 
-use crate::texts::LONGEST_TEXT;
 use arrayvec::ArrayVec;
+
+/// How many bytes the longest text has: that of `WindowsIllegalCharacter`. Each text fits a buffer
+/// of this size.
+pub const LONGEST_TEXT: usize = 134;
 
 /// A printed text.
 pub(crate) type Text = ArrayVec<u8, LONGEST_TEXT>;

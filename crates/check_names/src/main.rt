@@ -18,7 +18,7 @@ use std::io::{Read, Write};
 use std::process::ExitCode;
 use streams::outcome::RunError;
 use streams::output::write_whole;
-use streams::program::{failed, printed, words};
+use streams::program::{VERSION, failed, printed, words};
 
 const NAME: &str = "check_names";
 
@@ -93,7 +93,7 @@ fn answer<R: Read, W: Write, E: Write>(
             }
         },
         Ok(Request::Help) => printed(rt, NAME, HELP),
-        Ok(Request::Version) => printed(rt, NAME, "check_names 2"),
+        Ok(Request::Version) => printed(rt, NAME, format_args!("{NAME} {VERSION}")),
         Err(fault) => failed(rt, NAME, fault),
     }
 }

@@ -22,7 +22,7 @@ use std::alloc::Global;
 use std::io::{BufRead, Read, Write};
 use std::process::ExitCode;
 use streams::outcome::{RunError, Verdict};
-use streams::program::{Check, exit_code, failed, printed, words};
+use streams::program::{Check, VERSION, exit_code, failed, printed, words};
 
 const NAME: &str = "check_refs";
 
@@ -94,7 +94,7 @@ fn answer<R: Read + Drop, W: Write + Drop>(
     match arguments::request_of(words) {
         Ok(Request::Check(options)) => exit_code(rt, NAME, UNIT, options, input, output),
         Ok(Request::Help) => printed(rt, NAME, HELP),
-        Ok(Request::Version) => printed(rt, NAME, "check_refs 2"),
+        Ok(Request::Version) => printed(rt, NAME, format_args!("{NAME} {VERSION}")),
         Err(fault) => failed(rt, NAME, fault),
     }
 }

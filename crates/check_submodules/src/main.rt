@@ -18,7 +18,7 @@ use engine::Options;
 use std::io::{Read, Write};
 use std::process::ExitCode;
 use streams::outcome::Verdict;
-use streams::program::{exit_code, failed, printed, words};
+use streams::program::{VERSION, exit_code, failed, printed, words};
 
 const NAME: &str = "check_submodules";
 
@@ -73,7 +73,7 @@ fn answer<R: Read + Drop, W: Write + Drop>(
     match arguments::request_of(words) {
         Ok(Request::Check(options)) => exit_code(rt, NAME, "object", options, input, output),
         Ok(Request::Help) => printed(rt, NAME, HELP),
-        Ok(Request::Version) => printed(rt, NAME, "check_submodules 2"),
+        Ok(Request::Version) => printed(rt, NAME, format_args!("{NAME} {VERSION}")),
         Err(fault) => failed(rt, NAME, fault),
     }
 }

@@ -13,6 +13,9 @@ use std::fmt::Display;
 use std::io::{BufRead, BufReader, BufWriter, ErrorKind, Read, Write};
 use std::process::ExitCode;
 
+/// The version of the library and of the programs, which `--version` prints.
+pub const VERSION: &str = "2.1.0";
+
 /// How many bytes are read or written at once.
 const BUFFERED: usize = 65_536;
 

@@ -11,7 +11,7 @@
 # `no` count. Each check is a line in a file, so that a process that is cut short takes none with it. A case that is due
 # and made no check is a failure, and so is a script that doesn't come to `finish`.
 
-mapfile -t cases < <(sed -n 's/^\(test_[a-z_]*\)() {$/\1/p' "$0")
+mapfile -t cases < <(sed -n 's/^\(test_[a-z0-9_]*\)() {$/\1/p' "$0")
 chosen=()
 while [[ ${1-} == --list || ${1-} == --case ]]; do
     if [[ $1 == --list ]]; then
@@ -32,7 +32,7 @@ due=("${chosen[@]}")
 room=$(mktemp -d)
 tally=$(mktemp)
 started=()
-current='no case'
+current=
 is_whole=
 trap 'ended $?' EXIT
 
@@ -59,10 +59,15 @@ pass() {
     tell "pass $current"
 }
 
+# failed WHAT
+failed() {
+    tell "fail $current"
+    echo "FAILED: ${current:+$current: }${1:0:500}"
+}
+
 # no WHAT: a check failed. A script can have a function `show`, which prints what the check saw.
 no() {
-    tell "fail $current"
-    echo "FAILED: $current: ${1:0:500}"
+    failed "$1"
     ! declare -F show > /dev/null || show | cat -v | sed 's/^/    /' || true
 }
 
@@ -77,7 +82,7 @@ not_run() {
     for current in "${@:2}"; do
         tell "skip $current"
     done
-    current='no case'
+    current=
 }
 
 # Runs a case, if it is to run. try CASE ARGUMENT..
@@ -85,7 +90,7 @@ try() {
     [[ " ${chosen[*]} " == *" $1 "* ]] || return 0
     current=$1
     "$@"
-    current='no case'
+    current=
 }
 
 # Runs a command in a process of its own, once less than so many run. part MOST COMMAND..
@@ -103,19 +108,19 @@ end_parts() {
     wait
     for number in "${!started[@]}"; do
         cat -- "$room/part $((number + 1))"
-        grep -q -x -F -e "end ${started[number]}" -- "$tally" || no "it stopped before its end: ${started[number]}"
+        grep -q -x -F -e "end ${started[number]}" -- "$tally" || failed "it stopped before its end: ${started[number]}"
     done
     started=()
 }
 
 # Prints the last line. The status is 0 if each check passed.
 finish() {
-    local passed failed
+    local passed count
     for current in "${due[@]}"; do
-        grep -q -x -e "[a-z]* $current" -- "$tally" || no 'it made no check'
+        grep -q -x -e "[a-z]* $current" -- "$tally" || failed 'it made no check'
     done
     passed=$(grep -c '^pass' -- "$tally") || true
-    failed=$(grep -c '^fail' -- "$tally") || true
-    echo "$suite: $passed passed, $failed failed"
-    leave $((failed > 0 || passed == 0))
+    count=$(grep -c '^fail' -- "$tally") || true
+    echo "$suite: $passed passed, $count failed"
+    leave $((count > 0 || passed == 0))
 }

@@ -11,6 +11,7 @@ use Rattle.streams.specs.Spelled.{Spelled, IsSpelled, spelling, spelled_said, en
 use Rattle.streams.proofs.LinesRead.{lines_none, lines_end}
 use Rattle.streams.proofs.SpelledStreams.{reported_in_order}
 use Rattle.streams.proofs.WellFormedStreams.{well_formed_only_if_spelled}
+use Rattle.streams.proofs.WholeStreams.{whole_stream}
 
 pub neither : (a b : Bool) → (a || b) ≡ false → (a ≡ false) × (b ≡ false)
 neither true b e = grind arith
@@ -65,3 +66,6 @@ if_clean rule whole text good =
 pub clean_if_accepted : (rule : ObjectRule) (whole : Bool) (verdict : Verdict) (text : List ℕ) → verdict ≡ verdict_of (object_report rule whole text)
     → IsCleanIfAccepted rule whole verdict text
 clean_if_accepted rule whole verdict text is = (λ e. only_clean rule whole text (sym is ∙ e), λ good. is ∙ if_clean rule whole text good)
+
+-- what the promises of `objects::run` need
+pub ruleset object_laws = (reported_in_order, well_formed_only_if_spelled, whole_stream, clean_if_accepted)

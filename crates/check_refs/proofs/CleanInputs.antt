@@ -14,7 +14,7 @@ use Rattle.gix_validate.proofs.TagNames.Grammar.{tag_grammar_law}
 use Rattle.streams.specs.declared.outcome.Verdict.{Verdict}
 use Rattle.streams.specs.declared.outcome.Verdict.TheVariants.{Clean}
 use Rattle.streams.specs.declared.lines.Ending.TheVariants.{AfterALine}
-use Rattle.streams.specs.Reports.{all_said, before_report, Report, lines_from, verdict_of}
+use Rattle.streams.specs.Reports.{all_said, before_report, lines_from, verdict_of}
 use Rattle.streams.proofs.LinesRead.{lines_none}
 use Rattle.streams.proofs.CleanStreams.{neither, clean_by}
 use Rattle.check_refs.specs.declared.report.Options.{Options}

@@ -1,13 +1,12 @@
 -- The verdict is clean if and only if the text is a stream of which nothing is refused.
-use Rattle.std.proofs.Common.{◌≡◌, ◌↔◌, ℕ, ◌+◌, Bool, true, false, ◌||◌, List, [], ◌∷◌, ◌++◌, Option, None, Some, length, map, refl, arith, ap, ◌∙◌, sym}
-use Rattle.std.specs.Prelude.{flat_map}
+use Rattle.std.proofs.Common.{◌≡◌, ℕ, ◌+◌, Bool, true, false, ◌||◌, List, [], ◌∷◌, None, length, map, refl, arith, ap, ◌∙◌, sym}
 use Rattle.std.specs.List.{AllByRecursion}
 use Rattle.streams.specs.declared.outcome.Verdict.{Verdict}
 use Rattle.streams.specs.declared.outcome.Verdict.TheVariants.{Clean}
-use Rattle.streams.specs.declared.lines.Ending.TheVariants.{Anywhere, EndLine}
-use Rattle.streams.specs.Reports.{Said, nothing, all_said, before_report, at_end_line, Report, lines_from, verdict_of}
+use Rattle.streams.specs.declared.lines.Ending.TheVariants.{Anywhere}
+use Rattle.streams.specs.Reports.{Said, all_said, before_report, at_end_line, Report, lines_from, verdict_of}
 use Rattle.streams.specs.Objects.{ObjectRule, object_rule, ending_of, object_report}
-use Rattle.streams.specs.Spelled.{Spelled, IsSpelled, spelling, spelled_said, end_of, IsCleanStream, IsCleanIfAccepted}
+use Rattle.streams.specs.Spelled.{Spelled, spelled_said, end_of, IsCleanStream, IsCleanIfAccepted}
 use Rattle.streams.proofs.LinesRead.{lines_none, lines_end}
 use Rattle.streams.proofs.SpelledStreams.{reported_in_order}
 use Rattle.streams.proofs.WellFormedStreams.{well_formed_only_if_spelled}

@@ -1,16 +1,15 @@
 -- A header line that is written out is read as it is written.
-use Rattle.std.proofs.Common.{◌≡◌, ◌≢◌, ℕ, ◌+◌, ◌<◌, ◌≤◌, true, false, nat_le, List, [], ◌∷◌, ◌++◌, All, Option, None, Some, length, codes}
-use Rattle.std.proofs.Common.{refl, arith, append-nil, append_assoc}
+use Rattle.std.proofs.Common.{◌≡◌, ◌≢◌, ℕ, ◌<◌, ◌≤◌, true, false, nat_le, List, [], ◌∷◌, ◌++◌, All, Option, None, Some, length, codes}
+use Rattle.std.proofs.Common.{refl, arith, append-nil}
 use Rattle.std.specs.Prelude.{IfSome}
 use Rattle.std.specs.List.{list_all, AllByRecursion}
 use Rattle.std.specs.Str.{byte, bytes_eq}
 use Rattle.std.proofs.lemmas.List.Elements.{All-from_recursion, All-append, All-cons, All-nil}
-use Rattle.std.proofs.lemmas.List.Folds.{list_all-append}
 use Rattle.std.proofs.lemmas.Bool.Decides.{nat_tests}
 use Rattle.streams.specs.declared.header.Kind.{Kind}
 use Rattle.streams.specs.declared.header.Kind.TheVariants.{Blob, Tree, Commit, Tag}
 use Rattle.streams.specs.Texts.{line_end, split_once, is_digit, number_of, is_hex_digit, is_id}
-use Rattle.streams.specs.Headers.{ParsedObject, ParsedHeader, Missing, Object, kind_word, kind_of_word, with_size, sized_parts, sized, parsed_header}
+use Rattle.streams.specs.Headers.{ParsedObject, Missing, Object, kind_word, kind_of_word, sized_parts, parsed_header}
 use Rattle.streams.specs.Spelled.{rest_bytes, header_line}
 use Rattle.streams.proofs.SplitTexts.{split_found, split_nowhere}
 

@@ -1,20 +1,19 @@
 -- A stream that is written out, object by object, is read as it is written.
-use Rattle.std.proofs.Common.{◌≡◌, ◌≢◌, ℕ, ◌+◌, ◌<◌, ◌≤◌, Bool, true, false, nat_lt, List, [], ◌∷◌, ◌++◌, None, Some, Ok, length, take, drop, codes}
+use Rattle.std.proofs.Common.{◌≡◌, ℕ, ◌+◌, ◌<◌, Bool, true, false, nat_lt, List, [], ◌∷◌, ◌++◌, None, Some, Ok, length, take, drop, codes}
 use Rattle.std.proofs.Common.{refl, ap, ◌∙◌, arith, append_assoc, length-append, take_at, drop_at}
 use Rattle.std.specs.Prelude.{map, flat_map}
 use Rattle.std.specs.List.{AllByRecursion}
-use Rattle.std.specs.Str.{byte, bytes_eq}
+use Rattle.std.specs.Str.{byte}
 use Rattle.std.proofs.lemmas.Slice.Eq.{bytes_eq-Decides}
 use Rattle.std.proofs.lemmas.Bool.Decides.{nat_tests}
 use Rattle.streams.specs.declared.lines.Ending.{Ending}
 use Rattle.streams.specs.declared.lines.Ending.TheVariants.{Anywhere, EndLine, AfterALine}
 use Rattle.streams.specs.Texts.{is_id}
-use Rattle.streams.specs.Reports.{Said, nothing, all_said, with_rest, line_of, end_line, is_end, before_report, lines_from, report}
-use Rattle.streams.specs.Objects.{ObjectRule, closed, header_rule, object_rule, ending_of}
+use Rattle.streams.specs.Reports.{all_said, with_rest, line_of, is_end, before_report, lines_from, report}
+use Rattle.streams.specs.Objects.{ObjectRule, header_rule, object_rule, ending_of}
 use Rattle.streams.specs.Headers.{ParsedObject, Object, kind_word}
 use Rattle.streams.specs.Spelled.{Spelled, Present, Absent, rest_bytes, header_line, IsSpelled, spelling, spelled_said, IsReportedInOrder}
 use Rattle.streams.proofs.SpelledHeaders.{id_high, header_spelled, header_none, missing_spelled, missing_none}
-use Rattle.streams.proofs.SplitTexts.{drop_both}
 use Rattle.streams.proofs.ReportSoFar.{then_said_assoc}
 use Rattle.streams.proofs.LinesRead.{line_found, lines_first}
 

@@ -2,7 +2,7 @@
 use Rattle.std.proofs.Common.{◌≡◌, ◌≢◌, ℕ, zero, suc, ◌+◌, ◌<◌, ◌≤◌, Bool, true, false, cond, nat_lt, List, [], ◌∷◌, ◌++◌, Option, None, Some, All}
 use Rattle.std.proofs.Common.{Result, Ok, Err, length, take, drop, codes}
 use Rattle.std.proofs.Common.{refl, ap, sym, ◌∙◌, arith, append_assoc, append-nil, length-append, length-take, length-drop, take-append-drop}
-use Rattle.std.specs.Prelude.{IfSome, IfOk, map, flat_map}
+use Rattle.std.specs.Prelude.{IfSome, IfOk, flat_map}
 use Rattle.std.specs.List.{AllByRecursion}
 use Rattle.std.specs.Option.{option_map, option_and_then}
 use Rattle.std.specs.Str.{byte, bytes_eq}
@@ -12,12 +12,11 @@ use Rattle.std.proofs.lemmas.Option.{IfSome_then}
 use Rattle.std.proofs.lemmas.Bool.Decides.{nat_tests}
 use Rattle.streams.specs.declared.outcome.Fault.{Fault}
 use Rattle.streams.specs.declared.header.Kind.{Kind}
-use Rattle.streams.specs.declared.lines.Ending.{Ending}
-use Rattle.streams.specs.declared.lines.Ending.TheVariants.{Anywhere, EndLine, AfterALine}
+use Rattle.streams.specs.declared.lines.Ending.TheVariants.{Anywhere, EndLine}
 use Rattle.streams.specs.Texts.{line_end, split_once, number_of, is_id}
-use Rattle.streams.specs.Headers.{ParsedObject, ParsedHeader, Missing, Object, kind_word, kind_of_word, with_size, sized_parts, sized, parsed_header}
-use Rattle.streams.specs.Reports.{longest, Said, nothing, then_said, all_said, Step, with_rest, line_with, line_of, end_line, at_end_line, Report, lines_then, lines_within, lines_from, report}
-use Rattle.streams.specs.Objects.{ObjectRule, Judged, size_with_end, closed, header_rule, object_rule, ending_of}
+use Rattle.streams.specs.Headers.{ParsedObject, ParsedHeader, Missing, Object, kind_word, kind_of_word, sized_parts, sized, parsed_header}
+use Rattle.streams.specs.Reports.{longest, Said, nothing, Step, with_rest, line_with, line_of, end_line, at_end_line, Report, lines_then, lines_within, lines_from, report}
+use Rattle.streams.specs.Objects.{ObjectRule, Judged, size_with_end, closed, header_rule, object_rule}
 use Rattle.streams.specs.Spelled.{Spelled, Present, Absent, rest_bytes, header_line, IsSpelled, spelling, spelled_said, end_of, IsStream, IsWellFormedOnlyIfSpelled}
 use Rattle.streams.proofs.SplitTexts.{IsCut, split_cuts, whole}
 use Rattle.streams.proofs.ObjectsRead.{next_drop}

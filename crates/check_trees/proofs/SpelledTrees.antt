@@ -31,7 +31,8 @@ use Rattle.check_trees.proofs.TreeEntries.{entries_first, entries_none}
 front_spelled : (mode name : List ℕ) (number : ℕ) → number_of 8 mode ≡ Some number
     → parsed_front (mode ++ byte " " ∷ name) ≡ Some (named mode name number)
 unfolding parsed_front
-front_spelled mode name number e = grind (arith, split_found (byte " ") mode name (without (byte "0") (byte " ") mode (omega arith) (number_high 8 mode number e)))
+front_spelled mode name number e =
+    grind (arith, split_found (byte " ") mode name (without (byte "0") (byte " ") mode (omega arith) (number_high 8 mode number e)))
 
 entry_spelled : (short : Fault) (width : ℕ) (item : Item) (more : List ℕ) → IsItem width item
     → entry_of short width (item_bytes item ++ more) ≡ Ok (record { front = named item.mode item.name item.number; id = item.id }, more)

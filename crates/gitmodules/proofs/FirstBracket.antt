@@ -25,7 +25,8 @@ sections_by offset bytes None = []
 sections_by offset bytes (Some k) =
     begun (offset + k) (header_after_bracket (drop (k + 1) bytes)) ++ sections (offset + k + 1) (drop (k + 1) bytes)
 
-pub bracket_searched : (offset : ℕ) (bytes : List ℕ) (r : Option ℕ) → IsFirstByte (is_byte (byte "[")) bytes r → sections offset bytes ≡ sections_by offset bytes r
+pub bracket_searched : (offset : ℕ) (bytes : List ℕ) (r : Option ℕ) → IsFirstByte (is_byte (byte "[")) bytes r
+    → sections offset bytes ≡ sections_by offset bytes r
 bracket_searched offset bytes None none =
     nowhere offset bytes (All-from_get_or (λ b. b ≢ byte "[") bytes 0 (λ k below e. none k (omega arith) below (eq-eqb _ _ e)))
 bracket_searched offset bytes (Some k) at =

@@ -54,7 +54,8 @@ with_backslash bytes more rest = record {
   are_spelled = rest.are_spelled;
 }
 
-with_byte : (b : ℕ) (bytes more : List ℕ) → is_never_in_name b ≡ false → b ≢ byte "\"" → b ≢ byte "\\" → IsRead false bytes more → IsRead false (b ∷ bytes) (b ∷ more)
+with_byte : (b : ℕ) (bytes more : List ℕ) → is_never_in_name b ≡ false → b ≢ byte "\"" → b ≢ byte "\\" → IsRead false bytes more
+    → IsRead false (b ∷ bytes) (b ∷ more)
 with_byte b bytes more never quote slash rest = record {
   after = rest.after;
   spelled = (false, b) ∷ rest.spelled;
@@ -159,7 +160,8 @@ after_word_blank b bytes name blank is =
       are_blanks = (blank, all);
       are_spelled = read.are_spelled;
       is_bytes =
-          ap (λ xs. b ∷ xs) (whole ∙ ap (λ xs. blanks ++ xs) (quote ∙ ap (λ xs. byte "\"" ∷ xs) (read.is_bytes ∙ ap (λ xs. xs ++ byte "\"" ∷ byte "]" ∷ read.after) read.is_name)));
+          ap (λ xs. b ∷ xs) (whole ∙ ap (λ xs. blanks ++ xs) (quote
+          ∙ ap (λ xs. byte "\"" ∷ xs) (read.is_bytes ∙ ap (λ xs. xs ++ byte "\"" ∷ byte "]" ∷ read.after) read.is_name)));
       is_name = sym (name_read read.spelled read.are_spelled) ∙ ap (unescaped false) (sym read.is_name) ∙ own;
     }
 
@@ -225,7 +227,8 @@ begun_alone offset (Named name) s there = let is = one_alone (offset, Some name)
 begun_alone offset Unreadable s there = let is = one_alone (offset, None) s there in (ap (λ x. x ∷ []) is, ap (λ x. x.0) is)
 begun_alone offset Other s there = absurd (none_alone s there)
 
-begins_here : (offset b : ℕ) (bytes : List ℕ) (s : ℕ × Option (List ℕ)) → b ≡ byte "[" → Contains (begun offset (header_after_bracket bytes)) s → Begins offset (b ∷ bytes) s
+begins_here : (offset b : ℕ) (bytes : List ℕ) (s : ℕ × Option (List ℕ)) → b ≡ byte "[" → Contains (begun offset (header_after_bracket bytes)) s
+    → Begins offset (b ∷ bytes) s
 begins_here offset b bytes s bracket there =
     let (alone, at) = begun_alone offset (header_after_bracket bytes) s there in record {
       before = [];

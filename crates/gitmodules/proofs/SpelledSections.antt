@@ -74,7 +74,8 @@ pub each_section_found : IsEachSectionFound
 each_section_found before after word blanks name is =
     let bytes = word ++ (blanks ++ byte "\"" ∷ (spelled_name name ++ byte "\"" ∷ byte "]" ∷ after)) in
     let read : header_after_bracket bytes ≡ Named (name_of name) =
-    word_read word (blanks ++ byte "\"" ∷ (spelled_name name ++ byte "\"" ∷ byte "]" ∷ after)) is.is_word ∙ quoted_read blanks after name is.has_blanks is.are_blanks is.is_spelled in
+    word_read word (blanks ++ byte "\"" ∷ (spelled_name name ++ byte "\"" ∷ byte "]" ∷ after)) is.is_word
+    ∙ quoted_read blanks after name is.has_blanks is.are_blanks is.is_spelled in
     let first = first_of_all (length before) bytes (Some (name_of name)) (ap (begun (length before)) read) in
     let whole : before ++ section_bytes word blanks name ++ after ≡ before ++ byte "[" ∷ bytes =
     append_assoc before (section_bytes word blanks name) after ∙ ap (λ rest. before ++ rest) (in_parts word blanks after name) in

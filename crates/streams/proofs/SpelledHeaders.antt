@@ -71,7 +71,8 @@ header_spelled object digits good number =
     let facts = word_facts object.kind more in
     grind (
       arith,
-      split_found (byte " ") object.id (kind_word object.kind ++ byte " " ∷ more) (without (byte "0") (byte " ") object.id (omega arith) (id_high object.id good).0),
+      split_found (byte " ") object.id (kind_word object.kind ++ byte " " ∷ more)
+          (without (byte "0") (byte " ") object.id (omega arith) (id_high object.id good).0),
       facts.0,
       facts.1,
       facts.2,
@@ -93,7 +94,8 @@ pub header_none : (object : ParsedObject) (digits : List ℕ) → is_id object.i
 header_none object digits good number rest =
     let P : ℕ → Type 0 = λ b. b ≢ line_end in
     let space : byte " " ≢ line_end = λ e. omega arith in
-    let last = All-append P digits (rest_bytes object.rest) (without (byte "0") (byte "\n") digits (omega arith) (number_high 10 digits object.size number)) (rest_none object.rest rest) in
+    let last =
+    All-append P digits (rest_bytes object.rest) (without (byte "0") (byte "\n") digits (omega arith) (number_high 10 digits object.size number)) (rest_none object.rest rest) in
     let sized = All-cons P (byte " ") (digits ++ rest_bytes object.rest) space last in
     let named = All-append P (kind_word object.kind) (byte " " ∷ (digits ++ rest_bytes object.rest))
     (without (byte "0") (byte "\n") (kind_word object.kind) (omega arith) (word_high object.kind)) sized in
@@ -103,4 +105,5 @@ header_none object digits good number rest =
 
 pub missing_none : (id : List ℕ) → is_id id ≡ true → All (λ b. b ≢ line_end) (id ++ codes " missing")
 missing_none id good =
-    All-append (λ b. b ≢ line_end) id (codes " missing") (without (byte "0") (byte "\n") id (omega arith) (id_high id good).0) (without (byte " ") (byte "\n") (codes " missing") (omega arith) refl)
+    All-append (λ b. b ≢ line_end) id (codes " missing") (without (byte "0") (byte "\n") id (omega arith) (id_high id good).0)
+    (without (byte " ") (byte "\n") (codes " missing") (omega arith) refl)

@@ -75,7 +75,8 @@ all_assoc a b c d = grind (arith, append_assoc)
 pub not_end : (rule : ObjectRule) (whole : Bool) (how : Ending) (object : Spelled) (rest : List ℕ) → IsSpelled rule whole object
     → is_end how (spelling object ++ rest) ≡ false
 not_end rule whole how (Present object digits content) rest good =
-    rw (all_assoc object.id (byte " " ∷ (kind_word object.kind ++ (byte " " ∷ (digits ++ rest_bytes object.rest)))) (byte "\n" ∷ (content ++ byte "\n" ∷ [])) rest)
+    rw (all_assoc object.id (byte " " ∷ (kind_word object.kind ++ (byte " " ∷ (digits ++ rest_bytes object.rest))))
+    (byte "\n" ∷ (content ++ byte "\n" ∷ [])) rest)
     (id_before how object.id _ good.0)
 not_end rule whole how (Absent id) rest good = rw (all_assoc id (codes " missing") (byte "\n" ∷ []) rest) (id_before how id _ good.0)
 

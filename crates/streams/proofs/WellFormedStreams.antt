@@ -42,11 +42,14 @@ size_is line id kind digits rest None good number spelled = tt
 size_is line id kind digits rest (Some size) good number spelled = (digits, good, number, spelled)
 
 parts_are : (line id : List ℕ) (kind : Kind) (text : List ℕ) (parts : Option (List ℕ × List ℕ)) → is_id id ≡ true
-    → line ≡ id ++ (byte " " ∷ (kind_word kind ++ (byte " " ∷ text))) → IfSome parts (IsCut (byte " ") text) → IfSome (sized_parts id kind text parts) (IsHeader line)
+    → line ≡ id ++ (byte " " ∷ (kind_word kind ++ (byte " " ∷ text))) → IfSome parts (IsCut (byte " ") text)
+    → IfSome (sized_parts id kind text parts) (IsHeader line)
 parts_are line id kind text None good spelled cut =
-    size_is line id kind text None (number_of 10 text) good refl (spelled ∙ ap (λ t. id ++ (byte " " ∷ (kind_word kind ++ (byte " " ∷ t)))) (sym (append-nil text)))
+    size_is line id kind text None (number_of 10 text) good refl
+    (spelled ∙ ap (λ t. id ++ (byte " " ∷ (kind_word kind ++ (byte " " ∷ t)))) (sym (append-nil text)))
 parts_are line id kind text (Some parts) good spelled cut =
-    size_is line id kind parts.0 (Some parts.1) (number_of 10 parts.0) good refl (spelled ∙ ap (λ t. id ++ (byte " " ∷ (kind_word kind ++ (byte " " ∷ t)))) cut.0)
+    size_is line id kind parts.0 (Some parts.1) (number_of 10 parts.0) good refl
+    (spelled ∙ ap (λ t. id ++ (byte " " ∷ (kind_word kind ++ (byte " " ∷ t)))) cut.0)
 
 and_then_is : {T U : Type 0} (o : Option T) (f : T → Option U) (Q : U → Type 0) → IfSome o (λ x. IfSome (f x) Q) → IfSome (option_and_then f o) Q
 and_then_is None f Q holds = tt
@@ -57,10 +60,12 @@ kind_is : (line id text after : List ℕ) (kind : Option Kind) → is_id id ≡ 
     → IfSome (option_and_then (λ kind. sized_parts id kind after (split_once (byte " ") after)) kind) (IsHeader line)
 kind_is line id text after None good spelled is = tt
 kind_is line id text after (Some kind) good spelled is =
-    parts_are line id kind after (split_once (byte " ") after) good (spelled ∙ ap (λ t. id ++ (byte " " ∷ (t ++ (byte " " ∷ after)))) is) (split_cuts (byte " ") after)
+    parts_are line id kind after (split_once (byte " ") after) good
+    (spelled ∙ ap (λ t. id ++ (byte " " ∷ (t ++ (byte " " ∷ after)))) is) (split_cuts (byte " ") after)
 
 sized_is : (line id rest : List ℕ) → is_id id ≡ true → line ≡ id ++ byte " " ∷ rest → IfSome (sized id rest) (IsHeader line)
-sized_is line id rest good spelled = and_then_is (split_once (byte " ") rest) _ (IsHeader line) (IfSome_then (split_once (byte " ") rest) (split_cuts (byte " ") rest) (λ parts cut.
+sized_is line id rest good spelled =
+    and_then_is (split_once (byte " ") rest) _ (IsHeader line) (IfSome_then (split_once (byte " ") rest) (split_cuts (byte " ") rest) (λ parts cut.
     kind_is line id parts.0 parts.1 (kind_of_word parts.0) good (spelled ∙ ap (λ t. id ++ byte " " ∷ t) cut.0) (word_is parts.0)))
 
 header_is : (line : List ℕ) → IfSome (parsed_header line) (IsHeader line)

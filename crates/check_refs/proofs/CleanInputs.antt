@@ -14,7 +14,7 @@ use Rattle.gix_validate.proofs.TagNames.Grammar.{tag_grammar_law}
 use Rattle.streams.specs.declared.outcome.Verdict.{Verdict}
 use Rattle.streams.specs.declared.outcome.Verdict.TheVariants.{Clean}
 use Rattle.streams.specs.declared.lines.Ending.TheVariants.{AfterALine}
-use Rattle.streams.specs.Reports.{all_said, before_report, Report, lines_from, verdict_of}
+use Rattle.streams.specs.Reports.{all_said, before_report, lines_from, verdict_of}
 use Rattle.streams.proofs.LinesRead.{lines_none}
 use Rattle.streams.proofs.CleanStreams.{neither, clean_by}
 use Rattle.check_refs.specs.declared.report.Options.{Options}
@@ -126,3 +126,6 @@ accepted_clean options text good =
 pub clean_if_accepted : (options : Options) (text : List ℕ) (verdict : Verdict) → verdict ≡ verdict_of (refs_report options text)
     → (verdict ≡ Clean) ↔ IsAcceptedInput options text
 clean_if_accepted options text verdict is = (λ e. only_accepted options text (sym is ∙ e), λ good. is ∙ accepted_clean options text good)
+
+-- what the promises of `engine::run` need
+pub ruleset update_laws = (reported_in_order, well_formed_only_if_spelled, clean_if_accepted)

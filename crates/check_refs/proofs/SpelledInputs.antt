@@ -3,6 +3,7 @@ use Rattle.std.proofs.Common.{◌≡◌, ◌≢◌, ℕ, zero, suc, ◌+◌, ◌
 use Rattle.std.proofs.Common.{append_assoc, length-append}
 use Rattle.std.specs.List.{AllByRecursion, flat_map}
 use Rattle.std.proofs.lemmas.List.Elements.{All-append, All-cons, All-from_recursion}
+use Rattle.std.specs.Str.{byte}
 use Rattle.streams.specs.declared.lines.Ending.TheVariants.{AfterALine}
 use Rattle.streams.specs.Texts.{line_end}
 use Rattle.streams.specs.Reports.{Said, all_said, then_said, Step, with_rest, before_report, lines_then, Report, lines_from, line_of, report}
@@ -23,9 +24,9 @@ line_whole : (update : ParsedUpdate) → IsSpelled update → All NoEnd (update_
 line_whole update (good, none, few) =
     let old = id_whole line_end (omega arith) update.old_id good.old in
     let new = id_whole line_end (omega arith) update.new_id good.new in
-    let front : All NoEnd (update.old_id ++ 32 ∷ update.new_id) = All-append NoEnd update.old_id (32 ∷ update.new_id) old
-    (All-cons NoEnd 32 update.new_id (λ e. omega arith) new) in
-    All-append NoEnd (update.old_id ++ 32 ∷ update.new_id) (32 ∷ update.name) front (All-cons NoEnd 32 update.name (λ e. omega arith) none)
+    let front : All NoEnd (update.old_id ++ byte " " ∷ update.new_id) = All-append NoEnd update.old_id (byte " " ∷ update.new_id) old
+    (All-cons NoEnd (byte " ") update.new_id (λ e. omega arith) new) in
+    All-append NoEnd (update.old_id ++ byte " " ∷ update.new_id) (byte " " ∷ update.name) front (All-cons NoEnd (byte " ") update.name (λ e. omega arith) none)
 
 before_both : (first second : Said) (report : Report) → before_report first (before_report second report) ≡ before_report (then_said first second) report
 before_both first second report = grind (arith, append_assoc)
@@ -68,8 +69,8 @@ each_behind [] rest each = each
 each_behind (b ∷ front) rest (first, each) = each_behind front rest each
 
 -- the name at the end of a line
-name_whole : (front name : List ℕ) → AllByRecursion NoEnd (front ++ 32 ∷ name) → All NoEnd name
-name_whole front name each = All-from_recursion NoEnd name (each_behind front (32 ∷ name) each).1
+name_whole : (front name : List ℕ) → AllByRecursion NoEnd (front ++ byte " " ∷ name) → All NoEnd name
+name_whole front name each = All-from_recursion NoEnd name (each_behind front (byte " " ∷ name) each).1
 
 module _ (options : Options) where
   -- some updates, or none
@@ -93,7 +94,7 @@ module _ (options : Options) where
       let (good, line) = read_spelled front update e in
       record {
         update = update;
-        good = (good, name_whole (update.old_id ++ 32 ∷ update.new_id) update.name (rw line at none), rw line at few);
+        good = (good, name_whole (update.old_id ++ byte " " ∷ update.new_id) update.name (rw line at none), rw line at few);
         text_is = grind (arith, append_assoc);
         said_is = grind arith;
       }

@@ -30,15 +30,15 @@ pub spelled_read : (update : ParsedUpdate) → IsUpdate update → parsed_update
 unfolding parsed_update
 spelled_read update good = grind (
   arith,
-  append_assoc update.old_id (32 ∷ update.new_id) (32 ∷ update.name),
-  split_found 32 update.old_id (update.new_id ++ 32 ∷ update.name) (id_whole 32 (omega arith) update.old_id good.old),
-  split_found 32 update.new_id update.name (id_whole 32 (omega arith) update.new_id good.new),
+  append_assoc update.old_id (byte " " ∷ update.new_id) (byte " " ∷ update.name),
+  split_found (byte " ") update.old_id (update.new_id ++ byte " " ∷ update.name) (id_whole (byte " ") (omega arith) update.old_id good.old),
+  split_found (byte " ") update.new_id update.name (id_whole (byte " ") (omega arith) update.new_id good.new),
   passes update good,
 )
 
 -- the parts of a text give it back
-parts_joined : (text front rest : List ℕ) → split_once 32 text ≡ Some (front, rest) → text ≡ front ++ 32 ∷ rest
-parts_joined text front rest e = (rw e at (split_cuts 32 text)).0
+parts_joined : (text front rest : List ℕ) → split_once (byte " ") text ≡ Some (front, rest) → text ≡ front ++ byte " " ∷ rest
+parts_joined text front rest e = (rw e at (split_cuts (byte " ") text)).0
 
 pub read_spelled : (line : List ℕ) (update : ParsedUpdate) → parsed_update line ≡ Some update → IsUpdate update × (line ≡ update_line update)
 unfolding parsed_update

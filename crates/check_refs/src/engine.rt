@@ -59,7 +59,7 @@ impl LineCheck for Options {
 ///
 /// The longest line of the input, of at most 65,536 bytes, and the longest line of the report, of
 /// `alloc`.
-#[tactic(auto, using(crate::proofs::SpelledInputs::reported_in_order, crate::proofs::SpelledInputs::well_formed_only_if_spelled, crate::proofs::CleanInputs::clean_if_accepted))]
+#[tactic(auto, using(crate::proofs::CleanInputs::update_laws))]
 pub fn run<R: BufRead, W: Write>(
     alloc: Global,
     options: Options,

@@ -3,6 +3,7 @@ use Rattle.std.proofs.Common.{◌≡◌, ℕ, Bool, true, false, not, ◌++◌, 
 use Rattle.std.specs.Prelude.{nat_lt, IfOk, IfSome}
 use Rattle.std.specs.List.{AllByRecursion}
 use Rattle.std.proofs.lemmas.Option.{IfSome_then}
+use Rattle.std.specs.Str.{byte}
 use Rattle.gix_validate.specs.Bytes.{is_empty}
 use Rattle.gix_validate.specs.Submodule.{fault_of}
 use Rattle.gix_validate.specs.declared.submodule.NameError.{NameError}
@@ -34,7 +35,7 @@ left_of a b e = (either_empty a b e).0
 
 none_by : (id name : List ℕ) (offset : ℕ) (fault : Option NameError) → is_empty (line_if id offset name fault) ≡ true → fault ≡ None
 none_by id name offset None e = refl
-none_by id name offset (Some fault) e = absurd (grind (arith, right_of _ (10 ∷ []) e))
+none_by id name offset (Some fault) e = absurd (grind (arith, right_of _ (byte "\n" ∷ []) e))
 
 accepts : (id : List ℕ) (s : ℕ × Option (List ℕ)) → is_empty (line_of id s) ≡ true → IsAccepted s
 accepts id (offset, Some name) e = none_by id name offset (fault_of name) e

@@ -7,6 +7,7 @@ use Rattle.std.specs.List.{AllByRecursion}
 use Rattle.std.proofs.lemmas.List.Elements.{All-from_recursion, All-append, All-cons}
 use Rattle.std.proofs.lemmas.Bool.Decides.{nat_tests}
 use Rattle.std.proofs.lemmas.Grind.{common_steps}
+use Rattle.std.specs.Str.{byte}
 use Rattle.streams.specs.declared.outcome.Fault.{Fault}
 use Rattle.streams.specs.declared.outcome.Fault.TheVariants.{Entry}
 use Rattle.streams.specs.declared.header.Kind.{Kind}
@@ -28,17 +29,18 @@ use Rattle.check_trees.proofs.TreeEntries.{entries_first, entries_none}
 -- ---- entries that are written out
 
 front_spelled : (mode name : List ℕ) (number : ℕ) → number_of 8 mode ≡ Some number
-    → parsed_front (mode ++ 32 ∷ name) ≡ Some (named mode name number)
+    → parsed_front (mode ++ byte " " ∷ name) ≡ Some (named mode name number)
 unfolding parsed_front
-front_spelled mode name number e = grind (arith, split_found 32 mode name (without 48 32 mode (omega arith) (number_high 8 mode number e)))
+front_spelled mode name number e =
+    grind (arith, split_found (byte " ") mode name (without (byte "0") (byte " ") mode (omega arith) (number_high 8 mode number e)))
 
 entry_spelled : (short : Fault) (width : ℕ) (item : Item) (more : List ℕ) → IsItem width item
     → entry_of short width (item_bytes item ++ more) ≡ Ok (record { front = named item.mode item.name item.number; id = item.id }, more)
 entry_spelled short width item more good =
     let high = number_high 8 item.mode item.number good.0 in
-    let front = item.mode ++ 32 ∷ item.name in
-    let none : All (λ b. b ≢ nul) front = All-append (λ b. b ≢ nul) item.mode (32 ∷ item.name) (without 48 nul item.mode (omega arith) high)
-    (All-cons (λ b. b ≢ nul) 32 item.name (λ e. omega arith) good.1) in
+    let front = item.mode ++ byte " " ∷ item.name in
+    let none : All (λ b. b ≢ nul) front = All-append (λ b. b ≢ nul) item.mode (byte " " ∷ item.name) (without (byte "0") nul item.mode (omega arith) high)
+    (All-cons (λ b. b ≢ nul) (byte " ") item.name (λ e. omega arith) good.1) in
     grind (
       arith,
       nat_tests,
@@ -59,12 +61,12 @@ entries_spelled options short tree (item ∷ items) (first, each) =
 -- ---- an entry that is well-formed
 
 abbrev IsFront : List ℕ → ParsedFront → Type 0
-IsFront front parsed = (number : ℕ) × (number_of 8 parsed.mode ≡ Some number) × (front ≡ parsed.mode ++ 32 ∷ parsed.name)
+IsFront front parsed = (number : ℕ) × (number_of 8 parsed.mode ≡ Some number) × (front ≡ parsed.mode ++ byte " " ∷ parsed.name)
     × (parsed ≡ named parsed.mode parsed.name number)
 
 front_is : (front : List ℕ) → IfSome (parsed_front front) (IsFront front)
 unfolding parsed_front
-front_is front = grind (arith, split_cuts 32 front)
+front_is front = grind (arith, split_cuts (byte " ") front)
 
 abbrev IsFirst : ℕ → List ℕ → ParsedEntry × List ℕ → Type 0
 IsFirst width bytes entry =
@@ -82,7 +84,7 @@ module _ (short : Fault) (width : ℕ) where
   item_at bytes front None cut few none is = tt
   item_at bytes front (Some parsed) cut few none (number, digits, spelled, same) = if_ok _ short _ (IsFirst width bytes) (λ room.
       let id = take width (drop (length front + 1) bytes) in
-      let name_none : AllByRecursion (λ b. b ≢ nul) parsed.name = (each_after (λ b. b ≢ nul) parsed.mode (32 ∷ parsed.name) (rw spelled at none)).1 in
+      let name_none : AllByRecursion (λ b. b ≢ nul) parsed.name = (each_after (λ b. b ≢ nul) parsed.mode (byte " " ∷ parsed.name) (rw spelled at none)).1 in
       let long : length bytes ≡ length (front ++ nul ∷ drop (length front + 1) bytes) = ap length cut in
       let after : drop (length front + 1) bytes ≡ id ++ drop (length front + 1 + width) bytes =
       rw (← (drop-drop width (length front + 1) bytes)) (sym (take-append-drop width (drop (length front + 1) bytes))) in (

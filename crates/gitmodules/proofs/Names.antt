@@ -2,6 +2,7 @@
 use Rattle.std.proofs.Common.{◌≡◌, ℕ, ◌+◌, ◌<◌, Bool, false, ◌==◌, ◌&&◌, not, List, [], ◌∷◌, ◌++◌, Option, Some, None, length, take, drop, get_or, true, Result, Ok, Err, refl, ap, sym, ◌∙◌, arith, append_assoc}
 use Rattle.std.specs.Prelude.{option_map, OnErr}
 use Rattle.std.proofs.lemmas.Grind.{common_steps}
+use Rattle.std.specs.Str.{byte}
 use Rattle.gitmodules.specs.Sections.{is_never_in_name, escaped_name, unescaped}
 
 goes : (name : List ℕ) (b : ℕ) (rest : Option (List ℕ))
@@ -9,16 +10,16 @@ goes : (name : List ℕ) (b : ℕ) (rest : Option (List ℕ))
 goes name b None = refl
 goes name b (Some rest) = grind (arith, append_assoc)
 
-more_of : (escaped : Bool) (b : ℕ) (front rest : List ℕ) → is_never_in_name b ≡ false → (not escaped && b == 34) ≡ false
+more_of : (escaped : Bool) (b : ℕ) (front rest : List ℕ) → is_never_in_name b ≡ false → (not escaped && b == byte "\"") ≡ false
     → option_map (λ more. front ++ more) (escaped_name escaped (b ∷ rest))
-    ≡ option_map (λ more. (front ++ b ∷ []) ++ more) (escaped_name (not escaped && b == 92) rest)
-more_of escaped b front rest never quote = rw (never, quote) (goes front b (escaped_name (not escaped && b == 92) rest))
+    ≡ option_map (λ more. (front ++ b ∷ []) ++ more) (escaped_name (not escaped && b == byte "\\") rest)
+more_of escaped b front rest never quote = rw (never, quote) (goes front b (escaped_name (not escaped && b == byte "\\") rest))
 
 -- a byte that does not end the name
 pub byte_passed : (escaped : Bool) (k : ℕ) (bytes : List ℕ) → k < length bytes → is_never_in_name (get_or bytes k 0) ≡ false
-    → (not escaped && get_or bytes k 0 == 34) ≡ false
+    → (not escaped && get_or bytes k 0 == byte "\"") ≡ false
     → option_map (λ more. take k bytes ++ more) (escaped_name escaped (drop k bytes))
-    ≡ option_map (λ more. take (k + 1) bytes ++ more) (escaped_name (not escaped && get_or bytes k 0 == 92) (drop (k + 1) bytes))
+    ≡ option_map (λ more. take (k + 1) bytes ++ more) (escaped_name (not escaped && get_or bytes k 0 == byte "\\") (drop (k + 1) bytes))
 byte_passed escaped k bytes below never quote =
     let b = get_or bytes k 0 in
     let back : drop k bytes ≡ b ∷ drop (k + 1) bytes = grind (arith, common_steps) in
@@ -35,7 +36,7 @@ left_at : (k : ℕ) (bytes : List ℕ) → k < length bytes → drop k bytes ≡
 left_at k bytes below = grind (arith, common_steps)
 
 module _ (old items now bytes name : List ℕ) (escaped : Bool) (k : ℕ) (below : k < length bytes) where
-  pub byte_appended : (not escaped && get_or bytes k 0 == 92) ≡ false → now ≡ items ++ get_or bytes k 0 ∷ []
+  pub byte_appended : (not escaped && get_or bytes k 0 == byte "\\") ≡ false → now ≡ items ++ get_or bytes k 0 ∷ []
       → IsAppended old items escaped (drop k bytes) name → IsAppended old now false (drop (k + 1) bytes) name
   byte_appended own is (front, done, whole) =
       let next : unescaped escaped (drop k bytes) ≡ get_or bytes k 0 ∷ unescaped false (drop (k + 1) bytes) = rw (left_at k bytes below, own) refl in (
@@ -44,7 +45,7 @@ module _ (old items now bytes name : List ℕ) (escaped : Bool) (k : ℕ) (below
         append_assoc front (get_or bytes k 0 ∷ []) (unescaped false (drop (k + 1) bytes)) ∙ ap (λ xs. front ++ xs) (sym next) ∙ whole,
       )
 
-  pub backslash_passed : (not escaped && get_or bytes k 0 == 92) ≡ true → now ≡ items
+  pub backslash_passed : (not escaped && get_or bytes k 0 == byte "\\") ≡ true → now ≡ items
       → IsAppended old items escaped (drop k bytes) name → IsAppended old now true (drop (k + 1) bytes) name
   backslash_passed escapes is (front, done, whole) =
       let next : unescaped escaped (drop k bytes) ≡ unescaped true (drop (k + 1) bytes) = rw (left_at k bytes below, escapes) refl in

@@ -9,7 +9,7 @@ use Rattle.std.proofs.lemmas.List.Kept.{AllPairs-cons}
 use Rattle.std.proofs.lemmas.Slice.Eq.{bytes_eq-Decides}
 use Rattle.std.specs.Char.{to_ascii_lowercase}
 use Rattle.std.specs.List.{AllByRecursion, AllPairs}
-use Rattle.std.specs.Str.{bytes_eq}
+use Rattle.std.specs.Str.{byte, bytes_eq}
 use Rattle.gitmodules.specs.Sections.{Header, Named, Unreadable, Other, is_never_in_name, is_blank, is_word_byte, closed, without_blanks, escaped_name, unescaped, named, quoted_header, header_after_word, header_after_bracket, begun, sections}
 use Rattle.gitmodules.specs.Spelled.{SpelledByte, IsSpelled, HeaderAt, is_other, spelled_name, name_of, section_bytes, IsEachNameSpelled, IsEachHeaderGiven, IsInOrder}
 use Rattle.gitmodules.proofs.SpelledSections.{in_parts, name_read, word_read, one_of_all, first_of_all}
@@ -26,13 +26,13 @@ map_some b (Some more) x is = (more, refl, cc)
 
 -- the backslash before the bytes
 abbrev backslash : Bool → List ℕ
-backslash true = 92 ∷ []
+backslash true = byte "\\" ∷ []
 backslash false = []
 
 record IsRead (escaped : Bool) (bytes name : List ℕ) : Type 0 where
   after : List ℕ
   spelled : List SpelledByte
-  is_bytes : bytes ≡ name ++ 34 ∷ 93 ∷ after
+  is_bytes : bytes ≡ name ++ byte "\"" ∷ byte "]" ∷ after
   is_name : backslash escaped ++ name ≡ spelled_name spelled
   are_spelled : AllByRecursion IsSpelled spelled
 
@@ -41,20 +41,21 @@ with_escaped b bytes more never rest = record {
   after = rest.after;
   spelled = (true, b) ∷ rest.spelled;
   is_bytes = ap (λ xs. b ∷ xs) rest.is_bytes;
-  is_name = ap (λ xs. 92 ∷ b ∷ xs) rest.is_name;
+  is_name = ap (λ xs. byte "\\" ∷ b ∷ xs) rest.is_name;
   are_spelled = (never, rest.are_spelled);
 }
 
-with_backslash : (bytes more : List ℕ) → IsRead true bytes more → IsRead false (92 ∷ bytes) (92 ∷ more)
+with_backslash : (bytes more : List ℕ) → IsRead true bytes more → IsRead false (byte "\\" ∷ bytes) (byte "\\" ∷ more)
 with_backslash bytes more rest = record {
   after = rest.after;
   spelled = rest.spelled;
-  is_bytes = ap (λ xs. 92 ∷ xs) rest.is_bytes;
+  is_bytes = ap (λ xs. byte "\\" ∷ xs) rest.is_bytes;
   is_name = rest.is_name;
   are_spelled = rest.are_spelled;
 }
 
-with_byte : (b : ℕ) (bytes more : List ℕ) → is_never_in_name b ≡ false → b ≢ 34 → b ≢ 92 → IsRead false bytes more → IsRead false (b ∷ bytes) (b ∷ more)
+with_byte : (b : ℕ) (bytes more : List ℕ) → is_never_in_name b ≡ false → b ≢ byte "\"" → b ≢ byte "\\" → IsRead false bytes more
+    → IsRead false (b ∷ bytes) (b ∷ more)
 with_byte b bytes more never quote slash rest = record {
   after = rest.after;
   spelled = (false, b) ∷ rest.spelled;
@@ -63,48 +64,48 @@ with_byte b bytes more never quote slash rest = record {
   are_spelled = ((never, quote, slash), rest.are_spelled);
 }
 
-closing : (bytes : List ℕ) → IsRead false (34 ∷ 93 ∷ bytes) []
+closing : (bytes : List ℕ) → IsRead false (byte "\"" ∷ byte "]" ∷ bytes) []
 closing bytes = record { after = bytes; spelled = []; is_bytes = refl; is_name = refl; are_spelled = tt }
 
 -- the quote that closes a name
-closed_read : (b : ℕ) (bytes name : List ℕ) → b ≡ 34 → closed bytes ≡ Some name → IsRead false (b ∷ bytes) name
+closed_read : (b : ℕ) (bytes name : List ℕ) → b ≡ byte "\"" → closed bytes ≡ Some name → IsRead false (b ∷ bytes) name
 closed_read b [] name quote is = absurd (cc)
 closed_read b (d ∷ bytes) name quote is =
-    let end : d ≡ 93 = grind (arith, nat_tests) in
+    let end : d ≡ byte "]" = grind (arith, nat_tests) in
     let none : name ≡ [] = grind (arith, nat_tests) in
     rw (quote, end, none) (closing bytes)
 
 -- the bytes of the name after its first
-with_first : (escaped : Bool) (b : ℕ) (bytes more : List ℕ) → is_never_in_name b ≡ false → (not escaped && b == 34) ≡ false
-    → IsRead (not escaped && b == 92) bytes more → IsRead escaped (b ∷ bytes) (b ∷ more)
+with_first : (escaped : Bool) (b : ℕ) (bytes more : List ℕ) → is_never_in_name b ≡ false → (not escaped && b == byte "\"") ≡ false
+    → IsRead (not escaped && b == byte "\\") bytes more → IsRead escaped (b ∷ bytes) (b ∷ more)
 with_first true b bytes more never quote rest = with_escaped b bytes more never rest
 with_first false b bytes more never quote rest =
-    elim (cases_Bool (b == 92)) [
+    elim (cases_Bool (b == byte "\\")) [
       | inl is ↦
-          (let e : b ≡ 92 = grind (arith, nat_tests) in
+          (let e : b ≡ byte "\\" = grind (arith, nat_tests) in
           subst (λ d. IsRead false (d ∷ bytes) (d ∷ more)) (sym e) (with_backslash bytes more (subst (λ test. IsRead test bytes more) is rest)))
       | inr is ↦
-          (let other : b ≢ 92 = grind (arith, nat_tests) in
-          let unquoted : b ≢ 34 = grind (arith, nat_tests) in
+          (let other : b ≢ byte "\\" = grind (arith, nat_tests) in
+          let unquoted : b ≢ byte "\"" = grind (arith, nat_tests) in
           with_byte b bytes more never unquoted other (subst (λ test. IsRead test bytes more) is rest))
     ]
 
-after_first : (escaped : Bool) (b : ℕ) (bytes name : List ℕ) (closes : Bool) → closes ≡ (not escaped && b == 34) → is_never_in_name b ≡ false
-    → (if closes then closed bytes else option_map (λ more. b ∷ more) (escaped_name (not escaped && b == 92) bytes)) ≡ Some name
-    → ((more : List ℕ) → escaped_name (not escaped && b == 92) bytes ≡ Some more → IsRead (not escaped && b == 92) bytes more)
+after_first : (escaped : Bool) (b : ℕ) (bytes name : List ℕ) (closes : Bool) → closes ≡ (not escaped && b == byte "\"") → is_never_in_name b ≡ false
+    → (if closes then closed bytes else option_map (λ more. b ∷ more) (escaped_name (not escaped && b == byte "\\") bytes)) ≡ Some name
+    → ((more : List ℕ) → escaped_name (not escaped && b == byte "\\") bytes ≡ Some more → IsRead (not escaped && b == byte "\\") bytes more)
     → IsRead escaped (b ∷ bytes) name
 after_first true b bytes name true test never is rest = absurd (cc)
 after_first false b bytes name true test never is rest = closed_read b bytes name (grind (arith, nat_tests)) is
 after_first escaped b bytes name false test never is rest =
-    let (more, there, first) = map_some b (escaped_name (not escaped && b == 92) bytes) name is in
+    let (more, there, first) = map_some b (escaped_name (not escaped && b == byte "\\") bytes) name is in
     subst (IsRead escaped (b ∷ bytes)) (sym first) (with_first escaped b bytes more never (sym test) (rest more there))
 
 name_spelled : (escaped : Bool) (bytes name : List ℕ) → escaped_name escaped bytes ≡ Some name → IsRead escaped bytes name
 name_spelled escaped [] name is = absurd (cc)
 name_spelled escaped (b ∷ bytes) name is =
     let next = if_some (is_never_in_name b)
-    (if not escaped && b == 34 then closed bytes else option_map (λ more. b ∷ more) (escaped_name (not escaped && b == 92) bytes)) name is in
-    after_first escaped b bytes name (not escaped && b == 34) refl next.0 next.1 (λ more. name_spelled (not escaped && b == 92) bytes more)
+    (if not escaped && b == byte "\"" then closed bytes else option_map (λ more. b ∷ more) (escaped_name (not escaped && b == byte "\\") bytes)) name is in
+    after_first escaped b bytes name (not escaped && b == byte "\"") refl next.0 next.1 (λ more. name_spelled (not escaped && b == byte "\\") bytes more)
 
 -- ---- headers
 
@@ -128,10 +129,10 @@ named_some (Some escaped) name is = (escaped, refl, cc)
 
 -- the name after the blanks
 quote_before : (bytes : List ℕ) (name : List ℕ) → quoted_header bytes ≡ Named name
-    → (rest : List ℕ) × (bytes ≡ 34 ∷ rest) × (named (escaped_name false rest) ≡ Named name)
+    → (rest : List ℕ) × (bytes ≡ byte "\"" ∷ rest) × (named (escaped_name false rest) ≡ Named name)
 quote_before [] name is = absurd (cc)
 quote_before (b ∷ bytes) name is =
-    elim (cases_Bool (b == 34)) [
+    elim (cases_Bool (b == byte "\"")) [
       | inl quote ↦ (bytes, ap (λ d. d ∷ bytes) (grind (arith, nat_tests)), rw quote at is)
       | inr other ↦ absurd (let wrong : Unreadable ≡ Named name = rw other at is in cc)
     ]
@@ -143,7 +144,7 @@ record AfterWord (bytes name : List ℕ) : Type 0 where
   has_blanks : blanks ≢ []
   are_blanks : IsBlanks blanks
   are_spelled : AllByRecursion IsSpelled spelled
-  is_bytes : bytes ≡ blanks ++ 34 ∷ (spelled_name spelled ++ 34 ∷ 93 ∷ after)
+  is_bytes : bytes ≡ blanks ++ byte "\"" ∷ (spelled_name spelled ++ byte "\"" ∷ byte "]" ∷ after)
   is_name : name_of spelled ≡ name
 
 after_word_blank : (b : ℕ) (bytes name : List ℕ) → is_blank b ≡ true → quoted_header (without_blanks bytes) ≡ Named name → AfterWord (b ∷ bytes) name
@@ -159,7 +160,8 @@ after_word_blank b bytes name blank is =
       are_blanks = (blank, all);
       are_spelled = read.are_spelled;
       is_bytes =
-          ap (λ xs. b ∷ xs) (whole ∙ ap (λ xs. blanks ++ xs) (quote ∙ ap (λ xs. 34 ∷ xs) (read.is_bytes ∙ ap (λ xs. xs ++ 34 ∷ 93 ∷ read.after) read.is_name)));
+          ap (λ xs. b ∷ xs) (whole ∙ ap (λ xs. blanks ++ xs) (quote
+          ∙ ap (λ xs. byte "\"" ∷ xs) (read.is_bytes ∙ ap (λ xs. xs ++ byte "\"" ∷ byte "]" ∷ read.after) read.is_name)));
       is_name = sym (name_read read.spelled read.are_spelled) ∙ ap (unescaped false) (sym read.is_name) ∙ own;
     }
 
@@ -172,7 +174,7 @@ after_word [] name is = absurd (cc)
 after_word (b ∷ bytes) name is =
     elim (cases_Bool (is_blank b)) [
       | inl blank ↦ after_word_blank b bytes name blank (rw blank at is)
-      | inr other ↦ absurd (not_named (b == 93 || is_word_byte b) name (rw other at is))
+      | inr other ↦ absurd (not_named (b == byte "]" || is_word_byte b) name (rw other at is))
     ]
 
 record AfterBracket (bytes : List ℕ) : Type 0 where
@@ -209,7 +211,7 @@ after_bracket bytes some =
 record Begins (offset : ℕ) (bytes : List ℕ) (s : ℕ × Option (List ℕ)) : Type 0 where
   before : List ℕ
   after : List ℕ
-  is_bytes : bytes ≡ before ++ 91 ∷ after
+  is_bytes : bytes ≡ before ++ byte "[" ∷ after
   is_offset : offset + length before ≡ s.0
   is_begun : begun s.0 (header_after_bracket after) ≡ s ∷ []
 
@@ -225,7 +227,8 @@ begun_alone offset (Named name) s there = let is = one_alone (offset, Some name)
 begun_alone offset Unreadable s there = let is = one_alone (offset, None) s there in (ap (λ x. x ∷ []) is, ap (λ x. x.0) is)
 begun_alone offset Other s there = absurd (none_alone s there)
 
-begins_here : (offset b : ℕ) (bytes : List ℕ) (s : ℕ × Option (List ℕ)) → b ≡ 91 → Contains (begun offset (header_after_bracket bytes)) s → Begins offset (b ∷ bytes) s
+begins_here : (offset b : ℕ) (bytes : List ℕ) (s : ℕ × Option (List ℕ)) → b ≡ byte "[" → Contains (begun offset (header_after_bracket bytes)) s
+    → Begins offset (b ∷ bytes) s
 begins_here offset b bytes s bracket there =
     let (alone, at) = begun_alone offset (header_after_bracket bytes) s there in record {
       before = [];
@@ -248,11 +251,11 @@ begins_later offset b bytes s later =
 begins : (offset : ℕ) (bytes : List ℕ) (s : ℕ × Option (List ℕ)) → Contains (sections offset bytes) s → Begins offset bytes s
 begins offset [] s there = absurd (none_alone s there)
 begins offset (b ∷ bytes) s there =
-    elim (cases_Bool (b == 91)) [
+    elim (cases_Bool (b == byte "[")) [
       | inl bracket ↦
           (let both : Contains (begun offset (header_after_bracket bytes) ++ sections (offset + 1) bytes) s = rw bracket at there in
           elim (Contains-append_cases (begun offset (header_after_bracket bytes)) (sections (offset + 1) bytes) s both) [
-            | inl first ↦ begins_here offset b bytes s (eqb-true b 91 bracket) first
+            | inl first ↦ begins_here offset b bytes s (eqb-true b (byte "[") bracket) first
             | inr rest ↦ begins_later offset b bytes s (begins (offset + 1) bytes s rest)
           ])
       | inr other ↦ begins_later offset b bytes s (begins (offset + 1) bytes s (rw other at there))
@@ -285,7 +288,7 @@ each_name_spelled file offset name there =
       spelled = rest.spelled;
       is_section = record { is_word = bracket.is_word; has_blanks = rest.has_blanks; are_blanks = rest.are_blanks; is_spelled = rest.are_spelled };
       is_file =
-          at.is_bytes ∙ ap (λ xs. at.before ++ 91 ∷ xs) (bracket.is_bytes ∙ ap (λ xs. bracket.word ++ xs) rest.is_bytes)
+          at.is_bytes ∙ ap (λ xs. at.before ++ byte "[" ∷ xs) (bracket.is_bytes ∙ ap (λ xs. bracket.word ++ xs) rest.is_bytes)
           ∙ ap (λ xs. at.before ++ xs) (sym (in_parts bracket.word rest.blanks rest.after rest.spelled))
           ∙ sym (append_assoc at.before (section_bytes bracket.word rest.blanks rest.spelled) rest.after);
       is_offset = omega arith;
@@ -301,7 +304,7 @@ quoted_by false o is = cc
 
 quoted_is_some : (bytes : List ℕ) → quoted_header bytes ≢ Other
 quoted_is_some [] is = cc
-quoted_is_some (b ∷ bytes) is = quoted_by (b == 34) (escaped_name false bytes) is
+quoted_is_some (b ∷ bytes) is = quoted_by (b == byte "\"") (escaped_name false bytes) is
 
 by_blank : (test : Bool) (bytes : List ℕ) → (if test then quoted_header bytes else Unreadable) ≢ Other
 by_blank true bytes is = quoted_is_some bytes is
@@ -314,7 +317,7 @@ header_is_some (b ∷ bytes) some is = by_blank (is_blank b) (without_blanks byt
 header_is_none : (bytes : List ℕ) → header_after_word bytes ≢ Other → is_other bytes ≡ false
 header_is_none [] some = refl
 header_is_none (b ∷ bytes) some =
-    elim (cases_Bool (b == 93 || is_word_byte b)) [
+    elim (cases_Bool (b == byte "]" || is_word_byte b)) [
       | inl ends ↦
           (let solid : is_blank b ≡ false = grind (arith, nat_tests) in
           absurd (some (rw (solid, ends) refl)))
@@ -331,10 +334,10 @@ header_given file offset at =
     let read = word_read at.word at.after at.is_word in
     let (name, is) = given_by (header_after_word at.after) (header_is_some at.after at.is_not_other) in
     let from = at.is_offset in
-    let whole : at.before ++ 91 ∷ (at.word ++ at.after) ≡ file = sym (at.is_file ∙ append_assoc at.before (91 ∷ at.word) at.after) in (
+    let whole : at.before ++ byte "[" ∷ (at.word ++ at.after) ≡ file = sym (at.is_file ∙ append_assoc at.before (byte "[" ∷ at.word) at.after) in (
       name,
       subst (λ bytes. Contains (sections 0 bytes) (offset, name)) whole
-          (one_of_all 0 offset at.before (91 ∷ (at.word ++ at.after)) (offset, name) (omega arith)
+          (one_of_all 0 offset at.before (byte "[" ∷ (at.word ++ at.after)) (offset, name) (omega arith)
           (first_of_all offset (at.word ++ at.after) name (ap (begun offset) read ∙ is offset))),
     )
 
@@ -348,7 +351,7 @@ given_header file offset name there =
       after = bracket.after;
       word = bracket.word;
       is_word = bracket.is_word;
-      is_file = at.is_bytes ∙ ap (λ xs. at.before ++ 91 ∷ xs) bracket.is_bytes ∙ sym (append_assoc at.before (91 ∷ bracket.word) bracket.after);
+      is_file = at.is_bytes ∙ ap (λ xs. at.before ++ byte "[" ∷ xs) bracket.is_bytes ∙ sym (append_assoc at.before (byte "[" ∷ bracket.word) bracket.after);
       is_offset = omega arith;
       is_not_other = header_is_none bracket.after (λ none. some (bracket.is_header ∙ none));
     }
@@ -380,7 +383,7 @@ all_by true offset Other rest all = from_rest offset rest all
 
 all_from : (offset : ℕ) (bytes : List ℕ) → AllFrom offset (sections offset bytes)
 all_from offset [] = λ k d below. absurd (omega arith)
-all_from offset (b ∷ bytes) = all_by (b == 91) offset (header_after_bracket bytes) (sections (offset + 1) bytes) (all_from (offset + 1) bytes)
+all_from offset (b ∷ bytes) = all_by (b == byte "[") offset (header_after_bracket bytes) (sections (offset + 1) bytes) (all_from (offset + 1) bytes)
 
 pairs_by : (test : Bool) (offset : ℕ) (header : Header) (rest : List (ℕ × Option (List ℕ))) → AllFrom (offset + 1) rest → AllPairs Comes rest
     → AllPairs Comes (if test then begun offset header ++ rest else rest)
@@ -392,7 +395,7 @@ pairs_by true offset Other rest all pairs = pairs
 pairs_from : (offset : ℕ) (bytes : List ℕ) → AllPairs Comes (sections offset bytes)
 pairs_from offset [] = λ i j d lower below. absurd (omega arith)
 pairs_from offset (b ∷ bytes) =
-    pairs_by (b == 91) offset (header_after_bracket bytes) (sections (offset + 1) bytes) (all_from (offset + 1) bytes) (pairs_from (offset + 1) bytes)
+    pairs_by (b == byte "[") offset (header_after_bracket bytes) (sections (offset + 1) bytes) (all_from (offset + 1) bytes) (pairs_from (offset + 1) bytes)
 
 pub in_order : IsInOrder
 in_order file = pairs_from 0 file

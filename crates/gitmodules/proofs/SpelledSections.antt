@@ -7,11 +7,12 @@ use Rattle.std.proofs.lemmas.Bool.Decides.{nat_tests}
 use Rattle.std.proofs.lemmas.Slice.Eq.{bytes_eq-Decides}
 use Rattle.std.specs.Char.{to_ascii_lowercase}
 use Rattle.std.specs.List.{AllByRecursion}
+use Rattle.std.specs.Str.{byte}
 use Rattle.gitmodules.specs.Sections.{Named, is_blank, without_blanks, escaped_name, unescaped, header_after_word, header_after_bracket, begun, sections}
 use Rattle.gitmodules.specs.Spelled.{SpelledByte, IsSpelled, spelled_name, name_of, section_bytes, IsEachSectionFound}
 
 name_cut : (name : List SpelledByte) (after : List ℕ) → AllByRecursion IsSpelled name
-    → escaped_name false (spelled_name name ++ 34 ∷ 93 ∷ after) ≡ Some (spelled_name name)
+    → escaped_name false (spelled_name name ++ byte "\"" ∷ byte "]" ∷ after) ≡ Some (spelled_name name)
 name_cut [] after is = refl
 name_cut ((true, b) ∷ name) after is = grind (arith, nat_tests, name_cut name after is.1)
 name_cut ((false, b) ∷ name) after is = grind (arith, nat_tests, name_cut name after is.1)
@@ -21,15 +22,15 @@ name_read [] is = refl
 name_read ((true, b) ∷ name) is = grind (arith, nat_tests, name_read name is.1)
 name_read ((false, b) ∷ name) is = grind (arith, nat_tests, name_read name is.1)
 
-blanks_passed : (blanks after : List ℕ) → AllByRecursion (λ b. is_blank b ≡ true) blanks → without_blanks (blanks ++ 34 ∷ after) ≡ 34 ∷ after
+blanks_passed : (blanks after : List ℕ) → AllByRecursion (λ b. is_blank b ≡ true) blanks → without_blanks (blanks ++ byte "\"" ∷ after) ≡ byte "\"" ∷ after
 blanks_passed [] after is = refl
 blanks_passed (b ∷ blanks) after is = grind (arith, blanks_passed blanks after is.1)
 
 quoted_read : (blanks after : List ℕ) (name : List SpelledByte) → blanks ≢ [] → AllByRecursion (λ b. is_blank b ≡ true) blanks
-    → AllByRecursion IsSpelled name → header_after_word (blanks ++ 34 ∷ (spelled_name name ++ 34 ∷ 93 ∷ after)) ≡ Named (name_of name)
+    → AllByRecursion IsSpelled name → header_after_word (blanks ++ byte "\"" ∷ (spelled_name name ++ byte "\"" ∷ byte "]" ∷ after)) ≡ Named (name_of name)
 quoted_read [] after name some is spelled = absurd (some refl)
 quoted_read (b ∷ blanks) after name some is spelled =
-    grind (arith, blanks_passed blanks (spelled_name name ++ 34 ∷ 93 ∷ after) is.1, name_cut name after spelled, name_read name spelled)
+    grind (arith, blanks_passed blanks (spelled_name name ++ byte "\"" ∷ byte "]" ∷ after) is.1, name_cut name after spelled, name_read name spelled)
 
 pub nine : (word : List ℕ) → map to_ascii_lowercase word ≡ codes "submodule" → length word ≡ 9
 nine word is = sym (length-map word to_ascii_lowercase) ∙ ap length is
@@ -56,26 +57,27 @@ pub one_of_all : (offset n : ℕ) (before bytes : List ℕ) (s : ℕ × Option (
     → Contains (sections offset (before ++ bytes)) s
 one_of_all offset n [] bytes s is there = subst (λ k. Contains (sections k bytes) s) (is ∙ add-zero offset) there
 one_of_all offset n (b ∷ before) bytes s is there =
-    either (b == 91) (begun offset (header_after_bracket (before ++ bytes))) (sections (offset + 1) (before ++ bytes)) s
+    either (b == byte "[") (begun offset (header_after_bracket (before ++ bytes))) (sections (offset + 1) (before ++ bytes)) s
     (one_of_all (offset + 1) n before bytes s (omega arith) there)
 
 -- the first section is one of all
 pub first_of_all : (offset : ℕ) (bytes : List ℕ) (name : Option (List ℕ)) → begun offset (header_after_bracket bytes) ≡ (offset, name) ∷ []
-    → Contains (sections offset (91 ∷ bytes)) (offset, name)
+    → Contains (sections offset (byte "[" ∷ bytes)) (offset, name)
 first_of_all offset bytes name is = rw is (0, omega arith, refl)
 
 -- the bytes of a section and of what follows it, from its first part on
 pub in_parts : (word blanks after : List ℕ) (name : List SpelledByte)
-    → section_bytes word blanks name ++ after ≡ 91 ∷ (word ++ (blanks ++ 34 ∷ (spelled_name name ++ 34 ∷ 93 ∷ after)))
+    → section_bytes word blanks name ++ after ≡ byte "[" ∷ (word ++ (blanks ++ byte "\"" ∷ (spelled_name name ++ byte "\"" ∷ byte "]" ∷ after)))
 in_parts word blanks after name = grind (arith, append_assoc)
 
 pub each_section_found : IsEachSectionFound
 each_section_found before after word blanks name is =
-    let bytes = word ++ (blanks ++ 34 ∷ (spelled_name name ++ 34 ∷ 93 ∷ after)) in
+    let bytes = word ++ (blanks ++ byte "\"" ∷ (spelled_name name ++ byte "\"" ∷ byte "]" ∷ after)) in
     let read : header_after_bracket bytes ≡ Named (name_of name) =
-    word_read word (blanks ++ 34 ∷ (spelled_name name ++ 34 ∷ 93 ∷ after)) is.is_word ∙ quoted_read blanks after name is.has_blanks is.are_blanks is.is_spelled in
+    word_read word (blanks ++ byte "\"" ∷ (spelled_name name ++ byte "\"" ∷ byte "]" ∷ after)) is.is_word
+    ∙ quoted_read blanks after name is.has_blanks is.are_blanks is.is_spelled in
     let first = first_of_all (length before) bytes (Some (name_of name)) (ap (begun (length before)) read) in
-    let whole : before ++ section_bytes word blanks name ++ after ≡ before ++ 91 ∷ bytes =
+    let whole : before ++ section_bytes word blanks name ++ after ≡ before ++ byte "[" ∷ bytes =
     append_assoc before (section_bytes word blanks name) after ∙ ap (λ rest. before ++ rest) (in_parts word blanks after name) in
     subst (λ file. Contains (sections 0 file) (length before, Some (name_of name))) (sym whole)
-    (one_of_all 0 (length before) before (91 ∷ bytes) _ (omega arith) first)
+    (one_of_all 0 (length before) before (byte "[" ∷ bytes) _ (omega arith) first)

@@ -121,7 +121,8 @@ no_dots x none = no_parent x (nothing (length x)) (λ k from to. and_right _ _ (
     nothing k = false_from_ne_true _ (λ t.
         let e = parent_ends x k t in
         let next : get_or x (k - 2 + 1) 0 ≡ byte "." = grind (arith, e.last, e.long) in
-        true≢false (sym (and_from _ _ (eq-eqb _ (byte ".") e.first) (eq-eqb _ (byte ".") next)) ∙ none (k - 2) (omega arith) (inside x (k - 2 + 1) (byte ".") (omega arith) next)))
+        true≢false (sym (and_from _ _ (eq-eqb _ (byte ".") e.first) (eq-eqb _ (byte ".") next))
+        ∙ none (k - 2) (omega arith) (inside x (k - 2 + 1) (byte ".") (omega arith) next)))
 
 -- Two ranges in which no separator ends such a part, and which meet or overlap, are one.
 pub no_parent_across : (x : List ℕ) (i j k m : ℕ) → (j ≤ i) × (m ≤ k) → NoParentBetween x 0 i → NoParentBetween x j k → NoParentBetween x 0 m
@@ -131,7 +132,8 @@ no_parent_across x i j k m near front back p from to = elim (cases_lt p i) [
 ]
 
 -- The range with one place more, which is no separator that ends such a part.
-pub no_parent_more : (x : List ℕ) (i j : ℕ) → NoParentBetween x i j → (is_separator (get_or x j 0) && is_parent_before x j) ≡ false → NoParentBetween x i (j + 1)
+pub no_parent_more : (x : List ℕ) (i j : ℕ) → NoParentBetween x i j → (is_separator (get_or x j 0) && is_parent_before x j) ≡ false
+    → NoParentBetween x i (j + 1)
 no_parent_more x i j none here k from to = elim (cases_lt k j) [
   | inl early ↦ none k from early
   | inr late ↦

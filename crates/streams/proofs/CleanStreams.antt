@@ -1,16 +1,16 @@
 -- The verdict is clean if and only if the text is a stream of which nothing is refused.
-use Rattle.std.proofs.Common.{◌≡◌, ◌↔◌, ℕ, ◌+◌, Bool, true, false, ◌||◌, List, [], ◌∷◌, ◌++◌, Option, None, Some, length, map, refl, arith, ap, ◌∙◌, sym}
-use Rattle.std.specs.Prelude.{flat_map}
+use Rattle.std.proofs.Common.{◌≡◌, ℕ, ◌+◌, Bool, true, false, ◌||◌, List, [], ◌∷◌, None, length, map, refl, arith, ap, ◌∙◌, sym}
 use Rattle.std.specs.List.{AllByRecursion}
 use Rattle.streams.specs.declared.outcome.Verdict.{Verdict}
 use Rattle.streams.specs.declared.outcome.Verdict.TheVariants.{Clean}
-use Rattle.streams.specs.declared.lines.Ending.TheVariants.{Anywhere, EndLine}
-use Rattle.streams.specs.Reports.{Said, nothing, all_said, before_report, at_end_line, Report, lines_from, verdict_of}
+use Rattle.streams.specs.declared.lines.Ending.TheVariants.{Anywhere}
+use Rattle.streams.specs.Reports.{Said, all_said, before_report, at_end_line, Report, lines_from, verdict_of}
 use Rattle.streams.specs.Objects.{ObjectRule, object_rule, ending_of, object_report}
-use Rattle.streams.specs.Spelled.{Spelled, IsSpelled, spelling, spelled_said, end_of, IsCleanStream, IsCleanIfAccepted}
+use Rattle.streams.specs.Spelled.{Spelled, spelled_said, end_of, IsCleanStream, IsCleanIfAccepted}
 use Rattle.streams.proofs.LinesRead.{lines_none, lines_end}
 use Rattle.streams.proofs.SpelledStreams.{reported_in_order}
 use Rattle.streams.proofs.WellFormedStreams.{well_formed_only_if_spelled}
+use Rattle.streams.proofs.WholeStreams.{whole_stream}
 
 pub neither : (a b : Bool) → (a || b) ≡ false → (a ≡ false) × (b ≡ false)
 neither true b e = grind arith
@@ -65,3 +65,6 @@ if_clean rule whole text good =
 pub clean_if_accepted : (rule : ObjectRule) (whole : Bool) (verdict : Verdict) (text : List ℕ) → verdict ≡ verdict_of (object_report rule whole text)
     → IsCleanIfAccepted rule whole verdict text
 clean_if_accepted rule whole verdict text is = (λ e. only_clean rule whole text (sym is ∙ e), λ good. is ∙ if_clean rule whole text good)
+
+-- what the promises of `objects::run` need
+pub ruleset object_laws = (reported_in_order, well_formed_only_if_spelled, whole_stream, clean_if_accepted)

@@ -1,5 +1,5 @@
 -- A line of an input, and the lines of an input while it is read.
-use Rattle.std.proofs.Common.{◌≡◌, ◌≢◌, ℕ, zero, suc, ◌+◌, ◌<◌, ◌≤◌, Bool, true, false, cond, nat_lt, ◌==◌, ◌&&◌, ◌||◌, List, [], ◌∷◌, ◌++◌, All, Option, None, Some}
+use Rattle.std.proofs.Common.{◌≡◌, ◌≢◌, ℕ, zero, suc, ◌+◌, ◌<◌, ◌≤◌, Bool, true, false, cond, ◌&&◌, ◌||◌, List, [], ◌∷◌, ◌++◌, All, Option, None, Some}
 use Rattle.std.proofs.Common.{Result, Ok, Err, length, take, drop}
 use Rattle.std.proofs.Common.{refl, ap, ◌∙◌, arith, take_all, append-nil, append_assoc, length-append, length-take, length-drop}
 use Rattle.std.proofs.lemmas.List.{take-append-le}
@@ -18,7 +18,6 @@ use Rattle.streams.specs.declared.outcome.RunError.TheVariants.{Read}
 use Rattle.streams.specs.declared.outcome.Verdict.TheVariants.{Clean, Refused, Malformed}
 use Rattle.streams.specs.declared.lines.Ending.{Ending}
 use Rattle.streams.specs.declared.lines.Ending.TheVariants.{Anywhere, EndLine, AfterALine}
-use Rattle.streams.specs.declared.input.Found.{Found}
 use Rattle.streams.specs.declared.input.Found.TheVariants.{Byte, Limit, End}
 use Rattle.streams.specs.Texts.{line_end, split_once}
 use Rattle.streams.specs.Reports.{longest, Said, nothing, then_said, Step, LineRule, with_rest, line_with, line_of, Report, lines_then, end_word, end_line}

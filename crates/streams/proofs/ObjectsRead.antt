@@ -1,6 +1,6 @@
 -- An object's bytes, and then the LF behind them.
-use Rattle.std.proofs.Common.{◌≡◌, ℕ, ◌+◌, Bool, true, false, nat_lt, List, [], ◌∷◌, Option, None, Some, Result, Ok, Err, length, take, drop}
-use Rattle.std.proofs.Common.{refl, ap, sym, ◌∙◌, arith, length-drop, drop-drop, drop_of_length-le}
+use Rattle.std.proofs.Common.{◌≡◌, ℕ, ◌+◌, Bool, nat_lt, List, [], ◌∷◌, Option, None, Some, Result, Ok, Err, length, take, drop}
+use Rattle.std.proofs.Common.{refl, ◌∙◌, arith, drop-drop, drop_of_length-le}
 use Rattle.std.proofs.lemmas.Bool.Decides.{nat_tests}
 use Rattle.std.proofs.Common.{take_all}
 use Rattle.std.proofs.lemmas.Option.{IfSome_then, MatchOption-at_some}
@@ -8,8 +8,6 @@ use Rattle.std.specs.Prelude.{IfSome, ⊤}
 use Rattle.std.specs.Io.KnownBytes.{Appends}
 use Rattle.streams.specs.declared.outcome.RunError.{RunError}
 use Rattle.streams.specs.declared.outcome.Fault.{Fault}
-use Rattle.streams.specs.declared.outcome.Fault.TheVariants.{Ended, LineEnd}
-use Rattle.streams.specs.Texts.{line_end}
 use Rattle.streams.specs.Headers.{ParsedObject}
 use Rattle.streams.specs.Reports.{Said, Step, with_rest}
 use Rattle.streams.specs.Objects.{ObjectRule, size_with_end, closed, object_step}

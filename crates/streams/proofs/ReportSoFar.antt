@@ -1,5 +1,5 @@
 -- A text of which a part is read: its report is what was said so far, whose lines are appended, and then the report of what is left.
-use Rattle.std.proofs.Common.{◌≡◌, ℕ, Bool, false, ◌||◌, List, [], ◌++◌, Option, Some, Result, length, refl, arith}
+use Rattle.std.proofs.Common.{◌≡◌, ℕ, Bool, false, ◌||◌, List, ◌++◌, Option, Some, Result, length, refl, arith}
 use Rattle.std.proofs.Common.{append_assoc, append-nil, length-append}
 use lib.Seq.{take-append-add}
 use Rattle.std.proofs.lemmas.Option.{IfSome_then, MatchOption-at_some}

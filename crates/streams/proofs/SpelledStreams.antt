@@ -1,38 +1,37 @@
 -- A stream that is written out, object by object, is read as it is written.
-use Rattle.std.proofs.Common.{◌≡◌, ◌≢◌, ℕ, ◌+◌, ◌<◌, ◌≤◌, Bool, true, false, nat_lt, List, [], ◌∷◌, ◌++◌, None, Some, Ok, length, take, drop, codes}
+use Rattle.std.proofs.Common.{◌≡◌, ℕ, ◌+◌, ◌<◌, Bool, true, false, nat_lt, List, [], ◌∷◌, ◌++◌, None, Some, Ok, length, take, drop, codes}
 use Rattle.std.proofs.Common.{refl, ap, ◌∙◌, arith, append_assoc, length-append, take_at, drop_at}
 use Rattle.std.specs.Prelude.{map, flat_map}
 use Rattle.std.specs.List.{AllByRecursion}
-use Rattle.std.specs.Str.{bytes_eq}
+use Rattle.std.specs.Str.{byte}
 use Rattle.std.proofs.lemmas.Slice.Eq.{bytes_eq-Decides}
 use Rattle.std.proofs.lemmas.Bool.Decides.{nat_tests}
 use Rattle.streams.specs.declared.lines.Ending.{Ending}
 use Rattle.streams.specs.declared.lines.Ending.TheVariants.{Anywhere, EndLine, AfterALine}
 use Rattle.streams.specs.Texts.{is_id}
-use Rattle.streams.specs.Reports.{Said, nothing, all_said, with_rest, line_of, end_line, is_end, before_report, lines_from, report}
-use Rattle.streams.specs.Objects.{ObjectRule, closed, header_rule, object_rule, ending_of}
+use Rattle.streams.specs.Reports.{all_said, with_rest, line_of, is_end, before_report, lines_from, report}
+use Rattle.streams.specs.Objects.{ObjectRule, header_rule, object_rule, ending_of}
 use Rattle.streams.specs.Headers.{ParsedObject, Object, kind_word}
 use Rattle.streams.specs.Spelled.{Spelled, Present, Absent, rest_bytes, header_line, IsSpelled, spelling, spelled_said, IsReportedInOrder}
 use Rattle.streams.proofs.SpelledHeaders.{id_high, header_spelled, header_none, missing_spelled, missing_none}
-use Rattle.streams.proofs.SplitTexts.{drop_both}
 use Rattle.streams.proofs.ReportSoFar.{then_said_assoc}
 use Rattle.streams.proofs.LinesRead.{line_found, lines_first}
 
-take_content : (content rest : List ℕ) (n : ℕ) → length content ≡ n → take n ((content ++ 10 ∷ []) ++ rest) ≡ content
-take_content content rest n e = grind (arith, append_assoc content (10 ∷ []) rest, take_at content (10 ∷ rest))
+take_content : (content rest : List ℕ) (n : ℕ) → length content ≡ n → take n ((content ++ byte "\n" ∷ []) ++ rest) ≡ content
+take_content content rest n e = grind (arith, append_assoc content (byte "\n" ∷ []) rest, take_at content (byte "\n" ∷ rest))
 
-drop_content : (content rest : List ℕ) (n : ℕ) → length content ≡ n → drop n ((content ++ 10 ∷ []) ++ rest) ≡ 10 ∷ rest
-drop_content content rest n e = grind (arith, append_assoc content (10 ∷ []) rest, drop_at content (10 ∷ rest))
+drop_content : (content rest : List ℕ) (n : ℕ) → length content ≡ n → drop n ((content ++ byte "\n" ∷ []) ++ rest) ≡ byte "\n" ∷ rest
+drop_content content rest n e = grind (arith, append_assoc content (byte "\n" ∷ []) rest, drop_at content (byte "\n" ∷ rest))
 
-drop_object : (content rest : List ℕ) (n : ℕ) → length content ≡ n → drop (n + 1) ((content ++ 10 ∷ []) ++ rest) ≡ rest
-drop_object content rest n e = grind (arith, drop_at (content ++ 10 ∷ []) rest (n + 1), length-append)
+drop_object : (content rest : List ℕ) (n : ℕ) → length content ≡ n → drop (n + 1) ((content ++ byte "\n" ∷ []) ++ rest) ≡ rest
+drop_object content rest n e = grind (arith, drop_at (content ++ byte "\n" ∷ []) rest (n + 1), length-append)
 
 module _ (rule : ObjectRule) (whole : Bool) where
   body_spelled : (object : ParsedObject) (content rest : List ℕ) → length content ≡ object.size → (rule false object content).1 ≡ None
-      → with_rest (header_rule rule whole (Some (Object object)) ((content ++ 10 ∷ []) ++ rest)) ((content ++ 10 ∷ []) ++ rest)
+      → with_rest (header_rule rule whole (Some (Object object)) ((content ++ byte "\n" ∷ []) ++ rest)) ((content ++ byte "\n" ∷ []) ++ rest)
       ≡ ((rule false object content).0, Ok rest)
   body_spelled object content rest long good =
-      let text = (content ++ 10 ∷ []) ++ rest in
+      let text = (content ++ byte "\n" ∷ []) ++ rest in
       let uncut : nat_lt (length text) object.size ≡ false = grind (arith, nat_tests, length-append) in
       grind (
         arith,
@@ -46,14 +45,14 @@ module _ (rule : ObjectRule) (whole : Bool) where
       → line_of (object_rule rule whole) (spelling object ++ rest) ≡ (spelled_said rule object, Ok rest)
   line_spelled (Present object digits content) rest (good, number, long, none, fits, right) =
       let line = header_line object digits in
-      let after = (content ++ 10 ∷ []) ++ rest in
-      ap (line_of (object_rule rule whole)) (append_assoc line (10 ∷ (content ++ 10 ∷ [])) rest)
+      let after = (content ++ byte "\n" ∷ []) ++ rest in
+      ap (line_of (object_rule rule whole)) (append_assoc line (byte "\n" ∷ (content ++ byte "\n" ∷ [])) rest)
       ∙ line_found (object_rule rule whole) line after (header_none object digits good number none) fits
       ∙ ap (λ header. with_rest (header_rule rule whole header after) after) (header_spelled object digits good number)
       ∙ body_spelled object content rest long right
   line_spelled (Absent id) rest (good, some) =
       let line = id ++ codes " missing" in
-      ap (line_of (object_rule rule whole)) (append_assoc line (10 ∷ []) rest)
+      ap (line_of (object_rule rule whole)) (append_assoc line (byte "\n" ∷ []) rest)
       ∙ line_found (object_rule rule whole) line rest (missing_none id good) (grind (arith, length-append, id_high id good))
       ∙ ap (λ header. with_rest (header_rule rule whole header rest) rest) (missing_spelled id good)
       ∙ grind arith
@@ -76,9 +75,10 @@ all_assoc a b c d = grind (arith, append_assoc)
 pub not_end : (rule : ObjectRule) (whole : Bool) (how : Ending) (object : Spelled) (rest : List ℕ) → IsSpelled rule whole object
     → is_end how (spelling object ++ rest) ≡ false
 not_end rule whole how (Present object digits content) rest good =
-    rw (all_assoc object.id (32 ∷ (kind_word object.kind ++ (32 ∷ (digits ++ rest_bytes object.rest)))) (10 ∷ (content ++ 10 ∷ [])) rest)
+    rw (all_assoc object.id (byte " " ∷ (kind_word object.kind ++ (byte " " ∷ (digits ++ rest_bytes object.rest))))
+    (byte "\n" ∷ (content ++ byte "\n" ∷ [])) rest)
     (id_before how object.id _ good.0)
-not_end rule whole how (Absent id) rest good = rw (all_assoc id (codes " missing") (10 ∷ []) rest) (id_before how id _ good.0)
+not_end rule whole how (Absent id) rest good = rw (all_assoc id (codes " missing") (byte "\n" ∷ []) rest) (id_before how id _ good.0)
 
 module _ (rule : ObjectRule) (whole : Bool) (how : Ending) where
   objects_spelled : (number : ℕ) (stream : List Spelled) (rest : List ℕ) → AllByRecursion (IsSpelled rule whole) stream

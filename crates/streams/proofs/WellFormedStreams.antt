@@ -2,22 +2,21 @@
 use Rattle.std.proofs.Common.{◌≡◌, ◌≢◌, ℕ, zero, suc, ◌+◌, ◌<◌, ◌≤◌, Bool, true, false, cond, nat_lt, List, [], ◌∷◌, ◌++◌, Option, None, Some, All}
 use Rattle.std.proofs.Common.{Result, Ok, Err, length, take, drop, codes}
 use Rattle.std.proofs.Common.{refl, ap, sym, ◌∙◌, arith, append_assoc, append-nil, length-append, length-take, length-drop, take-append-drop}
-use Rattle.std.specs.Prelude.{IfSome, IfOk, map, flat_map}
+use Rattle.std.specs.Prelude.{IfSome, IfOk, flat_map}
 use Rattle.std.specs.List.{AllByRecursion}
 use Rattle.std.specs.Option.{option_map, option_and_then}
-use Rattle.std.specs.Str.{bytes_eq}
+use Rattle.std.specs.Str.{byte, bytes_eq}
 use Rattle.std.proofs.lemmas.Slice.Eq.{bytes_eq-Decides}
 use Rattle.std.proofs.lemmas.List.Elements.{All-from_recursion}
 use Rattle.std.proofs.lemmas.Option.{IfSome_then}
 use Rattle.std.proofs.lemmas.Bool.Decides.{nat_tests}
 use Rattle.streams.specs.declared.outcome.Fault.{Fault}
 use Rattle.streams.specs.declared.header.Kind.{Kind}
-use Rattle.streams.specs.declared.lines.Ending.{Ending}
-use Rattle.streams.specs.declared.lines.Ending.TheVariants.{Anywhere, EndLine, AfterALine}
+use Rattle.streams.specs.declared.lines.Ending.TheVariants.{Anywhere, EndLine}
 use Rattle.streams.specs.Texts.{line_end, split_once, number_of, is_id}
-use Rattle.streams.specs.Headers.{ParsedObject, ParsedHeader, Missing, Object, kind_word, kind_of_word, with_size, sized_parts, sized, parsed_header}
-use Rattle.streams.specs.Reports.{longest, Said, nothing, then_said, all_said, Step, with_rest, line_with, line_of, end_line, at_end_line, Report, lines_then, lines_within, lines_from, report}
-use Rattle.streams.specs.Objects.{ObjectRule, Judged, size_with_end, closed, header_rule, object_rule, ending_of}
+use Rattle.streams.specs.Headers.{ParsedObject, ParsedHeader, Missing, Object, kind_word, kind_of_word, sized_parts, sized, parsed_header}
+use Rattle.streams.specs.Reports.{longest, Said, nothing, Step, with_rest, line_with, line_of, end_line, at_end_line, Report, lines_then, lines_within, lines_from, report}
+use Rattle.streams.specs.Objects.{ObjectRule, Judged, size_with_end, closed, header_rule, object_rule}
 use Rattle.streams.specs.Spelled.{Spelled, Present, Absent, rest_bytes, header_line, IsSpelled, spelling, spelled_said, end_of, IsStream, IsWellFormedOnlyIfSpelled}
 use Rattle.streams.proofs.SplitTexts.{IsCut, split_cuts, whole}
 use Rattle.streams.proofs.ObjectsRead.{next_drop}
@@ -37,36 +36,41 @@ word_is : (text : List ℕ) → IfSome (kind_of_word text) (λ kind. text ≡ ki
 word_is text = grind (arith, bytes_eq-Decides)
 
 size_is : (line id : List ℕ) (kind : Kind) (digits : List ℕ) (rest : Option (List ℕ)) (size : Option ℕ) → is_id id ≡ true → number_of 10 digits ≡ size
-    → line ≡ id ++ (32 ∷ (kind_word kind ++ (32 ∷ (digits ++ rest_bytes rest))))
+    → line ≡ id ++ (byte " " ∷ (kind_word kind ++ (byte " " ∷ (digits ++ rest_bytes rest))))
     → IfSome (option_map (λ size. Object (record { id = id; kind = kind; size = size; rest = rest })) size) (IsHeader line)
 size_is line id kind digits rest None good number spelled = tt
 size_is line id kind digits rest (Some size) good number spelled = (digits, good, number, spelled)
 
 parts_are : (line id : List ℕ) (kind : Kind) (text : List ℕ) (parts : Option (List ℕ × List ℕ)) → is_id id ≡ true
-    → line ≡ id ++ (32 ∷ (kind_word kind ++ (32 ∷ text))) → IfSome parts (IsCut 32 text) → IfSome (sized_parts id kind text parts) (IsHeader line)
+    → line ≡ id ++ (byte " " ∷ (kind_word kind ++ (byte " " ∷ text))) → IfSome parts (IsCut (byte " ") text)
+    → IfSome (sized_parts id kind text parts) (IsHeader line)
 parts_are line id kind text None good spelled cut =
-    size_is line id kind text None (number_of 10 text) good refl (spelled ∙ ap (λ t. id ++ (32 ∷ (kind_word kind ++ (32 ∷ t)))) (sym (append-nil text)))
+    size_is line id kind text None (number_of 10 text) good refl
+    (spelled ∙ ap (λ t. id ++ (byte " " ∷ (kind_word kind ++ (byte " " ∷ t)))) (sym (append-nil text)))
 parts_are line id kind text (Some parts) good spelled cut =
-    size_is line id kind parts.0 (Some parts.1) (number_of 10 parts.0) good refl (spelled ∙ ap (λ t. id ++ (32 ∷ (kind_word kind ++ (32 ∷ t)))) cut.0)
+    size_is line id kind parts.0 (Some parts.1) (number_of 10 parts.0) good refl
+    (spelled ∙ ap (λ t. id ++ (byte " " ∷ (kind_word kind ++ (byte " " ∷ t)))) cut.0)
 
 and_then_is : {T U : Type 0} (o : Option T) (f : T → Option U) (Q : U → Type 0) → IfSome o (λ x. IfSome (f x) Q) → IfSome (option_and_then f o) Q
 and_then_is None f Q holds = tt
 and_then_is (Some x) f Q holds = holds
 
-kind_is : (line id text after : List ℕ) (kind : Option Kind) → is_id id ≡ true → line ≡ id ++ (32 ∷ (text ++ (32 ∷ after)))
+kind_is : (line id text after : List ℕ) (kind : Option Kind) → is_id id ≡ true → line ≡ id ++ (byte " " ∷ (text ++ (byte " " ∷ after)))
     → IfSome kind (λ kind. text ≡ kind_word kind)
-    → IfSome (option_and_then (λ kind. sized_parts id kind after (split_once 32 after)) kind) (IsHeader line)
+    → IfSome (option_and_then (λ kind. sized_parts id kind after (split_once (byte " ") after)) kind) (IsHeader line)
 kind_is line id text after None good spelled is = tt
 kind_is line id text after (Some kind) good spelled is =
-    parts_are line id kind after (split_once 32 after) good (spelled ∙ ap (λ t. id ++ (32 ∷ (t ++ (32 ∷ after)))) is) (split_cuts 32 after)
+    parts_are line id kind after (split_once (byte " ") after) good
+    (spelled ∙ ap (λ t. id ++ (byte " " ∷ (t ++ (byte " " ∷ after)))) is) (split_cuts (byte " ") after)
 
-sized_is : (line id rest : List ℕ) → is_id id ≡ true → line ≡ id ++ 32 ∷ rest → IfSome (sized id rest) (IsHeader line)
-sized_is line id rest good spelled = and_then_is (split_once 32 rest) _ (IsHeader line) (IfSome_then (split_once 32 rest) (split_cuts 32 rest) (λ parts cut.
-    kind_is line id parts.0 parts.1 (kind_of_word parts.0) good (spelled ∙ ap (λ t. id ++ 32 ∷ t) cut.0) (word_is parts.0)))
+sized_is : (line id rest : List ℕ) → is_id id ≡ true → line ≡ id ++ byte " " ∷ rest → IfSome (sized id rest) (IsHeader line)
+sized_is line id rest good spelled =
+    and_then_is (split_once (byte " ") rest) _ (IsHeader line) (IfSome_then (split_once (byte " ") rest) (split_cuts (byte " ") rest) (λ parts cut.
+    kind_is line id parts.0 parts.1 (kind_of_word parts.0) good (spelled ∙ ap (λ t. id ++ byte " " ∷ t) cut.0) (word_is parts.0)))
 
 header_is : (line : List ℕ) → IfSome (parsed_header line) (IsHeader line)
 unfolding parsed_header
-header_is line = grind (arith, bytes_eq-Decides, split_cuts 32 line, sized_is)
+header_is line = grind (arith, bytes_eq-Decides, split_cuts (byte " ") line, sized_is)
 
 rest_is : (object : ParsedObject) (digits : List ℕ) → AllByRecursion (λ b. b ≢ line_end) (header_line object digits)
     → IfSome object.rest (λ rest. All (λ b. b ≢ line_end) rest)
@@ -75,9 +79,9 @@ rest_is object digits each = at object.rest refl
     at : (rest : Option (List ℕ)) → object.rest ≡ rest → IfSome rest (λ rest. All (λ b. b ≢ line_end) rest)
     at None e = tt
     at (Some rest) e =
-        let one = each_after (λ b. b ≢ line_end) object.id (32 ∷ (kind_word object.kind ++ (32 ∷ (digits ++ rest_bytes object.rest)))) each in
-        let two = each_after (λ b. b ≢ line_end) (32 ∷ kind_word object.kind) (32 ∷ (digits ++ rest_bytes object.rest)) one in
-        let three = each_after (λ b. b ≢ line_end) (32 ∷ digits) (rest_bytes object.rest) two in
+        let one = each_after (λ b. b ≢ line_end) object.id (byte " " ∷ (kind_word object.kind ++ (byte " " ∷ (digits ++ rest_bytes object.rest)))) each in
+        let two = each_after (λ b. b ≢ line_end) (byte " " ∷ kind_word object.kind) (byte " " ∷ (digits ++ rest_bytes object.rest)) one in
+        let three = each_after (λ b. b ≢ line_end) (byte " " ∷ digits) (rest_bytes object.rest) two in
         All-from_recursion (λ b. b ≢ line_end) rest (rw e at three).1
 
 -- ---- an object

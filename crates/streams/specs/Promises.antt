@@ -15,7 +15,7 @@ use Rattle.streams.specs.declared.header.Object.{Object}
 use Rattle.streams.specs.Texts.{line_end}
 use Rattle.streams.specs.Headers.{ParsedObject, ParsedHeader}
 use Rattle.streams.specs.Headers as parsed
-use Rattle.streams.specs.Reports.{Said, Step}
+use Rattle.streams.specs.Reports.{Step}
 use Rattle.streams.specs.Objects.{Judged, ObjectRule}
 
 -- ---- headers as the code has them

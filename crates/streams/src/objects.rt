@@ -104,7 +104,7 @@ fn close<R: BufRead>(refused: bool, input: &mut R) -> Result<Result<bool, Fault>
 /// # Memory
 ///
 /// The longest header line, of at most 65,536 bytes, and what `check` allocates, of `alloc`.
-#[tactic(auto, using(crate::proofs::SpelledStreams::reported_in_order, crate::proofs::WellFormedStreams::well_formed_only_if_spelled, crate::proofs::WholeStreams::whole_stream, crate::proofs::CleanStreams::clean_if_accepted))]
+#[tactic(auto, using(crate::proofs::CleanStreams::object_laws))]
 pub fn run<C: ObjectCheck, R: BufRead, W: Write>(
     alloc: Global,
     check: C,

@@ -36,7 +36,8 @@ abbrev reach : ℕ → ℕ
 reach b = cond (top 7 (less (from_dot b) 15)) (from_dot b) 15
 
 abbrev reaches : List ℕ → List ℕ
-reaches v = sel_l (map (top 7) (zip2 less (zip2 bit_xor v (replicate 16 (byte "."))) (replicate 16 15))) (zip2 bit_xor v (replicate 16 (byte "."))) (replicate 16 15)
+reaches v =
+    sel_l (map (top 7) (zip2 less (zip2 bit_xor v (replicate 16 (byte "."))) (replicate 16 15))) (zip2 bit_xor v (replicate 16 (byte "."))) (replicate 16 15)
 
 reaches_are : (v : List ℕ) → IsBlock v → reaches v ≡ map reach v
 reaches_are v block =
@@ -117,7 +118,8 @@ pub dots_lanes : (p q : List ℕ) → IsBlock p → IsBlock q
     → (eqb (mask_l (map (top 7) (zip2 bit_and (zip2 equals p (replicate 16 (byte "."))) (zip2 equals q (replicate 16 (byte "."))))) % 2 ^ 64) 0 ≡ true)
     ↔ ((k : ℕ) → k < 16 → (eqb (get_or p k 0) (byte ".") && eqb (get_or q k 0) (byte ".")) ≡ false)
 dots_lanes p q pb qb =
-    masked (λ a. equals a (byte ".")) (λ b. equals b (byte ".")) p q _ _ (pb.0, qb.0) (zip2_splat equals p 16 (byte ".") pb.0) (zip2_splat equals q 16 (byte ".") qb.0)
+    masked (λ a. equals a (byte ".")) (λ b. equals b (byte ".")) p q _ _ (pb.0, qb.0) (zip2_splat equals p 16 (byte ".") pb.0)
+    (zip2_splat equals q 16 (byte ".") qb.0)
     (λ a b. eqb a (byte ".") && eqb b (byte ".")) (λ a b. grind arith)
 
 -- The same of the lanes in which a dot stands before a slash of either kind.
@@ -127,7 +129,8 @@ pub last_dot_lanes : (p q : List ℕ) → IsBlock p → IsBlock q
     ↔ ((k : ℕ) → k < 16 → (eqb (get_or p k 0) (byte ".") && (eqb (get_or q k 0) (byte "/") || eqb (get_or q k 0) (byte "\\"))) ≡ false)
 last_dot_lanes p q pb qb =
     masked (λ a. equals a (byte ".")) any_slash p q _ _ (pb.0, qb.0) (zip2_splat equals p 16 (byte ".") pb.0)
-    (zip2_of_maps bit_or (λ b. equals b (byte "/")) (λ b. equals b (byte "\\")) q (zip2_splat equals q 16 (byte "/") qb.0) (zip2_splat equals q 16 (byte "\\") qb.0))
+    (zip2_of_maps bit_or (λ b. equals b (byte "/")) (λ b. equals b (byte "\\")) q
+    (zip2_splat equals q 16 (byte "/") qb.0) (zip2_splat equals q 16 (byte "\\") qb.0))
     (λ a b. eqb a (byte ".") && (eqb b (byte "/") || eqb b (byte "\\"))) (λ a b. either (eqb a (byte ".")) (eqb b (byte "/")) (eqb b (byte "\\")))
   where
     either : (u s t : Bool) → top 7 (bit_and (cond u 255 0) (bit_or (cond s 255 0) (cond t 255 0))) ≡ (u && (s || t))

@@ -65,7 +65,8 @@ sanitized_none x none = ap (λ v. repaired_nothing (repaired_at (repaired_dot (j
 sanitized_some : (x : List ℕ) → nonempty_pieces x ≢ [] → Repaired (mended_pieces x) (sanitized x)
 unfolding sanitized
 sanitized_some x some =
-    repaired_pieces (mended_pieces x) (λ none. some (nil_from_length (nonempty_pieces x) (grind (arith, length-map (nonempty_pieces x) (λ p. cut (cleaned p))))))
+    repaired_pieces (mended_pieces x)
+    (λ none. some (nil_from_length (nonempty_pieces x) (grind (arith, length-map (nonempty_pieces x) (λ p. cut (cleaned p))))))
     (mended_of-good (pieces x)) (mended_of-apart (pieces x) (pieces_apart x))
 
 partial_dash : is_partial_name (codes "-") ≡ true

@@ -26,7 +26,8 @@ is_none-when t e o = grind arith
 -- what the table says of a byte by what stands before it
 pub is_none-fault_of_byte : (before : List ℕ) (b : ℕ) → is_none (fault_of_byte before b)
     ≡ (not (is_bad b) && (not (eqb b (byte "*")) && (not (eqb b (byte ".") && ends before (codes "."))
-    && (not (eqb b (byte ".") && ends before (codes "/")) && (not (eqb b (byte "{") && ends before (codes "@")) && (not (eqb b (byte "/") && ends before (codes "/"))
+    && (not (eqb b (byte ".") && ends before (codes "/")) && (not (eqb b (byte "{") && ends before (codes "@"))
+    && (not (eqb b (byte "/") && ends before (codes "/"))
     && (not (eqb b (byte "/") && ends before (codes ".lock")) && true)))))))
 unfolding fault_of_byte fault_table
 is_none-fault_of_byte before b = simp is_none-when

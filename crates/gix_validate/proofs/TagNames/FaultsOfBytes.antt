@@ -34,7 +34,8 @@ fault_at_end before b = grind (arith, first_of-more)
 
 -- The fault at the least place: by the lines that look back alone, and then the last line.
 pub at_first_place_split : (x : List ℕ) → is_empty x ≡ false
-    → at_first_place (λ i. first_of (faults_at x i)) (length x) ≡ (at_first_place (fault_of_byte_at x) (length x) orelse when (has_lock_suffix x) LockFileSuffix)
+    → at_first_place (λ i. first_of (faults_at x i)) (length x)
+    ≡ (at_first_place (fault_of_byte_at x) (length x) orelse when (has_lock_suffix x) LockFileSuffix)
 unfolding faults_at fault_of_byte
 at_first_place_split [] some = grind arith
 at_first_place_split (b ∷ x) some =

@@ -27,7 +27,8 @@ pub between_none : (x : List ℕ) (i j : ℕ) → NoFaultBetween x i j → first
 unfolding first_fault_between
 between_none x i j none = at_first_place_none (λ k. fault_of_byte_at x (i + k)) (j - i) (λ k small. none (i + k) (omega arith) (omega arith))
 
-pub between_found : (x : List ℕ) (i j n : ℕ) (a : NameError) → i ≤ j → j < n → NoFaultBetween x i j → fault_of_byte_at x j ≡ Some a → first_fault_between x i n ≡ Some a
+pub between_found : (x : List ℕ) (i j n : ℕ) (a : NameError) → i ≤ j → j < n → NoFaultBetween x i j → fault_of_byte_at x j ≡ Some a
+    → first_fault_between x i n ≡ Some a
 unfolding first_fault_between
 between_found x i j n a order within none here =
     let f = λ (k : ℕ). fault_of_byte_at x (i + k) in

@@ -12,7 +12,8 @@ loop-at-init c = record { room = omega arith; none = refl }
 pub loop-at-preserved : goal.loop-at-preserved
 loop-at-preserved c = record {
   room = omega arith;
-  none = any_with_chunk (λ b. b == c.args.byte) c.args.text.now c.loop-at.at 16 ∙ ap₂ (λ s t. s || t) c.loop-at.invariant.none (sym c.if-block_contains.ensures);
+  none = any_with_chunk (λ b. b == c.args.byte) c.args.text.now c.loop-at.at 16
+      ∙ ap₂ (λ s t. s || t) c.loop-at.invariant.none (sym c.if-block_contains.ensures);
 }
 
 pub returns : goal.returns

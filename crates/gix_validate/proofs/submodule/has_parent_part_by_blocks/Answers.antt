@@ -9,7 +9,8 @@ returns-then-is_parent_before c = grind (arith, some_parent c.args.bytes.now (le
 
 pub returns-then-bytes-le-LANES : goal.returns-then-bytes-le-LANES
 returns-then-bytes-le-LANES c =
-    parent_by_looks c.args.bytes.now 0 _ _ c.has_no_parent_between.ensures (no_parent c.args.bytes.now (sym c.is_parent_before.ensures ∙ c.if-is_parent_before.false))
+    parent_by_looks c.args.bytes.now 0 _ _ c.has_no_parent_between.ensures
+    (no_parent c.args.bytes.now (sym c.is_parent_before.ensures ∙ c.if-is_parent_before.false))
 
 pub returns-then-not-block_has_no_parent : goal.returns-then-not-block_has_no_parent
 returns-then-not-block_has_no_parent c = sym (parent_between c.args.bytes.now _ _ _ c.block_has_no_parent.ensures c.if-not-block_has_no_parent.true)

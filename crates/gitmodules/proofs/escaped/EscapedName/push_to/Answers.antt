@@ -1,5 +1,6 @@
 use Rattle.std.proofs.Common.{◌≡◌, ◌==◌, ◌&&◌, ◌∙◌, not, get_or, drop, ap, sym, arith}
 use Rattle.std.proofs.lemmas.Bool.Decides.{nat_tests}
+use Rattle.std.specs.Str.{byte}
 use Rattle.gitmodules.specs.Sections.{unescaped}
 use Rattle.gitmodules.proofs.Names.{byte_appended, backslash_passed, on_err}
 use Rattle.gitmodules.proofs.escaped.EscapedName.push_to.Goals as goal
@@ -18,7 +19,7 @@ loop-byte-preserved c =
     let now = c.if-not-escaped-2.name.items in
     let k = c.loop-byte.byte-index in
     let bytes = c.self.inside.bytes.now in
-    let escape : (not c.loop-byte.escaped && get_or bytes k 0 == 92) ≡ c.if-not-escaped.escaped = grind (arith, nat_tests) in
+    let escape : (not c.loop-byte.escaped && get_or bytes k 0 == byte "\\") ≡ c.if-not-escaped.escaped = grind (arith, nat_tests) in
     elim c.if-not-escaped-2.branch [
       | then-not-escaped-2+in_ok-push w ↦
           rw w.if-not-escaped-2.true

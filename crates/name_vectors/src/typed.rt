@@ -1,10 +1,11 @@
 //! The types of `typed_names`: worked names, how long their parts live, and callers that rest on
-//! what the types say of their traits.
+//! what the types say of their traits. The names of five rules are one type, so a caller of them is
+//! generic over the rule, and a test calls it once for each.
 
 ghost use Rattle.std.specs.Prelude.{◌≡◌, [], ◌∷◌, map, IfOk, MatchOption};
 ghost use Rattle.bstr.specs.BStr.{bstr_bytes};
 ghost use Rattle.gix_validate.specs.Pieces.{pieces as pieces_of};
-ghost use Rattle.typed_names.specs.Names.{tag_text, partial_text, full_text, branch_text};
+ghost use Rattle.typed_names.specs.Names.{name_bytes, name_text};
 
 mod joining;
 mod traits;
@@ -15,7 +16,10 @@ use gix_validate::{reference, tag};
 use std::alloc::{AllocError, Global};
 use std::fmt::Display;
 use std::test::Fail;
-use typed_names::{BranchName, Component, FullName, PartialName, Pieces, SubmoduleName, TagName};
+use typed_names::{
+    Branch, BranchName, Component, Full, FullName, Name, Partial, PartialName, Pieces, Rule,
+    Submodule, Tag, TagName,
+};
 
 /// Whether there is a fault, and it prints the text.
 fn prints(
@@ -31,21 +35,21 @@ fn prints(
 
 /// A tag name, by what `From` says of it.
 fn tag_of<'a>(partial: PartialName<'a>) -> TagName<'a>
-    ensures { tag_text result ≡ partial_text partial.entry }
+    ensures { name_text result ≡ name_text partial.entry }
 {
     partial.into()
 }
 
 /// A partial name, by what `From` says of it.
 fn partial_of<'a>(full: FullName<'a>) -> PartialName<'a>
-    ensures { partial_text result ≡ full_text full.entry }
+    ensures { name_text result ≡ name_text full.entry }
 {
     full.into()
 }
 
 /// A full name, by what `From` says of it.
 fn full_of<'a>(branch: BranchName<'a>) -> FullName<'a>
-    ensures { full_text result ≡ branch_text branch.entry }
+    ensures { name_text result ≡ name_text branch.entry }
 {
     branch.into()
 }
@@ -58,36 +62,8 @@ fn twin<T: Clone>(value: &T) -> T
     value.clone().unwrap()
 }
 
-/// A clone of a `TagName`.
-fn tag_twin<'a>(name: TagName<'a>) -> TagName<'a>
-    ensures { result ≡ name.entry }
-{
-    twin(&name)
-}
-
-/// A clone of a `PartialName`.
-fn partial_twin<'a>(name: PartialName<'a>) -> PartialName<'a>
-    ensures { result ≡ name.entry }
-{
-    twin(&name)
-}
-
-/// A clone of a `FullName`.
-fn full_twin<'a>(name: FullName<'a>) -> FullName<'a>
-    ensures { result ≡ name.entry }
-{
-    twin(&name)
-}
-
-/// A clone of a `BranchName`.
-fn branch_twin<'a>(name: BranchName<'a>) -> BranchName<'a>
-    ensures { result ≡ name.entry }
-{
-    twin(&name)
-}
-
-/// A clone of a `SubmoduleName`.
-fn submodule_twin<'a>(name: SubmoduleName<'a>) -> SubmoduleName<'a>
+/// A clone of a name.
+fn name_twin<'a, R: Rule>(name: Name<'a, R>) -> Name<'a, R>
     ensures { result ≡ name.entry }
 {
     twin(&name)
@@ -118,7 +94,7 @@ fn next_of<'a>(pieces: &mut Pieces<'a>) -> Option<BStr<'a>>
 
 /// All pieces, of which there is an end.
 fn listed<'a>(alloc: Global, name: TagName<'a>) -> Result<Vec<BStr<'a>>, AllocError>
-    ensures { IfOk result (λ list. map bstr_bytes list.items ≡ pieces_of (bstr_bytes (tag_text name.entry))) }
+    ensures { IfOk result (λ list. map bstr_bytes list.items ≡ pieces_of (name_bytes name.entry)) }
 {
     name.pieces().collect(alloc)
 }
@@ -181,76 +157,54 @@ fn goes_past_slashes(rt: HostRuntime) -> Result<(), Fail> {
     Ok(())
 }
 
-/// A type of names, of those that are made of a text alone.
-#[derive(Clone, Copy)]
-enum Kind {
-    Tag,
-    Partial,
-    Full,
-    Branch,
-    Submodule,
-}
-
-/// Texts that are not names of the type, and what the fault prints.
-fn refused_names() -> &'static [(Kind, &'static str, &'static str)] {
-    &[
-        (
-            Kind::Tag,
-            "a b",
-            "A ref must not contain invalid bytes or ascii control characters: \" \"",
-        ),
-        (
-            Kind::Partial,
-            "@",
-            "Reference name is reserved and cannot be used: \"@\"",
-        ),
-        (
-            Kind::Full,
-            "V1",
-            "Standalone references must be all uppercased, like 'HEAD'",
-        ),
-        (
-            Kind::Branch,
-            "refs/heads/HEAD",
-            "Reference name is reserved and cannot be used: \"refs/heads/HEAD\"",
-        ),
-        (
-            Kind::Submodule,
-            "a\\..",
-            "Submodules names must not contains '..'",
-        ),
-    ]
-}
-
-/// Whether the name is refused by the type, and the fault prints the text.
-fn is_refused(alloc: Global, kind: Kind, name: BStr<'_>, text: &str) -> Result<bool, AllocError> {
-    match kind {
-        Kind::Tag => prints(alloc, TagName::new(name).err(), text),
-        Kind::Partial => prints(alloc, PartialName::new(name).err(), text),
-        Kind::Full => prints(alloc, FullName::new(name).err(), text),
-        Kind::Branch => prints(alloc, BranchName::new(name).err(), text),
-        Kind::Submodule => prints(alloc, SubmoduleName::new(name).err(), text),
-    }
+/// Whether the rule refuses the name, and the fault prints the text.
+fn is_refused<R: Rule>(alloc: Global, name: &str, text: &str) -> Result<bool, AllocError>
+where
+    R::Fault: Display + Drop,
+{
+    prints(alloc, Name::<R>::new(BStr::from(name)).err(), text)
 }
 
 #[test]
 fn tells_faults(rt: HostRuntime) -> Result<(), Fail> {
-    for (kind, name, text) in refused_names() {
-        assert!(rt;
-            is_refused(rt.alloc(), *kind, BStr::from(*name), text)?,
-            "{name}"
-        );
-    }
+    let text = "A ref must not contain invalid bytes or ascii control characters: \" \"";
+    assert!(rt; is_refused::<Tag>(rt.alloc(), "a b", text)?);
+    let text = "Reference name is reserved and cannot be used: \"@\"";
+    assert!(rt; is_refused::<Partial>(rt.alloc(), "@", text)?);
+    let text = "Standalone references must be all uppercased, like 'HEAD'";
+    assert!(rt; is_refused::<Full>(rt.alloc(), "V1", text)?);
+    let text = "Reference name is reserved and cannot be used: \"refs/heads/HEAD\"";
+    assert!(rt; is_refused::<Branch>(rt.alloc(), "refs/heads/HEAD", text)?);
+    let text = "Submodules names must not contains '..'";
+    assert!(rt; is_refused::<Submodule>(rt.alloc(), "a\\..", text)?);
     Ok(())
+}
+
+/// Whether the rule accepts the name, and a clone of what it keeps is the same text.
+fn is_kept_by<R: Rule>(text: &str) -> bool
+where
+    R::Fault: Drop,
+{
+    let text = BStr::from(text);
+    Name::<R>::new(text).is_ok_and(|name| name_twin(name).as_bstr() == text)
+}
+
+#[test]
+fn keeps_names(rt: HostRuntime) {
+    assert!(rt; is_kept_by::<Tag>("v1.2.3"));
+    assert!(rt; is_kept_by::<Partial>("main"));
+    assert!(rt; is_kept_by::<Full>("HEAD"));
+    assert!(rt; is_kept_by::<Branch>("refs/heads/main"));
+    assert!(rt; is_kept_by::<Submodule>("vendor/package"));
 }
 
 /// Whether the name of a branch stays the same text as a full name, a partial name and a tag name.
 fn keeps_its_text(text: &str) -> Result<bool, reference::NameError> {
     let text = BStr::from(text);
-    let branch = branch_twin(BranchName::new(text)?);
-    let full = full_twin(full_of(branch));
-    let partial = partial_twin(partial_of(full));
-    let tag = tag_twin(tag_of(partial));
+    let branch = BranchName::new(text)?;
+    let full = full_of(branch);
+    let partial = partial_of(full);
+    let tag = tag_of(partial);
     Ok(
         branch.as_bstr() == text
             && full.as_bstr() == text
@@ -263,8 +217,6 @@ fn keeps_its_text(text: &str) -> Result<bool, reference::NameError> {
 fn turns_names_into_others(rt: HostRuntime) -> Result<(), Fail> {
     assert!(rt; keeps_its_text("refs/heads/main")?);
     assert!(rt; keeps_its_text("HEAD")?);
-    let submodule = submodule_twin(SubmoduleName::new(BStr::from("vendor/package"))?);
-    assert!(rt; submodule.as_bstr() == BStr::from("vendor/package"));
     Ok(())
 }
 

@@ -1,8 +1,8 @@
-//! Borrowed Git names whose rule is an invariant: tested once by `new`, and valid from then on.
+//! Borrowed Git names whose rule is an invariant: checked once by `new`, and valid from then on.
 //!
-//! A value of one of these types keeps the text that its `new` took, for as long as the bytes of
-//! that text live. The rule accepts that text, so code that is handed a value needn't test it
-//! again. The values are copied freely, and the calls here take no memory.
+//! A value of one of these types keeps the byte string that was passed to `new`, for as long as the
+//! bytes live. The rule accepts it, so code that is passed a value needn't check it again. The
+//! values are copied freely, and nothing here allocates.
 //!
 //! | Type | What it keeps | The rule |
 //! |---|---|---|
@@ -13,10 +13,14 @@
 //! | [`SubmoduleName`] | a submodule name, as `vendor/package` | docs/RULES.md, "Submodule names" |
 //! | [`Component`] | one name in a directory, as `src` | docs/RULES.md, "Path components" |
 //!
+//! The first five are one type, [`Name<'a, R>`](Name), whose [`Rule`] is [`Tag`], [`Partial`],
+//! [`Full`], [`Branch`] or [`Submodule`]. A component is checked under a mode and options, so it has
+//! a type of its own.
+//!
 //! Each name of a branch is a full name, each full name a partial name, and each partial name a tag
 //! name: `From` converts each into the next. [`Pieces`] gives the pieces of a tag name.
 //!
-//! Two names of one type are equal exactly where their bytes are. Each prints itself, and each is
+//! Two names of one type are equal if and only if their bytes are. Each prints itself, and each is
 //! an `AsSlice<u8>`, the kit's word for Rust's `AsRef<[u8]>`. They have no order and no hash.
 //!
 //! ```
@@ -26,18 +30,12 @@
 //! ```
 #![tactic(auto)]
 
-pub use crate::branch::BranchName;
 pub use crate::component::Component;
-pub use crate::full::FullName;
-pub use crate::partial::PartialName;
+pub use crate::name::{BranchName, FullName, Name, PartialName, SubmoduleName, TagName};
 pub use crate::pieces::Pieces;
-pub use crate::submodule::SubmoduleName;
-pub use crate::tag::TagName;
+pub use crate::rule::{Branch, Full, Partial, Rule, Submodule, Tag};
 
-mod branch;
 mod component;
-mod full;
-mod partial;
+mod name;
 mod pieces;
-mod submodule;
-mod tag;
+mod rule;

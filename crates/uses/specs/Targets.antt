@@ -1,13 +1,13 @@
 -- What a ref store holds, and how a name is looked up in it.
 use Rattle.std.specs.Prelude.{ℕ, Bool, List, Option, bytes_eq, option_map}
 use Rattle.std.specs.List.{find}
-use Rattle.typed_names.specs.Names.{full_bytes}
+use Rattle.typed_names.specs.Names.{name_bytes}
 use Rattle.uses.specs.declared.ref_store.ObjectId.{ObjectId}
 use Rattle.uses.specs.declared.ref_store.Reference.{Reference}
 
 -- the bytes of a reference's name, and its target
 abbrev pub entry_of : Reference → List ℕ × ObjectId
-entry_of reference = (full_bytes reference.name, reference.target)
+entry_of reference = (name_bytes reference.name, reference.target)
 
 -- what a store holds: names and targets
 abbrev pub Entries : Type 0

@@ -4,7 +4,7 @@
 
 ghost use Rattle.std.specs.Prelude.{◌≡◌, codes, IfOk};
 ghost use Rattle.bstr.specs.Owned.{bstring_bytes};
-ghost use Rattle.typed_names.specs.Names.{branch_bytes};
+ghost use Rattle.typed_names.specs.Names.{name_bytes};
 
 use bstr::{BStr, BString};
 use gix_validate::{path, reference};
@@ -34,7 +34,7 @@ pub fn workflow(alloc: Global) -> Result<BString, AllocError>
 
 /// The branch of a repository that names no other.
 pub fn default_branch() -> BranchName<'static>
-    ensures { branch_bytes result ≡ codes "refs/heads/main" }
+    ensures { name_bytes result ≡ codes "refs/heads/main" }
 {
     BranchName::new(BStr::from("refs/heads/main")).unwrap()
 }

@@ -2,7 +2,7 @@
 
 ghost use Rattle.std.specs.Prelude.{◌≡◌, ◌≢◌, ℕ, List, [], Some, OnOk, OnErr};
 ghost use Rattle.std.specs.List.{position};
-ghost use Rattle.typed_names.specs.Names.{full_bytes};
+ghost use Rattle.typed_names.specs.Names.{name_bytes};
 ghost use Rattle.uses.specs.Targets.{is_named, target_of};
 
 use std::alloc::{AllocError, Global};
@@ -50,7 +50,7 @@ impl<'a> RefStore<'a> {
     /// The object that the name stands for, if the store has the name.
     #[tactic(auto, using(crate::proofs::TargetLemmas::lookups))]
     pub fn get(&self, name: FullName<'_>) -> Option<ObjectId>
-        ensures { result ≡ target_of self.now (full_bytes name.entry) }
+        ensures { result ≡ target_of self.now (name_bytes name.entry) }
     {
         let i = self.place_of(name)?;
         Some(self.refs[i].target)
@@ -59,8 +59,8 @@ impl<'a> RefStore<'a> {
     /// Lets the name stand for an object, and leaves every other name as it was.
     #[tactic(auto, using(crate::proofs::TargetLemmas::writes))]
     pub fn set(&mut self, name: FullName<'a>, target: ObjectId) -> Result<(), AllocError>
-        ensures this { OnOk result (target_of self.new (full_bytes name.entry) ≡ Some target) }
-        ensures others { (x : List ℕ) → x ≢ full_bytes name.entry → target_of self.new x ≡ target_of self.old x }
+        ensures this { OnOk result (target_of self.new (name_bytes name.entry) ≡ Some target) }
+        ensures others { (x : List ℕ) → x ≢ name_bytes name.entry → target_of self.new x ≡ target_of self.old x }
         ensures same { OnErr result (self.new ≡ self.old) }
     {
         match self.place_of(name) {
@@ -72,7 +72,7 @@ impl<'a> RefStore<'a> {
 
     /// Where the first reference of this name is.
     fn place_of(&self, name: FullName<'_>) -> Option<usize>
-        ensures { result ≡ position (is_named (full_bytes name.entry)) self.now }
+        ensures { result ≡ position (is_named (name_bytes name.entry)) self.now }
     {
         self.refs.iter().position(|it| it.name == name)
     }

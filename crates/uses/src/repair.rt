@@ -3,7 +3,7 @@
 ghost use Rattle.std.specs.Prelude.{◌≡◌, ◌≢◌, ◌≤◌, [], length, take, IsOk, OnOk, OnErr, IsTrue};
 ghost use Rattle.gix_validate.specs.Reference.{is_partial_name};
 ghost use Rattle.gix_validate.specs.Sanitized.{sanitized};
-ghost use Rattle.typed_names.specs.Names.{partial_bytes};
+ghost use Rattle.typed_names.specs.Names.{name_bytes};
 
 use bstr::BStr;
 use gix_validate::reference::sanitize_in_place;
@@ -32,7 +32,7 @@ pub fn repair(name: &mut Vec<u8>) -> Result<(), AllocError>
 pub fn repaired<'b>(buffer: &'b mut [u8], len: usize) -> PartialName<'b>
     requires some { 1 ≤ length buffer.old }
     requires within { len ≤ length buffer.old }
-    ensures { partial_bytes result ≡ sanitized (take len buffer.old) }
+    ensures { name_bytes result ≡ sanitized (take len buffer.old) }
 {
     let end = sanitize_in_place(buffer, len);
     PartialName::new(BStr::new(&buffer[..end])).unwrap()

@@ -2,7 +2,7 @@
 
 ghost use Rattle.std.specs.Prelude.{◌≡◌, ◌≢◌, ◌↔◌, ℕ, List, Contains, Some, map, IsNone, IfSome, IfOk, IfErr, MatchOption};
 ghost use Rattle.gix_validate.specs.Submodule.{fault_of};
-ghost use Rattle.typed_names.specs.Names.{submodule_bytes};
+ghost use Rattle.typed_names.specs.Names.{name_bytes};
 ghost use Rattle.uses.specs.Settings.{heading, lines};
 
 use bstr::BStr;
@@ -27,7 +27,7 @@ pub enum SettingsError {
 pub fn submodule<'a>(line: &'a [u8]) -> Option<Result<SubmoduleName<'a>, NameError>>
     ensures none { IsNone result ↔ ((name : List ℕ) → line.now ≢ heading name) }
     ensures kept { IfSome result (λ answer. IfOk answer
-        (λ name. line.now ≡ heading (submodule_bytes name))) }
+        (λ name. line.now ≡ heading (name_bytes name))) }
     ensures refused { IfSome result (λ answer. IfErr answer
         (λ fault. (name : List ℕ) × (line.now ≡ heading name) × (fault_of name ≡ Some fault))) }
 {
@@ -42,7 +42,7 @@ pub fn submodules<'a>(
     text: &'a [u8],
 ) -> Result<Vec<SubmoduleName<'a>>, SettingsError>
     ensures { IfOk result (λ names. (name : List ℕ) →
-        Contains (lines text.now) (heading name) ↔ Contains (map submodule_bytes names.items) name) }
+        Contains (lines text.now) (heading name) ↔ Contains (map name_bytes names.items) name) }
 {
     let mut names = Vec::new(alloc);
     for line in text.split(|byte| *byte == b'\n') {

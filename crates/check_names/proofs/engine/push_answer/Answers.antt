@@ -2,7 +2,7 @@
 use Rattle.std.proofs.Common.{rules, codes, refl}
 use Rattle.std.proofs.lemmas.Result.{on_ok_weaker}
 use Rattle.bstr.specs.BStr.{bstr_bytes}
-use Rattle.typed_names.specs.Names.{tag_text, partial_text, full_text}
+use Rattle.typed_names.specs.Names.{name_text}
 use Rattle.gix_validate.specs.Tag
 use Rattle.gix_validate.specs.Reference
 use Rattle.gix_validate.specs.Submodule
@@ -13,14 +13,14 @@ use Rattle.check_names.proofs.engine.push_answer.Goals as goal
 
 pub returns-in-Some-clause-ok : goal.returns-in-Some-clause-ok
 returns-in-Some-clause-ok c = rw (asked_ref _ _ c.in-Some.ensures)
-    (on_ok_weaker _ (verdict-of_kept full_text Reference.full_fault_of _ c.in-Some.name _ _ _ c.new.ensures.answer) c.push_verdict.ensures.ok)
+    (on_ok_weaker _ (verdict-of_kept name_text Reference.full_fault_of _ c.in-Some.name _ _ _ c.new.ensures.answer) c.push_verdict.ensures.ok)
 
 pub returns-in-Some-clause-full : goal.returns-in-Some-clause-full
 returns-in-Some-clause-full c = λ none. absurd (asks_something _ (codes "ref ") _ c.in-Some.ensures refl none)
 
 pub returns-in-Some-name_behind-clause-ok : goal.returns-in-Some-name_behind-clause-ok
 returns-in-Some-name_behind-clause-ok c = rw (asked_tag _ _ c.in-Some-name_behind.ensures)
-    (on_ok_weaker _ (verdict-of_kept tag_text Tag.fault_of _ c.in-Some-name_behind.name _ _ _ c.new-in-Some-name_behind.ensures.answer)
+    (on_ok_weaker _ (verdict-of_kept name_text Tag.fault_of _ c.in-Some-name_behind.name _ _ _ c.new-in-Some-name_behind.ensures.answer)
     c.push_verdict-in-Some-name_behind.ensures.ok)
 
 pub returns-in-Some-name_behind-clause-full : goal.returns-in-Some-name_behind-clause-full
@@ -28,7 +28,7 @@ returns-in-Some-name_behind-clause-full c = λ none. absurd (asks_something _ (c
 
 pub returns-in-Some-name_behind-2-clause-ok : goal.returns-in-Some-name_behind-2-clause-ok
 returns-in-Some-name_behind-2-clause-ok c = rw (asked_partial _ _ c.in-Some-name_behind-2.ensures)
-    (on_ok_weaker _ (verdict-of_kept partial_text Reference.partial_fault_of _ c.in-Some-name_behind-2.name _ _ _ c.new-in-Some-name_behind-2.ensures.answer)
+    (on_ok_weaker _ (verdict-of_kept name_text Reference.partial_fault_of _ c.in-Some-name_behind-2.name _ _ _ c.new-in-Some-name_behind-2.ensures.answer)
     c.push_verdict-in-Some-name_behind-2.ensures.ok)
 
 pub returns-in-Some-name_behind-2-clause-full : goal.returns-in-Some-name_behind-2-clause-full

@@ -1,14 +1,14 @@
 use Rattle.std.proofs.Common.{◌∙◌, rules, tests}
 use Rattle.std.proofs.lemmas.Iterator.{YieldsList-from_slice}
 use Rattle.std.proofs.lemmas.Iterator.Search.{position_from_yields_List}
-use Rattle.typed_names.specs.Names.{full_bytes}
+use Rattle.typed_names.specs.Names.{name_bytes}
 use Rattle.uses.specs.Targets.{entry_of, is_named}
 use Rattle.uses.proofs.TargetLemmas.{position_in_entries}
 use Rattle.uses.proofs.ref_store.RefStore.place_of.Goals as goal
 
 pub returns : goal.returns
 returns c =
-    let x = full_bytes c.args.name in
+    let x = name_bytes c.args.name in
     let refs = YieldsList-from_slice _ c.iter.ensures.rest in
     let found = position_from_yields_List (λ r. is_named x (entry_of r)) _ _ c.position.result c.position.ensures.ran refs (search (rules, tests)) in
     rw (← c.self.view_is) (rw c.deref.ensures.value at (found ∙ position_in_entries x c.deref.result.now))

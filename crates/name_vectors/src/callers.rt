@@ -1,18 +1,20 @@
 //! The callers of `uses`, each once, with names and texts that were worked out by hand.
 
-use bstr::BStr;
-use gix_validate::path::ComponentOptions;
+use bstr::{BStr, BString};
+use gix_validate::path::{ComponentMode, ComponentOptions};
 use gix_validate::submodule::NameError;
 use std::alloc::{AllocError, Global};
 use std::process::Abort;
 use std::test::Fail;
-use typed_names::{Component, FullName, SubmoduleName};
-use uses::checkout::Place;
+use typed_names::FullName;
+use uses::branches::{BranchError, TrackingError, full_branch_name, remote_tracking_name};
+use uses::checkout::{EnterError, Place};
 use uses::first::branch_to_push;
 use uses::literals::{default_branch, release_tag, workflow};
+use uses::paths::first_hostile_component;
 use uses::ref_store::{ObjectId, RefStore};
 use uses::repair::{repair, repaired};
-use uses::settings::{SettingsError, submodule, submodules};
+use uses::settings::{SettingsError, submodule_names};
 
 /// Compares a name. (Behind a call, as what is below, so that the proofs of the tests carry neither
 /// texts nor contracts.)
@@ -22,7 +24,7 @@ fn expect<R: Abort>(rt: &R, name: BStr<'_>, want: &str) {
 
 #[test]
 fn calls_on_literals(rt: HostRuntime) -> Result<(), Fail> {
-    expect(&rt, release_tag(rt.alloc())?.as_bstr(), "refs/v1.0");
+    expect(&rt, release_tag(rt.alloc())?.as_bstr(), "refs/tags/v1.0");
     expect(
         &rt,
         workflow(rt.alloc())?.as_bstr(),
@@ -41,6 +43,34 @@ fn pushed(asked: &str) -> BStr<'_> {
 fn pushes_to_a_branch(rt: HostRuntime) {
     expect(&rt, pushed("refs/heads/next"), "refs/heads/next");
     expect(&rt, pushed("refs/heads/HEAD"), "refs/heads/main");
+}
+
+/// The full name of a branch.
+fn full_branch(alloc: Global, short: &str) -> Result<BString, BranchError> {
+    full_branch_name(alloc, BStr::from(short))
+}
+
+/// The name under which a remote's branch is tracked.
+fn tracking(alloc: Global, remote: &str, short: &str) -> Result<BString, TrackingError> {
+    remote_tracking_name(alloc, BStr::from(remote), BStr::from(short))
+}
+
+#[test]
+fn names_branches(rt: HostRuntime) -> Result<(), Fail> {
+    expect(
+        &rt,
+        full_branch(rt.alloc(), "main")?.as_bstr(),
+        "refs/heads/main",
+    );
+    let reserved = full_branch(rt.alloc(), "HEAD");
+    assert!(rt; matches!(&reserved, Err(BranchError::Name(_))));
+    let tracked = tracking(rt.alloc(), "origin", "topic/a")?;
+    expect(&rt, tracked.as_bstr(), "refs/remotes/origin/topic/a");
+    let remote = tracking(rt.alloc(), "a b", "a b");
+    assert!(rt; matches!(&remote, Err(TrackingError::Remote(_))));
+    let branch = tracking(rt.alloc(), "origin", "a..b");
+    assert!(rt; matches!(&branch, Err(TrackingError::Branch(_))));
+    Ok(())
 }
 
 /// A full name.
@@ -66,20 +96,58 @@ fn keeps_references(rt: HostRuntime) -> Result<(), Fail> {
     Ok(())
 }
 
-/// A component by the default options.
-fn part(name: &str) -> Result<Component<'_>, Fail> {
-    Ok(Component::new(BStr::from(name), None, ComponentOptions::default())?)
+/// Enters names that are no symlinks.
+fn enter<'a>(place: &mut Place<'a>, name: &'a str) -> Result<(), EnterError> {
+    place.enter(BStr::from(name), None)
+}
+
+/// The top of a tree on all the file systems that are protected.
+fn top<'a>(alloc: Global) -> Place<'a> {
+    Place::top(alloc, ComponentOptions::default())
 }
 
 #[test]
 fn walks_down_a_tree(rt: HostRuntime) -> Result<(), Fail> {
-    let mut place = Place::top(rt.alloc());
-    place.enter(part("src")?)?;
-    place.enter(part("old")?)?;
+    let mut place = top(rt.alloc());
+    enter(&mut place, "src")?;
+    enter(&mut place, "old")?;
     place.leave();
-    place.enter(part("main.rs")?)?;
+    enter(&mut place, "main.rs")?;
     expect(&rt, place.path(rt.alloc())?.as_bstr(), "src/main.rs");
     Ok(())
+}
+
+/// Whether the place refuses the name of a file or of a symlink, for that name's fault.
+fn is_refused(place: &mut Place<'_>, name: &'static str, mode: Option<ComponentMode>) -> bool {
+    matches!(
+        place.enter(BStr::from(name), mode),
+        Err(EnterError::Name(_))
+    )
+}
+
+#[test]
+fn enters_by_the_options_of_the_place(rt: HostRuntime) -> Result<(), Fail> {
+    let mut place = top(rt.alloc());
+    assert!(rt; is_refused(&mut place, "git~1", None));
+    assert!(rt; is_refused(&mut place, ".git ", None));
+    assert!(rt; is_refused(&mut place, ".git::$INDEX_ALLOCATION", None));
+    assert!(rt; is_refused(&mut place, "a\\..\\..\\b", None));
+    assert!(rt; is_refused(&mut place, ".gitmodules", Some(ComponentMode::Symlink)));
+    enter(&mut place, ".gitmodules")?;
+    Ok(())
+}
+
+/// The place of the first component that the default options refuse.
+fn hostile(path: &str) -> Option<usize> {
+    first_hostile_component(BStr::from(path), ComponentOptions::default())
+}
+
+#[test]
+fn finds_hostile_components(rt: HostRuntime) {
+    assert_eq!(rt; hostile("a/../b"), Some(1));
+    assert_eq!(rt; hostile("a/b/GIT~1"), Some(2));
+    assert_eq!(rt; hostile("/a"), Some(0));
+    assert_eq!(rt; hostile("src/main.rs"), None);
 }
 
 /// The repair of a copy of a name.
@@ -107,38 +175,40 @@ fn repairs_names(rt: HostRuntime) -> Result<(), Fail> {
     Ok(())
 }
 
-/// The submodule of a line.
-fn read(line: &[u8]) -> Option<Result<SubmoduleName<'_>, NameError>> {
-    submodule(line)
+/// The names in a file.
+fn names_of(alloc: Global, file: &[u8]) -> Result<Vec<BString>, SettingsError> {
+    submodule_names(alloc, file)
+}
+
+/// Settings of two submodules, the second by its header as Git also reads it.
+fn settings() -> &'static [u8] {
+    b"[submodule \"a\"]\n\tpath = a\n[core]\n [SubModule\t\"b\\/c\"] # old\n\turl = ../b.git\n"
 }
 
 #[test]
 fn reads_settings(rt: HostRuntime) -> Result<(), Fail> {
-    let kept = read(b"[submodule \"vendor/package\"]").expect(&rt, "a heading");
-    expect(&rt, kept?.as_bstr(), "vendor/package");
-    let refused = read(b"[submodule \"../package\"]").expect(&rt, "a heading");
-    assert!(rt; refused.is_err());
-    assert!(rt; read(b"[core]").is_none());
-    Ok(())
-}
-
-/// The submodules of a text.
-fn read_all(alloc: Global, text: &[u8]) -> Result<Vec<SubmoduleName<'_>>, SettingsError> {
-    submodules(alloc, text)
-}
-
-/// Settings of two submodules.
-fn settings() -> &'static [u8] {
-    b"[submodule \"a\"]\n\tpath = a\n[core]\n[submodule \"b/c\"]\n\turl = ../b.git\n"
-}
-
-#[test]
-fn reads_files_of_settings(rt: HostRuntime) -> Result<(), Fail> {
-    let names = read_all(rt.alloc(), settings())?;
+    let names = names_of(rt.alloc(), settings())?;
     assert_eq!(rt; names.len(), 2);
     expect(&rt, names[0].as_bstr(), "a");
     expect(&rt, names[1].as_bstr(), "b/c");
-    let refused = read_all(rt.alloc(), b"[submodule \"..\"]");
-    assert!(rt; matches!(&refused, Err(SettingsError::Name(_))));
     Ok(())
+}
+
+#[test]
+fn refuses_settings(rt: HostRuntime) {
+    let refused = names_of(
+        rt.alloc(),
+        b"[submodule \"a\"]\n[submodule \"..\"]\n[submodule.b]\n",
+    );
+    assert!(rt;
+        matches!(
+            &refused,
+            Err(SettingsError::Name {
+                offset: 16,
+                fault: NameError::ParentComponent
+            })
+        )
+    );
+    let unreadable = names_of(rt.alloc(), b"[core]\n[submodule.b]\n");
+    assert!(rt; matches!(&unreadable, Err(SettingsError::Unreadable { offset: 7 })));
 }

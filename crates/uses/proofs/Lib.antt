@@ -1,2 +1,3 @@
 pub mod TargetLemmas
+pub mod WalkLemmas
 pub mod SettingsLemmas

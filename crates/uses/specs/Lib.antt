@@ -1,2 +1,4 @@
 pub mod Targets
 pub mod Settings
+pub mod Branches
+pub mod Walks

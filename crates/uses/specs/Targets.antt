@@ -1,6 +1,6 @@
 -- What a ref store holds, and how a name is looked up in it.
-use Rattle.std.specs.Prelude.{ℕ, Bool, List, Option, bytes_eq, option_map}
-use Rattle.std.specs.List.{find}
+use Rattle.std.specs.Prelude.{◌≢◌, ℕ, Bool, List, Option, bytes_eq, option_map}
+use Rattle.std.specs.List.{AllPairs, find}
 use Rattle.typed_names.specs.Names.{name_bytes}
 use Rattle.uses.specs.declared.ref_store.ObjectId.{ObjectId}
 use Rattle.uses.specs.declared.ref_store.Reference.{Reference}
@@ -20,3 +20,7 @@ is_named x entry = bytes_eq entry.0 x
 -- the target of the first entry of this name
 abbrev pub target_of : Entries → List ℕ → Option ObjectId
 target_of entries x = option_map (λ entry. entry.1) (find (is_named x) entries)
+
+-- no two entries are of one name
+abbrev pub HasDistinctNames : Entries → Type 0
+HasDistinctNames entries = AllPairs (λ a b. a.0 ≢ b.0) entries

@@ -1,68 +1,105 @@
 //! A walk down a working tree, and the path of a file.
 
-ghost use Rattle.std.specs.Prelude.{◌≡◌, ◌≢◌, ◌<◌, ◌-◌, [], ◌∷◌, ◌++◌, map, take, length, All, IfOk, None, is_ok, if◌then◌else◌};
+ghost use Rattle.std.specs.Prelude.{◌≡◌, ◌≢◌, ◌<◌, ◌-◌, [], ◌∷◌, ◌++◌, map, take, length, All, IfOk, OnOk, OnErr, IfErr, None, Some};
 ghost use Rattle.bstr.specs.BStr.{bstr_bytes};
 ghost use Rattle.bstr.specs.Owned.{bstring_bytes};
 ghost use Rattle.gix_validate.specs.Component.{fault_of};
-ghost use Rattle.gix_validate.specs.ComponentLaws.{no_protections, IsBasicName};
+ghost use Rattle.gix_validate.specs.ComponentLaws.{IsBasicName, PassesFewer};
 ghost use Rattle.gix_validate.specs.Pieces.{pieces};
-ghost use Rattle.typed_names.specs.Names.{component_bytes};
+ghost use Rattle.uses.specs.Walks.{IsEnterError};
 
 use bstr::{BStr, BString};
-use gix_validate::path;
+use gix_validate::path::{self, ComponentError, ComponentMode, ComponentOptions};
 use std::alloc::{AllocError, Global};
 use std::marker::Model;
-use typed_names::Component;
+use thiserror::Error;
+
+/// Why a name was not entered.
+#[derive(Debug, Drop, Error)]
+pub enum EnterError {
+    /// The name is refused.
+    #[error("{0}")]
+    Name(ComponentError),
+    /// Out of memory.
+    #[error("out of memory")]
+    Memory(AllocError),
+}
 
 /// Where a checkout is: the names of the folders that it went down, and of the file in the last of
-/// them.
+/// them. Each was accepted under the options of the place.
 ///
-/// Contracts see it as the list of these names.
+/// Contracts see it as these options and the list of these names.
 #[derive(Debug, Drop)]
 pub struct Place<'a> {
+    options: ComponentOptions,
     names: Vec<BStr<'a>>,
-    /// Each was a component.
-    ghost components: { All (λ name. fault_of no_protections None (bstr_bytes name) ≡ None) names.items },
+    /// Each is accepted under the options, and under fewer.
+    ghost accepted: { All (λ name. PassesFewer options None (bstr_bytes name)) names.items },
 }
 
 impl<'a> Model for Place<'a> {
-    ghost use Rattle.std.specs.Prelude.{ℕ, List, map};
+    ghost use Rattle.std.specs.Prelude.{map};
     ghost use Rattle.bstr.specs.BStr.{bstr_bytes};
+    ghost use Rattle.uses.specs.Walks.{Walk};
 
-    ghost Value = { List (List ℕ) };
+    ghost Value = { Walk };
 
-    ghost view = { λ place. map bstr_bytes place.names.items };
+    ghost view = { λ place. record {
+      options = place.options;
+      names = map bstr_bytes place.names.items;
+    } };
 }
 
 impl<'a> Place<'a> {
-    /// The top of the working tree.
-    pub fn top(alloc: Global) -> Place<'a>
-        ensures { result ≡ [] }
+    /// The top of a working tree, on a file system that these options protect.
+    ///
+    /// With no option on, that is a file system that tells names apart by their bytes, or by these
+    /// without ASCII letter case. `protect_ntfs` is for NTFS, where `git~1` and `.git ` are names
+    /// for `.git`; with `protect_windows`, for Windows, where `\` separates names too.
+    /// `protect_hfs` is for HFS+, which passes over some characters. The default is for all of
+    /// these.
+    pub fn top(alloc: Global, options: ComponentOptions) -> Place<'a>
+        ensures { result ≡ record { options = options; names = [] } }
     {
         Place {
+            options,
             names: Vec::new(alloc),
         }
     }
 
-    /// Goes one name down.
-    pub fn enter(&mut self, name: Component<'a>) -> Result<(), AllocError>
-        ensures { self.new ≡ (if is_ok result then self.old ++ component_bytes name.entry ∷ [] else self.old) }
+    /// Goes one name down, if the options accept it for what it names: a symlink's name is checked
+    /// more strictly.
+    pub fn enter(&mut self, name: BStr<'a>, mode: Option<ComponentMode>) -> Result<(), EnterError>
+        ensures entered { OnOk result (self.new
+            ≡ record self.old { names = self.old.names ++ bstr_bytes name.entry ∷ [] }) }
+        ensures accepted { OnOk result
+            (fault_of self.old.options mode (bstr_bytes name.entry) ≡ None) }
+        ensures refused { IfErr result
+            (IsEnterError self.old.options mode (bstr_bytes name.entry)) }
+        ensures same { OnErr result (self.new ≡ self.old) }
     {
-        self.names.push(name.as_bstr())?;
-        Ok(())
+        let name = path::component(name, mode, self.options).map_err(EnterError::Name)?;
+        self.names
+            .push(name)
+            .map_err(|_| EnterError::Memory(AllocError))
     }
 
     /// Goes back up, from the top to the top.
     pub fn leave(&mut self)
-        ensures { self.new ≡ take (length self.old - 1) self.old }
+        ensures { self.new
+            ≡ record self.old { names = take (length self.old.names - 1) self.old.names } }
     {
         self.names.pop();
     }
 
-    /// The path from the top, which leads one step down a name, and never into `.git`.
+    /// The path from the top. It has one component for each name, and each is accepted under the
+    /// options of the place. So on the file systems that these protect ([`top`](Place::top)), it
+    /// leads neither up nor into `.git`, by the rules in docs/RULES.md, "Path components".
     pub fn path(&self, alloc: Global) -> Result<BString, AllocError>
-        requires { self.now ≢ [] }
-        ensures pieces { IfOk result (λ path. pieces (bstring_bytes path) ≡ self.now) }
+        requires { self.now.names ≢ [] }
+        ensures pieces { IfOk result (λ path. pieces (bstring_bytes path) ≡ self.now.names) }
+        ensures accepted { IfOk result (λ path.
+            All (λ name. fault_of self.now.options None name ≡ None) (pieces (bstring_bytes path))) }
         ensures basic { IfOk result (λ path. All IsBasicName (pieces (bstring_bytes path))) }
     {
         path::join(alloc, &self.names)

@@ -6,14 +6,18 @@
 //! | [`first`] | a first caller: the branch to push to |
 //! | [`literals`] | calls on names that are written in the source |
 //! | [`ref_store`] | references and their targets, by full name |
+//! | [`branches`] | full names of a branch: `refs/heads/main`, `refs/remotes/origin/main` |
+//! | [`paths`] | the first component of a path that is refused |
 //! | [`checkout`] | a walk down a working tree, and the path of a file |
-//! | [`settings`] | the names in a file of submodule settings |
+//! | [`settings`] | the names of the submodules in a `.gitmodules` file |
 //! | [`repair`] | names that are repaired where they stand |
 #![tactic(auto)]
 
+pub mod branches;
 pub mod checkout;
 pub mod first;
 pub mod literals;
+pub mod paths;
 pub mod ref_store;
 pub mod repair;
 pub mod settings;

@@ -13,9 +13,9 @@ use typed_names::BranchName;
 
 /// The full name of the release's tag.
 pub fn release_tag(alloc: Global) -> Result<BString, AllocError>
-    ensures { IfOk result (λ name. bstring_bytes name ≡ codes "refs/v1.0") }
+    ensures { IfOk result (λ name. bstring_bytes name ≡ codes "refs/tags/v1.0") }
 {
-    reference::join(alloc, BStr::from("refs"), BStr::from("v1.0"))
+    reference::join(alloc, BStr::from("refs/tags"), BStr::from("v1.0"))
 }
 
 /// The path of the workflow's file.

@@ -1,9 +1,9 @@
 //! References and their targets, by full name.
 
-ghost use Rattle.std.specs.Prelude.{◌≡◌, ◌≢◌, ℕ, List, [], Some, OnOk, OnErr};
+ghost use Rattle.std.specs.Prelude.{◌≡◌, ◌≢◌, ℕ, List, [], None, Some, OnOk, OnErr, map};
 ghost use Rattle.std.specs.List.{position};
 ghost use Rattle.typed_names.specs.Names.{name_bytes};
-ghost use Rattle.uses.specs.Targets.{is_named, target_of};
+ghost use Rattle.uses.specs.Targets.{HasDistinctNames, entry_of, is_named, target_of};
 
 use std::alloc::{AllocError, Global};
 use std::marker::Model;
@@ -26,6 +26,8 @@ pub struct Reference<'a> {
 #[derive(Debug, Drop)]
 pub struct RefStore<'a> {
     refs: Vec<Reference<'a>>,
+    /// No two have one name.
+    ghost distinct: { HasDistinctNames (map entry_of refs.items) },
 }
 
 impl<'a> Model for RefStore<'a> {
@@ -50,18 +52,21 @@ impl<'a> RefStore<'a> {
     /// The object that the name stands for, if the store has the name.
     #[tactic(auto, using(crate::proofs::TargetLemmas::lookups))]
     pub fn get(&self, name: FullName<'_>) -> Option<ObjectId>
-        ensures { result ≡ target_of self.now (name_bytes name.entry) }
+        ensures target { result ≡ target_of self.now (name_bytes name.entry) }
+        ensures distinct { HasDistinctNames self.now }
     {
         let i = self.place_of(name)?;
         Some(self.refs[i].target)
     }
 
-    /// Lets the name stand for an object, and leaves every other name as it was.
+    /// Lets the name stand for an object, and leaves every other name as it was. It fails only if
+    /// there is no memory for a new name.
     #[tactic(auto, using(crate::proofs::TargetLemmas::writes))]
     pub fn set(&mut self, name: FullName<'a>, target: ObjectId) -> Result<(), AllocError>
         ensures this { OnOk result (target_of self.new (name_bytes name.entry) ≡ Some target) }
         ensures others { (x : List ℕ) → x ≢ name_bytes name.entry → target_of self.new x ≡ target_of self.old x }
         ensures same { OnErr result (self.new ≡ self.old) }
+        ensures memory { OnErr result (target_of self.old (name_bytes name.entry) ≡ None) }
     {
         match self.place_of(name) {
             Some(i) => self.refs[i] = Reference { name, target },
@@ -72,7 +77,8 @@ impl<'a> RefStore<'a> {
 
     /// Where the first reference of this name is.
     fn place_of(&self, name: FullName<'_>) -> Option<usize>
-        ensures { result ≡ position (is_named (name_bytes name.entry)) self.now }
+        ensures place { result ≡ position (is_named (name_bytes name.entry)) self.now }
+        ensures distinct { HasDistinctNames self.now }
     {
         self.refs.iter().position(|it| it.name == name)
     }

@@ -1,63 +1,67 @@
-//! The names in a file of submodule settings, as `.gitmodules` is one.
+//! The names of the submodules in a `.gitmodules` file.
 
-ghost use Rattle.std.specs.Prelude.{◌≡◌, ◌≢◌, ◌↔◌, ℕ, List, Contains, Some, map, IsNone, IfSome, IfOk, IfErr, MatchOption};
+ghost use Rattle.std.specs.Prelude.{◌≡◌, Some, None, All, map, IfOk, IfErr};
+ghost use Rattle.bstr.specs.Owned.{bstring_bytes};
+ghost use Rattle.gitmodules.specs.Headers.{section_pair};
+ghost use Rattle.gitmodules.specs.Sections.{sections};
 ghost use Rattle.gix_validate.specs.Submodule.{fault_of};
-ghost use Rattle.typed_names.specs.Names.{name_bytes};
-ghost use Rattle.uses.specs.Settings.{heading, lines};
+ghost use Rattle.uses.specs.Settings.{IsErrorOf, IsFirstError};
 
-use bstr::BStr;
-use gix_validate::submodule::NameError;
+use bstr::{BStr, BString};
+use gitmodules::{Section, Sections};
+use gix_validate::submodule::{self, NameError};
 use std::alloc::{AllocError, Global};
 use thiserror::Error;
-use typed_names::SubmoduleName;
 
-/// Why a file of settings was not read.
+/// Why the names of a file were not read. Offsets are in bytes.
 #[derive(Debug, Drop, Error)]
 pub enum SettingsError {
-    /// A submodule has a name that is refused.
-    #[error("{0}")]
-    Name(#[from] NameError),
+    /// The name of the section at this offset is refused.
+    #[error("the section at offset {offset}: {fault}")]
+    Name { offset: usize, fault: NameError },
+    /// The section at this offset can't be read.
+    #[error("the section at offset {offset} can't be read")]
+    Unreadable { offset: usize },
     /// Out of memory.
     #[error("out of memory")]
-    Memory(#[from] AllocError),
+    Memory(AllocError),
 }
 
-/// The submodule whose settings a line begins, as `[submodule "vendor/package"]` does, or why its
-/// name is refused; `None` where the line doesn't begin the settings of a submodule.
-pub fn submodule<'a>(line: &'a [u8]) -> Option<Result<SubmoduleName<'a>, NameError>>
-    ensures none { IsNone result ↔ ((name : List ℕ) → line.now ≢ heading name) }
-    ensures kept { IfSome result (λ answer. IfOk answer
-        (λ name. line.now ≡ heading (name_bytes name))) }
-    ensures refused { IfSome result (λ answer. IfErr answer
-        (λ fault. (name : List ℕ) × (line.now ≡ heading name) × (fault_of name ≡ Some fault))) }
-{
-    let name = quoted_name(line)?;
-    Some(SubmoduleName::new(BStr::new(name)))
-}
-
-/// The submodules of a file of settings, in the order of their lines. The first refused name ends
-/// the reading.
-pub fn submodules<'a>(
-    alloc: Global,
-    text: &'a [u8],
-) -> Result<Vec<SubmoduleName<'a>>, SettingsError>
-    ensures { IfOk result (λ names. (name : List ℕ) →
-        Contains (lines text.now) (heading name) ↔ Contains (map name_bytes names.items) name) }
+/// The names of the submodules in a `.gitmodules` file: the name of each section, in order.
+///
+/// The first section whose name is refused or that can't be read is the error. The sections are
+/// those of [`Sections`], which also finds some that Git doesn't see, as one in a comment.
+pub fn submodule_names(alloc: Global, file: &[u8]) -> Result<Vec<BString>, SettingsError>
+    ensures names { IfOk result (λ names. map (λ name. Some (bstring_bytes name)) names.items
+        ≡ map (λ section. section.1) (sections 0 file.now)) }
+    ensures accepted { IfOk result (λ names.
+        All (λ name. fault_of (bstring_bytes name) ≡ None) names.items) }
+    ensures refused { IfErr result (IsFirstError (sections 0 file.now)) }
 {
     let mut names = Vec::new(alloc);
-    for line in text.split(|byte| *byte == b'\n') {
-        if let Some(answer) = submodule(line) {
-            names.push(answer?).map_err(AllocError::from)?;
-        }
+    for section in Sections::new(file) {
+        let name = submodule_name(alloc, &section)?;
+        names
+            .push(name)
+            .map_err(|_| SettingsError::Memory(AllocError))?;
     }
     Ok(names)
 }
 
-/// What stands between the quotes of such a line.
-fn quoted_name(line: &[u8]) -> Option<&[u8]>
-    ensures { MatchOption result
-        ((name : List ℕ) → line.now ≢ heading name)
-        (λ name. line.now ≡ heading name.now) }
+/// The name of a section.
+fn submodule_name(alloc: Global, section: &Section<'_>) -> Result<BString, SettingsError>
+    ensures name { IfOk result (λ name. section.now.name ≡ Some (bstring_bytes name)) }
+    ensures accepted { IfOk result (λ name. fault_of (bstring_bytes name) ≡ None) }
+    ensures refused { IfErr result (IsErrorOf (section_pair section.now)) }
 {
-    line.strip_prefix(b"[submodule \"")?.strip_suffix(b"\"]")
+    let offset = section.offset;
+    let Some(escaped) = &section.name else {
+        return Err(SettingsError::Unreadable { offset });
+    };
+    let mut name = Vec::new(alloc);
+    escaped.push_to(&mut name).map_err(SettingsError::Memory)?;
+    match submodule::name(BStr::new(&name)) {
+        Ok(_) => Ok(BString::new(name)),
+        Err(fault) => Err(SettingsError::Name { offset, fault }),
+    }
 }

@@ -6,8 +6,8 @@ use Rattle.uses.specs.Targets.{entry_of, is_named}
 use Rattle.uses.proofs.TargetLemmas.{position_in_entries}
 use Rattle.uses.proofs.ref_store.RefStore.place_of.Goals as goal
 
-pub returns : goal.returns
-returns c =
+pub returns-clause-place : goal.returns-clause-place
+returns-clause-place c =
     let x = name_bytes c.args.name in
     let refs = YieldsList-from_slice _ c.iter.ensures.rest in
     let found = position_from_yields_List (λ r. is_named x (entry_of r)) _ _ c.position.result c.position.ensures.ran refs (search (rules, tests)) in

@@ -1,6 +1,6 @@
-//! What the programs share that check a stream: bounded reads, the header lines of
-//! `git cat-file --batch`, the loop over the lines of an input, quoted output, and the status that
-//! a program ends with.
+//! What the programs share: arguments, whole writes, and the status that a program ends with; and,
+//! for those that check a stream, bounded reads, the header lines of `git cat-file --batch`, the loop
+//! over the lines of an input, and quoted output.
 #![tactic(auto)]
 
 pub mod header;

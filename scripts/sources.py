@@ -49,15 +49,15 @@ def without_comments(text):
 class Item:
     """A function, or the ghost members of an impl or of a struct, as a list of clauses."""
 
-    def __init__(self, crate, module, owner, name, is_public, span, of_trait=None):
-        self.crate, self.module, self.owner, self.name = crate, module, owner, name
-        self.is_public, self.file, self.span, self.of_trait = is_public, None, span, of_trait
-        self.ensures, self.requires, self.ghosts = [], [], None
+    def __init__(self, module, owner, name, is_public, of_trait=None):
+        self.module, self.owner, self.name = module, owner, name
+        self.is_public, self.of_trait, self.ghosts = is_public, of_trait, None
+        self.ensures, self.requires = [], []
         self.shown, self.is_empty, self.is_declared = None, False, False
 
     @property
     def path(self):
-        return "::".join([*self.module, *([self.owner] if self.owner else []), *([self.name] if self.name else [])])
+        return "::".join(it for it in [*self.module, self.owner, self.name] if it)
 
     @property
     def short(self):
@@ -68,92 +68,79 @@ class Item:
     def proved_as(self):
         """The name that the check has for it."""
         owner = "".join(it[0].upper() + it[1:] for it in (self.owner or "").split("::") if it) + (self.of_trait or "")
-        return "::".join(it for it in [*self.module, owner if self.owner else "", self.name] if it)
+        return "::".join(it for it in [*self.module, owner, self.name] if it)
+
+    def offer(self, module):
+        """Makes it public as an item of another module, by a `pub use` there."""
+        self.is_public, self.shown = True, "::".join(it for it in [*module, self.owner, self.name] if it)
 
     def read_clauses(self, text):
-        """Reads the clauses of the function whose text starts here, and returns where its body ends."""
+        """Reads the clauses of the function whose text starts here. An unnamed one is its answer."""
         start = re.search(r"\s(requires|ensures)(?: \w+)? \{|\s?\{|;\s*\n", text).start()
         while found := CLAUSE.match(text, start):
-            end = closing(text, found.end() - 1)
-            (self.ensures if found[1] == "ensures" else self.requires).append((found[2] or "", text[found.end() : end].strip()))
-            start = end + 1
-        body = re.compile(r"\s*([{;])").match(text, start)
-        if not body or body[1] == ";":
-            self.is_declared = True
-            return start
-        end = closing(text, body.end() - 1)
-        self.is_empty = not text[body.end() : end].strip()
-        return end
-
-    def clauses(self):
-        """The names of what it promises; an unnamed clause is its answer."""
-        return [name or "answer" for name, _ in self.ensures]
+            if found[1] == "ensures":
+                self.ensures.append(found[2] or "answer")
+            else:
+                self.requires.append(found[2] or "")
+            start = closing(text, found.end() - 1) + 1
+        body = re.compile(r"\s*\{").match(text, start)
+        self.is_declared = not body
+        self.is_empty = bool(body) and not text[body.end() : closing(text, body.end() - 1)].strip()
 
 
-def items_of(crate, module, text, is_public):
-    """The items of a file."""
+def items_of(module, text):
+    """The items of a file, each public if it says so itself."""
     text = without_comments(text)
     hidden = set(re.findall(r"(?m)^(?:struct|enum) (\w+)", text))
     head = r"(?m)^(?:(pub(?:\([\w ]+\))?) )?(?:const )?(?:extern \"C\" )?(fn|struct|trait|impl)\b ?([^\n]*)"
     for it in re.finditer(head, text):
-        is_pub = is_public and it[1] == "pub"
+        is_public = it[1] == "pub"
         if it[2] == "fn":
-            item = Item(crate, module, None, re.match(r"\w+", it[3])[0], is_pub, None)
-            end = it.start() + item.read_clauses(text[it.start() :])
-            item.span = (it.start(), end)
+            item = Item(module, None, re.match(r"\w+", it[3])[0], is_public)
+            item.read_clauses(text[it.start() :])
             yield item
             continue
         opening = re.compile(r"[{;]").search(text, it.start())
         if not opening or opening[0] == ";":
             continue
-        end = closing(text, opening.start())
-        inside = text[opening.end() : end]
+        inside = text[opening.end() : closing(text, opening.start())]
         name = " ".join(text[it.end(2) : opening.start()].split())
         if it[2] == "struct":
-            yield from invariants(crate, module, re.match(r"\w+", name)[0], is_pub, inside, (it.start(), end))
-        else:
-            for member in members(crate, module, it[2], name, is_pub or (it[2] == "impl" and is_public), inside, opening.end(), end):
-                member.is_public &= member.owner not in hidden
-                yield member
+            item = Item(module, re.match(r"\w+", name)[0], "", is_public)
+            item.ensures = re.findall(r"(?m)^    (?:pub )?ghost (\w+): \{", inside)
+            yield item
+            continue
+        for member in members(module, it[2], name, is_public or it[2] == "impl", inside):
+            member.is_public &= member.owner not in hidden
+            yield member
 
 
-def invariants(crate, module, owner, is_public, inside, span):
-    item = Item(crate, module, owner, "", is_public, span)
-    for ghost in re.finditer(r"(?m)^    (?:pub )?ghost (\w+): \{", inside):
-        item.ensures.append((ghost[1], inside[ghost.end() : closing(inside, ghost.end() - 1)].strip()))
-    if item.ensures:
-        yield item
-
-
-def members(crate, module, kind, name, is_public, inside, start, end):
+def members(module, kind, name, is_public, inside):
     """The functions and the ghost members of a trait or an impl."""
     name = re.sub(r"^<(?:[^<>]|<[^<>]*>)*> ?", "", name)
     plain = re.sub(r"<.*?>(?=\s|$)|<.*$", "", name.partition(" where ")[0])
-    trait = plain.partition(" for ")[0].rpartition("::")[2] if " for " in plain else None
-    owner = re.match(r"(?:\w+::)*\w+", plain.partition(" for ")[2] if trait else plain)[0].removeprefix("crate::").removeprefix("super::")
-    ghosts = Item(crate, module, owner, "", is_public, (start, end), trait)
-    for ghost in re.finditer(r"(?m)^    ghost (\w+) = \{", inside):
-        if ghost[1] not in ("laws", "Value", "view"):
-            ghosts.ensures.append((ghost[1], inside[ghost.end() : closing(inside, ghost.end() - 1)].strip()))
-    if ghosts.ensures and trait:
-        yield ghosts
+    trait, _, owner = plain.rpartition(" for ")
+    trait = trait.rpartition("::")[2] or None
+    owner = re.match(r"(?:\w+::)*\w+", owner)[0].removeprefix("crate::").removeprefix("super::")
+    ghosts = Item(module, owner, "", is_public, trait)
+    ghosts.ensures = [it for it in re.findall(r"(?m)^    ghost (\w+) = \{", inside) if it not in ("laws", "Value", "view")]
+    yield ghosts
     for it in re.finditer(r"(?m)^    (pub(?:\([\w ]+\))? )?(?:const )?fn (\w+)", inside):
         is_method = is_public and (it[1] == "pub " or kind == "trait")
-        item = Item(crate, module, owner, it[2], is_method, None, trait if kind == "impl" else owner)
-        item.span = (start + it.start(), start + it.start() + item.read_clauses(inside[it.start() :]))
+        item = Item(module, owner, it[2], is_method, trait if kind == "impl" else owner)
+        item.read_clauses(inside[it.start() :])
         item.ghosts = ghosts
         yield item
 
 
 def modules(crate):
-    """The modules of a crate without its tests: path, file, whether another crate can call it, and the names offered elsewhere."""
+    """The modules of a crate without its tests: path, text, and whether another crate can name it. In a program all can be."""
     top = f"crates/{crate}/src"
     root = "main" if os.path.isfile(f"{ROOT}/{top}/main.rt") else "lib"
 
     def visit(path, is_public):
-        file = f"{top}/{'/'.join(path) or root}.rt"
-        text = read(file)
-        yield path, file, is_public, text
+        text = read(f"{top}/{'/'.join(path) or root}.rt")
+        yield path, text, is_public
         for test, public, name in re.findall(r"(?m)^(#\[cfg\(test\)\]\n)?(pub )?mod (\w+);", text):
             if not test:
                 yield from visit([*path, name], is_public and (bool(public) or root == "main"))
@@ -165,21 +152,19 @@ def items(crate):
     """All functions and ghost members of a crate. Each that another crate can name, by a `pub use` too, is public; in a
     program each `pub` function is, and each that `main` calls."""
     found, offered = [], {}
-    for path, file, is_public, text in modules(crate):
+    for path, text, is_public in modules(crate):
         for source, names in re.findall(r"(?m)^pub use (?:crate::|self::)?([\w:]+)::(\{[^}]*\}|\w+);", text):
             for name in re.findall(r"\w+", names):
-                offered[tuple(source.split("::")[-1:]), name] = path
-        called = re.findall(r"\b(\w+)\(", text[text.find("fn main(") :].partition("\n}\n")[0])
-        for item in items_of(crate, path, text, True):
-            item.file = file
-            is_root = file.endswith("/main.rt") and item.ensures and item.name in called
-            item.is_offered, item.is_public = item.is_public, (item.is_public and is_public) or is_root
+                offered[source.rpartition("::")[2], name] = path
+        called = re.findall(r"\b(\w+)\(", re.search(r"(?ms)^fn main\(.*?^\}|\Z", text)[0])
+        for item in items_of(path, text):
+            item.is_said = item.is_public
+            item.is_public = item.is_said and is_public or bool(item.name in called and item.ensures)
             found.append(item)
     for item in found:
-        where = offered.get((tuple(item.module[-1:]), item.owner or item.name))
-        if where is not None and item.is_offered:
-            item.is_public = True
-            item.shown = "::".join([*where, *([item.owner] if item.owner else []), *([item.name] if item.name else [])])
+        where = offered.get((item.module[-1] if item.module else "", item.owner or item.name))
+        if where is not None and item.is_said:
+            item.offer(where)
     return found
 
 

@@ -48,7 +48,6 @@ stand_alone : Gives has_slash_or_stands_alone
     ∷ [])
 stand_alone = refl
 
--- full names
 full_names : Judges full_fault_of is_full_name
     ((codes "HEAD", None)  -- head
     ∷ (codes "FETCH_HEAD", None)  -- fetch head

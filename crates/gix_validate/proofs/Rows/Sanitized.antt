@@ -54,7 +54,6 @@ pieces_mended = refl
 dash_last_piece : dash_last_of (codes "a" ∷ codes "b." ∷ []) ≡ codes "a" ∷ codes "b-" ∷ []
 dash_last_piece = refl
 
--- dots and slashes
 dots_and_slashes : Gives sanitized
     ((codes "", codes "-")  -- empty text
     ∷ (codes "///", codes "-")  -- only slashes

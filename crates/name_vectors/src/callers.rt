@@ -112,7 +112,7 @@ fn walks_down_a_tree(rt: HostRuntime) -> Result<(), Fail> {
     enter(&mut place, "src")?;
     enter(&mut place, "old")?;
     place.leave();
-    enter(&mut place, "main.rs")?;
+    place.enter(BStr::from("main.rs"), None)?;
     expect(&rt, place.path(rt.alloc())?.as_bstr(), "src/main.rs");
     Ok(())
 }

@@ -1,5 +1,5 @@
 -- The names of a path are accepted under the options of the place that it was taken from.
-use Rattle.std.proofs.Common.{◌≡◌, List, map, Option, None, Result, Ok, Err}
+use Rattle.std.proofs.Common.{◌≡◌, List, map, None, Result, Ok, Err}
 use Rattle.std.specs.Prelude.{All, IfOk}
 use Rattle.std.proofs.lemmas.List.Elements.{All-map}
 use Rattle.bstr.specs.declared.bstr.BStr.{BStr}

@@ -1,5 +1,3 @@
-use Rattle.std.proofs.Common.{map}
-use Rattle.bstr.specs.BStr.{bstr_bytes}
 use Rattle.uses.proofs.WalkLemmas.{pieces_accepted}
 use Rattle.uses.proofs.checkout.Place.path.Goals as goal
 

@@ -1,8 +1,8 @@
 //! The report of an input, line by line.
 
-ghost use Rattle.std.specs.Prelude.{◌≡◌, ◌↔◌, [], Some, false, IfOk, OnErr, IfSome, OnSome};
+ghost use Rattle.std.specs.Prelude.{◌≡◌, ◌↔◌, [], Some, false, true, IfOk, OnErr, IfSome, OnSome};
 ghost use Rattle.std.specs.Io.KnownBytes.{Appends, IsAtEnd};
-ghost use Rattle.streams.specs.Promises.{Begins};
+ghost use Rattle.streams.specs.Promises.{Begins, StopsWithin};
 ghost use Rattle.streams.specs.Reports.{is_malformed, verdict_of};
 ghost use Rattle.check_refs.specs.Accepted.{IsAcceptedInput};
 ghost use Rattle.check_refs.specs.Report.{refs_report, update_rule};
@@ -19,6 +19,8 @@ use streams::output::write_whole;
 
 impl LineCheck for Options {
     ghost line_rule = { λ options. update_rule options };
+
+    ghost line_reach = { λ options line. 0 };
 
     fn check_line<R: BufRead, W: Write>(
         self,
@@ -75,6 +77,8 @@ pub fn run<R: BufRead, W: Write>(
         → OnSome (R.remaining input.old) (IsAtEnd (R.remaining input.new))) }
     ensures spent { IfOk result (λ verdict. is_malformed verdict ≡ false
         → IfSome (R.remaining input.old) (λ _. R.remaining input.new ≡ Some [])) }
+    ensures within { IfOk result (λ verdict. is_malformed verdict ≡ true
+        → IfSome (R.remaining input.old) (StopsWithin (update_rule options) (λ line. 0) (R.remaining input.new))) }
     ensures stopped { OnErr result (IfSome (R.remaining input.old) (λ text.
         Begins (W.contents output.old) (W.contents output.new) (refs_report options text).said.lines)) }
     ensures spelled { IsReportedInOrder options }

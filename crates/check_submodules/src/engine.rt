@@ -1,9 +1,9 @@
 //! The report of a stream of objects.
 
-ghost use Rattle.std.specs.Prelude.{◌≡◌, [], Some, false, IfOk, OnErr, IfSome, OnSome};
+ghost use Rattle.std.specs.Prelude.{◌≡◌, [], Some, false, true, IfOk, OnErr, IfSome, OnSome};
 ghost use Rattle.std.specs.Io.KnownBytes.{Appends, IsAtEnd};
-ghost use Rattle.streams.specs.Objects.{IsWholeStream};
-ghost use Rattle.streams.specs.Promises.{Begins, as_object};
+ghost use Rattle.streams.specs.Objects.{IsWholeStream, object_reach, object_rule};
+ghost use Rattle.streams.specs.Promises.{Begins, StopsWithin, as_object};
 ghost use Rattle.streams.specs.Reports.{is_malformed, verdict_of};
 ghost use Rattle.streams.specs.Spelled.{IsReportedInOrder, IsWellFormedOnlyIfSpelled};
 ghost use Rattle.check_submodules.specs.Private.{Reads};
@@ -67,6 +67,8 @@ pub fn run<R: BufRead, W: Write>(
         → OnSome (R.remaining input.old) (IsAtEnd (R.remaining input.new))) }
     ensures spent { IfOk result (λ verdict. is_malformed verdict ≡ false
         → IfSome (R.remaining input.old) (λ _. R.remaining input.new ≡ Some [])) }
+    ensures within { IfOk result (λ verdict. is_malformed verdict ≡ true
+        → IfSome (R.remaining input.old) (StopsWithin (object_rule submodules_rule options.whole) object_reach (R.remaining input.new))) }
     ensures stopped { OnErr result (IfSome (R.remaining input.old) (λ text.
         Begins (W.contents output.old) (W.contents output.new) (report options.whole text).said.lines)) }
     ensures spelled { IsReportedInOrder submodules_rule options.whole }

@@ -1,5 +1,5 @@
 -- Nothing of a stream is refused if and only if each entry of each tree is accepted.
-use Rattle.std.proofs.Common.{◌≡◌, ◌↔◌, ℕ, ◌/◌, Bool, true, false, ◌||◌, List, [], ◌∷◌, Option, None, Some, length, map, refl, arith, ap, ◌∙◌, sym}
+use Rattle.std.proofs.Common.{◌≡◌, ℕ, Bool, true, false, List, [], ◌∷◌, Option, None, Some, map, refl, arith, ap, ◌∙◌, sym}
 use Rattle.std.proofs.Common.{Result, Ok, Err}
 use Rattle.std.proofs.lemmas.Option.{IfSome_then}
 use Rattle.std.specs.Prelude.{IfOk, IfSome}
@@ -12,7 +12,7 @@ use Rattle.streams.specs.declared.header.Kind.TheVariants.{Blob, Tree, Commit, T
 use Rattle.streams.specs.declared.outcome.Fault.TheVariants.{Entry}
 use Rattle.streams.specs.declared.outcome.Verdict.{Verdict}
 use Rattle.streams.specs.Headers.{ParsedObject}
-use Rattle.streams.specs.Reports.{Said, all_said}
+use Rattle.streams.specs.Reports.{all_said}
 use Rattle.streams.specs.Objects.{Judged}
 use Rattle.streams.specs.Spelled as stream
 use Rattle.streams.specs.Spelled.{Spelled, Present, Absent, IsSpelled, spelled_said, IsCleanStream}
@@ -20,7 +20,7 @@ use Rattle.streams.proofs.CleanStreams.{neither}
 use Rattle.check_trees.specs.declared.engine.CheckOptions.{CheckOptions}
 use Rattle.check_trees.specs.Entries.{ParsedEntry, kind_of, named}
 use Rattle.check_trees.specs.Report.{finding_by, finding_said, entries, judged_by_kind, tree_rule}
-use Rattle.check_trees.specs.Spelled.{Item, IsItem, item_bytes, item_said, IsTree, IsAcceptedTree, IsAcceptedObject, IsAcceptedStream, IsCleanIfAccepted}
+use Rattle.check_trees.specs.Spelled.{Item, item_said, IsAcceptedTree, IsAcceptedObject, IsAcceptedStream, IsCleanIfAccepted}
 use Rattle.check_trees.proofs.SpelledTrees.{entries_spelled, read_as_items}
 
 -- ---- an entry

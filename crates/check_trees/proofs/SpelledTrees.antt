@@ -10,18 +10,17 @@ use Rattle.std.proofs.lemmas.Grind.{common_steps}
 use Rattle.std.specs.Str.{byte}
 use Rattle.streams.specs.declared.outcome.Fault.{Fault}
 use Rattle.streams.specs.declared.outcome.Fault.TheVariants.{Entry}
-use Rattle.streams.specs.declared.header.Kind.{Kind}
 use Rattle.streams.specs.declared.header.Kind.TheVariants.{Tree}
 use Rattle.streams.specs.Texts.{split_once, number_of}
 use Rattle.streams.specs.Headers.{ParsedObject}
-use Rattle.streams.specs.Reports.{longest, Said, nothing, then_said, all_said}
+use Rattle.streams.specs.Reports.{longest, then_said, all_said}
 use Rattle.streams.specs.Objects.{Judged}
 use Rattle.streams.proofs.SplitTexts.{split_found, drop_both, IsCut, split_cuts, whole}
 use Rattle.streams.proofs.SpelledHeaders.{without, number_high}
 use Rattle.streams.proofs.WellFormedStreams.{each_after}
 use Rattle.check_trees.specs.declared.engine.CheckOptions.{CheckOptions}
 use Rattle.check_trees.specs.Entries.{nul, named, ParsedFront, ParsedEntry, parsed_front, entry_at, entry_with, entry_of}
-use Rattle.check_trees.specs.Report.{entry_said, entries_then, entries_within, entries, judged_by_kind, tree_rule}
+use Rattle.check_trees.specs.Report.{entries_then, entries_within, entries, judged_by_kind, tree_rule}
 use Rattle.check_trees.specs.Spelled.{Item, IsItem, item_bytes, item_said, IsTree, IsReadAsItems}
 use Rattle.check_trees.proofs.FirstEntry.{entry_found, id_after}
 use Rattle.check_trees.proofs.TreeEntries.{entries_first, entries_none}

@@ -1,5 +1,5 @@
 -- The entries of a tree, one after the other, and a tree while it is read.
-use Rattle.std.proofs.Common.{◌≡◌, ◌≢◌, ℕ, zero, suc, ◌-◌, ◌/◌, ◌<◌, ◌≤◌, nat_lt, Bool, ◌||◌, List, [], ◌∷◌, ◌++◌, Option, None, Result, Ok, Err, length, take, drop}
+use Rattle.std.proofs.Common.{◌≡◌, ◌≢◌, ℕ, zero, suc, ◌-◌, ◌/◌, ◌<◌, ◌≤◌, nat_lt, Bool, ◌||◌, List, [], ◌∷◌, Option, None, Result, Ok, Err, length, take, drop}
 use Rattle.std.proofs.Common.{refl, arith, append-nil, length-take, length-drop, drop-drop}
 use Rattle.std.proofs.lemmas.List.{take-append-le}
 use Rattle.std.proofs.lemmas.List.Elements.{All-nil}
@@ -10,7 +10,7 @@ use Rattle.std.specs.Prelude.{IfSome, IsErr}
 use Rattle.streams.specs.declared.outcome.Fault.{Fault}
 use Rattle.streams.specs.declared.outcome.RunError.{RunError}
 use Rattle.streams.specs.Headers.{ParsedObject}
-use Rattle.streams.specs.Reports.{Said, nothing, then_said}
+use Rattle.streams.specs.Reports.{nothing, then_said}
 use Rattle.streams.specs.Promises.{Begins, Gives}
 use Rattle.streams.proofs.ReportSoFar.{SoFar, goes, ends, stops}
 use Rattle.check_trees.specs.declared.engine.CheckOptions.{CheckOptions}

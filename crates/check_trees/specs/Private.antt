@@ -1,12 +1,12 @@
 -- What the private functions promise of one step, where the reader's and the writer's bytes are known.
-use Rattle.std.specs.Prelude.{◌≡◌, ℕ, ◌-◌, ◌/◌, ◌≤◌, nat_lt, Bool, true, false, List, [], length, take, drop, Option}
-use Rattle.std.specs.Prelude.{Some, None, Result, Ok, Err}
+use Rattle.std.specs.Prelude.{◌≡◌, ℕ, ◌-◌, ◌/◌, ◌≤◌, nat_lt, Bool, List, [], length, take, drop, Option}
+use Rattle.std.specs.Prelude.{Some, Result, Ok, Err}
 use Rattle.std.specs.Io.KnownBytes.{Appends}
 use Rattle.streams.specs.declared.outcome.Fault.{Fault}
 use Rattle.streams.specs.declared.outcome.RunError.{RunError}
 use Rattle.streams.specs.Headers.{ParsedObject}
 use Rattle.streams.specs.Reports.{Said, nothing, Step}
-use Rattle.streams.specs.Promises.{Begins, Skips, or_cut, judged_with_rest}
+use Rattle.streams.specs.Promises.{Begins, ReadsUpTo, Skips, or_cut, judged_with_rest}
 use Rattle.check_trees.specs.declared.engine.CheckOptions.{CheckOptions}
 use Rattle.check_trees.specs.declared.engine.Checked.{Checked}
 use Rattle.check_trees.specs.declared.engine.Finding.{Finding}
@@ -45,6 +45,11 @@ EntryGives options tree left text new before after (Ok (Ok checked)) =
     × Appends before after (entry_said options tree entry).lines × (checked.refused ≡ (entry_said options tree entry).refused)
 EntryGives options tree left text new before after (Ok (Err fault)) = (first_entry tree left text ≡ Err fault) × Appends before after []
 EntryGives options tree left text new before after (Err stop) = Begins before after (first_said options tree (first_entry tree left text)).lines
+
+-- no more was read than the entry, or than was left of the tree
+abbrev pub EntryReads : ℕ → Option (List ℕ) → Option (List ℕ) → Result Checked Fault → Type 0
+EntryReads left old new (Ok checked) = ReadsUpTo checked.len old new
+EntryReads left old new (Err fault) = ReadsUpTo left old new
 
 -- the bytes of an id were passed, and kept where the entry is listed
 abbrev pub PassesId : Finding → ℕ → Option (List ℕ) → Option (List ℕ) → List ℕ → Bool → Type 0

@@ -1,15 +1,15 @@
 //! The report of a stream of objects.
 
-ghost use Rattle.std.specs.Prelude.{◌≡◌, ◌<◌, ◌≤◌, [], Some, false, IfOk, OnErr, IfSome, OnSome};
+ghost use Rattle.std.specs.Prelude.{◌≡◌, ◌<◌, ◌≤◌, [], Some, false, true, IfOk, OnErr, IfSome, OnSome};
 ghost use Rattle.std.specs.Io.KnownBytes.{Appends, IsAtEnd};
 ghost use Rattle.streams.specs.Reports.{is_malformed, verdict_of};
-ghost use Rattle.streams.specs.Objects.{IsWholeStream};
-ghost use Rattle.streams.specs.Promises.{Begins, Gives, as_object};
+ghost use Rattle.streams.specs.Objects.{IsWholeStream, object_reach, object_rule};
+ghost use Rattle.streams.specs.Promises.{Begins, Gives, ReadsUpTo, StopsWithin, as_object};
 ghost use Rattle.streams.specs.Spelled.{IsReportedInOrder, IsWellFormedOnlyIfSpelled};
 ghost use Rattle.gix_validate.specs.Component.{fault_of};
 ghost use Rattle.check_trees.specs.Report.{finding_by, finding_of, finding_said, is_gitmodules_fault, report, tree_rule};
 ghost use Rattle.check_trees.specs.Spelled.{IsCleanIfAccepted, IsReadAsItems};
-ghost use Rattle.check_trees.specs.Private.{EntryGives, PassesId, Says, as_front, tree_report};
+ghost use Rattle.check_trees.specs.Private.{EntryGives, EntryReads, PassesId, Says, as_front, tree_report};
 
 use crate::entry::{Front, front_of};
 use crate::output::{set_modules_line, set_refused_line};
@@ -72,6 +72,8 @@ pub fn run<R: BufRead, W: Write>(
         → OnSome (R.remaining input.old) (IsAtEnd (R.remaining input.new))) }
     ensures spent { IfOk result (λ verdict. is_malformed verdict ≡ false
         → IfSome (R.remaining input.old) (λ _. R.remaining input.new ≡ Some [])) }
+    ensures within { IfOk result (λ verdict. is_malformed verdict ≡ true
+        → IfSome (R.remaining input.old) (StopsWithin (object_rule (tree_rule options) options.whole) object_reach (R.remaining input.new))) }
     ensures stopped { OnErr result (IfSome (R.remaining input.old) (λ text.
         Begins (W.contents output.old) (W.contents output.new) (report options text).said.lines)) }
     ensures spelled { IsReportedInOrder (tree_rule options) options.whole }
@@ -125,8 +127,9 @@ fn check_tree<R: BufRead, W: Write>(
     output: &mut W,
     buffers: &mut Buffers,
 ) -> Result<Result<bool, Fault>, RunError>
-    ensures { IfSome (R.remaining input.old) (λ text. Gives (tree_report options (as_object tree.entry) tree.entry.size text)
+    ensures gives { IfSome (R.remaining input.old) (λ text. Gives (tree_report options (as_object tree.entry) tree.entry.size text)
         (R.remaining input.new) (W.contents output.old) (W.contents output.new) result) }
+    ensures within { IfOk result (λ _. ReadsUpTo tree.entry.size (R.remaining input.old) (R.remaining input.new)) }
 {
     let (mut left, mut refused) = (tree.size, false);
     while left > 0 {
@@ -162,6 +165,7 @@ fn check_entry<R: BufRead, W: Write>(
     ensures gives { IfSome (R.remaining input.old) (λ text.
         EntryGives options (as_object tree.entry) left text (R.remaining input.new)
         (W.contents output.old) (W.contents output.new) result) }
+    ensures within { IfOk result (EntryReads left (R.remaining input.old) (R.remaining input.new)) }
 {
     let limit = left.min(LONGEST);
     match read_before(input, 0, limit as usize, &mut buffers.read)? {

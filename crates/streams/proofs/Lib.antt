@@ -2,6 +2,7 @@ pub mod SplitTexts
 pub mod Numbers
 pub mod ReportSoFar
 pub mod LinesRead
+pub mod LinesStop
 pub mod WholeStreams
 pub mod ObjectsRead
 pub mod SpelledHeaders

@@ -112,7 +112,7 @@ module _ (rule : LineRule) (ending : Ending) where
   with_shorter text (Some parts) some =
       let rest = drop (length parts.0 + 1) text in grind (arith, length-drop (length parts.0 + 1) text, rest_shorter (rule parts.0 rest) rest)
 
-  line_shorter : (text : List ℕ) → 0 < length text → IfOk (line_of rule text).1 (λ rest. length rest < length text)
+  pub line_shorter : (text : List ℕ) → 0 < length text → IfOk (line_of rule text).1 (λ rest. length rest < length text)
   unfolding line_of
   line_shorter text some = with_shorter text (split_once line_end (take longest text)) some
 

@@ -7,7 +7,7 @@ use Rattle.streams.specs.declared.lines.Ending.{Ending}
 use Rattle.streams.specs.declared.lines.Ending.TheVariants.{Anywhere, EndLine}
 use Rattle.streams.specs.Texts.{line_end}
 use Rattle.streams.specs.Headers.{ParsedObject, ParsedHeader, Missing, Object, parsed_header}
-use Rattle.streams.specs.Reports.{Said, nothing, LineRule, end_line, Report, report}
+use Rattle.streams.specs.Reports.{Said, nothing, LineRule, Reach, end_line, Report, report}
 
 -- what is said of a part of an object, and what is wrong with it, if something is
 abbrev pub Judged : Type 0
@@ -38,6 +38,15 @@ header_rule rule whole (Some (Object object)) text = object_step rule object tex
 
 abbrev pub object_rule : ObjectRule → Bool → LineRule
 object_rule rule whole line text = header_rule rule whole (parsed_header line) text
+
+-- how many bytes can belong to a header line: those of the object, and the byte behind it, which has to be LF
+abbrev pub header_reach : Option ParsedHeader → ℕ
+header_reach None = 0
+header_reach (Some Missing) = 0
+header_reach (Some (Object object)) = object.size + 1
+
+abbrev pub object_reach : Reach
+object_reach line = header_reach (parsed_header line)
 
 -- how a stream has to end
 abbrev pub ending_of : Bool → Ending

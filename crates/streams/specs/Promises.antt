@@ -15,7 +15,7 @@ use Rattle.streams.specs.declared.header.Object.{Object}
 use Rattle.streams.specs.Texts.{line_end}
 use Rattle.streams.specs.Headers.{ParsedObject, ParsedHeader}
 use Rattle.streams.specs.Headers as parsed
-use Rattle.streams.specs.Reports.{Step}
+use Rattle.streams.specs.Reports.{Step, LineRule, Reach, extent, malformed_part}
 use Rattle.streams.specs.Objects.{Judged, ObjectRule}
 
 -- ---- headers as the code has them
@@ -66,6 +66,14 @@ Skips count old new bytes false = Consumes old new bytes × (length bytes < coun
 abbrev pub Nexts : Option (List ℕ) → Option (List ℕ) → Option ℕ → Type 0
 Nexts old new (Some byte) = Consumes old new (byte ∷ [])
 Nexts old new None = Consumes old new [] × OnSome old (IsAtEnd new)
+
+-- no more than so many bytes were read
+abbrev pub ReadsUpTo : ℕ → Option (List ℕ) → Option (List ℕ) → Type 0
+ReadsUpTo most old new = (bytes : List ℕ) × Consumes old new bytes × (length bytes ≤ most)
+
+-- of a text, no more was read than what is before its first malformed line, and that line with what can belong to it
+abbrev pub StopsWithin : LineRule → Reach → Option (List ℕ) → List ℕ → Type 0
+StopsWithin rule reach new text = let rest = malformed_part rule text in ReadsUpTo (extent reach rest) (Some rest) new
 
 -- a front of these bytes was appended
 abbrev pub Begins : Option (List ℕ) → Option (List ℕ) → List ℕ → Type 0

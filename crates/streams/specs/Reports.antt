@@ -140,6 +140,35 @@ is_malformed Clean = false
 is_malformed Refused = false
 is_malformed (Malformed number fault) = true
 
+-- ---- what is read where a line is malformed
+
+-- all of a text, if its first line is malformed, or else so much of what follows that line
+abbrev pub malformed_then : (List ℕ → List ℕ) → List ℕ → Step → List ℕ
+malformed_then more text (said, Err fault) = text
+malformed_then more text (said, Ok rest) = more rest
+
+-- A text from its first malformed line on. (`fuel` is at least the number of its lines.)
+abbrev pub malformed_within : ℕ → LineRule → List ℕ → List ℕ
+malformed_within zero rule text = []
+malformed_within (suc fuel) rule [] = []
+malformed_within (suc fuel) rule (b ∷ text) = malformed_then (malformed_within fuel rule) (b ∷ text) (line_of rule (b ∷ text))
+
+unfoldable pub malformed_part : LineRule → List ℕ → List ℕ
+malformed_part rule text = malformed_within (length text) rule text
+
+-- how many bytes of the text behind a line, which is given without its end, can belong to it
+abbrev pub Reach : Type 0
+Reach = List ℕ → ℕ
+
+-- the most bytes of a first line with its end and what can belong to it, where it is known what is before its end, if there is one within the limit
+abbrev pub extent_with : Reach → Option (List ℕ × List ℕ) → ℕ
+extent_with reach None = longest
+extent_with reach (Some parts) = length parts.0 + 1 + reach parts.0
+
+-- the same of the first line of a text
+unfoldable pub extent : Reach → List ℕ → ℕ
+extent reach text = extent_with reach (split_once line_end (take longest text))
+
 -- A text that has to end in the line for that is well-formed only if it does.
 abbrev pub IsWhole : LineRule → Type 0
 IsWhole rule = (text : List ℕ) → (report rule EndLine text).malformed ≡ None → (front : List ℕ) × (text ≡ front ++ end_line)

@@ -3,8 +3,8 @@
 ghost use Rattle.std.specs.Prelude.{◌≡◌, ◌<◌, ◌≤◌, [], Some, true, false, ◌&&◌, if◌then◌else◌, IfOk, OnErr, IfSome, OnSome};
 ghost use Rattle.std.specs.Io.KnownBytes.{Appends, Consumes, IsAtEnd};
 ghost use Rattle.gix_validate.specs.Bytes.{is_empty};
-ghost use Rattle.streams.specs.Reports.{IsWhole, LineRule, end_word, fault_at_end, is_end_word, is_malformed, report, verdict_of, with_rest};
-ghost use Rattle.streams.specs.Promises.{Begins, Gives};
+ghost use Rattle.streams.specs.Reports.{IsWhole, LineRule, Reach, end_word, fault_at_end, is_end_word, is_malformed, report, verdict_of, with_rest};
+ghost use Rattle.streams.specs.Promises.{Begins, Gives, ReadsUpTo, StopsWithin};
 
 use crate::input::{Found, is_at_end, read_before};
 use crate::outcome::{Fault, RunError, Verdict};
@@ -40,9 +40,11 @@ pub struct Buffers {
     pub lines: Vec<u8>,
 }
 
-/// A rule of lines, and the function that follows it.
+/// A rule of lines, how many bytes can belong to a line, and the function that follows the rule.
 pub trait LineCheck: Copy {
     ghost line_rule: { Self → LineRule };
+
+    ghost line_reach: { Self → Reach };
 
     /// Checks a line, which is given without its end, with what belongs to it, writes what is to be
     /// said of it, and says whether something in it is refused.
@@ -54,7 +56,8 @@ pub trait LineCheck: Copy {
         buffers: &mut Buffers,
     ) -> Result<Result<bool, Fault>, RunError>
         ensures gives { IfSome (R.remaining input.old) (λ text. Gives (with_rest (line_rule self line.now text) text)
-            (R.remaining input.new) (W.contents output.old) (W.contents output.new) result) };
+            (R.remaining input.new) (W.contents output.old) (W.contents output.new) result) }
+        ensures within { IfOk result (λ _. ReadsUpTo (line_reach self line.now) (R.remaining input.old) (R.remaining input.new)) };
 }
 
 /// Reads all of `input`, and writes what `check` says of each line and of what belongs to it.
@@ -85,6 +88,8 @@ pub fn run<C: LineCheck, R: BufRead, W: Write>(
         → OnSome (R.remaining input.old) (IsAtEnd (R.remaining input.new))) }
     ensures spent { IfOk result (λ verdict. is_malformed verdict ≡ false
         → IfSome (R.remaining input.old) (λ _. R.remaining input.new ≡ Some [])) }
+    ensures within { IfOk result (λ verdict. is_malformed verdict ≡ true
+        → IfSome (R.remaining input.old) (StopsWithin (C.line_rule check) (C.line_reach check) (R.remaining input.new))) }
     ensures stopped { OnErr result (IfSome (R.remaining input.old) (λ text.
         Begins (W.contents output.old) (W.contents output.new) (report (C.line_rule check) ending text).said.lines)) }
     ensures whole { IsWhole (C.line_rule check) }

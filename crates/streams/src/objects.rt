@@ -1,10 +1,10 @@
 //! A stream of objects, as `git cat-file --batch` prints them.
 
-ghost use Rattle.std.specs.Prelude.{◌≡◌, [], Some, false, IfOk, OnErr, IfSome, OnSome};
+ghost use Rattle.std.specs.Prelude.{◌≡◌, ◌+◌, [], Some, false, true, IfOk, OnErr, IfSome, OnSome};
 ghost use Rattle.std.specs.Io.KnownBytes.{Appends, IsAtEnd};
-ghost use Rattle.streams.specs.Objects.{IsWholeStream, ObjectRule, ending_of, object_report, object_rule, object_step};
+ghost use Rattle.streams.specs.Objects.{IsWholeStream, ObjectRule, ending_of, object_reach, object_report, object_rule, object_step};
 ghost use Rattle.streams.specs.Reports.{end_line, is_malformed, verdict_of, with_rest};
-ghost use Rattle.streams.specs.Promises.{Begins, Closes, Gives, as_object, body_step};
+ghost use Rattle.streams.specs.Promises.{Begins, Closes, Gives, ReadsUpTo, StopsWithin, as_object, body_step};
 ghost use Rattle.streams.specs.Spelled.{IsCleanIfAccepted, IsReportedInOrder, IsWellFormedOnlyIfSpelled};
 
 use crate::header::{Header, Object, header_of};
@@ -29,7 +29,8 @@ pub trait ObjectCheck: Copy {
         buffers: &mut Buffers,
     ) -> Result<Result<bool, Fault>, RunError>
         ensures gives { IfSome (R.remaining input.old) (λ text. Gives (body_step (object_rule self) (as_object object.entry) text)
-            (R.remaining input.new) (W.contents output.old) (W.contents output.new) result) };
+            (R.remaining input.new) (W.contents output.old) (W.contents output.new) result) }
+        ensures within { IfOk result (λ _. ReadsUpTo object.entry.size (R.remaining input.old) (R.remaining input.new)) };
 }
 
 /// Each line is the header of an object.
@@ -41,6 +42,8 @@ pub struct Objects<C> {
 
 impl<C: ObjectCheck> LineCheck for Objects<C> {
     ghost line_rule = { λ objects. object_rule (C.object_rule objects.check) objects.whole };
+
+    ghost line_reach = { λ objects. object_reach };
 
     fn check_line<R: BufRead, W: Write>(
         self,
@@ -68,9 +71,10 @@ fn check_and_close<C: ObjectCheck, R: BufRead, W: Write>(
     output: &mut W,
     buffers: &mut Buffers,
 ) -> Result<Result<bool, Fault>, RunError>
-    ensures { IfSome (R.remaining input.old) (λ text.
+    ensures gives { IfSome (R.remaining input.old) (λ text.
         Gives (with_rest (object_step (C.object_rule check) (as_object object.entry) text) text)
         (R.remaining input.new) (W.contents output.old) (W.contents output.new) result) }
+    ensures within { IfOk result (λ _. ReadsUpTo (object.entry.size + 1) (R.remaining input.old) (R.remaining input.new)) }
 {
     match check.check_object(object, input, output, buffers)? {
         Ok(refused) => close(refused, input),
@@ -79,8 +83,10 @@ fn check_and_close<C: ObjectCheck, R: BufRead, W: Write>(
 }
 
 /// Reads the LF behind an object's bytes, and passes on whether something was refused.
+#[tactic(auto, using(crate::proofs::LinesStop::next_within))]
 fn close<R: BufRead>(refused: bool, input: &mut R) -> Result<Result<bool, Fault>, RunError>
-    ensures { IfSome (R.remaining input.old) (λ text. Closes refused text (R.remaining input.new) result) }
+    ensures gives { IfSome (R.remaining input.old) (λ text. Closes refused text (R.remaining input.new) result) }
+    ensures within { IfOk result (λ _. ReadsUpTo 1 (R.remaining input.old) (R.remaining input.new)) }
 {
     match read_byte(input)? {
         Some(b'\n') => Ok(Ok(refused)),
@@ -121,6 +127,8 @@ pub fn run<C: ObjectCheck, R: BufRead, W: Write>(
         → OnSome (R.remaining input.old) (IsAtEnd (R.remaining input.new))) }
     ensures spent { IfOk result (λ verdict. is_malformed verdict ≡ false
         → IfSome (R.remaining input.old) (λ _. R.remaining input.new ≡ Some [])) }
+    ensures within { IfOk result (λ verdict. is_malformed verdict ≡ true
+        → IfSome (R.remaining input.old) (StopsWithin (object_rule (C.object_rule check) whole) object_reach (R.remaining input.new))) }
     ensures stopped { OnErr result (IfSome (R.remaining input.old) (λ text.
         Begins (W.contents output.old) (W.contents output.new) (object_report (C.object_rule check) whole text).said.lines)) }
     ensures spelled { IsReportedInOrder (C.object_rule check) whole }

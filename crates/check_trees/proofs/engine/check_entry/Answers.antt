@@ -3,6 +3,7 @@ use Rattle.std.proofs.lemmas.Grind.{common_steps}
 use Rattle.streams.specs.Promises.{as_object}
 use Rattle.check_trees.specs.Entries.{parsed_front}
 use Rattle.check_trees.proofs.FirstEntry.{gives_past, gives_long, gives_cut, gives_malformed, gives_id_cut, gives_id_past, gives_stop, gives_entry}
+use Rattle.check_trees.proofs.EntryReads.{entry_within}
 use Rattle.check_trees.proofs.engine.check_entry.Goals as goal
 
 pub returns-in-Limit-clause-gives : goal.returns-in-Limit-clause-gives
@@ -48,3 +49,15 @@ returns-clause-gives g c =
     gives_entry c.args.options (as_object c.args.tree) _ _ _ c.min-limit.ensures read (c.in-Some.ensures ∙ ap parsed_front c.deref.ensures.value)
     (grind (arith, common_steps)) _ _ _ _ c.finding_of-finding.ensures (rw c.if-not-branch.false at c.in_ok-pass_id.ensures) c.if-id_left-id_len.false
     (grind (arith, common_steps)) said.0 said.1
+
+pub returns-then-not-branch-clause-within : goal.returns-then-not-branch-clause-within
+returns-then-not-branch-clause-within g c =
+    entry_within _ _ _ _ _ _ _ _ _ _ (rw c.in-Byte.is at c.in_ok-read_before.ensures) c.in_ok-pass_id.ensures (grind (arith, common_steps))
+
+pub returns-then-id_left-id_len-clause-within : goal.returns-then-id_left-id_len-clause-within
+returns-then-id_left-id_len-clause-within g c =
+    entry_within _ _ _ _ _ _ _ _ _ _ (rw c.in-Byte.is at c.in_ok-read_before.ensures) c.in_ok-pass_id.ensures (grind (arith, common_steps))
+
+pub returns-clause-within : goal.returns-clause-within
+returns-clause-within g c =
+    entry_within _ _ _ _ _ _ _ _ _ _ (rw c.in-Byte.is at c.in_ok-read_before.ensures) c.in_ok-pass_id.ensures (grind (arith, common_steps))

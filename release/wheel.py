@@ -12,7 +12,7 @@ import zipfile
 from pathlib import Path
 
 root, shared, version, out = Path(sys.argv[1]), Path(sys.argv[2]), sys.argv[3], Path(sys.argv[4])
-tags = ["manylinux_2_17_x86_64", "musllinux_1_1_x86_64"]
+tags = ["manylinux_2_17_x86_64", "manylinux2014_x86_64", "musllinux_1_1_x86_64"]
 info = f"gix_validate-{version}.dist-info"
 stamp = time.gmtime(int(os.environ["SOURCE_DATE_EPOCH"]))[:6]
 

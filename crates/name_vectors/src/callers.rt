@@ -96,7 +96,7 @@ fn keeps_references(rt: HostRuntime) -> Result<(), Fail> {
     Ok(())
 }
 
-/// Enters names that are no symlinks.
+/// Enters a file or a folder, not a symlink.
 fn enter<'a>(place: &mut Place<'a>, name: &'a str) -> Result<(), EnterError> {
     place.enter(BStr::from(name), None)
 }

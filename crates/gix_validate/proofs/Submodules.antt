@@ -124,6 +124,14 @@ no_dots x none = no_parent x (nothing (length x)) (λ k from to. and_right _ _ (
         true≢false (sym (and_from _ _ (eq-eqb _ (byte ".") e.first) (eq-eqb _ (byte ".") next))
         ∙ none (k - 2) (omega arith) (inside x (k - 2 + 1) (byte ".") (omega arith) next)))
 
+-- A text of at most two bytes has such a part if it is that.
+pub at_most_two : (x : List ℕ) → length x ≤ 2 → is_parent_before x (length x) ≡ has_parent_part x
+at_most_two x short = elim (cases_Bool (is_parent_before x (length x))) [
+  | inl some ↦ some ∙ sym (some_parent x (length x) (inl refl) some)
+  | inr none ↦ none ∙ sym (no_parent x none (λ k from to.
+      and_right _ _ (false_from_ne_true _ (λ t. absurd (let e = parent_ends x k t in omega (arith, e.long))))))
+]
+
 -- Two ranges in which no separator ends such a part, and which meet or overlap, are one.
 pub no_parent_across : (x : List ℕ) (i j k m : ℕ) → (j ≤ i) × (m ≤ k) → NoParentBetween x 0 i → NoParentBetween x j k → NoParentBetween x 0 m
 no_parent_across x i j k m near front back p from to = elim (cases_lt p i) [

@@ -1,12 +1,24 @@
-//! Whether a text has bytes side by side that have to be looked at closer, sixteen pairs at a time.
+//! Whether a name has adjacent bytes that need a closer look, sixteen pairs at a time.
+//!
+//! Most names have nothing that an error could be made of: no bad byte, no `*` or `{`, no dot or
+//! slash at the start, at the end, or after a dot or a slash, and no `l` after a dot, as each
+//! `.lock` has. Such a name is clear. It is a tag name and, if it has two bytes or more, its own
+//! sanitised form; both are proved. Apart from the ends, only neighbours are compared, so a block
+//! is tested at once. A test for a dot or slash after the `k` of `.lock` would also fail on `task/`
+//! and `pack.1`.
+//!
+//! The contract says exactly which names are clear: a test that rejects every name would be right,
+//! but slow. Only contracts of private functions cite that definition, so a reader of the public
+//! ones need not believe it.
 
-ghost use Rattle.std.specs.Prelude.{◌≡◌, ◌↔◌, ◌<◌, ◌≤◌, ◌+◌, ◌==◌, ◌||◌, ◌&&◌, ℕ, false, if◌then◌else◌, IsTrue, map, length, slice_index, codes};
+ghost use Rattle.std.specs.Prelude.{◌≡◌, ◌↔◌, ◌<◌, ◌≤◌, ◌+◌, ◌^◌, ◌==◌, ◌||◌, ◌&&◌, ℕ, false, if◌then◌else◌, IsTrue, map, length, slice_index, codes};
+ghost use Rattle.std.specs.Int.{bit_at};
 ghost use Rattle.std.specs.Str.{byte};
 ghost use Rattle.gix_validate.specs.Bytes.{is_among, ends};
-ghost use Rattle.gix_validate.specs.Private.Adjacent.{is_suspect, relates, IsClear, NoneBetween};
+ghost use Rattle.gix_validate.specs.Private.Adjacent.{is_suspect, relates, IsClear, MarksSuspects, NoneBetween};
 
 use crate::bytes::may_be_faulty;
-use crate::lanes::{LANES, classify, halves, has_nonzero, quarters};
+use crate::lanes::{LANES, classify, halves, nonzero_lanes, quarters};
 use std::simd::prelude::*;
 
 /// Which pairs of bytes have to be looked at closer.
@@ -150,6 +162,20 @@ pub(crate) fn block_has_none(text: &[u8], at: usize, relation: Relation) -> bool
     )
 }
 
+/// The suspect bytes among sixteen, behind the byte at this place: a bit for each, the lowest for the
+/// first of them.
+#[inline(always)]
+pub(crate) fn suspects_of_block(text: &[u8], at: usize) -> u64
+    requires { at + (LANES + 1) ≤ length text.now }
+    ensures few { result < 2 ^ LANES }
+    ensures marked { MarksSuspects text.now at result }
+{
+    suspects(
+        u8x16::from_slice(&text[at..]),
+        u8x16::from_slice(&text[at + 1..]),
+    )
+}
+
 /// Whether a text of at most one block has no two related bytes side by side.
 #[inline(always)]
 fn pairs_have_none(text: &[u8], relation: Relation) -> bool
@@ -236,7 +262,16 @@ fn lanes_have_none(before: u8x16, bytes: u8x16, relation: Relation) -> bool
 fn has_no_suspect(before: u8x16, bytes: u8x16) -> bool
     ensures { IsTrue result ↔ ((k : ℕ) → k < LANES → is_suspect (slice_index before k) (slice_index bytes k) ≡ false) }
 {
-    !has_nonzero(
+    suspects(before, bytes) == 0
+}
+
+/// A bit for each lane whose byte is suspect behind the byte in the same lane of `before`.
+#[inline(always)]
+fn suspects(before: u8x16, bytes: u8x16) -> u64
+    ensures few { result < 2 ^ LANES }
+    ensures lanes { (k : ℕ) → k < LANES → bit_at result k ≡ (if is_suspect (slice_index before k) (slice_index bytes k) then 1 else 0) }
+{
+    nonzero_lanes(
         classify(CLASSES_BY_LOW_NIBBLE, CLASSES_BY_HIGH_NIBBLE, bytes) & suspect_behind(before),
     )
 }

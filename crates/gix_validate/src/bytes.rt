@@ -1,4 +1,7 @@
 //! What single bytes may do in reference names (docs/RULES.md, "Bytes").
+//!
+//! One table says which bytes may be faulty, since more than one walk reads it. Its 256 entries are
+//! proved against the rule.
 
 ghost use Rattle.std.specs.Prelude.{◌≡◌, ◌||◌, codes};
 ghost use Rattle.gix_validate.specs.Bytes.{is_bad, is_among};

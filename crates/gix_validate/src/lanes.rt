@@ -1,6 +1,7 @@
 //! Looks at sixteen bytes at a time, a block. The place of each byte in it is its lane.
 
-ghost use Rattle.std.specs.Prelude.{◌≡◌, ◌≤◌, ◌+◌, ◌/◌, ◌%◌, ◌==◌, map, length, slice_index, bit_and};
+ghost use Rattle.std.specs.Prelude.{◌≡◌, ◌≢◌, ℕ, ◌<◌, ◌≤◌, ◌+◌, ◌/◌, ◌%◌, ◌^◌, ◌==◌, map, length, slice_index, bit_and, if◌then◌else◌};
+ghost use Rattle.std.specs.Int.{bit_at};
 ghost use Rattle.std.specs.List.{list_any};
 ghost use Rattle.std.specs.Simd.Lanes.{chunk};
 ghost use Rattle.gix_validate.specs.Private.Lanes.{HasParts, is_nonzero};
@@ -64,6 +65,38 @@ pub(crate) fn has_nonzero(bytes: u8x16) -> bool
     ensures { result ≡ list_any is_nonzero bytes }
 {
     bytes.simd_ne(u8x16::splat(0)).to_bitmask() != 0
+}
+
+/// A bit for each lane whose byte is not zero, the lowest for the first lane.
+#[inline(always)]
+pub(crate) fn nonzero_lanes(bytes: u8x16) -> u64
+    ensures few { result < 2 ^ LANES }
+    ensures lanes { (k : ℕ) → k < LANES → bit_at result k ≡ (if is_nonzero (slice_index bytes k) then 1 else 0) }
+{
+    bytes.simd_ne(u8x16::splat(0)).to_bitmask()
+}
+
+/// The first of the lanes that have a bit.
+#[inline(always)]
+pub(crate) fn first_lane(lanes: u64) -> usize
+    requires { lanes ≢ 0 }
+    ensures bound { result < 64 }
+    ensures set { bit_at lanes result ≡ 1 }
+    ensures below { (k : ℕ) → k < result → bit_at lanes k ≡ 0 }
+{
+    lanes.trailing_zeros() as usize
+}
+
+/// The lanes without the first of them, which is this one.
+#[inline(always)]
+pub(crate) fn without_first(lanes: u64, first: usize) -> u64
+    requires set { bit_at lanes first ≡ 1 }
+    requires below { (k : ℕ) → k < first → bit_at lanes k ≡ 0 }
+    ensures fewer { result < lanes }
+    ensures others { (k : ℕ) → k ≢ first → bit_at result k ≡ bit_at lanes k }
+    ensures cleared { bit_at result first ≡ 0 }
+{
+    lanes & (lanes - 1)
 }
 
 /// Whether the byte is one of the text.

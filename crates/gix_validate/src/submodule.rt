@@ -1,6 +1,10 @@
 //! Submodule names: any nonempty text without a part `..`, where both `/` and `\` end a part.
 //!
 //! Nothing else is refused: `/etc` is a submodule name.
+//!
+//! A name is never split. A part that is `..` has two adjacent dots, so most names are accepted at
+//! once. Otherwise only the ends of parts are looked at: the end of the name, and separators after
+//! a dot. Parts that end in a dot are rare; parts that begin with one, as `.github`, are not.
 
 ghost use Rattle.std.specs.Prelude.{◌≡◌, ◌↔◌, ◌+◌, ◌≤◌, length, IsOk, IfOk, IsTrue};
 ghost use Rattle.bstr.specs.BStr.{bstr_bytes};
@@ -73,11 +77,14 @@ pub fn name<'a>(name: BStr<'a>) -> Result<BStr<'a>, NameError>
 }
 
 /// Whether some part is `..`. Most names have no two dots in a row.
-#[inline(never)]
-#[tactic(auto, using(crate::proofs::Submodules::no_dots))]
+#[inline(always)]
+#[tactic(auto, using(crate::proofs::Submodules::no_dots, crate::proofs::Submodules::at_most_two))]
 fn has_parent_part(bytes: &[u8]) -> bool
     ensures { result ≡ has_parent_part bytes.now }
 {
+    if bytes.len() <= 2 {
+        return is_parent_before(bytes, bytes.len());
+    }
     !has_none(bytes, Relation::Dots) && has_parent_part_by_blocks(bytes)
 }
 

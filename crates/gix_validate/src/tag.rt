@@ -1,16 +1,17 @@
 //! Tag names: the rule that all reference names build on.
 
-ghost use Rattle.std.specs.Prelude.{◌≡◌, ◌↔◌, ◌<◌, ◌≤◌, length, codes, Some, IsOk, IfOk, IsTrue};
+ghost use Rattle.std.specs.Prelude.{◌≡◌, ◌↔◌, ◌<◌, ◌≤◌, ◌+◌, ◌-◌, length, slice_index, codes, Some, IsOk, IfOk, IsTrue, MatchOption};
 ghost use Rattle.bstr.specs.BStr.{bstr_bytes};
 ghost use Rattle.gix_validate.specs.Bytes.{ends};
 ghost use Rattle.gix_validate.specs.Faults.{Validates, first_of, at_first_place};
 ghost use Rattle.gix_validate.specs.Pieces.{PiecesAreTheOnlySplit};
-ghost use Rattle.gix_validate.specs.Private.TagWalk.{fault_of_byte, fault_of_byte_at, first_fault_between};
+ghost use Rattle.gix_validate.specs.Private.Adjacent.{is_suspect};
+ghost use Rattle.gix_validate.specs.Private.TagWalk.{fault_of_byte, fault_of_byte_at, fault_of_suspect, first_fault_between, IsFirstFault, IsSettled};
 ghost use Rattle.gix_validate.specs.Tag.{fault_of, faults_at, is_tag_name, HasAtMostOneFaultAPlace};
 
-use crate::adjacent::{Relation, block_has_none, is_clear};
+use crate::adjacent::{is_clear, suspects_of_block};
 use crate::bytes::{is_bad_byte, may_be_faulty};
-use crate::lanes::LANES;
+use crate::lanes::{LANES, first_lane, without_first};
 use crate::quoted::Quoted;
 use bstr::BStr;
 use std::error::Error;
@@ -170,33 +171,70 @@ fn fault_at_first_place(bytes: &[u8]) -> Option<NameError>
     None
 }
 
-/// How many bytes are asked one by one from a suspect block on.
-const ASKED: usize = 4 * LANES;
-
-/// How far behind the `l` of `.lock` a slash ends it.
-const LOCK_END: usize = 4;
-
-/// The fault at the least place that has one by what stands before it. A block in which nothing is
-/// suspect has none. From any other block on, and from the start, the bytes are asked, and the next
-/// four too, in which a `.lock` that begins before them may end.
-#[tactic(auto, using(crate::proofs::TagNames::Places::part_by_part))]
+/// The fault at the least place that has one by what stands before it. A short text is walked. Of a
+/// longer one the first byte is looked at, and then the suspect bytes of each block of sixteen, of
+/// which the last overlaps the one before.
 fn fault_by_blocks(bytes: &[u8]) -> Option<NameError>
     requires { 0 < length bytes.now }
     ensures { result ≡ at_first_place (fault_of_byte_at bytes.now) (length bytes.now) }
 {
-    let mut at = 0;
-    while bytes.len() - at >= LANES {
-        if at > 0 && block_has_none(bytes, at - 1, Relation::Suspect) {
-            at += LANES;
-        } else {
-            let stop = bytes.len().min(at + ASKED + LOCK_END);
-            if let Some(fault) = first_fault_between(bytes, at, stop) {
-                return Some(fault);
-            }
-            at = bytes.len().min(at + ASKED);
+    if bytes.len() <= LANES {
+        return first_fault_between(bytes, 0, bytes.len());
+    }
+    if let Some(fault) = fault_of_byte(&[], bytes[0]) {
+        return Some(fault);
+    }
+    let last = bytes.len() - LANES - 1;
+    for at in (0..last).step_by(LANES) {
+        if let Some(fault) = fault_in_block(bytes, at) {
+            return Some(fault);
         }
     }
-    first_fault_between(bytes, at, bytes.len())
+    fault_in_block(bytes, last)
+}
+
+/// The first fault, where one of the sixteen bytes behind this place has it, or is the `l` of a
+/// `.lock` that has it. Only suspect bytes are looked at.
+#[inline]
+fn fault_in_block(bytes: &[u8], at: usize) -> Option<NameError>
+    requires room { at + (LANES + 1) ≤ length bytes.now }
+    requires settled { IsSettled bytes.now (at + 1) }
+    ensures { MatchOption result (IsSettled bytes.now (at + (LANES + 1))) (λ fault. IsFirstFault bytes.now fault) }
+{
+    let mut suspects = suspects_of_block(bytes, at);
+    while suspects != 0 {
+        let lane = first_lane(suspects);
+        if let Some(fault) = fault_of_suspect(bytes, at + 1 + lane) {
+            return Some(fault);
+        }
+        suspects = without_first(suspects, lane);
+    }
+    None
+}
+
+/// The fault of a suspect byte by what stands before it, or that of the `.lock` whose `l` it is, if
+/// a slash ends that.
+#[inline(always)]
+#[tactic(auto, using(crate::proofs::TagNames::Places::suspect_bytes))]
+fn fault_of_suspect(bytes: &[u8], place: usize) -> Option<NameError>
+    requires within { place < length bytes.now }
+    requires behind { 1 ≤ place }
+    requires suspect { IsTrue (is_suspect (slice_index bytes.now (place - 1)) (slice_index bytes.now place)) }
+    ensures { result ≡ fault_of_suspect bytes.now place }
+{
+    let before = bytes[place - 1];
+    match bytes[place] {
+        b'{' if before == b'@' => Some(NameError::ReflogPortion),
+        b'{' => None,
+        b'l' if bytes[place..].starts_with(b"lock/") => Some(NameError::LockFileSuffix),
+        b'l' => None,
+        b'/' if before == b'/' => Some(NameError::RepeatedSlash),
+        b'/' => None,
+        b'.' if before == b'.' => Some(NameError::RepeatedDot),
+        b'.' => Some(NameError::StartsWithDot),
+        b'*' => Some(NameError::Asterisk),
+        byte => Some(NameError::InvalidByte { byte }),
+    }
 }
 
 /// The first fault by what stands before a byte, from one place on and before another. Most bytes

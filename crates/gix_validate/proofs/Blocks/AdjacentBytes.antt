@@ -7,14 +7,14 @@ use Rattle.std.proofs.lemmas.Simd.{zip2_splat, splat_is_map, zip2_of_maps, map-m
 use Rattle.std.specs.Prelude.{codes, ◌==◌, if◌then◌else◌}
 use Rattle.std.specs.Str.{byte}
 use lib.Lanes.{zip2, sel_l, chunk, top, mask_l}
-use Rattle.gix_validate.specs.declared.adjacent.TheConstants.{CLASSES_BY_LOW_NIBBLE, CLASSES_BY_HIGH_NIBBLE, SUSPECT_BEHIND, BEHIND_DOT, BEHIND_SLASH, ANYWHERE}
-use Rattle.std.specs.List.{list_any}
+use Rattle.gix_validate.specs.declared.adjacent.TheConstants.{CLASSES_BY_LOW_NIBBLE, CLASSES_BY_HIGH_NIBBLE, SUSPECT_BEHIND, BEHIND_DOT, BEHIND_SLASH}
+use Rattle.gix_validate.specs.declared.adjacent.TheConstants.{ANYWHERE}
 use Rattle.gix_validate.specs.Bytes.{is_bad, is_among, ends}
 use Rattle.gix_validate.specs.Private.Lanes.{HasParts, place_of, is_nonzero}
 use Rattle.gix_validate.specs.Private.Adjacent.{is_suspect, relates, NoneBetween, IsClear}
 use Rattle.gix_validate.specs.declared.adjacent.Relation.{Relation}
 use Rattle.gix_validate.specs.declared.adjacent.Relation.TheVariants.{Suspect}
-use Rattle.gix_validate.proofs.Blocks.Lanes.{IsBlock, lane_fits, same_bytes, may_look, looked_up, no_lane, mask_of}
+use Rattle.gix_validate.proofs.Blocks.Lanes.{IsBlock, lane_fits, same_bytes, may_look, looked_up, lane_of, no_lane, mask_of}
 use Rattle.gix_validate.proofs.Blocks.Parts.{AreAll, all_places}
 use Rattle.std.proofs.lemmas.Bool.Decides.{nat_tests}
 
@@ -83,12 +83,12 @@ suspect_tabled true slash b small = agree_below_at (table_if true true) (suspect
 suspect_tabled false true b small = agree_below_at (table_if false true) (suspect_if false true) 256 b refl small
 suspect_tabled false false b small = agree_below_at (table_if false false) (suspect_if false false) 256 b refl small
 
--- In no lane is the class of the byte among those that are suspect behind the byte before it, exactly where no byte is suspect.
-pub suspect_lanes : (before bytes classes behind : List ℕ) → IsBlock before → IsBlock bytes → classes ≡ map class bytes → behind ≡ map classes_behind before
-    → (list_any is_nonzero (zip2 bit_and classes behind) ≡ false) ↔ ((k : ℕ) → k < 16 → is_suspect (get_or before k 0) (get_or bytes k 0) ≡ false)
+-- In a lane the class of the byte is among those that are suspect behind the byte before it, exactly where the byte is suspect.
+pub suspect_lane : (before bytes classes behind : List ℕ) → IsBlock before → IsBlock bytes → classes ≡ map class bytes → behind ≡ map classes_behind before
+    → (k : ℕ) → k < 16 → is_nonzero (get_or (zip2 bit_and classes behind) k 0) ≡ is_suspect (get_or before k 0) (get_or bytes k 0)
 unfolding is_suspect suspect_if table_if
-suspect_lanes before bytes classes behind ba bb ek eb =
-    no_lane is_nonzero class classes_behind bytes before classes behind (bb.0, ba.0) ek eb (λ b a. is_suspect a b) (λ k.
+suspect_lane before bytes classes behind ba bb ek eb =
+    lane_of is_nonzero class classes_behind bytes before classes behind (bb.0, ba.0) ek eb (λ b a. is_suspect a b) (λ k.
     suspect_tabled (get_or before k 0 == byte ".") (get_or before k 0 == byte "/") (get_or bytes k 0) (lane_fits bytes k bb.1))
 
 -- the same of dots
@@ -142,12 +142,16 @@ last_dot_lanes p q pb qb =
 abbrev pair : Relation → List ℕ → ℕ → Bool
 pair r x j = relates r (get_or x j 0) (get_or x (j + 1) 0)
 
+-- a lane and its place
+pub block_lane : (r : Relation) (x : List ℕ) (at : ℕ) → at + 17 ≤ length x → (k : ℕ) → k < 16
+    → relates r (get_or (chunk at 16 x) k 0) (get_or (chunk (at + 1) 16 x) k 0) ≡ pair r x (at + k)
+block_lane r x at room k h = ap₂ (relates r) (get_or-chunk at 16 x k 0 h) (get_or-chunk (at + 1) 16 x k 0 h ∙ ap (λ j. get_or x j 0) (omega arith))
+
 -- Sixteen lanes without a related pair are as many places of the text, from this one on, without one.
 pub block_places : (r : Relation) (x : List ℕ) (at : ℕ) → at + 17 ≤ length x
     → ((k : ℕ) → k < 16 → relates r (get_or (chunk at 16 x) k 0) (get_or (chunk (at + 1) 16 x) k 0) ≡ false) ↔ NoneBetween r x at (at + 17)
 block_places r x at room =
-    let lane : (k : ℕ) → k < 16 → relates r (get_or (chunk at 16 x) k 0) (get_or (chunk (at + 1) 16 x) k 0) ≡ pair r x (at + k) = λ k h.
-    ap₂ (relates r) (get_or-chunk at 16 x k 0 h) (get_or-chunk (at + 1) 16 x k 0 h ∙ ap (λ j. get_or x j 0) (omega arith)) in (
+    let lane = block_lane r x at room in (
       λ z k from to. ap (pair r x) (omega arith) ∙ sym (lane (k - at) (omega arith)) ∙ z (k - at) (omega arith),
       λ s k h. lane k h ∙ s (at + k) (omega arith) (omega arith),
     )

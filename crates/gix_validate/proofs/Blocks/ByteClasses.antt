@@ -1,21 +1,21 @@
 -- The classes of the bytes of a name: by two tables, by blocks that overlap, and what they say under each mask.
-use Rattle.std.proofs.Common.{◌≡◌, ℕ, suc, ◌+◌, ◌/◌, ◌%◌, ◌<◌, ◌≤◌, Bool, true, not, ◌||◌, eqb, List, [], ◌∷◌, map, length, take, drop}
-use Rattle.std.proofs.Common.{get_or, replicate, bit_and, bit_or, refl, sym, ap, ap₂, ◌∙◌, arith, w8, Fits, take-add}
+use Rattle.std.proofs.Common.{◌≡◌, ℕ, suc, ◌/◌, ◌%◌, ◌<◌, Bool, true, not, ◌||◌, eqb, List, [], ◌∷◌, map, length}
+use Rattle.std.proofs.Common.{get_or, replicate, bit_and, bit_or, refl, sym, ap, ap₂, ◌∙◌, arith, w8, Fits}
 use Rattle.std.specs.List.{list_any}
 use Rattle.std.proofs.lemmas.Bool.{agree_below, agree_below_at}
 use Rattle.std.proofs.lemmas.Nat.Bits.{bit_at_and, bit_at_or, same_from_bits}
 use Rattle.std.proofs.lemmas.Nat.{le_or_l}
 use Rattle.std.proofs.lemmas.Simd.{zip2_splat}
-use lib.Lanes.{zip2, Each1, chunk}
-use Rattle.gix_validate.proofs.Blocks.Parts.{any_overlap, whole_chunk, AreAll, parts_cover}
+use Rattle.std.proofs.lemmas.List.{length-map}
+use lib.Lanes.{zip2, Each1, fold_l}
+use Rattle.gix_validate.proofs.Blocks.Parts.{AreAll, parts_cover, AreShort, both_cover}
 use Rattle.gix_validate.specs.Private.Lanes.{HasParts, is_nonzero}
 use Rattle.gix_validate.proofs.Blocks.Lanes.{same_bytes}
 use Rattle.gix_validate.specs.declared.path.classes.TheConstants.{BY_LOW_NIBBLE, BY_HIGH_NIBBLE}
 use Rattle.gix_validate.specs.Windows.{is_illegal_byte}
 use Rattle.gix_validate.specs.Private.Ordinary.{is_classed}
-use Rattle.gix_validate.specs.Private.Classes.{class_of, any_class, HaveClassesOf, Describes}
+use Rattle.gix_validate.specs.Private.Classes.{class_of, any_class, has_class, HaveClassesOf, Describes, MayHave}
 use Rattle.gix_validate.specs.declared.path.classes.TheConstants.{SLASH, BACKSLASH, ILLEGAL, LEAD, ANY}
-use Rattle.std.proofs.lemmas.Grind.{common_steps}
 use Rattle.std.proofs.lemmas.Bool.Decides.{nat_tests}
 
 -- ---- the tables
@@ -36,11 +36,7 @@ pub mask_tested : (mask : ℕ) (v : List ℕ) → length v ≡ 16 → list_any i
 unfolding any_class
 mask_tested mask v long = ap (list_any is_nonzero) (zip2_splat bit_and v 16 mask long) ∙ any_of_map is_nonzero (λ c. bit_and c mask) v
 
--- the test of the class of a byte
-abbrev has_bit : ℕ → ℕ → Bool
-has_bit mask b = not (eqb (bit_and (class_of b) mask) 0)
-
-any_is : (mask : ℕ) (x : List ℕ) → any_class mask (map class_of x) ≡ list_any (has_bit mask) x
+pub any_is : (mask : ℕ) (x : List ℕ) → any_class mask (map class_of x) ≡ list_any (has_class mask) x
 unfolding any_class
 any_is mask x = any_of_map (λ class. not (eqb (bit_and class mask) 0)) class_of x
 
@@ -48,12 +44,7 @@ any_is mask x = any_of_map (λ class. not (eqb (bit_and class mask) 0)) class_of
 pub classes_of_parts : (n back : ℕ) (v x classes : List ℕ) → AreAll n back (length x) × (length v ≡ 16) → HasParts n 0 back x v
     → classes ≡ map class_of v → HaveClassesOf classes x
 classes_of_parts n back v x classes all parts are mask =
-    ap (any_class mask) are ∙ any_is mask v ∙ parts_cover n back x v all.0 all.1 parts (has_bit mask) ∙ sym (any_is mask x)
-
-pub classes_of_none : (x : List ℕ) → length x ≡ 0 → HaveClassesOf (replicate 16 0) x
-unfolding any_class
-classes_of_none [] none = λ mask. refl
-classes_of_none (b ∷ x) none = absurd (omega arith)
+    ap (any_class mask) are ∙ any_is mask v ∙ parts_cover n back x v all.0 all.1 parts (has_class mask) ∙ sym (any_is mask x)
 
 and_or : (a b m : ℕ) → bit_and (bit_or a b) m ≡ bit_or (bit_and a m) (bit_and b m)
 and_or a b m = same_from_bits _ _ (λ i. grind (arith, bit_at_and, bit_at_or))
@@ -65,25 +56,23 @@ any_of_or mask [] (b ∷ v) e = grind (arith, nat_tests, and_or, le_or_l)
 any_of_or mask (a ∷ u) [] e = grind (arith, nat_tests, and_or, le_or_l)
 any_of_or mask (a ∷ u) (b ∷ v) e = grind (arith, nat_tests, and_or, le_or_l, any_of_or mask u v)
 
-or_back : (a b c : Bool) → ((a || b) || c) ≡ ((a || c) || b)
-or_back a b c = grind arith
+-- two blocks of which the one has the front of a short text and the other its back
+pub classes_of_both : (mid start last : ℕ) (x v w front back : List ℕ) → AreShort mid start last (length x) → (length v ≡ 16) × (length w ≡ 16)
+    → HasParts 8 0 mid x v → HasParts 8 start last x w → front ≡ map class_of v → back ≡ map class_of w → HaveClassesOf (zip2 bit_or front back) x
+classes_of_both mid start last x v w front back short long pv pw ev ew mask =
+    any_of_or mask front back (ap length ev ∙ length-map v class_of ∙ long.0 ∙ sym long.1 ∙ sym (length-map w class_of) ∙ sym (ap length ew))
+    ∙ ap₂ (λ s t. s || t) (ap (any_class mask) ev ∙ any_is mask v) (ap (any_class mask) ew ∙ any_is mask w)
+    ∙ both_cover mid start last x v w short long pv pw (has_class mask)
+    ∙ sym (any_is mask x)
 
--- ---- a text by blocks of sixteen, of which the last overlaps the one before it
-
-pub any_more : (mask at : ℕ) (x found last : List ℕ) → length found ≡ 16 → at + 16 ≤ length x
-    → any_class mask found ≡ (any_class mask (map class_of (take at x)) || any_class mask last)
-    → any_class mask (zip2 bit_or found (map class_of (chunk at 16 x))) ≡ (any_class mask (map class_of (take (at + 16) x)) || any_class mask last)
-any_more mask at x found last long room now = grind (arith, common_steps, any_of_or, or_back, take-add, any_is)
-
-pub any_whole : (mask at last : ℕ) (x found : List ℕ) → last ≤ at
-    → any_class mask found ≡ (any_class mask (map class_of (take at x)) || any_class mask (map class_of (drop last x)))
-    → any_class mask found ≡ any_class mask (map class_of x)
-any_whole mask at last x found past now = grind (arith, any_is, any_overlap)
-
-pub first_block : (mask last : ℕ) (x : List ℕ) → last + 16 ≡ length x
-    → any_class mask (map class_of (chunk last 16 x)) ≡ (any_class mask (map class_of (take 0 x)) || any_class mask (map class_of (drop last x)))
-unfolding any_class
-first_block mask last x long = ap (λ t. any_class mask (map class_of t)) (whole_chunk last 16 x long)
+-- the classes of two texts are those of a text that has what they have
+pub classes_joined : (u v x y z : List ℕ) → length u ≡ length v → HaveClassesOf u x → HaveClassesOf v y
+    → ((p : ℕ → Bool) → (list_any p x || list_any p y) ≡ list_any p z) → HaveClassesOf (zip2 bit_or u v) z
+classes_joined u v x y z long eu ev all mask =
+    any_of_or mask u v long
+    ∙ ap₂ (λ s t. s || t) (eu mask ∙ any_is mask x) (ev mask ∙ any_is mask y)
+    ∙ all (has_class mask)
+    ∙ sym (any_is mask z)
 
 -- ---- what the classes say
 
@@ -93,9 +82,9 @@ bytes_alike p q (b ∷ x) fit same = ap₂ (λ v w. v || w) (same b (fit 0).fits
 
 -- the classes tell under a mask what a test of the bytes does that agrees with it on all bytes
 tells : (mask : ℕ) (q : ℕ → Bool) (classes x : List ℕ) → ((i : ℕ) → Fits w8 (get_or x i 0)) → HaveClassesOf classes x
-    → agree_below (has_bit mask) q 256 ≡ true → any_class mask classes ≡ list_any q x
+    → agree_below (has_class mask) q 256 ≡ true → any_class mask classes ≡ list_any q x
 tells mask q classes x fit have same =
-    have mask ∙ any_is mask x ∙ bytes_alike (has_bit mask) q x fit (λ b h. agree_below_at (has_bit mask) q 256 b same h)
+    have mask ∙ any_is mask x ∙ bytes_alike (has_class mask) q x fit (λ b h. agree_below_at (has_class mask) q 256 b same h)
 
 pub classes_describe : (classes x : List ℕ) → ((i : ℕ) → Fits w8 (get_or x i 0)) → HaveClassesOf classes x → Describes classes x
 unfolding class_of is_illegal_byte is_classed
@@ -106,3 +95,35 @@ classes_describe classes x fit have = record {
   lead = tells LEAD _ classes x fit have refl;
   classed = tells ANY _ classes x fit have refl;
 }
+
+pub classed_is : (x : List ℕ) → ((i : ℕ) → Fits w8 (get_or x i 0)) → list_any (has_class ANY) x ≡ list_any is_classed x
+unfolding class_of is_illegal_byte is_classed
+classed_is x fit = bytes_alike (has_class ANY) is_classed x fit (λ b h. agree_below_at (has_class ANY) is_classed 256 b refl h)
+
+pub illegal_is : (x : List ℕ) → ((i : ℕ) → Fits w8 (get_or x i 0)) → list_any (has_class ILLEGAL) x ≡ list_any is_illegal_byte x
+unfolding class_of is_illegal_byte
+illegal_is x fit = bytes_alike (has_class ILLEGAL) is_illegal_byte x fit (λ b h. agree_below_at (has_class ILLEGAL) is_illegal_byte 256 b refl h)
+
+-- ---- all classes as one
+
+has_or : (mask a b : ℕ) → not (eqb (bit_and (bit_or a b) mask) 0) ≡ (not (eqb (bit_and a mask) 0) || not (eqb (bit_and b mask) 0))
+has_or mask a b = grind (arith, nat_tests, and_or, le_or_l)
+
+any_folded : (mask a : ℕ) (v : List ℕ) → not (eqb (bit_and (fold_l bit_or a v) mask) 0) ≡ (not (eqb (bit_and a mask) 0) || any_class mask v)
+unfolding any_class
+any_folded mask a [] = grind arith
+any_folded mask a (b ∷ v) = grind (arith, has_or, any_folded mask (bit_or a b) v)
+
+any_one : (mask : ℕ) (v : List ℕ) → any_class mask (fold_l bit_or 0 v ∷ []) ≡ any_class mask v
+unfolding any_class
+any_one mask v = grind (arith, any_folded mask 0 v)
+
+pub suspects_are : (v x : List ℕ) → Describes v x → MayHave (fold_l bit_or 0 v) x
+suspects_are v x says = record {
+  illegal = λ h. sym says.illegal ∙ sym (any_one ILLEGAL v) ∙ h;
+  lead = λ h. sym says.lead ∙ sym (any_one LEAD v) ∙ h;
+}
+
+pub any_may : (x : List ℕ) → MayHave ANY x
+unfolding any_class
+any_may x = record { illegal = λ h. absurd (grind arith); lead = λ h. absurd (grind arith) }

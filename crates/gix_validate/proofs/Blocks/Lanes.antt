@@ -4,7 +4,9 @@ use Rattle.std.proofs.Common.{length, get_or, replicate, bit_and, refl, sym, ap,
 use Rattle.std.proofs.lemmas.Bool.{agree_below, agree_below_at}
 use Rattle.std.proofs.lemmas.List.{get_or-map, length-map, ext_get_or}
 use Rattle.std.proofs.lemmas.Nat.{and_mask}
-use Rattle.std.proofs.lemmas.Simd.{Each1-from_get_or, get_or-zip2, zip2_splat, zip2-map, length-zip2, mask_l-mod, bitmask_splat}
+use Rattle.std.proofs.lemmas.Simd.{Each1-from_get_or, get_or-zip2, zip2_splat, zip2-map, length-zip2, mask_l-lt, mask_l-mod, bit_mask_l, bitmask_splat}
+use Rattle.std.proofs.lemmas.Nat.Bits.{bit_at-zero, same_from_bits_below}
+use Rattle.std.specs.Int.{bit_at}
 use Rattle.std.proofs.lemmas.Simd.{swz_l, SwzOk, SwzOk-from_below, length-swz_l, get_or-swz_l_below}
 use Rattle.std.specs.List.{list_any}
 use lib.Lanes.{zip2, mask_l, top, Each1}
@@ -87,7 +89,42 @@ pub nonzero_lane : (v : List ℕ) → length v ≡ 16
     → not (eqb (mask_l (map (top 7) (zip2 (λ x y. cond (not (eqb x y)) 255 0) v (replicate 16 0))) % 2 ^ 64) 0) ≡ list_any is_nonzero v
 nonzero_lane v = some_lane (λ x y. not (eqb x y)) v 0
 
+-- The mask has a bit for each lane that is not zero.
+pub nonzero_mask : (v : List ℕ) → length v ≡ 16 → let mask = mask_l (map (top 7) (zip2 (λ x y. cond (not (eqb x y)) 255 0) v (replicate 16 0))) % 2 ^ 64 in
+    (mask < 2 ^ 16) × ((k : ℕ) → k < 16 → bit_at mask k ≡ cond (is_nonzero (get_or v k 0)) 1 0)
+nonzero_mask v long =
+    let e = bitmask_splat w8 (λ x y. not (eqb x y)) v 16 0 long (omega arith) in
+    rw e (
+      (let size = length-map v is_nonzero in rw (size ∙ long) at (mask_l-lt (map is_nonzero v))),
+      λ k within. bit_mask_l (map is_nonzero v) k ∙ ap (λ t. cond t 1 0) (get_or-map is_nonzero v k 0 false (omega arith)),
+    )
+
+-- A mask is empty where none of its lanes has a bit.
+pub no_bit : (mask : ℕ) (f : ℕ → Bool) → mask < 2 ^ 16 → ((k : ℕ) → k < 16 → bit_at mask k ≡ cond (f k) 1 0)
+    → (eqb mask 0 ≡ true) ↔ ((k : ℕ) → k < 16 → f k ≡ false)
+no_bit mask f few bits = (
+  λ none k within. unset (f k) (sym (bits k within) ∙ ap (λ m. bit_at m k) (eqb-true mask 0 none) ∙ bit_at-zero k),
+  λ none. is_zero mask (same_from_bits_below 16 mask 0 few (omega arith)
+      (λ k within. bits k within ∙ ap (λ t. cond t 1 0) (none k within) ∙ sym (bit_at-zero k))),
+)
+  where
+    unset : (t : Bool) → ◌≡◌ {A = ℕ} (cond t 1 0) 0 → t ≡ false
+    unset t h = grind arith
+
+    is_zero : (m : ℕ) → m ≡ 0 → eqb m 0 ≡ true
+    is_zero m h = grind arith
+
 -- a test of two lanes by the bits that both have
+pub lane_of : (p : ℕ → Bool) (f g : ℕ → ℕ) (v w left right : List ℕ) → (length v ≡ 16) × (length w ≡ 16) → left ≡ map f v → right ≡ map g w
+    → (r : ℕ → ℕ → Bool) → ((k : ℕ) → p (bit_and (f (get_or v k 0)) (g (get_or w k 0))) ≡ r (get_or v k 0) (get_or w k 0))
+    → (k : ℕ) → k < 16 → p (get_or (zip2 bit_and left right) k 0) ≡ r (get_or v k 0) (get_or w k 0)
+lane_of p f g v w left right long el er r is k h =
+    let ll : length left ≡ 16 = ap length el ∙ length-map v f ∙ long.0 in
+    let lr : length right ≡ 16 = ap length er ∙ length-map w g ∙ long.1 in
+    ap p (get_or-zip2 bit_and left right k 0 0 0 (omega arith) (omega arith)
+    ∙ ap₂ bit_and (ap (λ l. get_or l k 0) el ∙ get_or-map f v k 0 0 (omega arith)) (ap (λ l. get_or l k 0) er ∙ get_or-map g w k 0 0 (omega arith))) ∙ is k
+
+-- the same where no lane passes
 pub no_lane : (p : ℕ → Bool) (f g : ℕ → ℕ) (v w left right : List ℕ) → (length v ≡ 16) × (length w ≡ 16) → left ≡ map f v → right ≡ map g w
     → (r : ℕ → ℕ → Bool) → ((k : ℕ) → p (bit_and (f (get_or v k 0)) (g (get_or w k 0))) ≡ r (get_or v k 0) (get_or w k 0))
     → (list_any p (zip2 bit_and left right) ≡ false) ↔ ((k : ℕ) → k < 16 → r (get_or v k 0) (get_or w k 0) ≡ false)
@@ -95,9 +132,7 @@ no_lane p f g v w left right long el er r is =
     let ll : length left ≡ 16 = ap length el ∙ length-map v f ∙ long.0 in
     let lr : length right ≡ 16 = ap length er ∙ length-map w g ∙ long.1 in
     let both : length (zip2 bit_and left right) ≡ 16 = length-zip2 bit_and left right (ll ∙ sym lr) ∙ ll in
-    let lane : (k : ℕ) → k < 16 → p (get_or (zip2 bit_and left right) k 0) ≡ r (get_or v k 0) (get_or w k 0) = λ k h.
-    ap p (get_or-zip2 bit_and left right k 0 0 0 (omega arith) (omega arith)
-    ∙ ap₂ bit_and (ap (λ l. get_or l k 0) el ∙ get_or-map f v k 0 0 (omega arith)) (ap (λ l. get_or l k 0) er ∙ get_or-map g w k 0 0 (omega arith))) ∙ is k in
+    let lane = lane_of p f g v w left right long el er r is in
     let law = none_at p (zip2 bit_and left right) in (
       λ e k h. sym (lane k h) ∙ law.0 e k (omega arith),
       λ none. law.1 (λ k h. lane k (omega arith) ∙ none k (omega arith)),

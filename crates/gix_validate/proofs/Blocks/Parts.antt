@@ -3,7 +3,7 @@ use Rattle.std.proofs.Common.{◌≡◌, ℕ, zero, suc, ◌+◌, ◌-◌, ◌%�
 use Rattle.std.proofs.Common.{length, take, drop, get_or, replicate, refl, sym, ap, ap₂, ◌∙◌, inl, inr, arith, take-add, eqb-true}
 use Rattle.std.proofs.Math.Nat.{mod-lt, mod-eq_of_lt}
 use Rattle.std.proofs.lemmas.Bool.{cases_lt, or_parts, agree_below, agree_below_at}
-use Rattle.std.proofs.lemmas.List.{get_or-map, get_or-replicate, get_or_append_left, get_or-append_right}
+use Rattle.std.proofs.lemmas.List.{get_or-map, get_or-replicate, get_or_append_left, get_or-append_right, drop-drop}
 use Rattle.std.specs.List.{list_any}
 use Rattle.std.proofs.lemmas.List.Folds.{list_any-append}
 use Rattle.std.proofs.lemmas.Simd.{length-chunk, get_or-chunk}
@@ -102,6 +102,53 @@ parts_cover n back x block all long parts p =
     same_none _ _
     (λ e. (none_at p x).1 (law.0 (λ k h. ap p (sym (parts k h)) ∙ (none_at p block).0 e k (omega arith))))
     (λ e. (none_at p block).1 (λ k h. ap p (parts k (omega arith)) ∙ law.1 ((none_at p x).0 e) k (omega arith)))
+
+-- a front, and the two parts behind it
+pub any_two_chunks : (p : ℕ → Bool) (x : List ℕ) (i n : ℕ) → list_any p (chunk i (n + n) x) ≡ (list_any p (chunk i n x) || list_any p (chunk (i + n) n x))
+any_two_chunks p x i n = any_with_chunk p (drop i x) n n ∙ ap (λ y. list_any p (take n (drop i x)) || list_any p (take n y)) (drop-drop n i x)
+
+-- The places of four parts of eight bytes that together are all of a text of 8 to 32 bytes: the first eight, eight that follow or are the last,
+-- eight from sixteen before the end on, and the last eight.
+abbrev pub AreShort : ℕ → ℕ → ℕ → ℕ → Type 0
+AreShort mid start last m = (last + 8 ≡ m) × (mid ≤ last) × (start ≤ last) × (last ≤ mid + 16) × (last ≤ start + 8) × (start ≤ mid + 8) × (mid ≤ 8)
+
+-- a block of two parts in which nothing is found
+none_of_block : (p : ℕ → Bool) (a b : ℕ) (x block : List ℕ) → length block ≡ 16 → HasParts 8 a b x block → list_any p block ≡ false
+    → (k : ℕ) → k < 8 → (p (get_or x (a + k) 0) ≡ false) × (p (get_or x (b + k) 0) ≡ false)
+none_of_block p a b x block long parts none k small =
+    let lane = (none_at p block).0 none in (
+      ap p (sym (parts k (omega arith) ∙ ap (λ j. get_or x j 0) (grind (arith, nat_tests, mod-eq_of_lt)))) ∙ lane k (omega arith),
+      ap p (sym (parts (k + 8) (omega arith) ∙ ap (λ j. get_or x j 0) (grind (arith, nat_tests, mod-eq_of_lt)))) ∙ lane (k + 8) (omega arith),
+    )
+
+-- a block of two parts of a text in which nothing is found
+none_in_block : (p : ℕ → Bool) (a b : ℕ) (x block : List ℕ) → length block ≡ 16 → HasParts 8 a b x block → a + 8 ≤ length x → b + 8 ≤ length x
+    → list_any p x ≡ false → list_any p block ≡ false
+none_in_block p a b x block long parts fa fb none =
+    (none_at p block).1 (λ k h. ap p (parts k (omega arith)) ∙ (none_at p x).0 none (place_of 8 a b k) (grind (arith, nat_tests, mod-lt)))
+
+pub both_cover : (mid start last : ℕ) (x v w : List ℕ) → AreShort mid start last (length x) → (length v ≡ 16) × (length w ≡ 16)
+    → HasParts 8 0 mid x v → HasParts 8 start last x w → (p : ℕ → Bool) → (list_any p v || list_any p w) ≡ list_any p x
+both_cover mid start last x v w short long pv pw p =
+    same_none _ _ forward (λ none. ap₂ (λ s t. s || t)
+    (none_in_block p 0 mid x v long.0 pv (omega arith) (omega arith) none)
+    (none_in_block p start last x w long.1 pw (omega arith) (omega arith) none))
+  where
+    forward : (list_any p v || list_any p w) ≡ false → list_any p x ≡ false
+    forward none =
+        let parts = or_parts (list_any p v) (list_any p w) none in
+        let front = none_of_block p 0 mid x v long.0 pv parts.0 in
+        let back = none_of_block p start last x w long.1 pw parts.1 in
+        (none_at p x).1 (λ j h. elim (cases_lt j 8) [
+          | inl early ↦ ap (λ i. p (get_or x i 0)) (omega arith) ∙ (front j early).0
+          | inr late ↦ elim (cases_lt j (mid + 8)) [
+            | inl within ↦ ap (λ i. p (get_or x i 0)) (omega arith) ∙ (front (j - mid) (omega arith)).1
+            | inr behind ↦ elim (cases_lt j (start + 8)) [
+              | inl before ↦ ap (λ i. p (get_or x i 0)) (omega arith) ∙ (back (j - start) (omega arith)).0
+              | inr after ↦ ap (λ i. p (get_or x i 0)) (omega arith) ∙ (back (j - last) (omega arith)).1
+            ]
+          ]
+        ])
 
 pub one_covers : (x : List ℕ) → length x ≡ 1 → HasParts 1 0 0 x (replicate 16 (get_or x 0 0))
 one_covers x one k h = grind (arith, nat_tests, get_or-replicate, mod-lt)

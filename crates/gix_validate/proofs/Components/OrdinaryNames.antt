@@ -1,24 +1,25 @@
 -- Ordinary names: no condition but the one on devices refuses one.
-use Rattle.std.proofs.Common.{◌≡◌, ℕ, zero, suc, ◌<◌, Bool, true, false, not, ◌&&◌, ◌||◌, eqb, Option, Some, List}
+use Rattle.std.proofs.Common.{◌≡◌, ℕ, zero, suc, ◌<◌, ◌≤◌, Bool, true, false, not, ◌&&◌, ◌||◌, eqb, Option, Some, List}
 use Rattle.std.proofs.Common.{[], ◌∷◌, ◌++◌, length, get_or, refl, ◌∙◌, arith, codes}
-use Rattle.std.specs.Prelude.{slice_index}
+use Rattle.std.specs.Prelude.{slice_index, is_some}
 use Rattle.std.specs.Bool.{◌==◌}
 use Rattle.std.specs.List.{list_any}
 use Rattle.std.specs.Str.{byte, bytes_eq}
 use Rattle.std.proofs.lemmas.Bool.{or_parts}
+use Rattle.std.proofs.lemmas.List.{length-map}
 use Rattle.std.proofs.lemmas.Slice.Eq.{bytes_eq-Decides}
-use Rattle.gix_validate.specs.declared.path.ComponentError.TheVariants.{PathSeparator, WindowsReservedName, DotGitDir}
+use Rattle.gix_validate.specs.declared.path.ComponentError.TheVariants.{Empty, Relative, PathSeparator, WindowsReservedName, DotGitDir, SymlinkedGitModules}
 use Rattle.gix_validate.specs.declared.path.ComponentOptions.{ComponentOptions}
 use Rattle.gix_validate.specs.declared.path.ComponentMode.{ComponentMode}
-use Rattle.gix_validate.specs.Bytes.{is_among, ends, lower}
+use Rattle.gix_validate.specs.Bytes.{is_among, is_empty, ends, lower}
 use Rattle.gix_validate.specs.Faults.{when}
 use Rattle.gix_validate.specs.Units.{first_unit_len}
 use Rattle.gix_validate.specs.Ntfs.{ntfs_form, is_git_form, is_modules_form, is_short_name}
 use Rattle.gix_validate.specs.Windows.{is_device, is_illegal, is_illegal_byte}
 use Rattle.gix_validate.specs.Component.{conditions, fault_of}
-use Rattle.gix_validate.specs.Private.Ordinary.{is_lead, is_classed, is_ordinary}
+use Rattle.gix_validate.specs.Private.Ordinary.{is_lead, is_classed, has_ordinary_bytes}
 use Rattle.gix_validate.proofs.Components.Laws.{case_law}
-use Rattle.gix_validate.proofs.Texts.LetterCase.{list_any-lower}
+use Rattle.gix_validate.proofs.Texts.LetterCase.{list_any-lower, ends-lower}
 use Rattle.gix_validate.proofs.Texts.Endings.{ends_read}
 use Rattle.gix_validate.proofs.Components.HfsForm.{hfs_form_same}
 use Rattle.std.proofs.lemmas.Bool.Decides.{nat_tests}
@@ -82,36 +83,76 @@ no_form f clean git modules =
 
 -- an ordinary name
 
-ordinary_parts : (x : List ℕ) → is_ordinary x ≡ true → (0 < length x) × (ends x (codes ".") ≡ false) × (ends x (codes " ") ≡ false)
-    × (list_any is_classed x ≡ false) × (bytes_eq (lower x) (codes ".git") ≡ false) × (bytes_eq (lower x) (codes ".gitmodules") ≡ false)
-unfolding is_ordinary
+ordinary_parts : (x : List ℕ) → has_ordinary_bytes x ≡ true → (0 < length x) × (ends x (codes ".") ≡ false) × (ends x (codes " ") ≡ false)
+    × (list_any is_classed x ≡ false)
+unfolding has_ordinary_bytes
 ordinary_parts x ordinary = grind arith
 
 -- a text that ends otherwise is another text
 other_end : (x : List ℕ) → ends x (codes ".") ≡ false → (bytes_eq x (codes ".") || bytes_eq x (codes "..")) ≡ false
 other_end x other = grind (arith, bytes_eq-Decides)
 
-pub ordinary_fault : (options : ComponentOptions) (mode : Option ComponentMode) (x : List ℕ) → is_ordinary x ≡ true
+pub ordinary_fault : (options : ComponentOptions) (mode : Option ComponentMode) (x : List ℕ) → has_ordinary_bytes x ≡ true
+    → bytes_eq (lower x) (codes ".git") ≡ false → bytes_eq (lower x) (codes ".gitmodules") ≡ false
     → fault_of options mode x ≡ when (options.protect_windows && options.protect_ntfs && is_device x) WindowsReservedName
 unfolding fault_of conditions is_illegal ntfs_form
-ordinary_fault options mode [] ordinary = absurd (omega (arith, (ordinary_parts [] ordinary).0))
-ordinary_fault options mode (b ∷ x) ordinary =
+ordinary_fault options mode [] ordinary git modules = absurd (omega (arith, (ordinary_parts [] ordinary).0))
+ordinary_fault options mode (b ∷ x) ordinary git modules =
     let has = ordinary_parts (b ∷ x) ordinary in
     let none = unclassed (b ∷ x) has.3 in
     let hfs = hfs_form_same (b ∷ x) none.1 in
     let last : is_among (codes " .") (get_or (b ∷ x) (length x) 0) ≡ false = grind (arith, ends_read) in
     let ntfs = form_same (is_among (codes ":\\")) (is_among (codes " .")) b x (uncut (b ∷ x) has.3) last in
-    let forms = no_form (lower (b ∷ x)) (list_any-lower is_tilde refl (b ∷ x) ∙ none.4) has.4 has.5 in
+    let forms = no_form (lower (b ∷ x)) (list_any-lower is_tilde refl (b ∷ x) ∙ none.4) git modules in
     let colon = legal_no_prefix (b ∷ x) (first_unit_len (b ∷ x)) none.0 in
-    rw (other_end (b ∷ x) has.1, none.2, none.3, colon, hfs, ntfs, forms.0, forms.1, has.4, has.5, none.0, has.1, has.2) (grind arith)
+    rw (other_end (b ∷ x) has.1, none.2, none.3, colon, hfs, ntfs, forms.0, forms.1, git, modules, none.0, has.1, has.2) (grind arith)
 
 -- the test by its parts
 
 pub ordinary_by_looks : (x : List ℕ)
-    → is_ordinary x ≡ ((((not (eqb (length x) 0) && not (ends x (codes ".") || ends x (codes " "))) && not (list_any is_classed x))
-    && not (bytes_eq (lower x) (codes ".git"))) && not (bytes_eq (lower x) (codes ".gitmodules")))
-unfolding is_ordinary
+    → has_ordinary_bytes x ≡ ((not (eqb (length x) 0) && not (ends x (codes ".") || ends x (codes " "))) && not (list_any is_classed x))
+unfolding has_ordinary_bytes
 ordinary_by_looks x = grind arith
+
+-- `.git` and `.gitmodules` have ordinary bytes
+empty-lower : (x : List ℕ) → is_empty (lower x) ≡ is_empty x
+empty-lower [] = refl
+empty-lower (b ∷ x) = refl
+
+ordinary-lower : (x : List ℕ) → has_ordinary_bytes (lower x) ≡ has_ordinary_bytes x
+unfolding has_ordinary_bytes is_classed is_illegal_byte
+ordinary-lower x = rw (empty-lower x, ends-lower (codes ".") refl x, ends-lower (codes " ") refl x, list_any-lower is_classed refl x) refl
+
+other_bytes : (x word : List ℕ) → has_ordinary_bytes x ≡ false → has_ordinary_bytes word ≡ true → bytes_eq (lower x) word ≡ false
+other_bytes x word other ordinary = grind (arith, bytes_eq-Decides, ordinary-lower)
+
+pub no_plain_git : (x : List ℕ) → has_ordinary_bytes x ≡ false → bytes_eq (lower x) (codes ".git") ≡ false
+unfolding has_ordinary_bytes is_classed is_illegal_byte
+no_plain_git x other = other_bytes x _ other refl
+
+pub no_plain_modules : (x : List ℕ) → has_ordinary_bytes x ≡ false → bytes_eq (lower x) (codes ".gitmodules") ≡ false
+unfolding has_ordinary_bytes is_classed is_illegal_byte
+no_plain_modules x other = other_bytes x _ other refl
+
+-- nor is a name of another length one of them
+other_length : (x word : List ℕ) → eqb (length x) (length word) ≡ false → bytes_eq (lower x) word ≡ false
+other_length x word other = grind (arith, bytes_eq-Decides, length-map)
+
+pub no_long_git : (x : List ℕ) → 64 < length x → bytes_eq (lower x) (codes ".git") ≡ false
+no_long_git x long = other_length x _ (grind (arith, nat_tests))
+
+pub no_long_modules : (x : List ℕ) → 64 < length x → bytes_eq (lower x) (codes ".gitmodules") ≡ false
+no_long_modules x long = other_length x _ (grind (arith, nat_tests))
+
+pub no_tiny_git : (x : List ℕ) → length x < 3 → bytes_eq (lower x) (codes ".git") ≡ false
+no_tiny_git x tiny = other_length x _ (grind (arith, nat_tests))
+
+pub no_tiny_modules : (x : List ℕ) → length x < 3 → bytes_eq (lower x) (codes ".gitmodules") ≡ false
+no_tiny_modules x tiny = other_length x _ (grind (arith, nat_tests))
+
+-- a name of three bytes is not `.` or `..`
+pub no_dots : (x : List ℕ) → 3 ≤ length x → (bytes_eq x (codes ".") || bytes_eq x (codes "..")) ≡ false
+no_dots x long = grind (arith, bytes_eq-Decides)
 
 -- `.git` in any letter case
 pub git_fault : (options : ComponentOptions) (mode : Option ComponentMode) (x : List ℕ) → bytes_eq (lower x) (codes ".git") ≡ true
@@ -119,10 +160,33 @@ pub git_fault : (options : ComponentOptions) (mode : Option ComponentMode) (x : 
 unfolding components_on_literals
 git_fault options mode x git = grind (arith, case_law, bytes_eq-Decides)
 
-pub slash_fault : (options : ComponentOptions) (mode : Option ComponentMode) (x : List ℕ) → 64 < length x → list_any (λ b. b == byte "/") x ≡ true
+-- `.gitmodules` in any letter case
+pub modules_fault : (options : ComponentOptions) (mode : Option ComponentMode) (x : List ℕ) → bytes_eq (lower x) (codes ".gitmodules") ≡ true
+    → fault_of options mode x ≡ when (is_some mode) SymlinkedGitModules
+unfolding components_on_literals
+modules_fault options mode x modules = grind (arith, case_law, bytes_eq-Decides)
+
+pub slash_fault : (options : ComponentOptions) (mode : Option ComponentMode) (x : List ℕ) → is_among x (byte "/") ≡ true
     → fault_of options mode x ≡ Some PathSeparator
 unfolding conditions fault_of
-slash_fault options mode x long slash = grind (arith, bytes_eq-Decides)
+slash_fault options mode x slash = grind (arith, bytes_eq-Decides)
+
+pub empty_fault : (options : ComponentOptions) (mode : Option ComponentMode) (x : List ℕ) → length x ≡ 0 → fault_of options mode x ≡ Some Empty
+unfolding conditions fault_of
+empty_fault options mode [] none = refl
+empty_fault options mode (b ∷ x) none = absurd (omega arith)
+
+pub backslash_fault : (options : ComponentOptions) (mode : Option ComponentMode) (x : List ℕ) → options.protect_windows ≡ true
+    → is_among x (byte "\\") ≡ true → fault_of options mode x ≡ Some PathSeparator
+unfolding conditions fault_of
+backslash_fault options mode x windows slash = grind (arith, bytes_eq-Decides)
+
+pub relative_fault : (options : ComponentOptions) (mode : Option ComponentMode) (x : List ℕ) → (bytes_eq x (codes ".") || bytes_eq x (codes "..")) ≡ true
+    → fault_of options mode x ≡ Some Relative
+unfolding conditions fault_of
+relative_fault options mode x dots = grind (arith, bytes_eq-Decides)
 
 -- what the fast way to the fault of a component needs
-pub ruleset faults_by_looks = (ordinary_fault, git_fault)
+pub ruleset faults_by_looks = (ordinary_by_looks, ordinary_fault, git_fault, modules_fault, slash_fault, backslash_fault, no_plain_git, no_plain_modules, no_dots)
+
+pub ruleset other_lengths = (empty_fault, relative_fault, no_long_git, no_long_modules, no_tiny_git, no_tiny_modules)

@@ -1,16 +1,18 @@
 -- The text is mended and repaired within one buffer: what is written stands before the place that is read next.
-use Rattle.std.proofs.Common.{◌≡◌, ◌⊎◌, inl, inr, ℕ, suc, ◌+◌, ◌-◌, ◌≤◌, ◌<◌, Bool, true, false, List, [], ◌∷◌, ◌++◌, length, take, drop, set, get_or, refl}
-use Rattle.std.proofs.Common.{sym, ap, arith, eqb, length-take, length-drop, length-append, length-set, append_assoc, max}
+use Rattle.std.proofs.Common.{◌≡◌, ◌≢◌, ◌⊎◌, inl, inr, ℕ, zero, suc, ◌+◌, ◌-◌, ◌≤◌, ◌<◌, Bool, true, false, List, [], ◌∷◌, ◌++◌, length, take, drop, set, get_or, refl}
+use Rattle.std.proofs.Common.{sym, ap, ◌∙◌, subst, arith, eqb, length-take, length-drop, length-append, length-set, append_assoc, max}
 use Rattle.std.specs.Prelude.{codes, ◌||◌, not, ◌==◌, slice_range, if◌then◌else◌}
 use Rattle.std.specs.List.{starts_with}
 use Rattle.std.specs.Str.{byte}
-use Rattle.std.proofs.lemmas.Bool.{eqb-true}
+use Rattle.std.proofs.lemmas.Bool.{cases_eq, eqb-true, eq-eqb, ne_eqb, false_from_ne_true}
 use Rattle.std.proofs.lemmas.Bool.Decides.{Decides-eqb, nat_tests}
-use Rattle.std.proofs.lemmas.List.{get_or-take, get_or-drop, get_or-set_same, take-append-drop, take-take, take-set-le, take_more, take_more_set, take_all}
+use Rattle.std.proofs.lemmas.List.{get_or-take, get_or-drop, get_or-set_same, set-get_or, take-append-drop, take-take, take-set-le, take_more, take_more_set, take_all}
 use Rattle.std.proofs.lemmas.List.{drop-set-add, drop-set-lt, drop-take, drop-drop, drop_more, get_or_push, take-append-le}
 use Rattle.std.proofs.lemmas.Slice.Eq.{starts_is}
 use Rattle.std.proofs.lemmas.Slice.{drop-append-drop}
-use Rattle.gix_validate.specs.Bytes.{is_bad, is_empty, is_among}
+use native.Mathlib.Numerals.{unary_clauses}
+use Rattle.gix_validate.specs.Bytes.{is_bad, is_empty, is_among, ends}
+use Rattle.gix_validate.proofs.Texts.Endings.{ends-no, lock_read}
 use Rattle.gix_validate.specs.Pieces.{is_slash, joined}
 use Rattle.gix_validate.specs.Sanitized.{cut, mended_pieces, repaired_dot, repaired_at, repaired_nothing, sanitized}
 use Rattle.gix_validate.proofs.Sanitizing.MendedPieces.{dot_first}
@@ -47,6 +49,11 @@ slice_more text start end w order room =
     let more : end + 1 - start ≡ end - start + 1 = omega arith in
     grind (arith, drop-set-add start text (end - start) w, take_more_set (drop start text) (end - start) w, length-drop)
 
+-- The text once a byte is written behind its last piece.
+pub take_pushed : (text : List ℕ) (start end w : ℕ) → start ≤ end → end < length text
+    → take start (set text end w) ++ cut (slice_range (set text end w) start (end + 1)) ≡ take start text ++ cut (slice_range text start end ++ w ∷ [])
+take_pushed text start end w order room = grind (arith, slice_more, take-set-le)
+
 slice_first : (text : List ℕ) (read stop : ℕ) → read < stop → stop ≤ length text
     → slice_range text read stop ≡ get_or text read 0 ∷ slice_range text (read + 1) stop
 slice_first text read stop some within =
@@ -55,6 +62,10 @@ slice_first text read stop some within =
 
 no_slice : (text : List ℕ) (n : ℕ) → slice_range text n n ≡ []
 no_slice text n = let none : n - n ≡ 0 = omega arith in ap (λ v. take v (drop n text)) none
+
+is_empty-push : (p : List ℕ) (w : ℕ) → is_empty (p ++ w ∷ []) ≡ false
+is_empty-push [] w = refl
+is_empty-push (b ∷ p) w = refl
 
 is_empty-length : (p : List ℕ) → is_empty p ≡ (length p == 0)
 is_empty-length p = grind arith
@@ -119,6 +130,25 @@ MendedUpTo-plain whole text start end read stop so_far plain =
     let room : read < stop = grind arith in
     MendedUpTo-byte whole text start end read stop (get_or text read 0) so_far room (grind arith) (λ dot. grind arith) (grind arith)
 
+MendedUpTo-more : (whole text : List ℕ) (start read n stop : ℕ) → MendedUpTo whole text start read read stop
+    → ((k : ℕ) → read ≤ k → k < read + n → (is_bad (get_or text k 0) || is_among (codes "*./{") (get_or text k 0)) ≡ false)
+    → MendedUpTo whole text start (read + n) (read + n) stop
+MendedUpTo-more whole text start read zero stop so_far plain = simp unary_clauses so_far
+MendedUpTo-more whole text start read (suc n) stop so_far plain =
+    let before = MendedUpTo-more whole text start read n stop so_far (λ k from to. plain k from (omega arith)) in
+    let next = MendedUpTo-plain whole text start (read + n) (read + n) stop before (ap not (plain (read + n) (omega arith) (omega arith))) in
+    let at : read + suc n ≡ read + n + 1 = omega arith in
+    rw at (subst (λ v. MendedUpTo whole v start (read + n + 1) (read + n + 1) stop) (set-get_or text (read + n) 0) next)
+
+-- A run of plain bytes that are written where they stand.
+pub MendedUpTo-run : (whole text : List ℕ) (start read next stop : ℕ) → MendedUpTo whole text start read read stop → read ≤ next
+    → ((k : ℕ) → read ≤ k → k < next → (is_bad (get_or text k 0) || is_among (codes "*./{") (get_or text k 0)) ≡ false)
+    → MendedUpTo whole text start next next stop
+MendedUpTo-run whole text start read next stop so_far further plain =
+    let at : read + (next - read) ≡ next = omega arith in
+    subst (λ v. MendedUpTo whole text start v v stop) at
+    (MendedUpTo-more whole text start read (next - read) stop so_far (λ k from to. plain k from (omega arith)))
+
 -- A dot before another one is left out.
 pub MendedUpTo-dots : (whole text : List ℕ) (start end read stop : ℕ) → MendedUpTo whole text start end read stop → read < stop
     → get_or text read 0 ≡ byte "." → get_or text (read + 1) 0 ≡ byte "." → MendedUpTo whole text start end (read + 1) stop
@@ -152,32 +182,80 @@ GivesWhole-at_lock whole text start end read stop r so_far begun value lock =
     let left = drop-take 6 (stop - (read + 5 + 1)) (drop read text) in
     (room, grind (arith, GivesWhole-lock, is_empty-slice, drop-drop 6 read text))
 
--- What `end_of_text` gives is the mended text, where no rest is left, or a slash alone.
-mended_text : (whole text rest : List ℕ) (start end n : ℕ) → start ≤ end → end ≤ length text → rest ≡ [] ⊎ rest ≡ codes "/"
+-- A part of plain bytes has no dot, so nothing of it is cut.
+take-plain : (text : List ℕ) (start end : ℕ) → start < end → end ≤ length text
+    → ((k : ℕ) → start ≤ k → k < end → (is_bad (get_or text k 0) || is_among (codes "*./{") (get_or text k 0)) ≡ false)
+    → take end text ≡ take start text ++ cut (slice_range text start end)
+take-plain text start end some within plain =
+    let whole : start + (end - start) ≡ end = omega arith in
+    let part = slice_range text start end in
+    let size : length part ≡ end - start = omega (arith, length-take (end - start) (drop start text), length-drop start text) in
+    let no_lock : ends part (codes ".lock") ≡ false = false_from_ne_true _ (λ lock.
+    let read = lock_read part lock in
+    let dot : get_or text (start + (length part - 5)) 0 ≡ byte "." = grind (arith, get_or-take, get_or-drop, read.1) in
+    let quiet = plain (start + (length part - 5)) (omega arith) (omega (arith, read.0)) in
+    grind arith) in
+    let uncut = cut-own part (ends-no part (codes ".lock") no_lock) in
+    grind (arith, take-add)
+
+-- A slash behind it.
+take-kept : (text : List ℕ) (start read : ℕ) → start < read → read < length text → get_or text read 0 ≡ byte "/"
+    → ((k : ℕ) → start ≤ k → k < read → (is_bad (get_or text k 0) || is_among (codes "*./{") (get_or text k 0)) ≡ false)
+    → take (read + 1) text ≡ take start text ++ (cut (slice_range text start read) ++ codes "/")
+take-kept text start read some within slash plain =
+    let uncut = take-plain text start read some (omega arith) plain in
+    let more : take (read + 1) text ≡ take read text ++ codes "/" = grind (arith, take_more text read 0) in
+    more ∙ (ap (λ v. v ++ codes "/") uncut ∙ append_assoc (take start text) (cut (slice_range text start read)) (codes "/"))
+
+-- A slash behind a piece of plain bytes that are written where they stand.
+pub MendedUpTo-kept : (whole text : List ℕ) (start read stop : ℕ) → MendedUpTo whole text start read read stop → start < read → read < stop
+    → get_or text read 0 ≡ byte "/"
+    → ((k : ℕ) → start ≤ k → k < read → (is_bad (get_or text k 0) || is_among (codes "*./{") (get_or text k 0)) ≡ false)
+    → MendedUpTo whole text (read + 1) (read + 1) (read + 1) stop
+MendedUpTo-kept whole text start read stop so_far some room slash plain =
+    let closes = GivesWhole-at_slash whole text start read read stop so_far room (grind arith) in
+    let kept = take-kept text start read some (omega (arith, so_far.long)) slash plain in
+    let some_bytes : (start == read) ≡ false = grind (arith, nat_tests) in
+    MendedUpTo-closed whole text text start read read (read + 1) stop (read + 1) so_far (omega arith) (omega arith) closes refl (omega arith)
+    (rw some_bytes kept) refl
+
+-- What ends the text gives the mended text, where no rest is left, or a slash alone.
+mended_text : (whole text rest written : List ℕ) (start end : ℕ) → start ≤ end → end ≤ length text → rest ≡ [] ⊎ rest ≡ codes "/"
     → GivesWhole whole (take start text) (slice_range text start end) rest
-    → take n text ≡ (if start == end then take (end - 1) text else take start text ++ cut (slice_range text start end))
-    → take n text ≡ joined (mended_pieces whole)
-mended_text whole text rest start end n order within last gives written =
+    → written ≡ (if start == end then take (end - 1) text else take start text ++ cut (slice_range text start end))
+    → written ≡ joined (mended_pieces whole)
+mended_text whole text rest written start end order within last gives e =
     let given = GivesWhole-end whole (take start text) (slice_range text start end) rest gives last in
     grind (arith, nat_tests, take-take, length-take, is_empty-slice)
 
 -- At the end, where the last byte is a slash.
-pub mended_text-slash : (whole text : List ℕ) (start end stop n : ℕ) → MendedUpTo whole text start end stop stop → is_slash (get_or whole stop 0) ≡ true
-    → take n text ≡ (if start == end then take (end - 1) text else take start text ++ cut (slice_range text start end))
-    → take n text ≡ joined (mended_pieces whole)
-mended_text-slash whole text start end stop n so_far slash written =
-    mended_text whole text (codes "/") start end n so_far.in_order (omega arith) (inr refl) (grind (arith, no_slice, eqb-true)) written
+mended_text-slash : (whole text written : List ℕ) (start end stop : ℕ) → MendedUpTo whole text start end stop stop → is_slash (get_or whole stop 0) ≡ true
+    → written ≡ (if start == end then take (end - 1) text else take start text ++ cut (slice_range text start end))
+    → written ≡ joined (mended_pieces whole)
+mended_text-slash whole text written start end stop so_far slash e =
+    mended_text whole text (codes "/") written start end so_far.in_order (omega arith) (inr refl) (grind (arith, no_slice, eqb-true)) e
 
--- At the end, where it is another byte, which was written.
-pub mended_text-byte : (whole text : List ℕ) (start end stop w n : ℕ) → MendedUpTo whole text start end stop stop → is_slash (get_or whole stop 0) ≡ false
-    → w ≡ added (slice_range text start end) (get_or whole stop 0)
-    → take n (set text end w) ≡ (if start == end + 1 then take (end + 1 - 1) (set text end w)
-    else take start (set text end w) ++ cut (slice_range (set text end w) start (end + 1)))
-    → take n (set text end w) ≡ joined (mended_pieces whole)
-mended_text-byte whole text start end stop w n so_far slash e written =
+-- At the end, where it is another byte, which is written.
+mended_text-byte : (whole text written : List ℕ) (start end stop : ℕ) → MendedUpTo whole text start end stop stop → is_slash (get_or whole stop 0) ≡ false
+    → written ≡ take start text ++ cut (slice_range text start end ++ added (slice_range text start end) (get_or whole stop 0) ∷ [])
+    → written ≡ joined (mended_pieces whole)
+mended_text-byte whole text written start end stop so_far slash e =
+    let w = added (slice_range text start end) (get_or whole stop 0) in
     let gives : GivesWhole whole (take start text) (slice_range text start end ++ w ∷ []) [] = grind (arith, no_slice, GivesWhole-byte) in
-    mended_text whole (set text end w) [] start (end + 1) n (omega arith) (omega (arith, length-set text end w)) (inl refl)
-    (grind (arith, slice_more, take-set-le)) written
+    let given = GivesWhole-end whole (take start text) (slice_range text start end ++ w ∷ []) [] gives (inl refl) in
+    let some : is_empty (slice_range text start end ++ w ∷ []) ≡ false = is_empty-push (slice_range text start end) w in
+    e ∙ (rw some at given)
+
+-- At the end.
+pub mended_text-last : (whole text written : List ℕ) (start end stop last : ℕ) → MendedUpTo whole text start end stop stop → last ≡ get_or whole stop 0
+    → (last ≡ byte "/" → written ≡ (if start == end then take (end - 1) text else take start text ++ cut (slice_range text start end)))
+    → (last ≢ byte "/" → written ≡ take start text ++ cut (slice_range text start end ++ added (slice_range text start end) last ∷ []))
+    → written ≡ joined (mended_pieces whole)
+mended_text-last whole text written start end stop last so_far e slash other =
+    elim (cases_eq last (byte "/")) [
+      | inl same ↦ mended_text-slash whole text written start end stop so_far (rw (sym e) (eq-eqb last (byte "/") same)) (slash same)
+      | inr differs ↦ mended_text-byte whole text written start end stop so_far (rw (sym e) (ne_eqb last (byte "/") differs)) (rw e at (other differs))
+    ]
 
 -- The front that was mended, and then repaired, is the sanitised text.
 pub sanitized-in_place : (whole front rest new : List ℕ) (m n : ℕ) → m ≤ length front → take m front ≡ joined (mended_pieces whole)

@@ -9,7 +9,7 @@ use Rattle.gix_validate.specs.Bytes.{is_among, ends}
 use Rattle.gix_validate.specs.Tag.{fault_of}
 use Rattle.gix_validate.specs.Reference.{is_partial_name}
 use Rattle.gix_validate.specs.Private.Adjacent.{is_suspect, NoneBetween, IsClear}
-use Rattle.gix_validate.specs.Private.TagWalk.{fault_of_byte_at}
+use Rattle.gix_validate.specs.Private.TagWalk.{fault_of_byte_at, NoFaultBetween, IsSettled}
 use Rattle.gix_validate.specs.declared.adjacent.Relation.TheVariants.{Suspect}
 use Rattle.gix_validate.proofs.Texts.Places.{at_first_place_none}
 use Rattle.gix_validate.proofs.Texts.Endings.{ends_read, lock_read}
@@ -18,15 +18,6 @@ use Rattle.gix_validate.proofs.TagNames.FaultsOfBytes.{at_first_place_split}
 use Rattle.gix_validate.proofs.TagNames.Grammar.{tag_grammar_law}
 use Rattle.std.proofs.lemmas.Grind.{common_steps}
 use Rattle.std.proofs.lemmas.Bool.Decides.{nat_tests}
-
--- no place from i on and before j has a fault by what stands before it
-abbrev pub NoFaultBetween : List ℕ → ℕ → ℕ → Type 0
-NoFaultBetween x i j = (p : ℕ) → i ≤ p → p < j → fault_of_byte_at x p ≡ None
-
--- No place below i has a fault by what stands before it, and no slash up to four places further ends a `.lock`.
-pub record IsSettled (x : List ℕ) (i : ℕ) : Type 0 where
-  pub done : NoFaultBetween x 0 i
-  pub ahead : (p : ℕ) → i ≤ p → p < i + 4 → p < length x → get_or x p 0 ≡ byte "/" → ends (take p x) (codes ".lock") ≡ false
 
 -- a byte within the text
 pub inside : (x : List ℕ) (p c : ℕ) → 0 < c → get_or x p 0 ≡ c → p < length x
@@ -40,7 +31,7 @@ unfolding is_suspect
 no_fault x i a quiet near lock = grind (arith, nat_tests, is_none-fault_of_byte (take i x) (get_or x i 0))
 
 -- the byte before place i
-last_read : (x : List ℕ) (i c : ℕ) → 0 < i → i ≤ length x → ends (take i x) (c ∷ []) ≡ eqb (get_or x (i - 1) 0) c
+pub last_read : (x : List ℕ) (i c : ℕ) → 0 < i → i ≤ length x → ends (take i x) (c ∷ []) ≡ eqb (get_or x (i - 1) 0) c
 last_read x i c some within = grind (arith, ends_read, get_or-take, length-take)
 
 -- there the `l` is suspect
@@ -49,26 +40,48 @@ no_lock : (x : List ℕ) (p : ℕ) → p ≤ length x → (5 ≤ p → is_suspec
 unfolding is_suspect
 no_lock x p within quiet = grind (arith, nat_tests, false_from_ne_true, lock_read, get_or-take, length-take)
 
-quiet_lock : (x : List ℕ) (i j p : ℕ) → 1 ≤ i → NoneBetween Suspect x (i - 1) j → IsSettled x i → i ≤ p → p < j + 4 → p < length x → get_or x p 0 ≡ byte "/"
+-- The place has no fault unless a slash ends a `.lock` there, and no slash four places further ends one.
+pub record IsQuiet (x : List ℕ) (p : ℕ) : Type 0 where
+  pub here : (get_or x p 0 ≡ byte "/" → ends (take p x) (codes ".lock") ≡ false) → fault_of_byte_at x p ≡ None
+  pub ahead : p + 4 < length x → get_or x (p + 4) 0 ≡ byte "/" → ends (take (p + 4) x) (codes ".lock") ≡ false
+
+-- a place that isn't suspect
+pub quiet_place : (x : List ℕ) (p : ℕ) → 1 ≤ p → p ≤ length x → is_suspect (get_or x (p - 1) 0) (get_or x p 0) ≡ false → IsQuiet x p
+quiet_place x p some within quiet = record {
+  here = no_fault x p (get_or x (p - 1) 0) quiet (λ none. grind (arith, nat_tests, last_read));
+  ahead = λ room slash. no_lock x (p + 4) (omega arith) (λ five. let first : p + 4 - 5 ≡ p - 1 = omega arith in let next : p - 1 + 1 ≡ p = omega arith in
+      grind (arith, first, next, quiet));
+}
+
+quiet_lock : (x : List ℕ) (i j p : ℕ) → ((k : ℕ) → i ≤ k → k < j → IsQuiet x k) → IsSettled x i → i ≤ p → p < j + 4 → p < length x → get_or x p 0 ≡ byte "/"
     → ends (take p x) (codes ".lock") ≡ false
-quiet_lock x i j p some quiet s from to within slash =
+quiet_lock x i j p quiet s from to within slash =
     elim (cases_lt p (i + 4)) [
       | inl early ↦ s.ahead p from early within slash
-      | inr late ↦ no_lock x p (omega arith) (λ five. quiet (p - 5) (omega arith) (omega arith))
+      | inr late ↦
+          let at : p - 4 + 4 ≡ p = omega arith in
+          let q = quiet (p - 4) (omega arith) (omega arith) in
+          grind (arith, at, q.ahead)
     ]
 
--- A part of the text in which nothing is suspect.
-pub settled_part : (x : List ℕ) (i j : ℕ) → 1 ≤ i → i ≤ j → j ≤ length x → NoneBetween Suspect x (i - 1) j → IsSettled x i → IsSettled x j
-settled_part x i j some order within quiet s = record {
+-- A part of the text whose places are quiet.
+pub settled_quiet : (x : List ℕ) (i j : ℕ) → i ≤ j → j ≤ length x → ((k : ℕ) → i ≤ k → k < j → IsQuiet x k) → IsSettled x i → IsSettled x j
+settled_quiet x i j order within quiet s = record {
   done = λ p from to. elim (cases_lt p i) [
     | inl early ↦ s.done p from early
-    | inr late ↦
-        let at : p - 1 + 1 ≡ p = omega arith in
-        no_fault x p (get_or x (p - 1) 0) (grind (arith, at, quiet (p - 1) (omega arith) (omega arith))) (λ none. grind (arith, nat_tests, last_read))
-        (quiet_lock x i j p some quiet s late (omega arith) (omega arith))
+    | inr late ↦ (quiet p late to).here (quiet_lock x i j p quiet s late (omega arith) (omega arith))
   ];
-  ahead = λ p from. quiet_lock x i j p some quiet s (omega arith);
+  ahead = λ p from to. elim (cases_lt p i) [
+    | inl early ↦ absurd (omega arith)
+    | inr late ↦ quiet_lock x i j p quiet s late to
+  ];
 }
+
+-- A part of the text in which nothing is suspect.
+settled_part : (x : List ℕ) (i j : ℕ) → 1 ≤ i → i ≤ j → j ≤ length x → NoneBetween Suspect x (i - 1) j → IsSettled x i → IsSettled x j
+settled_part x i j some order within quiet =
+    settled_quiet x i j order within (λ k from to. let at : k - 1 + 1 ≡ k = omega arith in
+    quiet_place x k (omega arith) (omega arith) (grind (arith, at, quiet (k - 1) (omega arith) (omega arith))))
 
 -- Nothing is asked yet.
 pub settled_none : (x : List ℕ) (i : ℕ) → i < 2 → NoFaultBetween x 0 i → IsSettled x i

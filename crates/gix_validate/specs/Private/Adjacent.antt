@@ -1,9 +1,11 @@
 -- Clear texts, recognised by bytes that stand side by side and by the end: each is a tag name, and most tag names are
 -- clear.
-use Rattle.std.specs.Prelude.{◌≡◌, ℕ, ◌+◌, ◌≤◌, ◌<◌, Bool, false, ◌==◌, ◌&&◌, ◌||◌, List, length, slice_index, codes}
+use Rattle.std.specs.Prelude.{◌≡◌, ℕ, ◌+◌, ◌≤◌, ◌<◌, Bool, false, ◌==◌, ◌&&◌, ◌||◌, if◌then◌else◌, List, length, slice_index, codes}
+use Rattle.std.specs.Int.{bit_at}
 use Rattle.std.specs.Str.{byte}
 use Rattle.gix_validate.specs.declared.adjacent.Relation.{Relation}
 use Rattle.gix_validate.specs.declared.adjacent.Relation.TheVariants.{Suspect, Dots, LastDot}
+use Rattle.gix_validate.specs.declared.lanes.TheConstants.{LANES}
 use Rattle.gix_validate.specs.Bytes.{is_bad, is_among, ends}
 
 -- Behind the byte before it, the byte may be the place of a fault, or lead to one: it is one that no reference name
@@ -24,6 +26,11 @@ relates LastDot before b = before == byte "." && (b == byte "/" || b == byte "\\
 -- no byte behind place i and before place j is related to the one before it
 abbrev pub NoneBetween : Relation → List ℕ → ℕ → ℕ → Type 0
 NoneBetween relation x i j = (k : ℕ) → i ≤ k → k + 1 < j → relates relation (slice_index x k) (slice_index x (k + 1)) ≡ false
+
+-- of the sixteen bytes behind this place, a bit of the mask is set for each that is suspect behind the one before it
+abbrev pub MarksSuspects : List ℕ → ℕ → ℕ → Type 0
+MarksSuspects x at mask =
+    (k : ℕ) → k < LANES → bit_at mask k ≡ (if is_suspect (slice_index x (at + k)) (slice_index x (at + k + 1)) then 1 else 0)
 
 -- The text has a byte, none that is suspect, the first as behind a slash, and no slash or dot at its end.
 pub record IsClear (x : List ℕ) : Type 0 where

@@ -1,5 +1,5 @@
 -- The classes of the bytes of a name, a bit for each, and what they say about the name.
-use Rattle.std.specs.Prelude.{◌≡◌, ℕ, Bool, ◌==◌, not, nat_lt, if◌then◌else◌, List, codes, map, bit_and}
+use Rattle.std.specs.Prelude.{◌≡◌, ℕ, Bool, false, ◌==◌, not, nat_lt, if◌then◌else◌, List, [], ◌∷◌, codes, map, bit_and}
 use Rattle.std.specs.List.{list_any}
 use Rattle.std.specs.Str.{byte}
 use Rattle.gix_validate.specs.declared.path.classes.TheConstants.{CONTROL, QUOTE_OR_STAR, COLON_ANGLE_OR_MARK, BACKSLASH, PIPE, LEAD, SLASH, TILDE, ILLEGAL, ANY}
@@ -20,6 +20,10 @@ class_of b =
     else if is_lead b then LEAD
     else 0
 
+-- the class of the byte has a bit of the mask
+abbrev pub has_class : ℕ → ℕ → Bool
+has_class mask b = not (bit_and (class_of b) mask == 0)
+
 -- one of the classes has a bit of the mask
 unfoldable pub any_class : ℕ → List ℕ → Bool
 any_class mask classes = list_any (λ class. not (bit_and class mask == 0)) classes
@@ -35,3 +39,8 @@ pub record Describes (classes x : List ℕ) : Type 0 where
   pub illegal : any_class ILLEGAL classes ≡ list_any is_illegal_byte x
   pub lead : any_class LEAD classes ≡ list_any is_lead x
   pub classed : any_class ANY classes ≡ list_any is_classed x
+
+-- The name has no bytes but those of the classes whose bits these are, and those of no class.
+pub record MayHave (classes : ℕ) (x : List ℕ) : Type 0 where
+  pub illegal : any_class ILLEGAL (classes ∷ []) ≡ false → list_any is_illegal_byte x ≡ false
+  pub lead : any_class LEAD (classes ∷ []) ≡ false → list_any is_lead x ≡ false

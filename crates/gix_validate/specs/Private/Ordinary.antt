@@ -1,9 +1,8 @@
--- Ordinary names: those whose bytes alone say that no condition but the one on devices refuses them.
+-- Ordinary bytes: those of names that are refused by no condition, but for devices, `.git` and `.gitmodules`.
 use Rattle.std.specs.Prelude.{ℕ, Bool, ◌==◌, ◌&&◌, ◌||◌, not, List, codes}
 use Rattle.std.specs.List.{list_any}
-use Rattle.std.specs.Str.{bytes_eq}
 use Rattle.gix_validate.specs.declared.path.ComponentOptions.{ComponentOptions}
-use Rattle.gix_validate.specs.Bytes.{is_among, is_empty, ends, lower}
+use Rattle.gix_validate.specs.Bytes.{is_among, is_empty, ends}
 use Rattle.gix_validate.specs.Windows.{is_illegal_byte}
 
 -- the options with these switches
@@ -19,12 +18,6 @@ is_lead b = b == 0xE2 || b == 0xEF
 unfoldable pub is_classed : ℕ → Bool
 is_classed b = is_illegal_byte b || (is_among (codes "/\\~") b || is_lead b)
 
--- The name is not empty, doesn't end in a dot or a space, has no such byte, and is not `.git` or `.gitmodules` in any
--- ASCII case.
-unfoldable pub is_ordinary : List ℕ → Bool
-is_ordinary x =
-    not (is_empty x)
-    && not (ends x (codes ".") || ends x (codes " "))
-    && not (list_any is_classed x)
-    && not (bytes_eq (lower x) (codes ".git"))
-    && not (bytes_eq (lower x) (codes ".gitmodules"))
+-- The name is not empty, doesn't end in a dot or a space, and has no such byte.
+unfoldable pub has_ordinary_bytes : List ℕ → Bool
+has_ordinary_bytes x = not (is_empty x) && not (ends x (codes ".") || ends x (codes " ")) && not (list_any is_classed x)

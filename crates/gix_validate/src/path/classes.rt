@@ -1,16 +1,32 @@
 //! One look at the bytes of a name.
 
-ghost use Rattle.std.specs.Prelude.{◌≡◌, ◌<◌, not, length, map};
-ghost use Rattle.gix_validate.specs.Private.Classes.{any_class, class_of, HaveClassesOf, Describes};
+ghost use Rattle.std.specs.Prelude.{◌≡◌, ◌≤◌, ◌<◌, ◌+◌, ◌∷◌, [], List, ℕ, not, length, map};
+ghost use Rattle.std.specs.List.{list_any};
+ghost use Rattle.std.specs.Simd.Lanes.{chunk};
+ghost use Rattle.gix_validate.specs.Windows.{is_illegal_byte};
+ghost use Rattle.gix_validate.specs.Private.Ordinary.{is_classed};
+ghost use Rattle.gix_validate.specs.Private.Classes.{any_class, class_of, has_class, HaveClassesOf, Describes, MayHave};
 
 use crate::lanes::{LANES, classify, halves, has_nonzero, pairs, quarters};
 use std::simd::prelude::*;
 
-/// Which bytes stand in a name, of those for which a condition asks: their classes, a bit for each,
-/// in any of sixteen lanes.
+/// The length of four blocks. A name of at most this length is looked at in one go.
+pub(super) const SHORT: usize = 4 * LANES;
+
+/// The length of two blocks.
+const TWO: usize = 2 * LANES;
+
+/// Which bytes are in a short name, of those for which a condition asks: their classes, a bit for
+/// each, in any of sixteen lanes.
 #[derive(Clone, Copy)]
 pub(super) struct Classes {
     lanes: u8x16,
+}
+
+/// The classes of bytes that a name may have, a bit for each. Of the other classes it has none.
+#[derive(Clone, Copy)]
+pub(super) struct Suspects {
+    classes: u8,
 }
 
 // The classes of bytes, a bit for each. The bytes of a class have one high nibble, but for the
@@ -71,9 +87,11 @@ const BY_HIGH_NIBBLE: [u8; 16] = [
 ];
 
 impl Classes {
-    /// What stands in the name.
+    /// What is in the name.
     #[inline(always)]
     pub(super) fn of(name: &[u8]) -> Classes
+        requires some { 1 ≤ length name.now }
+        requires short { length name.now ≤ SHORT }
         ensures { Describes result.lanes name.now }
     {
         Classes {
@@ -105,34 +123,82 @@ impl Classes {
         has_class(self.lanes, BACKSLASH)
     }
 
-    /// Whether a byte was seen that is illegal on Windows.
+    /// What was seen, for the conditions that ask for it.
     #[inline(always)]
-    pub(super) fn illegal(&self) -> bool
-        ensures { result ≡ any_class ILLEGAL self.now.lanes }
+    pub(super) fn suspects(&self) -> Suspects
+        ensures { (x : List ℕ) → Describes self.now.lanes x → MayHave result.classes x }
     {
-        has_class(self.lanes, ILLEGAL)
-    }
-
-    /// Whether a byte was seen with which a character begins that HFS+ may ignore.
-    #[inline(always)]
-    pub(super) fn lead(&self) -> bool
-        ensures { result ≡ any_class LEAD self.now.lanes }
-    {
-        has_class(self.lanes, LEAD)
+        Suspects {
+            classes: self.lanes.reduce_or(),
+        }
     }
 }
 
-/// The classes of the bytes of a name, in any of sixteen lanes.
+impl Suspects {
+    /// Any bytes at all, of a name that was not looked at.
+    #[inline(always)]
+    pub(super) fn any() -> Suspects
+        ensures { (x : List ℕ) → MayHave result.classes x }
+    {
+        Suspects { classes: ANY }
+    }
+
+    /// Whether the name may have a byte that is illegal on Windows.
+    #[inline(always)]
+    #[tactic(auto, unfolding(crate::specs::Private::Classes::any_class))]
+    pub(super) fn illegal(self) -> bool
+        ensures { result ≡ any_class ILLEGAL (self.classes ∷ []) }
+    {
+        self.classes & ILLEGAL != 0
+    }
+
+    /// Whether the name may have a byte with which a character begins that HFS+ may ignore.
+    #[inline(always)]
+    #[tactic(auto, unfolding(crate::specs::Private::Classes::any_class))]
+    pub(super) fn lead(self) -> bool
+        ensures { result ≡ any_class LEAD (self.classes ∷ []) }
+    {
+        self.classes & LEAD != 0
+    }
+}
+
+/// Whether a name that isn't short has a byte for which a condition asks.
+#[tactic(auto, using(crate::proofs::Blocks::ByteClasses::classed_is))]
+pub(super) fn has_classed_byte(name: &[u8]) -> bool
+    requires { SHORT < length name.now }
+    ensures { result ≡ list_any is_classed name.now }
+{
+    blocks_have_class(name, ANY)
+}
+
+/// Whether the name has a byte that is illegal on Windows.
+#[tactic(auto, using(crate::proofs::Blocks::ByteClasses::illegal_is))]
+pub(super) fn has_illegal_byte(name: &[u8]) -> bool
+    requires { 1 ≤ length name.now }
+    ensures { result ≡ list_any is_illegal_byte name.now }
+{
+    if name.len() > SHORT {
+        return blocks_have_class(name, ILLEGAL);
+    }
+    has_class(classes_of(name), ILLEGAL)
+}
+
+/// The classes of the bytes of a short name, in any of sixteen lanes. From eight bytes to two
+/// blocks, all names are looked at in the same way: a branch on the length would be mispredicted.
 #[inline(always)]
-#[tactic(auto, using(crate::proofs::Blocks::ByteClasses::classes_of_none))]
 fn classes_of(name: &[u8]) -> u8x16
+    requires some { 1 ≤ length name.now }
+    requires short { length name.now ≤ SHORT }
     ensures { HaveClassesOf result name.now }
 {
-    if name.len() >= 8 {
-        if name.len() <= LANES {
-            return classes_in(halves(name, 0, name.len() - 8));
-        }
-        return classes_of_blocks(name);
+    if name.len() >= 8 && name.len() <= TWO {
+        let last = name.len() - 8;
+        let front = halves(name, 0, last.min(8));
+        let back = halves(name, name.len().saturating_sub(LANES), last);
+        return classes_in(front) | classes_in(back);
+    }
+    if name.len() > TWO {
+        return classes_of_two(name, 0) | classes_of_two(name, name.len() - TWO);
     }
     if name.len() >= 4 {
         return classes_in(quarters(name, 0, name.len() - 4));
@@ -140,27 +206,48 @@ fn classes_of(name: &[u8]) -> u8x16
     if name.len() >= 2 {
         return classes_in(pairs(name, 0, name.len() - 2));
     }
-    let [byte, ..] = name else {
-        return u8x16::splat(0);
-    };
-    classes_in(u8x16::splat(*byte))
+    classes_in(u8x16::splat(name[0]))
 }
 
-/// The classes of the bytes of a name that is longer than a block. The last block overlaps the one
-/// before it.
-#[tactic(auto, using(crate::proofs::Blocks::ByteClasses::any_whole, crate::proofs::Blocks::ByteClasses::first_block))]
-fn classes_of_blocks(name: &[u8]) -> u8x16
-    requires { LANES < length name.now }
-    ensures { HaveClassesOf result name.now }
+/// Whether a name that isn't short has a byte of one of the classes. The last four blocks overlap
+/// the ones before them.
+#[inline(always)]
+fn blocks_have_class(name: &[u8], mask: u8) -> bool
+    requires { SHORT < length name.now }
+    ensures { result ≡ list_any (has_class mask) name.now }
 {
-    let last = name.len() - LANES;
-    let mut found = classes_in(u8x16::from_slice(&name[last..]));
+    let last = name.len() - SHORT;
     let mut at = 0;
     while at < last {
-        found = found | classes_in(u8x16::from_slice(&name[at..]));
-        at += LANES;
+        if four_have_class(name, at, mask) {
+            return true;
+        }
+        at += SHORT;
     }
-    found
+    four_have_class(name, last, mask)
+}
+
+/// Whether four blocks of the name, from this place on, have a byte of one of the classes.
+#[inline(always)]
+fn four_have_class(name: &[u8], at: usize, mask: u8) -> bool
+    requires { at + SHORT ≤ length name.now }
+    ensures { result ≡ list_any (has_class mask) (chunk at SHORT name.now) }
+{
+    let first = classes_of_two(name, at);
+    let second = classes_of_two(name, at + TWO);
+    has_class(first | second, mask)
+}
+
+/// The classes of the bytes of two blocks of the name, from this place on.
+#[inline(always)]
+fn classes_of_two(name: &[u8], at: usize) -> u8x16
+    requires { at + TWO ≤ length name.now }
+    ensures classes { HaveClassesOf result (chunk at TWO name.now) }
+    ensures lanes { length result ≡ LANES }
+{
+    let first = classes_in(u8x16::from_slice(&name[at..]));
+    let second = classes_in(u8x16::from_slice(&name[at + LANES..]));
+    first | second
 }
 
 /// The classes of the bytes of a block.

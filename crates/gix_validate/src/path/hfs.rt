@@ -1,6 +1,6 @@
 //! How a name reads on HFS+, which ignores sixteen characters.
 
-ghost use Rattle.std.specs.Prelude.{◌≡◌, ◌<◌, ◌∷◌, [], MatchOption, codes, length, drop, slice_index};
+ghost use Rattle.std.specs.Prelude.{◌≡◌, false, ◌<◌, ◌∷◌, [], MatchOption, codes, length, drop, slice_index};
 ghost use Rattle.std.specs.List.{list_any};
 ghost use Rattle.std.specs.Str.{bytes_eq};
 ghost use Rattle.gix_validate.specs.Bytes.{lower};
@@ -11,31 +11,31 @@ use crate::path::ascii_case::{bytes_eq_ignore_ascii_case, eq_ignore_ascii_case};
 
 /// Whether the name reads as `.git`.
 #[tactic(auto, unfolding(crate::specs::Bytes::lower_byte))]
-pub(super) fn is_git(name: &[u8], has_lead: bool) -> bool
-    requires { has_lead ≡ list_any is_lead name.now }
+pub(super) fn is_git(name: &[u8], may_have_lead: bool) -> bool
+    requires { may_have_lead ≡ false → list_any is_lead name.now ≡ false }
     ensures { result ≡ bytes_eq (lower (hfs_form name.now)) (codes ".git") }
 {
-    reads_as(name, b".git", has_lead)
+    reads_as(name, b".git", may_have_lead)
 }
 
 /// Whether the name reads as `.gitmodules`.
 #[tactic(auto, unfolding(crate::specs::Bytes::lower_byte))]
-pub(super) fn is_modules(name: &[u8], has_lead: bool) -> bool
-    requires { has_lead ≡ list_any is_lead name.now }
+pub(super) fn is_modules(name: &[u8], may_have_lead: bool) -> bool
+    requires { may_have_lead ≡ false → list_any is_lead name.now ≡ false }
     ensures { result ≡ bytes_eq (lower (hfs_form name.now)) (codes ".gitmodules") }
 {
-    reads_as(name, b".gitmodules", has_lead)
+    reads_as(name, b".gitmodules", may_have_lead)
 }
 
 /// Whether the name reads as the word, in any ASCII letter case. It has ignored characters only
 /// where it has a byte with which one begins.
 #[tactic(auto, using(crate::proofs::Components::HfsForm::hfs_form_same))]
 #[inline(always)]
-fn reads_as(name: &[u8], word: &[u8], has_lead: bool) -> bool
-    requires { has_lead ≡ list_any is_lead name.now }
+fn reads_as(name: &[u8], word: &[u8], may_have_lead: bool) -> bool
+    requires { may_have_lead ≡ false → list_any is_lead name.now ≡ false }
     ensures { result ≡ bytes_eq (lower (hfs_form name.now)) (lower word.now) }
 {
-    if has_lead {
+    if may_have_lead {
         kept_is(name, word)
     } else {
         eq_ignore_ascii_case(name, word)

@@ -1,6 +1,11 @@
 //! Names that mean something else on Windows, and names that it forbids.
+//!
+//! The names of devices begin with `aux`, `com`, `con`, `lpt`, `nul` or `prn`. Tables say which of
+//! these words may have a letter at each of the first three places. The first letters of file names
+//! are hard to predict, so a branch on each took most of the time. Now there is one, which hardly
+//! any other name takes.
 
-ghost use Rattle.std.specs.Prelude.{◌≡◌, ◌==◌, ◌||◌, ◌∷◌, [], ◌++◌, ◌%◌, slice_index, bit_and, codes, IsTrue};
+ghost use Rattle.std.specs.Prelude.{◌≡◌, ◌≤◌, false, length, ◌==◌, ◌||◌, ◌∷◌, [], ◌++◌, ◌%◌, slice_index, bit_and, codes, IsTrue};
 ghost use Rattle.std.specs.List.{list_all, list_any};
 ghost use Rattle.std.specs.Str.{byte, bytes_eq};
 ghost use Rattle.gix_validate.specs.Bytes.{lower, is_empty, ends};
@@ -12,13 +17,13 @@ ghost use Rattle.gix_validate.specs.Private.Forms.{stays_in_form};
 use crate::path::ascii_case::strip_prefix_ignore_ascii_case;
 use crate::path::units::first_unit_len;
 
-/// Whether a colon stands after the first unit. Where no byte is illegal, there is no colon.
+/// Whether a colon follows the first unit. A name without illegal bytes has no colon.
 #[tactic(auto, using(crate::proofs::Components::OrdinaryNames::legal_no_prefix))]
-pub(super) fn has_prefix(name: &[u8], has_illegal: bool) -> bool
-    requires { has_illegal ≡ list_any is_illegal_byte name.now }
+pub(super) fn has_prefix(name: &[u8], may_be_illegal: bool) -> bool
+    requires { may_be_illegal ≡ false → list_any is_illegal_byte name.now ≡ false }
     ensures { result ≡ (slice_index name.now (first_unit_len name.now) == byte ":") }
 {
-    has_illegal && name.get(first_unit_len(name)) == Some(&b':')
+    may_be_illegal && name.get(first_unit_len(name)) == Some(&b':')
 }
 
 /// Whether the name ends in a dot or a space.
@@ -28,7 +33,7 @@ pub(super) fn ends_illegally(name: &[u8]) -> bool
     matches!(name.last(), Some(b'.' | b' '))
 }
 
-/// The six words with which the names of devices begin, a bit for each.
+/// The six words with which the names of devices begin, and the front of `.git`, a bit for each.
 const AUX: u8 = 0x01;
 
 const CON: u8 = 0x02;
@@ -41,12 +46,20 @@ const NUL: u8 = 0x10;
 
 const PRN: u8 = 0x20;
 
+const DOT_GIT: u8 = 0x40;
+
+/// The words with which the names of devices begin.
+const DEVICES: u8 = AUX | CON | COM | LPT | NUL | PRN;
+
+/// The same and the front of `.git`.
+const WORDS: u8 = DEVICES | DOT_GIT;
+
 /// The words that may have a byte as their first letter, by the low five bits of the byte, which
 /// are the same for a capital.
 #[rattlefmt::skip]
 const BY_FIRST: [u8; 32] = [
     0, AUX, 0, CON | COM, 0, 0, 0, 0, // a, c
-    0, 0, 0, 0, LPT, 0, NUL, 0, // l, n
+    0, 0, 0, 0, LPT, 0, NUL | DOT_GIT, 0, // l, n and `.`
     PRN, 0, 0, 0, 0, 0, 0, 0, // p
     0, 0, 0, 0, 0, 0, 0, 0,
 ];
@@ -54,7 +67,7 @@ const BY_FIRST: [u8; 32] = [
 /// The same by the second letter.
 #[rattlefmt::skip]
 const BY_SECOND: [u8; 32] = [
-    0, 0, 0, 0, 0, 0, 0, 0,
+    0, 0, 0, 0, 0, 0, 0, DOT_GIT, // g
     0, 0, 0, 0, 0, 0, 0, CON | COM, // o
     LPT, 0, PRN, 0, 0, AUX | NUL, 0, 0, // p, r, u
     0, 0, 0, 0, 0, 0, 0, 0,
@@ -64,10 +77,42 @@ const BY_SECOND: [u8; 32] = [
 #[rattlefmt::skip]
 const BY_THIRD: [u8; 32] = [
     0, 0, 0, 0, 0, 0, 0, 0,
-    0, 0, 0, 0, NUL, COM, CON | PRN, 0, // l, m, n
+    0, DOT_GIT, 0, 0, NUL, COM, CON | PRN, 0, // i, l, m, n
     0, 0, 0, 0, LPT, 0, 0, 0, // t
     AUX, 0, 0, 0, 0, 0, 0, 0, // x
 ];
+
+/// The words by letter, in one table.
+const BY_LETTER: [[u8; 32]; 3] = [BY_FIRST, BY_SECOND, BY_THIRD];
+
+/// The words with which a name of this length may begin: `.git` and `.gitmodules` have four bytes
+/// and eleven.
+#[rattlefmt::skip]
+const BY_LENGTH: [u8; 65] = [
+    0, 0, 0, DEVICES, WORDS, DEVICES, DEVICES, DEVICES,
+    DEVICES, DEVICES, DEVICES, WORDS, DEVICES, DEVICES, DEVICES, DEVICES,
+    DEVICES, DEVICES, DEVICES, DEVICES, DEVICES, DEVICES, DEVICES, DEVICES,
+    DEVICES, DEVICES, DEVICES, DEVICES, DEVICES, DEVICES, DEVICES, DEVICES,
+    DEVICES, DEVICES, DEVICES, DEVICES, DEVICES, DEVICES, DEVICES, DEVICES,
+    DEVICES, DEVICES, DEVICES, DEVICES, DEVICES, DEVICES, DEVICES, DEVICES,
+    DEVICES, DEVICES, DEVICES, DEVICES, DEVICES, DEVICES, DEVICES, DEVICES,
+    DEVICES, DEVICES, DEVICES, DEVICES, DEVICES, DEVICES, DEVICES, DEVICES,
+    DEVICES,
+];
+
+/// Whether a short name may mean a device, or be `.git` or `.gitmodules` in any ASCII letter case.
+/// Hardly any other name gets past this look, which has no branch for a letter.
+#[inline(always)]
+#[tactic(auto, using(crate::proofs::Components::Devices::device_short, crate::proofs::Components::Devices::no_special), unfolding(crate::proofs::Components::Devices::bits))]
+pub(super) fn may_be_special(name: &[u8]) -> bool
+    requires some { 3 ≤ length name.now }
+    requires short { length name.now ≤ 64 }
+    ensures device { result ≡ false → is_device name.now ≡ false }
+    ensures git { result ≡ false → bytes_eq (lower name.now) (codes ".git") ≡ false }
+    ensures modules { result ≡ false → bytes_eq (lower name.now) (codes ".gitmodules") ≡ false }
+{
+    words_with(name[0], name[1], name[2]) & BY_LENGTH[name.len()] != 0
+}
 
 /// Whether the name means a device. Hardly any other name gets past its first three letters, which
 /// are looked at without a branch for each.
@@ -82,21 +127,21 @@ pub(super) fn is_device(name: &[u8]) -> bool
     words_with(name[0], name[1], name[2]) != 0 && is_device_by_letters(name)
 }
 
-/// Which of the six words may have these letters, a bit for each.
+/// Which of the words may have these letters, a bit for each.
 #[inline(always)]
 fn words_with(first: u8, second: u8, third: u8) -> u8
     ensures { result ≡ bit_and (bit_and (slice_index BY_FIRST (first % 32)) (slice_index BY_SECOND (second % 32)))
         (slice_index BY_THIRD (third % 32)) }
 {
-    BY_FIRST[(first % 32) as usize]
-        & BY_SECOND[(second % 32) as usize]
-        & BY_THIRD[(third % 32) as usize]
+    BY_LETTER[0][(first % 32) as usize]
+        & BY_LETTER[1][(second % 32) as usize]
+        & BY_LETTER[2][(third % 32) as usize]
 }
 
 /// Whether the name is a device, by its first three letters and what follows them.
 #[inline(always)]
 #[tactic(auto, using(crate::proofs::Components::Devices::by_letters), unfolding(crate::proofs::Components::Devices::are_letters))]
-fn is_device_by_letters(name: &[u8]) -> bool
+pub(super) fn is_device_by_letters(name: &[u8]) -> bool
     ensures { result ≡ is_device name.now }
 {
     match name {

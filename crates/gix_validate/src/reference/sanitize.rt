@@ -1,6 +1,17 @@
 //! The repair of names that are not partial names.
+//!
+//! A clear name (see `adjacent`) is left as it is. Any other is walked once, in the buffer. The
+//! walk differs from a plain loop that carries the previous byte. Each difference is kept for the
+//! instructions that it saves (`bench/run`):
+//!
+//! - The last byte is replaced by a slash meanwhile, if it is plain. So each run of plain bytes
+//!   ends by itself, and its loop needs no second test.
+//! - Pieces of plain bytes at the front stay in place, so they are only read.
+//! - A `.lock` right before a slash is skipped, and not written only to be cut again.
+//! - The previous byte is read from the piece that is written so far, so a run of plain bytes has
+//!   nothing to carry.
 
-ghost use Rattle.std.specs.Prelude.{◌≡◌, ◌≢◌, ◌↔◌, ◌+◌, ◌-◌, ◌≤◌, ◌<◌, ◌==◌, ◌||◌, ◌&&◌, ◌++◌, [], ◌∷◌, max, not, if◌then◌else◌, length, take, drop, get_or, set, codes, IsTrue, IsOk, IfOk, Some, None, slice_range, vec_capacity};
+ghost use Rattle.std.specs.Prelude.{◌≡◌, ◌≢◌, ℕ, false, ◌↔◌, ◌+◌, ◌-◌, ◌≤◌, ◌<◌, ◌==◌, ◌||◌, ◌&&◌, ◌++◌, [], ◌∷◌, max, not, if◌then◌else◌, length, take, drop, get_or, set, codes, IsTrue, IsOk, IfOk, Some, None, slice_range, vec_capacity};
 ghost use Rattle.bstr.specs.BStr.{bstr_bytes};
 ghost use Rattle.bstr.specs.Owned.{bstring_bytes};
 ghost use Rattle.std.specs.Str.{byte};
@@ -112,8 +123,9 @@ pub fn sanitize_in_place(buf: &mut [u8], len: usize) -> usize
 /// what it wrote. A byte is written at the place of the one just read, or before it.
 ///
 /// The last byte comes at the end. If it is plain, a slash stands in its place until then, so that
-/// each run of plain bytes ends before the text does. A `.lock` right before a slash is skipped,
-/// where something stands before it in its piece: it would be cut.
+/// each run of plain bytes ends before the text does. Pieces of plain bytes at the front, and the
+/// plain bytes behind them, stay in place, so they are only read. A `.lock` right before a slash is
+/// skipped, where something stands before it in its piece: it would be cut.
 fn mend_pieces(text: &mut [u8]) -> usize
     ensures within { result ≤ length text.old }
     ensures text { take result text.new ≡ joined (mended_pieces text.old) }
@@ -121,9 +133,13 @@ fn mend_pieces(text: &mut [u8]) -> usize
     let Some(stop) = text.len().checked_sub(1) else {
         return 0;
     };
-    let last = text[stop];
-    guard_end(text, stop);
-    let (mut start, mut end, mut read) = (0, 0, 0);
+    let last = guard_end(text, stop);
+    let (mut start, mut read) = (0, end_of_run(text, 0));
+    while text[read] == b'/' && start < read && read < stop {
+        start = read + 1;
+        read = end_of_run(text, start);
+    }
+    let mut end = read;
     loop {
         while is_plain(text[read]) {
             text[end] = text[read];
@@ -147,22 +163,38 @@ fn mend_pieces(text: &mut [u8]) -> usize
         }
         read += 1;
     }
-    if last != b'/' {
-        text[end] = cleaned_byte(&text[start..end], last);
-        end += 1;
-    }
-    end_of_text(text, start, end)
+    write_last(text, start, end, last)
 }
 
-/// Puts a slash in the place `stop`, if the byte there is plain.
-fn guard_end(text: &mut [u8], stop: usize)
+/// Puts a slash in the place `stop`, if the byte there is plain, and gives that byte.
+fn guard_end(text: &mut [u8], stop: usize) -> u8
     requires { stop < length text.old }
-    ensures { let last = get_or text.old stop 0 in
+    ensures last { result ≡ get_or text.old stop 0 }
+    ensures text { let last = get_or text.old stop 0 in
         text.new ≡ (if is_bad last || is_among (codes "*./{") last then text.old else set text.old stop (byte "/")) }
 {
-    if is_plain(text[stop]) {
+    let last = text[stop];
+    if is_plain(last) {
         text[stop] = b'/';
     }
+    last
+}
+
+/// The first place from this one on whose byte isn't plain. The text's last byte isn't.
+#[inline(always)]
+fn end_of_run(text: &[u8], from: usize) -> usize
+    requires within { from < length text.now }
+    requires guarded { let last = get_or text.now (length text.now - 1) 0 in IsTrue (is_bad last || is_among (codes "*./{") last) }
+    ensures in_order { from ≤ result }
+    ensures within { result < length text.now }
+    ensures run { (k : ℕ) → from ≤ k → k < result → (is_bad (get_or text.now k 0) || is_among (codes "*./{") (get_or text.now k 0)) ≡ false }
+    ensures stops { IsTrue (is_bad (get_or text.now result 0) || is_among (codes "*./{") (get_or text.now result 0)) }
+{
+    let mut read = from;
+    while is_plain(text[read]) {
+        read += 1;
+    }
+    read
 }
 
 /// Whether the byte stays itself wherever it stands.
@@ -207,6 +239,27 @@ fn close_piece(text: &mut [u8], start: usize, end: usize) -> usize
     let end = end_of_cut(text, start, end);
     text[end] = b'/';
     end + 1
+}
+
+/// Writes the text's last byte to its last piece, which was written from `start` to `end`, unless
+/// that byte is a slash, and gives where the text ends.
+#[tactic(auto, using(crate::proofs::Sanitizing::OneBuffer::take_pushed))]
+fn write_last(text: &mut [u8], start: usize, end: usize, last: u8) -> usize
+    requires in_order { start ≤ end }
+    requires room { end < length text.old }
+    ensures within { result ≤ length text.old }
+    ensures slash { last ≡ byte "/" → take result text.new ≡ (if start == end
+        then take (end - 1) text.old
+        else take start text.old ++ cut (slice_range text.old start end)) }
+    ensures other { last ≢ byte "/" → (let piece = slice_range text.old start end in
+        take result text.new ≡ take start text.old ++ cut (piece ++ (if (last == byte "." && is_empty piece) || (last == byte "{" && ends piece (codes "@"))
+        then byte "-" else allowed last) ∷ [])) }
+{
+    if last == b'/' {
+        return end_of_text(text, start, end);
+    }
+    text[end] = cleaned_byte(&text[start..end], last);
+    end_of_cut(text, start, end + 1)
 }
 
 /// Where the text ends whose last piece was written from `start` to `end`: that piece is cut, or if

@@ -1,8 +1,7 @@
-use Rattle.std.proofs.Common.{arith}
-use Rattle.gix_validate.proofs.Blocks.AdjacentBytes.{suspect_lanes}
+use Rattle.gix_validate.specs.Private.Adjacent.{is_suspect}
+use Rattle.std.proofs.Common.{get_or}
+use Rattle.gix_validate.proofs.Blocks.Lanes.{no_bit}
 use Rattle.gix_validate.proofs.adjacent.has_no_suspect.Goals as goal
 
 pub returns : goal.returns
-returns c =
-    let law = suspect_lanes c.args.before c.args.bytes _ _ c.fits-before c.fits-bytes c.classify.ensures c.suspect_behind.ensures in
-    grind (arith, law)
+returns c = no_bit _ (λ k. is_suspect (get_or c.args.before k 0) (get_or c.args.bytes k 0)) c.suspects.ensures.few c.suspects.ensures.lanes

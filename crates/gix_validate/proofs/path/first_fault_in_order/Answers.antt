@@ -7,9 +7,9 @@ use Rattle.gix_validate.specs.Windows.{is_illegal}
 use Rattle.gix_validate.proofs.Components.Laws.{AllNone, first_from_AllNone}
 use Rattle.gix_validate.proofs.path.first_fault_in_order.Goals as goal
 
-pub returns-else-not-hfs : goal.returns-else-not-hfs
+pub returns-else-windows-3 : goal.returns-else-windows-3
 unfolding fault_of conditions is_illegal lower_byte
-returns-else-not-hfs c =
+returns-else-windows-3 c =
     let lines = conditions (switches c.args.windows c.args.hfs c.args.ntfs) c.args.mode c.args.name.now in
     let later : AllNone (drop 6 lines) = (grind arith, (grind arith, (grind arith, (grind arith, (grind arith, (grind arith, tt)))))) in
     first_from_AllNone lines (grind arith, (grind arith, (grind arith, (grind arith, (grind arith, (grind arith, later))))))

@@ -1,17 +1,24 @@
--- Each part that was looked at is settled, or has the fault.
-use Rattle.std.proofs.Common.{◌+◌, sym, arith}
-use Rattle.gix_validate.proofs.TagNames.ClearTexts.{settled_part}
-use Rattle.gix_validate.proofs.TagNames.Places.{settled_by_asking}
+-- The first byte, then each block, and at last the block at the end.
+use Rattle.std.proofs.Common.{◌+◌, length, sym, ◌∙◌, arith}
+use Rattle.gix_validate.proofs.TagNames.Places.{by_last_block, first_of_byte, from_place, settled_before}
 use Rattle.gix_validate.proofs.tag.fault_by_blocks.Goals as goal
+use Rattle.gix_validate.proofs.tag.fault_by_blocks.Goals.{else-loop-at-test, then-loop-at-test+in_default-fault_in_block+else-last-at-gt16}
 
-pub loop-at-preserved-then-block_has_none : goal.loop-at-preserved-then-block_has_none
-loop-at-preserved-then-block_has_none c =
-    let quiet = c.block_has_none.ensures.0 c.if-block_has_none.true in
-    let part = settled_part c.args.bytes.now c.loop-at.at (c.loop-at.at + 16) (omega arith) (omega arith) (omega arith) in
-    let s = part (λ k from below. quiet k from (omega arith)) in
-    record { within = omega arith; settled = s c.loop-at.invariant.settled }
+pub returns-then-bytes-le-LANES : goal.returns-then-bytes-le-LANES
+returns-then-bytes-le-LANES c =
+    c.first_fault_between.ensures ∙ sym (from_place c.args.bytes.now 0 (length c.args.bytes.now) (omega arith) (λ p from to. absurd (omega arith)))
 
-pub loop-at-preserved : goal.loop-at-preserved
-loop-at-preserved c =
-    let s = settled_by_asking c.args.bytes.now c.loop-at.at c.min-at.result c.min-stop.result (omega arith) (omega arith) (omega arith) in
-    record { within = omega arith; settled = s c.loop-at.invariant.settled (sym c.in_default.ensures) }
+pub returns-in-Some : goal.returns-in-Some
+returns-in-Some c =
+    sym (first_of_byte c.args.bytes.now 0 c.in-Some.fault c.requires (λ p from to. absurd (omega arith)) (sym c.fault_of_byte.ensures ∙ c.in-Some.is))
+
+pub fault_in_block-requires-2-clause-settled : goal.fault_in_block-requires-2-clause-settled
+fault_in_block-requires-2-clause-settled c =
+    elim c.loop-at-test.branch [
+      | else-loop-at-test w ↦ settled_before c.args.bytes.now _ (c.loop-at.at + 1) (omega arith) c.loop-at.invariant
+      | then-loop-at-test+in_default-fault_in_block+else-last-at-gt16 w ↦
+          settled_before c.args.bytes.now _ (c.loop-at.at + 17) (omega arith) w.in_default-fault_in_block.ensures
+    ]
+
+pub returns : goal.returns
+returns c = by_last_block c.args.bytes.now _ c.fault_in_block-2.result (omega arith) c.fault_in_block-2.ensures

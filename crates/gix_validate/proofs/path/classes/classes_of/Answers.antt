@@ -1,11 +1,24 @@
 -- A short name is its front and its back.
-use Rattle.std.proofs.Common.{◌-◌, length, replicate, get_or, arith}
-use Rattle.gix_validate.proofs.Blocks.Parts.{one_covers}
-use Rattle.gix_validate.proofs.Blocks.ByteClasses.{classes_of_parts}
+use Rattle.std.proofs.Common.{◌-◌, ◌||◌, length, take, replicate, get_or, sym, ap, ◌∙◌, arith}
+use Rattle.std.specs.List.{list_any}
+use lib.Lanes.{chunk}
+use Rattle.gix_validate.proofs.Blocks.Parts.{one_covers, any_overlap, whole_chunk}
+use Rattle.gix_validate.proofs.Blocks.ByteClasses.{classes_of_parts, classes_of_both, classes_joined}
 use Rattle.gix_validate.proofs.path.classes.classes_of.Goals as goal
 
-pub returns-then-name-le-LANES : goal.returns-then-name-le-LANES
-returns-then-name-le-LANES c = classes_of_parts 8 (length c.args.name.now - 8) _ _ _ (omega arith) c.halves.ensures c.classes_in.ensures
+pub returns-then-name-gt-TWO : goal.returns-then-name-gt-TWO
+returns-then-name-gt-TWO c =
+    let x = c.args.name.now in
+    let last = length x - 32 in
+    classes_joined _ _ (chunk 0 32 x) (chunk last 32 x) x (c.classes_of_two.ensures.lanes ∙ sym c.classes_of_two-then-name-gt-TWO.ensures.lanes)
+    c.classes_of_two.ensures.classes c.classes_of_two-then-name-gt-TWO.ensures.classes
+    (λ p. ap (λ y. list_any p (take 32 x) || list_any p y) (whole_chunk last 32 x (omega arith)) ∙ any_overlap p x last 32 (omega arith))
+
+pub returns-then-name-le-TWO : goal.returns-then-name-le-TWO
+returns-then-name-le-TWO c =
+    let n = length c.args.name.now in
+    classes_of_both c.min.result c.saturating_sub.result (n - 8) _ _ _ _ _ (omega arith) (omega arith) c.halves-front.ensures c.halves-back.ensures
+    c.classes_in.ensures c.classes_in-then-name-le-TWO.ensures
 
 pub returns-then-name-ge4 : goal.returns-then-name-ge4
 returns-then-name-ge4 c = classes_of_parts 4 (length c.args.name.now - 4) _ _ _ (omega arith) c.quarters.ensures c.classes_in-then-name-ge4.ensures

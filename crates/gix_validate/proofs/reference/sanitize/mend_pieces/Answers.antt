@@ -1,12 +1,25 @@
 use Rattle.std.proofs.Common.{◌<◌, sym, ◌∙◌, arith}
 use Rattle.std.proofs.lemmas.Bool.{eq-eqb, ne_eqb}
 use Rattle.std.proofs.lemmas.Bool.Decides.{nat_tests}
-use Rattle.gix_validate.proofs.Sanitizing.OneBuffer.{MendedUpTo-start, MendedUpTo-plain, MendedUpTo-byte, MendedUpTo-dots, MendedUpTo-closed}
-use Rattle.gix_validate.proofs.Sanitizing.OneBuffer.{GivesWhole-at_slash, GivesWhole-at_lock, mended_text-slash, mended_text-byte}
+use Rattle.gix_validate.proofs.Sanitizing.OneBuffer.{MendedUpTo-start, MendedUpTo-run, MendedUpTo-kept, MendedUpTo-plain, MendedUpTo-byte, MendedUpTo-dots, MendedUpTo-closed}
+use Rattle.gix_validate.proofs.Sanitizing.OneBuffer.{GivesWhole-at_slash, GivesWhole-at_lock, mended_text-last}
 use Rattle.gix_validate.proofs.reference.sanitize.mend_pieces.Goals as goal
 
+pub loop-read-init : goal.loop-read-init
+loop-read-init c =
+    let begun = MendedUpTo-start c.args.text.now c.guard_end-last.new.text c.in-Some.stop (omega arith) c.guard_end-last.ensures.text in
+    let run = c.end_of_run-read.ensures.run in
+    record { mended = MendedUpTo-run _ _ _ _ _ _ begun (omega arith) run; plain = run }
+
+pub loop-read-preserved : goal.loop-read-preserved
+loop-read-preserved c =
+    let l = c.loop-read.invariant in
+    let run = c.end_of_run-read-in-loop-read.ensures in
+    let kept = MendedUpTo-kept _ _ _ _ _ l.mended c.if-start-read.true c.if-read-stop.true c.loop-read-test.true l.plain in
+    record { mended = MendedUpTo-run _ _ _ _ _ _ kept run.in_order run.run; plain = run.run }
+
 pub loop-text-init : goal.loop-text-init
-loop-text-init c = MendedUpTo-start c.args.text.now c.guard_end.new.text c.in-Some.stop (omega arith) c.guard_end.ensures
+loop-text-init c = c.loop-read.invariant.mended
 
 pub loop-text-2-preserved : goal.loop-text-2-preserved
 loop-text-2-preserved c =
@@ -36,12 +49,6 @@ loop-text-preserved c =
 pub returns-clause-text : goal.returns-clause-text
 returns-clause-text c =
     let l = c.loop-text-2 in
-    let mended = rw c.if-read-stop.true at l.invariant.mended in
-    elim c.if-last-ne47.branch [
-      | goal.then-last-ne47 w ↦
-          let written = rw (w.text-is, w.end-is) at c.end_of_text.ensures.text in
-          rw w.text-is (mended_text-byte _ _ _ _ _ _ _ mended (ne_eqb _ _ w.if-last-ne47.true) w.cleaned_byte-then-last-ne47.ensures written)
-      | goal.else-last-ne47 w ↦
-          let written = rw (w.text-is, w.end-is) at c.end_of_text.ensures.text in
-          rw w.text-is (mended_text-slash _ _ _ _ _ _ mended (eq-eqb _ _ w.if-last-ne47.false) written)
-    ]
+    let mended = rw c.if-read-stop-2.true at l.invariant.mended in
+    let written = c.write_last.ensures in
+    mended_text-last _ _ _ _ _ _ _ mended c.guard_end-last.ensures.last written.slash written.other

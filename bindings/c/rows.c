@@ -1,7 +1,7 @@
 /*
- * Replays the rows of bindings/rows through the calls of gix_validate.h, and asks what no row can say: texts and
- * repairs into buffers that are too small, large enough and larger; flags with other bits; NULL with length 0; reads
- * past either end of a name; the version.
+ * Replays the rows of bindings/rows through the functions of gix_validate.h, and checks what no row can say: texts,
+ * repairs and numbers into buffers that are too small, large enough and larger; flags with other bits; NULL with length
+ * 0; reads and writes past either end of a name, a buffer and an array; the version.
  * Each name and each buffer is a block of its exact size, so that valgrind sees any byte beyond it.
  *
  *     rows FILE      prints how many rows were replayed; status 1 where an answer is wrong
@@ -61,15 +61,16 @@ struct question {
     const char *call;
     uint32_t (*code)(const uint8_t *, size_t);
     size_t (*text)(const uint8_t *, size_t, uint8_t *, size_t);
+    size_t (*many)(const uint8_t *, size_t, uint8_t, uint8_t *, size_t);
 };
 
 static const struct question questions[] = {
-    {"tag", gix_validate_tag, gix_validate_tag_text},
-    {"partial", gix_validate_partial, gix_validate_partial_text},
-    {"full", gix_validate_full, gix_validate_full_text},
-    {"branch", gix_validate_branch, gix_validate_branch_text},
-    {"submodule", gix_validate_submodule, gix_validate_submodule_text},
-    {"component:", NULL, NULL},
+    {"tag", gix_validate_tag, gix_validate_tag_text, gix_validate_tag_many},
+    {"partial", gix_validate_partial, gix_validate_partial_text, gix_validate_partial_many},
+    {"full", gix_validate_full, gix_validate_full_text, gix_validate_full_many},
+    {"branch", gix_validate_branch, gix_validate_branch_text, gix_validate_branch_many},
+    {"submodule", gix_validate_submodule, gix_validate_submodule_text, gix_validate_submodule_many},
+    {"component:", NULL, NULL, NULL},
 };
 
 static uint32_t code_of(const struct question *asked, uint32_t flags, struct bytes name) {
@@ -104,6 +105,42 @@ static void check_texts(const struct question *asked, uint32_t flags, struct byt
         free(text.start);
     }
     free(exact.start);
+}
+
+/* Whatever the array's size, the call returns how many names there are. It writes the numbers that fit, and changes
+   nothing else. */
+static void check_many(const struct question *asked, struct bytes names, uint8_t end, struct bytes wanted) {
+    for (size_t size = 0; size <= wanted.length + MORE; size++) {
+        struct bytes faults = block(size, CANARY);
+        size_t written = size < wanted.length ? size : wanted.length;
+        EXPECT(asked->many(names.start, names.length, end, faults.start, size) == wanted.length);
+        EXPECT(same(faults.start, wanted.start, written));
+        EXPECT(all_are(faults.start + written, size - written, CANARY));
+        free(faults.start);
+    }
+}
+
+/* The name three times in one buffer, each time with a byte after it that it doesn't hold, and the last time without:
+   each has the number that it has alone. */
+static void check_thrice(const struct question *asked, struct bytes name, uint32_t code) {
+    unsigned end = '\n';
+    while (name.length > 0 && memchr(name.start, (int)end, name.length) != NULL) {
+        end = (end + 1) % 256;
+    }
+    struct bytes names = block(3 * (name.length + 1), (int)end);
+    for (size_t i = 0; i < 3; i++) {
+        memcpy(names.start + i * (name.length + 1), name.start, name.length);
+    }
+    struct bytes numbers = block(3, (int)code);
+    EXPECT(code <= UINT8_MAX);
+    check_many(asked, names, (uint8_t)end, numbers);
+    struct bytes less = block(names.length - 1, 0);
+    memcpy(less.start, names.start, less.length);
+    numbers.length = name.length == 0 ? 2 : 3;
+    check_many(asked, less, (uint8_t)end, numbers);
+    free(less.start);
+    free(numbers.start);
+    free(names.start);
 }
 
 static void check_sanitized(struct bytes name, struct bytes wanted) {
@@ -179,22 +216,53 @@ static void check_code(const struct question *asked, const char *call, struct by
         EXPECT(answer[word] != ':' || sscanf(answer + word, ":%2x", &byte) == 1);
         EXPECT(gix_validate_invalid_byte(name.start, name.length) == byte);
     }
+    if (asked->many != NULL) {
+        check_thrice(asked, name, code);
+    }
     check_texts(asked, flags, name, text);
 }
 
-static const struct question *question_of(const char *call) {
+static const struct question *question_of(const char *call, const char *behind) {
     for (size_t i = 0; i < sizeof questions / sizeof *questions; i++) {
         size_t length = strlen(questions[i].call);
-        if (strncmp(questions[i].call, call, length) == 0 && (questions[i].code == NULL || call[length] == ' ')) {
+        if (strncmp(questions[i].call, call, length) == 0 &&
+            (questions[i].code == NULL || strncmp(call + length, behind, strlen(behind)) == 0)) {
             return &questions[i];
         }
     }
     return NULL;
 }
 
+static uint32_t number_of(const char *fault, size_t length) {
+    uint32_t number = 0;
+    const char *name = gix_validate_fault_name(number);
+    while (name != NULL && (strlen(name) != length || memcmp(name, fault, length) != 0)) {
+        name = gix_validate_fault_name(++number);
+    }
+    EXPECT(name != NULL);
+    return number;
+}
+
+/* answer is how many names there are, and their faults. */
+static void check_row_of_many(const struct question *asked, unsigned end, struct bytes names, const char *answer) {
+    uint8_t decoded[256];
+    size_t read = 0;
+    size_t count = (size_t)strtoul(answer, NULL, 10);
+    for (answer += strcspn(answer, " "); *answer == ' ' && read < sizeof decoded; read++) {
+        size_t length = strcspn(answer + 1, " ");
+        decoded[read] = (uint8_t)number_of(answer + 1, length);
+        answer += 1 + length;
+    }
+    EXPECT(read == count && *answer == '\0');
+    struct bytes wanted = {decoded, read};
+    check_many(asked, names, (uint8_t)end, wanted);
+}
+
 static void check_row(const char *row) {
     const char *at = row + strcspn(row, " ") + 1;
-    const struct question *asked = question_of(row);
+    const struct question *asked = question_of(row, " ");
+    const struct question *many = question_of(row, "_many:");
+    unsigned end = 0;
     place = row;
     struct bytes name = quoted(&at);
     const char *answer = at + 1;
@@ -204,6 +272,8 @@ static void check_row(const char *row) {
         EXPECT(length < sizeof word);
         memcpy(word, answer, length < sizeof word ? length : 0);
         check_code(asked, row, name, word, answer[length] == ' ' ? answer + length + 1 : "");
+    } else if (many != NULL && sscanf(row + strlen(many->call), "_many:%2x ", &end) == 1) {
+        check_row_of_many(many, end, name, answer);
     } else if (strncmp(row, "sanitize ", 9) == 0) {
         struct bytes wanted = quoted(&answer);
         check_sanitized(name, wanted);
@@ -230,16 +300,60 @@ static void ask_all(struct bytes name) {
     (void)gix_validate_sanitize(name.start, name.length, copy, sizeof copy);
 }
 
+/* Three pages, of which only the one in the middle may be read and written. Returns its start. */
+static uint8_t *page_alone(size_t page) {
+    uint8_t *start = (uint8_t *)mmap(NULL, 3 * page, PROT_NONE, MAP_PRIVATE | MAP_ANONYMOUS, -1, 0);
+    if (start == MAP_FAILED || mprotect(start + page, page, PROT_READ | PROT_WRITE) != 0) {
+        perror("pages that may not be read");
+        exit(1);
+    }
+    return start + page;
+}
+
+/* Checks the names with each array that is smaller or as large as wanted, and ends or starts at the end of a page. */
+static void check_arrays(struct bytes names, uint8_t end, uint8_t *page_start, size_t page, size_t wanted) {
+    for (size_t q = 0; q < sizeof questions / sizeof *questions; q++) {
+        for (size_t size = 0; questions[q].many != NULL && size <= wanted; size++) {
+            EXPECT(questions[q].many(names.start, names.length, end, page_start, size) == wanted);
+            EXPECT(questions[q].many(names.start, names.length, end, page_start + page - size, size) == wanted);
+        }
+    }
+}
+
+/* Buffers of names, and arrays of faults, that end or start at a page that may not be touched. */
+static void check_ends_of_many(void) {
+    static const char *const fills[] = {"a\n", "refs/heads/a\n", "\n", "a.lock/b..\n\n"};
+    static const size_t counts[] = {1, 1, 1, 2};
+    size_t page = (size_t)sysconf(_SC_PAGESIZE);
+    uint8_t *names = page_alone(page);
+    uint8_t *faults = page_alone(page);
+    place = "buffers and arrays beside pages that may not be read";
+    for (size_t f = 0; f < sizeof fills / sizeof *fills; f++) {
+        size_t once = strlen(fills[f]);
+        for (size_t length = 0; length <= 70; length++) {
+            struct bytes at_front = {names, length};
+            struct bytes at_end = {names + page - length, length};
+            size_t wanted = length / once * counts[f] + (length % once == 0 ? 0 : 1);
+            for (size_t i = 0; i < length; i++) {
+                at_front.start[i] = (uint8_t)fills[f][i % once];
+            }
+            check_arrays(at_front, '\n', faults, page, wanted);
+            for (size_t i = 0; i < length; i++) {
+                at_end.start[i] = (uint8_t)fills[f][i % once];
+            }
+            check_arrays(at_end, '\n', faults, page, wanted);
+        }
+    }
+    munmap(names - page, 3 * page);
+    munmap(faults - page, 3 * page);
+}
+
 /* Names of each length that end or start at a page that may not be read: a read past either end stops the program. */
 static void check_ends(void) {
     static const char *const fills[] = {"a", "refs/", "k/", "x.lock/", "..", "nul ", "\xe2\x80\x8c", ".git\\"};
     size_t page = (size_t)sysconf(_SC_PAGESIZE);
-    uint8_t *start = (uint8_t *)mmap(NULL, 3 * page, PROT_NONE, MAP_PRIVATE | MAP_ANONYMOUS, -1, 0);
+    uint8_t *start = page_alone(page) - page;
     place = "names beside pages that may not be read";
-    if (start == MAP_FAILED || mprotect(start + page, page, PROT_READ | PROT_WRITE) != 0) {
-        perror(place);
-        exit(1);
-    }
     for (size_t f = 0; f < sizeof fills / sizeof *fills; f++) {
         for (size_t length = 0; length <= 130; length++) {
             struct bytes at_front = {start + page, length};
@@ -276,6 +390,11 @@ static void check_null(void) {
     EXPECT(gix_validate_sanitize((const uint8_t *)"a", 1, NULL, 0) == 0);
     uint8_t text[GIX_VALIDATE_TEXT_MAX];
     EXPECT(gix_validate_submodule_text(NULL, 0, text, sizeof text) == strlen("Submodule names cannot be empty"));
+    for (size_t i = 0; i < sizeof questions / sizeof *questions && questions[i].many != NULL; i++) {
+        EXPECT(questions[i].many(NULL, 0, '\n', NULL, 0) == 0);
+        EXPECT(questions[i].many(NULL, 0, '\n', text, sizeof text) == 0);
+        EXPECT(questions[i].many((const uint8_t *)"a\n\nb", 4, '\n', NULL, 0) == 3);
+    }
 }
 
 /* The helpers of the header, and its constants. */
@@ -317,6 +436,7 @@ int main(int count, char **arguments) {
     }
     fclose(file);
     check_ends();
+    check_ends_of_many();
     check_null();
     check_helpers();
     printf("%d rows, %d wrong\n", rows, failures);

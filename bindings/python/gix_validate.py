@@ -1,4 +1,4 @@
-"""Validation of the names that Git uses, and the repair of a bad reference name.
+r"""Validation of the names that Git uses, and the repair of a bad reference name.
 
 Each function calls a proved function of the Rattle crate gix_validate_c, in its shared object. The rules are those
 of docs/RULES.md; docs/BINDINGS.md says what is proved and what is not.
@@ -14,6 +14,16 @@ b'refs/heads/-/x'
 ...     print(error.fault, "-", error)
 DotGitDir - The .git name may never be used
 
+Many names are checked by one call, which is much faster than a call for each:
+
+>>> Kind = gix_validate.Kind
+>>> gix_validate.faults([b"refs/heads/main", b"main"], Kind.FULL)
+[None, <Fault.SOME_LOWERCASE: 12>]
+>>> gix_validate.first_invalid([b"refs/heads/main", b"main"], Kind.FULL)
+1
+>>> gix_validate.fault_numbers(b"refs/heads/main\nmain\n", Kind.FULL)
+b'\x00\x0c'
+
 A name is bytes, of any values; a str or None is a TypeError. The functions have no state and may be called from any
 thread.
 
@@ -26,12 +36,16 @@ import ctypes
 import enum
 import os
 from pathlib import Path
-from typing import Any, Callable, Optional, Tuple
+from typing import Any, Callable, Dict, Iterable, List, Optional, Tuple
 
 __all__ = [
     "Fault",
     "InvalidName",
+    "Kind",
     "branch_name",
+    "fault_numbers",
+    "faults",
+    "first_invalid",
     "full_name",
     "is_windows_device",
     "partial_name",
@@ -79,6 +93,16 @@ class Fault(enum.IntEnum):
 
     def __format__(self, specification: str) -> str:
         return format(str(self), specification)
+
+
+class Kind(enum.Enum):
+    """A kind of name, for the functions that check many names."""
+
+    TAG = "tag"
+    PARTIAL = "partial"
+    FULL = "full"
+    BRANCH = "branch"
+    SUBMODULE = "submodule"
 
 
 class InvalidName(ValueError):
@@ -157,6 +181,18 @@ _component, _component_text = _code_and_text("component", ctypes.c_uint32)
 _invalid_byte = _function("invalid_byte", ctypes.c_uint32)
 _is_windows_device = _function("is_windows_device", ctypes.c_bool)
 _sanitize = _function("sanitize", ctypes.c_size_t, ctypes.c_char_p, ctypes.c_size_t)
+_codes = {
+    Kind.TAG: _tag,
+    Kind.PARTIAL: _partial,
+    Kind.FULL: _full,
+    Kind.BRANCH: _branch,
+    Kind.SUBMODULE: _submodule,
+}
+_many = {
+    kind: _function(f"{kind.value}_many", ctypes.c_size_t, ctypes.c_uint8, ctypes.c_char_p, ctypes.c_size_t)
+    for kind in Kind
+}
+_fault_of: List[Optional[Fault]] = [None, *Fault]
 
 
 def tag_name(name: bytes) -> bytes:
@@ -178,9 +214,9 @@ def full_name(name: bytes) -> bytes:
 
 
 def branch_name(name: bytes) -> bytes:
-    """Returns `name` if it is a full name that a branch may have; else raises InvalidName.
+    """Returns `name` if it is a full name other than b"refs/heads/HEAD"; else raises InvalidName.
 
-    b"refs/heads/HEAD" is reserved.
+    b"HEAD" and b"refs/tags/v1" pass too: put b"refs/heads/" before a branch's short name.
     """
     return _accepted(name, _branch, _branch_text)
 
@@ -222,16 +258,67 @@ def sanitize(name: bytes) -> bytes:
     return ctypes.string_at(buffer, _sanitize(name, length, buffer, len(buffer)))
 
 
+def fault_numbers(buffer: bytes, kind: Kind, end: bytes = b"\n") -> bytes:
+    """Checks the names in a buffer: returns a byte for each, in order, which is 0 or the number of its Fault.
+
+    The byte `end` ends each name. What follows the last such byte is a name too, unless it is empty.
+    """
+    length = _length(buffer, "a buffer of names")
+    if _length(end, "the end of a name") != 1:
+        raise ValueError(f"the end of a name has to be one byte, not {bytes.__len__(end)}")
+    many, last = _of_kind(_many, kind), bytes.__getitem__(end, 0)
+    room = length // 8 + 1
+    count, numbers = _numbers(many, buffer, length, last, room)
+    return numbers if count <= room else _numbers(many, buffer, length, last, count)[1]
+
+
+def faults(names: Iterable[bytes], kind: Kind) -> List[Optional[Fault]]:
+    """Checks many names: returns None for each that is valid, and the fault of each that isn't, in order."""
+    return [_fault_of[number] for number in _numbers_of_each(names, kind)]
+
+
+def first_invalid(names: Iterable[bytes], kind: Kind) -> Optional[int]:
+    """Checks many names: returns the index of the first that is invalid, and None if all are valid."""
+    numbers = _numbers_of_each(names, kind)
+    valid = len(numbers) - len(numbers.lstrip(b"\0"))
+    return valid if valid < len(numbers) else None
+
+
 def version() -> Tuple[int, int, int]:
     """The version of the library: major, minor, patch."""
     return _version_of(_loaded)
 
 
-def _length(name: bytes) -> int:
+def _length(name: bytes, what: str = "a name") -> int:
     """How many bytes the name has, whatever the `__len__` of a subclass says."""
     if not isinstance(name, bytes):
-        raise TypeError(f"a name has to be bytes, not {type(name).__name__}")
+        raise TypeError(f"{what} has to be bytes, not {type(name).__name__}")
     return bytes.__len__(name)
+
+
+def _of_kind(functions: Dict[Kind, Callable[..., int]], kind: Kind) -> Callable[..., int]:
+    if not isinstance(kind, Kind):
+        raise TypeError(f"a kind has to be a Kind, not {type(kind).__name__}")
+    return functions[kind]
+
+
+def _numbers(many: Callable[..., int], buffer: bytes, length: int, end: int, room: int) -> Tuple[int, bytes]:
+    """How many names the buffer has, and their numbers, as many as there is room for."""
+    numbers = ctypes.create_string_buffer(room)
+    count = many(buffer, length, end, numbers, room)
+    return count, ctypes.string_at(numbers, min(count, room))
+
+
+def _numbers_of_each(names: Iterable[bytes], kind: Kind) -> bytes:
+    """The number of each name. A name that holds a NUL can't be in a buffer in which NUL ends each name."""
+    many, code_of = _of_kind(_many, kind), _of_kind(_codes, kind)
+    each = list(names)
+    if set(map(type, each)) == {bytes}:
+        buffer = b"\0".join([*each, b""])
+        count, numbers = _numbers(many, buffer, len(buffer), 0, len(each))
+        if count == len(each):
+            return numbers
+    return bytes([code_of(name, _length(name)) for name in each])
 
 
 def _accepted(name: bytes, code_of: Callable[..., int], text_of: Callable[..., int], *flags: int) -> bytes:

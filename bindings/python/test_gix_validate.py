@@ -10,10 +10,10 @@ import tempfile
 import threading
 import unittest
 from pathlib import Path
-from typing import Callable, Dict, Iterator
+from typing import Callable, Dict, Iterator, Optional
 
 import gix_validate
-from gix_validate import Fault, InvalidName
+from gix_validate import Fault, InvalidName, Kind
 
 HERE = Path(__file__).resolve().parent
 SETTINGS = {"w": "windows", "h": "hfs", "n": "ntfs", "s": "symlink"}
@@ -60,8 +60,23 @@ class Rows(unittest.TestCase):
             count += 1
         self.assertGreater(count, 300)
 
+    def replay_many(self, call: str, buffer: bytes, answer: str) -> None:
+        word, end = call.split("_many:")
+        kind, end = Kind(word), bytes.fromhex(end)
+        count, *wanted = answer.split(" ")
+        wanted = [None if fault == "Ok" else fault_of(fault) for fault in wanted]
+        self.assertEqual(len(wanted), int(count))
+        self.assertEqual(gix_validate.fault_numbers(buffer, kind, end), bytes(fault or 0 for fault in wanted))
+        names = buffer.split(end)
+        names = names if names[-1] else names[:-1]
+        self.assertEqual(gix_validate.faults(names, kind), wanted)
+        bad = [index for index, fault in enumerate(wanted) if fault]
+        self.assertEqual(gix_validate.first_invalid(names, kind), bad[0] if bad else None)
+
     def replay(self, call: str, name: bytes, answer: str) -> None:
-        if call == "device":
+        if "_many:" in call:
+            self.replay_many(call, name, answer)
+        elif call == "device":
             self.assertIs(gix_validate.is_windows_device(name), {"yes": True, "no": False}[answer])
         elif call == "sanitize":
             self.assertEqual(gix_validate.sanitize(name), unquoted(answer[1:-1]))
@@ -107,6 +122,79 @@ class Interface(unittest.TestCase):
         with self.assertRaises(InvalidName) as refused:
             gix_validate.tag_name(Name(b"a b"))
         self.assertEqual(refused.exception.byte, 0x20)
+
+    def test_each_name_of_the_rows_among_many(self) -> None:
+        for kind in Kind:
+            given = [re.fullmatch(rf'{kind.value} "([^"]*)" .*', row) for row in rows()]
+            names = [unquoted(row[1]) for row in given if row]
+            self.assertGreater(len(names), 10)
+            wanted = [self.fault_alone(name, kind) for name in names]
+            self.assertEqual(gix_validate.faults(names, kind), wanted)
+            self.assertEqual(gix_validate.faults((name for name in names), kind), wanted)
+            lines = [name for name in names if b"\n" not in name]
+            numbers = bytes(self.fault_alone(name, kind) or 0 for name in lines)
+            self.assertEqual(gix_validate.fault_numbers(b"".join(name + b"\n" for name in lines), kind), numbers)
+
+    def fault_alone(self, name: bytes, kind: Kind) -> Optional[Fault]:
+        try:
+            CALLS[kind.value](name)
+        except InvalidName as error:
+            return error.fault
+        return None
+
+    def test_many_names_that_hold_a_nul(self) -> None:
+        names = [b"a", b"a\0b", b"", b"b\0"]
+        self.assertEqual(
+            gix_validate.faults(names, Kind.TAG), [None, Fault.INVALID_BYTE, Fault.EMPTY, Fault.INVALID_BYTE]
+        )
+        self.assertEqual(gix_validate.faults(names, Kind.SUBMODULE), [None, None, Fault.EMPTY, None])
+        self.assertEqual(gix_validate.first_invalid(names, Kind.SUBMODULE), 2)
+        self.assertEqual(gix_validate.faults([b"\0"], Kind.SUBMODULE), [None])
+
+    def test_no_names(self) -> None:
+        self.assertEqual(gix_validate.faults([], Kind.TAG), [])
+        self.assertIsNone(gix_validate.first_invalid([], Kind.TAG))
+        self.assertEqual(gix_validate.fault_numbers(b"", Kind.TAG), b"")
+        self.assertIsNone(gix_validate.first_invalid([b"a"] * 1000, Kind.TAG))
+        self.assertEqual(gix_validate.first_invalid([b"a"] * 1000 + [b""], Kind.TAG), 1000)
+
+    def test_short_and_long_names_in_a_buffer(self) -> None:
+        for length, count in ((0, 10_000), (1, 10_000), (6, 10_000), (7, 10_000), (1_000_000, 3)):
+            numbers = bytes([0 if length else Fault.EMPTY]) * count
+            for end in (b"\n", b"\0"):
+                buffer = (b"a" * length + end) * count
+                self.assertEqual(gix_validate.fault_numbers(buffer, Kind.TAG, end), numbers)
+                self.assertEqual(gix_validate.fault_numbers(buffer + b"@{", Kind.TAG, end), numbers + b"\6")
+
+    def test_a_subclass_of_bytes_among_many(self) -> None:
+        class Name(bytes):
+            def __len__(self) -> int:
+                return 1_000_000
+
+        names = [Name(b"v1"), b"a..b", Name(b"")]
+        self.assertEqual(gix_validate.faults(names, Kind.TAG), [None, Fault.REPEATED_DOT, Fault.EMPTY])
+        self.assertEqual(gix_validate.fault_numbers(Name(b"v1\na..b\nv2"), Kind.TAG), b"\0\4\0")
+
+    def test_only_bytes_are_names_among_many(self) -> None:
+        for call in (gix_validate.faults, gix_validate.first_invalid):
+            for others in (["main"], [b"main", None], b"main", [bytearray(b"main")], "main"):
+                with self.subTest(call=call, others=others), self.assertRaisesRegex(TypeError, "name has to be bytes"):
+                    call(others, Kind.TAG)
+            with self.assertRaises(TypeError):
+                call(None, Kind.TAG)
+            for kind in ("tag", None, gix_validate.tag_name):
+                with self.assertRaisesRegex(TypeError, "a kind has to be a Kind"):
+                    call([b"main"], kind)
+        for buffer in ("main", None, bytearray(b"main"), [b"main"]):
+            with self.assertRaisesRegex(TypeError, "a buffer of names has to be bytes"):
+                gix_validate.fault_numbers(buffer, Kind.TAG)
+        with self.assertRaisesRegex(TypeError, "the end of a name has to be bytes, not str"):
+            gix_validate.fault_numbers(b"main", Kind.TAG, "\n")
+        with self.assertRaisesRegex(TypeError, "a kind has to be a Kind"):
+            gix_validate.fault_numbers(b"main", "tag")
+        for end in (b"", b"\r\n"):
+            with self.assertRaisesRegex(ValueError, f"has to be one byte, not {len(end)}"):
+                gix_validate.fault_numbers(b"main", Kind.TAG, end)
 
     def test_the_spelling_of_faults(self) -> None:
         self.assertEqual(str(Fault.SYMLINKED_GIT_MODULES), "SymlinkedGitModules")
@@ -160,7 +248,7 @@ class Interface(unittest.TestCase):
         self.assertEqual((len(answers), set(answers)), (4000, {b"a/b"}))
 
     def test_version(self) -> None:
-        self.assertEqual(gix_validate.version()[0], 2)
+        self.assertEqual(gix_validate.version(), gix_validate._VERSION)
 
     def test_the_examples_of_the_docstring(self) -> None:
         self.assertEqual(doctest.testmod(gix_validate).failed, 0)
@@ -183,7 +271,9 @@ class Interface(unittest.TestCase):
         )
 
     def test_a_library_of_another_version(self) -> None:
-        for number, version in ((3_000_000, "3.0.0"), (1_999_999, "1.999.999")):
+        major = gix_validate._VERSION[0]
+        newer, older = (major + 1) * 1_000_000, major * 1_000_000 - 1
+        for number, version in ((newer, f"{major + 1}.0.0"), (older, f"{major - 1}.999.999")):
             with tempfile.TemporaryDirectory() as folder:
                 library = Path(folder) / "other.so"
                 subprocess.run(
@@ -192,7 +282,7 @@ class Interface(unittest.TestCase):
                     text=True,
                     check=True,
                 )
-                self.assertRegex(self.imported(library), rf"ImportError: gix_validate 2\..*other\.so has {version}")
+                self.assertRegex(self.imported(library), rf"ImportError: gix_validate {major}\..*other\.so has {version}")
 
 
 if __name__ == "__main__":

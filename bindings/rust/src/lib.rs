@@ -2,6 +2,7 @@
 //!
 //! This is the API of the crate gix-validate 0.13.1. Behind it stand the calls of the Rattle crate `gix_validate_c`,
 //! each with a contract that is proved. `docs/BINDINGS.md` says what that covers and what differs from gix-validate.
+//! Beyond that API, [`reference::names`], [`tag::names`] and [`submodule::names`] check the names in a buffer.
 //!
 //! ```
 //! use bstr::ByteSlice;
@@ -16,6 +17,7 @@
 
 #[allow(unsafe_code)]
 mod archive;
+mod many;
 
 pub mod path;
 pub mod reference;

@@ -3,6 +3,7 @@
 use bstr::{BStr, BString};
 
 use crate::archive::{self, Code, ACCEPTED};
+use crate::many::names_in;
 use crate::tag;
 
 /// The error of [`name()`], [`name_partial()`] and [`branch_name()`].
@@ -105,11 +106,38 @@ pub fn name_partial(path: &BStr) -> Result<&BStr, name::Error> {
     accepted(path, archive::partial(path))
 }
 
-/// Gives `path` back where it is a full name that a branch may have, and else its first fault. `refs/heads/HEAD` is
-/// reserved.
+/// Gives `path` back where it is a full name other than `refs/heads/HEAD`, and else its first fault. `HEAD` and
+/// `refs/tags/v1` pass too: put `refs/heads/` before a branch's short name.
 #[inline]
 pub fn branch_name(path: &BStr) -> Result<&BStr, name::Error> {
     accepted(path, archive::branch(path))
+}
+
+/// Checks many names: returns what [`name()`] returns for each name in `buffer`, in order.
+///
+/// The byte `end` ends each name, as `b'\n'` or 0. What follows the last such byte is a name too, unless it is empty.
+/// The names are slices of the buffer, and only an error allocates.
+///
+/// ```
+/// use bstr::ByteSlice;
+/// use gix_validate::reference;
+///
+/// let names = b"refs/heads/main\nmain\nHEAD".as_bstr();
+/// assert_eq!(reference::names(names, b'\n').filter(Result::is_ok).count(), 2);
+/// assert_eq!(reference::names(names, b'\n').position(|checked| checked.is_err()), Some(1));
+/// ```
+pub fn names(buffer: &BStr, end: u8) -> impl Iterator<Item = Result<&BStr, name::Error>> {
+    names_in(buffer, end).map(name)
+}
+
+/// Checks many names, as [`names()`] does, by [`name_partial()`].
+pub fn names_partial(buffer: &BStr, end: u8) -> impl Iterator<Item = Result<&BStr, name::Error>> {
+    names_in(buffer, end).map(name_partial)
+}
+
+/// Checks many names, as [`names()`] does, by [`branch_name()`].
+pub fn branch_names(buffer: &BStr, end: u8) -> impl Iterator<Item = Result<&BStr, name::Error>> {
+    names_in(buffer, end).map(branch_name)
 }
 
 /// The partial name that `path` is repaired to: `path` itself where it is one, and at least `-`.

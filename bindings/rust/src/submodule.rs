@@ -3,6 +3,7 @@
 use bstr::BStr;
 
 use crate::archive::{self, ACCEPTED};
+use crate::many::names_in;
 
 /// The error of [`name()`].
 pub mod name {
@@ -45,6 +46,14 @@ pub fn name(name: &BStr) -> Result<&BStr, name::Error> {
         ACCEPTED => Ok(name),
         code => Err(fault(code)),
     }
+}
+
+/// Checks many names: returns what [`name()`] returns for each name in `buffer`, in order.
+///
+/// The byte `end` ends each name, as `b'\n'` or 0. What follows the last such byte is a name too, unless it is empty.
+/// The names are slices of the buffer, and nothing allocates.
+pub fn names(buffer: &BStr, end: u8) -> impl Iterator<Item = Result<&BStr, name::Error>> {
+    names_in(buffer, end).map(name)
 }
 
 #[cold]

@@ -3,6 +3,7 @@
 use bstr::BStr;
 
 use crate::archive::{self, Code, ACCEPTED};
+use crate::many::names_in;
 
 /// The error of [`name()`].
 pub mod name {
@@ -67,6 +68,24 @@ pub fn name(input: &BStr) -> Result<&BStr, name::Error> {
         ACCEPTED => Ok(input),
         code => Err(fault(code, input)),
     }
+}
+
+/// Checks many names: returns what [`name()`] returns for each name in `buffer`, in order.
+///
+/// The byte `end` ends each name, as `b'\n'` or 0. What follows the last such byte is a name too, unless it is empty.
+/// The names are slices of the buffer, and only an error allocates.
+///
+/// ```
+/// use bstr::ByteSlice;
+/// use gix_validate::tag;
+///
+/// let faults: Vec<_> = tag::names(b"v1.2.3\na..b\n".as_bstr(), b'\n').collect();
+/// assert_eq!(faults.len(), 2);
+/// assert!(faults[0].is_ok());
+/// assert!(matches!(faults[1], Err(tag::name::Error::RepeatedDot)));
+/// ```
+pub fn names(buffer: &BStr, end: u8) -> impl Iterator<Item = Result<&BStr, name::Error>> {
+    names_in(buffer, end).map(name)
 }
 
 /// The fault of that number, which `input` has as the name of a tag.

@@ -54,6 +54,23 @@ fn the_fault_of_a_tag_is_that_of_a_reference() {
 }
 
 #[test]
+fn names_in_a_buffer_are_its_slices() {
+    let buffer = b"v1\n\nv2".as_bstr();
+    let given: Vec<_> = tag::names(buffer, b'\n').collect();
+    assert_eq!(given.len(), 3);
+    assert_eq!(given[0].as_ref().unwrap().as_ptr(), buffer.as_ptr());
+    assert!(matches!(given[1], Err(tag::name::Error::Empty)));
+    assert_eq!(given[2].as_ref().unwrap().as_ptr(), buffer[4..].as_ptr());
+    let mut invalid = reference::names(b"a b".as_bstr(), 0);
+    let error = invalid.next().unwrap().unwrap_err();
+    assert_eq!(
+        error.to_string(),
+        "Reference name contains invalid byte: \" \""
+    );
+    assert!(invalid.next().is_none() && invalid.next().is_none());
+}
+
+#[test]
 fn errors_may_be_boxed_and_sent() {
     fn boxed<E: std::error::Error + Send + Sync + 'static>(
         error: E,

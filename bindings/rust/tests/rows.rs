@@ -89,11 +89,45 @@ fn text_of(text: &str, variant: &str) -> String {
     }
 }
 
+/// The variants' names, without their payloads, of a call for many names.
+fn variants<'a, E: std::error::Error>(
+    given: impl Iterator<Item = Result<&'a BStr, E>>,
+) -> Vec<String> {
+    given
+        .map(|given| match given {
+            Ok(_) => "Ok".into(),
+            Err(error) => format!("{error:?}")
+                .split(' ')
+                .next()
+                .unwrap_or_default()
+                .into(),
+        })
+        .collect()
+}
+
+fn replay_many(row: &str, kind: &str, end: &str, buffer: &BStr, wanted: &str) {
+    let end = u8::from_str_radix(end, 16).expect("two hexadecimal digits");
+    let given = match kind {
+        "tag" => variants(tag::names(buffer, end)),
+        "partial" => variants(reference::names_partial(buffer, end)),
+        "full" => variants(reference::names(buffer, end)),
+        "branch" => variants(reference::branch_names(buffer, end)),
+        "submodule" => variants(submodule::names(buffer, end)),
+        _ => panic!("{row}"),
+    };
+    let mut words = wanted.split(' ');
+    assert_eq!(words.next(), Some(&*given.len().to_string()), "{row}");
+    assert_eq!(given, words.collect::<Vec<_>>(), "{row}");
+}
+
 fn replay(row: &str) {
     let (call, rest) = row.split_once(' ').expect("a call");
     let (name, rest) = quoted(rest);
     let name = name.as_bstr();
     let wanted = rest.trim_start();
+    if let Some((kind, end)) = call.split_once("_many:") {
+        return replay_many(row, kind, end, name, wanted);
+    }
     let given = match call {
         "tag" => answer(name, tag::name(name)),
         "partial" => answer(name, reference::name_partial(name)),

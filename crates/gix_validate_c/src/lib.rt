@@ -3,6 +3,7 @@
 //! | Module | What it has |
 //! |---|---|
 //! | [`names`] | whether a text is a name of each kind: 0, or the number of its fault |
+//! | [`many`] | the same for many names in one buffer |
 //! | [`texts`] | the printed text of the fault that a name has, in the caller's buffer |
 //! | [`sanitize`] | the repair of a reference name, in the caller's buffer |
 //! | [`version`] | the version of the library |
@@ -15,6 +16,7 @@
 
 mod fault;
 mod flags;
+pub mod many;
 pub mod names;
 mod printing;
 pub mod sanitize;

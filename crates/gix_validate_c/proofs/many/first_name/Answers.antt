@@ -1,0 +1,13 @@
+use Rattle.std.proofs.Common.{rules}
+use Rattle.std.proofs.lemmas.List.{take_rest}
+use Rattle.gix_validate_c.proofs.NamesIn.{names_in-cut, names_in-last, names_in-none}
+use Rattle.gix_validate_c.proofs.many.first_name.Goals as goal
+
+pub returns-in-Some-clause-names : goal.returns-in-Some-clause-names
+returns-in-Some-clause-names c = rw take_rest (names_in-cut _ _ _ c.in-Some.ensures)
+
+pub returns-in-None-clause-names : goal.returns-in-None-clause-names
+returns-in-None-clause-names c = names_in-last _ _ (search rules) c.in-None.ensures
+
+pub returns-then-is_empty-clause-names : goal.returns-then-is_empty-clause-names
+returns-then-is_empty-clause-names c = names_in-none _ _ (search rules)

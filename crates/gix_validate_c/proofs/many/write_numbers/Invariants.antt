@@ -1,0 +1,14 @@
+use Rattle.std.proofs.Common.{◌+◌, ◌≤◌, length}
+use Rattle.gix_validate_c.specs.Many.{names_in}
+use Rattle.gix_validate_c.proofs.NumbersWritten.{Written}
+use Rattle.gix_validate_c.proofs.many.write_numbers.Given as goal
+
+-- the numbers so far are written; each name that is done had at least the byte that ended it, or was the last
+abbrev pub invariant-loop-name : goal.invariant-loop-name
+invariant-loop-name g l = record {
+  written : Written g.K.Kind.number_of (names_in l.end l.names) (names_in l.end l.rest) l.fn.numbers l.numbers l.count;
+  bound : l.count + length l.rest ≤ length l.names;
+}
+
+abbrev pub decreases-loop-name : goal.decreases-loop-name
+decreases-loop-name g l = length l.rest

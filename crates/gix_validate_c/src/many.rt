@@ -1,0 +1,201 @@
+//! Many names in one call.
+//!
+//! The names are in one buffer, in which a byte that the caller chooses ends each name, as LF or
+//! NUL. The last name may be without it: what follows the last such byte is a name too, unless it is
+//! empty. So an empty buffer has no name, and two such bytes in a row have an empty name between
+//! them.
+//!
+//! Each call writes one byte for each name, in order, to the front of the caller's array: what the
+//! call for one name returns, 0 or the number of its fault (docs/RULES.md, "Calls for C"). It writes
+//! as many as fit, and the rest of the array stays as it was. It returns how many names there are,
+//! even if more than fit. A name whose number doesn't fit is counted and not checked, so an empty
+//! array counts the names.
+//!
+//! The calls don't allocate and never fail. The buffer and the array may not overlap.
+
+ghost use Rattle.std.specs.Prelude.{◌≡◌, ◌<◌, ◌≤◌, ℕ, List, [], ◌∷◌, length, map, take, drop, MatchOption, IfSome};
+ghost use Rattle.gix_validate.specs.Tag as tag;
+ghost use Rattle.gix_validate.specs.Reference.{partial_fault_of, full_fault_of, branch_fault_of};
+ghost use Rattle.gix_validate.specs.Submodule as submodule;
+ghost use Rattle.gix_validate_c.specs.Numbers.{code_by, tag_number, reference_number, submodule_number};
+ghost use Rattle.gix_validate_c.specs.Many.{names_in};
+
+use crate::names::{
+    gix_validate_branch, gix_validate_full, gix_validate_partial, gix_validate_submodule,
+    gix_validate_tag,
+};
+use memchr::memchr;
+
+/// Checks the names as [`gix_validate_tag`] does.
+///
+/// ```c
+/// gix_validate_tag_many((const uint8_t *)"v1\na..b\n", 8, '\n', faults, sizeof faults); // 2: 0, and 4, RepeatedDot
+/// ```
+#[unsafe(no_mangle)]
+pub extern "C" fn gix_validate_tag_many(names: &[u8], end: u8, faults: &mut [u8]) -> usize
+    ensures count { result ≡ length (names_in end names.now) }
+    ensures numbers { take result faults.new ≡ take (length faults.old)
+        (map (λ name. code_by tag_number (tag.fault_of name)) (names_in end names.now)) }
+    ensures rest { drop result faults.new ≡ drop result faults.old }
+    ensures bounds { result ≤ length names.now }
+{
+    write_numbers::<Tag>(names, end, faults)
+}
+
+/// Checks the names as [`gix_validate_partial`] does.
+///
+/// ```c
+/// gix_validate_partial_many((const uint8_t *)"main\n@", 6, '\n', faults, sizeof faults); // 2: 0, and 13, Reserved
+/// ```
+#[unsafe(no_mangle)]
+pub extern "C" fn gix_validate_partial_many(names: &[u8], end: u8, faults: &mut [u8]) -> usize
+    ensures count { result ≡ length (names_in end names.now) }
+    ensures numbers { take result faults.new ≡ take (length faults.old)
+        (map (λ name. code_by reference_number (partial_fault_of name)) (names_in end names.now)) }
+    ensures rest { drop result faults.new ≡ drop result faults.old }
+    ensures bounds { result ≤ length names.now }
+{
+    write_numbers::<Partial>(names, end, faults)
+}
+
+/// Checks the names as [`gix_validate_full`] does.
+///
+/// ```c
+/// gix_validate_full_many((const uint8_t *)"HEAD\0main", 9, '\0', faults, sizeof faults); // 2: 0, and 12, SomeLowercase
+/// ```
+#[unsafe(no_mangle)]
+pub extern "C" fn gix_validate_full_many(names: &[u8], end: u8, faults: &mut [u8]) -> usize
+    ensures count { result ≡ length (names_in end names.now) }
+    ensures numbers { take result faults.new ≡ take (length faults.old)
+        (map (λ name. code_by reference_number (full_fault_of name)) (names_in end names.now)) }
+    ensures rest { drop result faults.new ≡ drop result faults.old }
+    ensures bounds { result ≤ length names.now }
+{
+    write_numbers::<Full>(names, end, faults)
+}
+
+/// Checks the names as [`gix_validate_branch`] does.
+///
+/// ```c
+/// gix_validate_branch_many((const uint8_t *)"refs/heads/HEAD", 15, '\n', faults, sizeof faults); // 1: 13, Reserved
+/// ```
+#[unsafe(no_mangle)]
+pub extern "C" fn gix_validate_branch_many(names: &[u8], end: u8, faults: &mut [u8]) -> usize
+    ensures count { result ≡ length (names_in end names.now) }
+    ensures numbers { take result faults.new ≡ take (length faults.old)
+        (map (λ name. code_by reference_number (branch_fault_of name)) (names_in end names.now)) }
+    ensures rest { drop result faults.new ≡ drop result faults.old }
+    ensures bounds { result ≤ length names.now }
+{
+    write_numbers::<Branch>(names, end, faults)
+}
+
+/// Checks the names as [`gix_validate_submodule`] does.
+///
+/// ```c
+/// gix_validate_submodule_many((const uint8_t *)"lib\n\n", 5, '\n', faults, sizeof faults); // 2: 0, and 11, Empty
+/// ```
+#[unsafe(no_mangle)]
+pub extern "C" fn gix_validate_submodule_many(names: &[u8], end: u8, faults: &mut [u8]) -> usize
+    ensures count { result ≡ length (names_in end names.now) }
+    ensures numbers { take result faults.new ≡ take (length faults.old)
+        (map (λ name. code_by submodule_number (submodule.fault_of name)) (names_in end names.now)) }
+    ensures rest { drop result faults.new ≡ drop result faults.old }
+    ensures bounds { result ≤ length names.now }
+{
+    write_numbers::<Submodule>(names, end, faults)
+}
+
+/// A kind of name.
+trait Kind {
+    ghost number_of: { List ℕ → ℕ };
+
+    /// Returns 0 if the name is of this kind, and otherwise the number of its fault.
+    fn number(name: &[u8]) -> u8
+        ensures { result ≡ number_of name.now };
+}
+
+struct Tag;
+
+impl Kind for Tag {
+    ghost number_of = { λ name. code_by tag_number (tag.fault_of name) };
+
+    fn number(name: &[u8]) -> u8 {
+        gix_validate_tag(name) as u8
+    }
+}
+
+struct Partial;
+
+impl Kind for Partial {
+    ghost number_of = { λ name. code_by reference_number (partial_fault_of name) };
+
+    fn number(name: &[u8]) -> u8 {
+        gix_validate_partial(name) as u8
+    }
+}
+
+struct Full;
+
+impl Kind for Full {
+    ghost number_of = { λ name. code_by reference_number (full_fault_of name) };
+
+    fn number(name: &[u8]) -> u8 {
+        gix_validate_full(name) as u8
+    }
+}
+
+struct Branch;
+
+impl Kind for Branch {
+    ghost number_of = { λ name. code_by reference_number (branch_fault_of name) };
+
+    fn number(name: &[u8]) -> u8 {
+        gix_validate_branch(name) as u8
+    }
+}
+
+struct Submodule;
+
+impl Kind for Submodule {
+    ghost number_of = { λ name. code_by submodule_number (submodule.fault_of name) };
+
+    fn number(name: &[u8]) -> u8 {
+        gix_validate_submodule(name) as u8
+    }
+}
+
+/// Writes the numbers of the names, as many as fit, and returns how many names there are.
+fn write_numbers<K: Kind>(names: &[u8], end: u8, numbers: &mut [u8]) -> usize
+    ensures count { result ≡ length (names_in end names.now) }
+    ensures numbers { take result numbers.new
+        ≡ take (length numbers.old) (map K.number_of (names_in end names.now)) }
+    ensures rest { drop result numbers.new ≡ drop result numbers.old }
+    ensures bounds { result ≤ length names.now }
+{
+    let mut count = 0;
+    let mut rest = names;
+    while let Some((name, after)) = first_name(rest, end) {
+        if count < numbers.len() {
+            numbers[count] = K::number(name);
+        }
+        count += 1;
+        rest = after;
+    }
+    count
+}
+
+/// The first name in the buffer, without the byte that ends it, and what follows that byte.
+fn first_name(names: &[u8], end: u8) -> Option<(&[u8], &[u8])>
+    ensures names { MatchOption result (names_in end names.now ≡ [])
+        (λ parts. names_in end names.now ≡ parts.0.now ∷ names_in end parts.1.now) }
+    ensures shorter { IfSome result (λ parts. length parts.1.now < length names.now) }
+{
+    if names.is_empty() {
+        return None;
+    }
+    match memchr(end, names) {
+        Some(at) => Some((&names[..at], &names[at + 1..])),
+        None => Some((names, &[])),
+    }
+}

@@ -1,4 +1,4 @@
-//! What the program's arguments ask for.
+//! What the program's arguments mean.
 
 ghost use Rattle.std.specs.Prelude.{◌≡◌, map};
 ghost use Rattle.std.specs.Result.{result_map_both};
@@ -8,14 +8,14 @@ ghost use Rattle.check_names.specs.Arguments.{request_of};
 use std::error::Error;
 use std::fmt;
 
-/// What is asked for.
+/// What the program is to do.
 #[derive(Debug, Clone, Copy, PartialEq, Eq)]
 pub enum Request {
-    /// The answers to the lines of standard input.
+    /// To validate the lines of standard input.
     Answer,
-    /// The help.
+    /// To print the help.
     Help,
-    /// The version.
+    /// To print the version.
     Version,
 }
 
@@ -37,8 +37,8 @@ impl fmt::Display for UnknownArgument<'_> {
 
 impl Error for UnknownArgument<'_> {}
 
-/// What the arguments ask for: the answers if there are none, and else what the first one asks for.
-/// It does not allocate.
+/// What the arguments mean: to validate the input if there are none, and else what the first one
+/// means. It does not allocate.
 ///
 /// ```
 /// request_of([]); // Request::Answer

@@ -1,4 +1,4 @@
-//! Answers, for each line of standard input, whether the name on it is accepted.
+//! Validates the names on the lines of standard input, and prints a line for each.
 #![tactic(auto)]
 
 ghost use Rattle.std.specs.Prelude.{◌≡◌, ◌≢◌, ◌≤◌, Ok, IfSome, IsErr, map};
@@ -23,31 +23,32 @@ use streams::program::{VERSION, failed, printed, words};
 const NAME: &str = "check_names";
 
 const HELP: &str = "\
-Answers each line of standard input by one line, once the input has ended:
+Validates Git names, one on each line of standard input, and prints a line for
+each at the end of the input:
 
     printf 'tag v1.2.3\\ntag a..b\\n' | check_names
 
-A line is a kind, a space and a name; the name is all that follows the first
-space, up to the line's end.
+A line is a kind, a space and a name. The name is all that follows the first
+space, up to the newline.
 
-    tag          ok, or error: and the fault of the name as a tag name
-    partial      the same of a reference name that may be short, as main
-    ref          the same of a full reference name, as HEAD or refs/heads/main
-    branch       the same of the full name of a branch
-    submodule    the same of a submodule name
-    path         the same of one name in a directory
-    symlink      the same of one name in a directory that is to be a symbolic
-                 link
-    device       yes or no: whether Windows takes the name for a device
-    sanitize     the name itself if it is a partial name, and else its repair
+    tag          prints ok if this is a valid tag name, and else error: and why
+    partial      the same for a reference name, which may be short, as main
+    ref          the same for a full reference name, as HEAD or refs/heads/main
+    branch       the same for the full name of a branch
+    submodule    the same for the name of a submodule
+    path         the same for the name of an entry in a directory
+    symlink      the same for the name of a symbolic link in a directory
+    device       prints yes or no: whether Windows takes the name for a device
+    sanitize     prints the name if it is a valid partial name, and else its
+                 repair
 
-Any other kind, and a line without a space, is answered by: unknown kind
+For any other kind, and for a line without a space, it prints: unknown kind
 
     --help       prints this text
     --version    prints the version
 
-The status is 0 whatever the answers are, 1 if reading or writing fails or
-memory runs out, and 2 if an argument is wrong.";
+The status is 0 whether or not the names are valid, 1 if reading or writing
+fails or memory runs out, and 2 if an argument is wrong.";
 
 fn main(rt: HostRuntime) -> ExitCode {
     match words(&rt, NAME) {
@@ -62,7 +63,7 @@ fn main(rt: HostRuntime) -> ExitCode {
     }
 }
 
-/// Does what the arguments ask for, and gives the exit status.
+/// Does what the arguments say, and returns the exit status.
 fn answer<R: Read, W: Write, E: Write>(
     rt: &HostRuntime,
     words: &[String],

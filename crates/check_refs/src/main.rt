@@ -39,12 +39,12 @@ hook runs it on its own standard input:
 Each line of the input is OLD NEW REF: the object id that the reference had, the
 id that it gets, and its name, which is the rest of the line. An id has 40 or 64
 hexadecimal digits. If NEW is all zeros, the reference is deleted, and its name
-is not checked. A refused name is printed in quotes, with the reason:
+is not checked. A line has the refused name in quotes, and why it is refused:
 
     ref \"refs/heads/a b\" Reference name contains invalid byte: \" \"
 
-    --ids        also prints the line NEW for each reference that is neither
-                 deleted nor refused
+    --ids        also prints a line with the id NEW for each reference that is
+                 neither deleted nor refused
     --replace    allows names under refs/replace/, which are refused otherwise
     --help       prints this text
     --version    prints the version
@@ -74,7 +74,7 @@ fn main(rt: HostRuntime) -> ExitCode {
     }
 }
 
-/// Does what the arguments ask for, and gives the exit status.
+/// Does what the arguments say, and returns the exit status.
 #[tactic(auto, using(crate::proofs::CleanInputs::only_accepted))]
 fn answer<R: Read + Drop, W: Write + Drop>(
     rt: &HostRuntime,

@@ -56,7 +56,7 @@ pub fn refusal_of(allows_replace: bool, name: &[u8]) -> Option<Refusal>
     None
 }
 
-/// The fault of a name, if it has one.
+/// Why a name is invalid, if it is.
 fn name_fault_of(name: &[u8]) -> Option<NameError>
     ensures { result ≡ name_fault_of name.now }
 {

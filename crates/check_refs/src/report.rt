@@ -1,4 +1,8 @@
 //! What is printed of an update.
+//!
+//! Ids and refusals go to one output, which keeps the order of the input. They can't be confused: a
+//! refusal begins with `ref `, and an id has only hexadecimal digits. Standard error has the one
+//! line that says why there is no verdict.
 
 ghost use Rattle.std.specs.Prelude.{◌≡◌, ◌++◌, OnOk, IfOk};
 ghost use Rattle.check_refs.specs.Refs.{id_line, refused_line};

@@ -1,4 +1,4 @@
-//! What the program's arguments ask for.
+//! What the program's arguments mean.
 
 ghost use Rattle.std.specs.Prelude.{◌≡◌, map};
 ghost use Rattle.std.specs.Result.{result_map_both};
@@ -9,14 +9,14 @@ use crate::engine::Options;
 use std::error::Error;
 use std::fmt;
 
-/// What is asked for.
+/// What the program is to do.
 #[derive(Debug, Clone, Copy, PartialEq, Eq)]
 pub enum Request {
     /// To check standard input under these options.
     Check(Options),
-    /// The help.
+    /// To print the help.
     Help,
-    /// The version.
+    /// To print the version.
     Version,
 }
 
@@ -38,7 +38,7 @@ impl fmt::Display for UnknownArgument<'_> {
 
 impl Error for UnknownArgument<'_> {}
 
-/// What the arguments ask for: a check of the input, which has to be whole if `--end` is among them,
+/// What the arguments mean: a check of the input, which has to be whole if `--end` is among them,
 /// or the help or the version, if that word comes before any unknown one. It does not allocate.
 ///
 /// ```

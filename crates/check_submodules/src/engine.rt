@@ -1,4 +1,7 @@
 //! The report of a stream of objects.
+//!
+//! A file is held whole, since a section may begin anywhere in it. 16 MiB have room for some
+//! hundred thousand submodules; a larger file is refused, and skipped.
 
 ghost use Rattle.std.specs.Prelude.{◌≡◌, [], Some, false, true, IfOk, OnErr, IfSome, OnSome};
 ghost use Rattle.std.specs.Io.KnownBytes.{Appends, IsAtEnd};
@@ -25,7 +28,7 @@ use streams::program::Check;
 /// The most bytes of a file that is read.
 const LARGEST: u64 = 16_777_216;
 
-/// What is asked of a run.
+/// How the input is checked.
 #[derive(Debug, Clone, Copy, PartialEq, Eq)]
 pub struct Options {
     /// Whether the input has to be whole: no object is missing, and the line `..end missing` ends it.

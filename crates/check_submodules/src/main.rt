@@ -29,17 +29,18 @@ Prints a line for each submodule in a .gitmodules file whose name is refused:
 
 IDS has the ids of the .gitmodules files, one on each line. Standard input is
 what `git cat-file --batch` prints. Objects that are not blobs are skipped. A
-line has the id of the file, the offset of the section in it, in bytes, and what
-is wrong:
+line has the id of the file, the offset of the section in it, in bytes, and why
+it is refused:
 
     ID OFFSET \"NAME\" REASON
     ID OFFSET a section can't be read
     ID the file is larger than 16777216 bytes
 
-A section is looked for at each '[' of a file, in comments and values too.
+Each '[' may begin a section, also in comments and values.
 
-    --end        the input has to be whole: no object is missing, and its last
-                 line is '..end missing', as Git prints for '..end'
+    --end        the input has to be complete: no object is missing, and the
+                 last line is '..end missing', which git cat-file prints for
+                 the word ..end
     --help       prints this text
     --version    prints the version
 
@@ -54,7 +55,7 @@ fn main(rt: HostRuntime) -> ExitCode {
     }
 }
 
-/// Does what the arguments ask for, and gives the exit status.
+/// Does what the arguments say, and returns the exit status.
 fn answer<R: Read + Drop, W: Write + Drop>(
     rt: &HostRuntime,
     words: &[String],

@@ -1,4 +1,4 @@
-//! What the program's arguments ask for.
+//! What the program's arguments mean.
 
 ghost use Rattle.std.specs.Prelude.{◌≡◌, map};
 ghost use Rattle.std.specs.Result.{result_map_both};
@@ -11,18 +11,18 @@ use memchr::memchr;
 use std::error::Error;
 use std::fmt;
 
-/// What is asked for.
+/// What the program is to do.
 #[derive(Debug, Clone, Copy)]
 pub enum Request {
     /// To check standard input under these options.
     Check(CheckOptions),
-    /// The help.
+    /// To print the help.
     Help,
-    /// The version.
+    /// To print the version.
     Version,
 }
 
-/// Why the arguments ask for nothing.
+/// Why the arguments are wrong.
 #[derive(Debug, Clone, Copy)]
 pub enum ArgumentError<'a> {
     /// This argument is unknown.
@@ -39,7 +39,7 @@ impl fmt::Display for ArgumentError<'_> {
             }
             ArgumentError::Protections(list) => write!(
                 f,
-                "--protect takes windows, hfs and ntfs, separated by commas, or none, and not {list:?}"
+                "invalid --protect {list:?}: give windows, hfs or ntfs, separated by commas, or none"
             ),
         }
     }
@@ -47,7 +47,7 @@ impl fmt::Display for ArgumentError<'_> {
 
 impl Error for ArgumentError<'_> {}
 
-/// What the arguments ask for. The first wrong one is an error, and of several lists the last one
+/// What the arguments mean. The first wrong one is an error, and of several lists the last one
 /// counts.
 pub fn request_of(words: &[String]) -> Result<Request, ArgumentError<'_>>
     ensures { result_map_both (λ request. request) wrong_argument result ≡ request_of (map string_bytes words.now) }

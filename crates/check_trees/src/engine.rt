@@ -27,10 +27,10 @@ use streams::outcome::{Fault, RunError, Verdict};
 use streams::output::write_whole;
 use streams::program::Check;
 
-/// What is asked of the input.
+/// How the input is checked.
 #[derive(Debug, Clone, Copy)]
 pub struct CheckOptions {
-    /// The systems to protect.
+    /// The file systems to protect.
     pub protections: ComponentOptions,
     /// Whether files that a checkout reads as `.gitmodules` are listed too.
     pub modules: bool,
@@ -228,7 +228,7 @@ fn finding_of(options: CheckOptions, front: Front<'_>) -> Finding
     }
 }
 
-/// What a file is that is refused as a symbolic link for this fault.
+/// What is found of a file whose name is invalid, for this reason, as that of a symbolic link.
 #[cold]
 #[inline(never)]
 fn finding_of_file(

@@ -33,21 +33,23 @@ Standard input is what `git cat-file --batch` prints, also with %(rest) at the
 end of its format. A line has the id of the tree, the mode, the quoted name, why
 it is refused, and the rest of the tree's header line, if it is not empty.
 
-    --protect LIST    the systems to protect, separated by commas: windows, hfs
-                      and ntfs, or none. The default is all three
-    --modules         prints a line, too, for each file that a checkout reads as
-                      .gitmodules: 'modules', its id, and the place as above
-    --end             the input has to be whole: no object is missing, and its
-                      last line is '..end missing', as Git prints for '..end'
+    --protect LIST    the file systems to protect, separated by commas: windows,
+                      hfs and ntfs, or none. The default is all three
+    --modules         also prints a line for each file that a checkout reads as
+                      .gitmodules: 'modules', its id, and then the tree, the
+                      mode, the name and the rest as above
+    --end             the input has to be complete: no object is missing, and
+                      the last line is '..end missing', which git cat-file
+                      prints for the word ..end
     --help            prints this text
     --version         prints the version
 
 The status is 0 if nothing is refused, 1 if something is, and 2 if the input is
 malformed, reading or writing fails, memory runs out, or an argument is wrong.
-The default is right for a server. Devices, as NUL and aux.c, and what Windows
-forbids in a name, as a dot at its end, are refused only if windows and ntfs are
-both protected. ntfs without windows accepts a\\.git, which Windows reads as a
-path, and which `git fsck` refuses.";
+A server wants the default. Devices such as NUL and aux.c, and what Windows
+forbids in a name, such as a dot at its end, are refused only if windows and
+ntfs are both protected. ntfs without windows accepts a\\.git, which Windows
+reads as a path, and which `git fsck` refuses.";
 
 fn main(rt: HostRuntime) -> ExitCode {
     match words(&rt, NAME) {
@@ -56,7 +58,7 @@ fn main(rt: HostRuntime) -> ExitCode {
     }
 }
 
-/// Does what the arguments ask for, and gives the exit status.
+/// Does what the arguments say, and returns the exit status.
 fn answer<R: Read + Drop, W: Write + Drop>(
     rt: &HostRuntime,
     words: &[String],

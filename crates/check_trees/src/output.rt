@@ -1,4 +1,12 @@
 //! The lines of the report.
+//!
+//! The rest of a header line, the path at which Git found the tree, is for display alone. Git tells
+//! one path of many, none for the tree of a commit, and cuts a path at a newline. So nothing
+//! depends on it.
+//!
+//! A `modules` line refuses nothing: the file is as it should be, and its contents are for
+//! `check_submodules`. So the status alone says whether a name is refused. No other line begins
+//! with that word, since the others begin with an id.
 
 ghost use Rattle.std.specs.Prelude.{◌≡◌, ◌++◌, OnOk};
 ghost use Rattle.std.specs.Option.{option_map};

@@ -14,8 +14,10 @@
 //! finds depends only on the bytes after that `[`. Whether Git looks for a header at a `[` depends
 //! on what is before it: a comment, a value with quotes, or a line that continues. This reader
 //! doesn't ask. It looks at every `[`, so it needs no rule for values, quotes and continuations,
-//! and no section that Git sees is missed. In exchange it also gives sections that Git doesn't see,
-//! as one in a comment.
+//! and no section that Git sees is missed. A reader that followed Git through these, and disagreed
+//! with it once, would miss a name; `git config --blob` itself stops at a byte 0xFF that a checkout
+//! reads past. In exchange this reader also gives sections that Git doesn't see, as one in a
+//! comment. A caller in memory needs no stream, so the reader is a crate of its own.
 //!
 //! **A header**: after the `[` comes the word `submodule` in any ASCII letter case. Then:
 //!
@@ -24,6 +26,8 @@
 //! | `]`, or a letter, a digit or `-` | another section, which isn't given |
 //! | spaces, tabs or carriage returns (at least one), and a name between double quotes, closed by `"]` | a submodule's section |
 //! | anything else, as in the old form `[submodule.name]` | a section that can't be read |
+//!
+//! Git still reads the old form, but writes the other one.
 //!
 //! In a name a backslash makes the next byte a byte of the name. A NUL, a newline (LF) or the byte
 //! 0xFF ends the name for Git, in one way of its reading or another, so a section with one of them

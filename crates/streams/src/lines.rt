@@ -1,4 +1,8 @@
 //! An input that is read line by line, where a line can say what follows it.
+//!
+//! A line has at most [`LONGEST`] bytes, far more than a file system allows for a name. So
+//! `check_trees` and `check_refs` hold a bounded number of bytes, whatever their input is. No size
+//! that the input claims is trusted: bytes are read or skipped as they come.
 
 ghost use Rattle.std.specs.Prelude.{◌≡◌, ◌<◌, ◌≤◌, [], Some, true, false, ◌&&◌, if◌then◌else◌, IfOk, OnErr, IfSome, OnSome};
 ghost use Rattle.std.specs.Io.KnownBytes.{Appends, Consumes, IsAtEnd};

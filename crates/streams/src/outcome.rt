@@ -1,4 +1,8 @@
 //! How a run ends.
+//!
+//! Malformed input is a verdict, and not an error: `run` fails only if reading, writing or an
+//! allocation does. So one clause says for every input what is written and returned, and no error
+//! is about the input.
 
 ghost use Rattle.std.specs.Prelude.{Some};
 

@@ -1,4 +1,7 @@
 //! What is written: quoted names, ids in hexadecimal digits, and whole lines.
+//!
+//! The library quotes names in its errors by a private type. This function is proved against the
+//! same definition, `quoted`. The Rust crate has no public type for this, so the library has none.
 
 ghost use Rattle.std.specs.Prelude.{◌≡◌, ◌++◌, flat_map, IfErr, OnOk, OnErr};
 ghost use Rattle.std.specs.Io.KnownBytes.{Appends};

@@ -14,14 +14,17 @@
 //! | [`Component`] | one name in a directory, as `src` | docs/RULES.md, "Path components" |
 //!
 //! The first five are one type, [`Name<'a, R>`](Name), whose [`Rule`] is [`Tag`], [`Partial`],
-//! [`Full`], [`Branch`] or [`Submodule`]. A component is checked under a mode and options, so it has
-//! a type of its own.
+//! [`Full`], [`Branch`] or [`Submodule`]. As five types they had the same contracts, proofs and tests
+//! five times. A component is checked under a mode and options, and its type keeps less than `new`
+//! checked, so it has a type of its own. A rule has no values, so it is an enum without variants; its
+//! constant `TYPE_NAME` is what `Debug` prints, which derived would print `Name` for all five.
 //!
 //! Each name of a branch is a full name, each full name a partial name, and each partial name a tag
 //! name: `From` converts each into the next. [`Pieces`] gives the pieces of a tag name.
 //!
 //! Two names of one type are equal if and only if their bytes are. Each prints itself, and each is
-//! an `AsSlice<u8>`, the kit's word for Rust's `AsRef<[u8]>`. They have no order and no hash.
+//! an `AsSlice<u8>`, the kit's word for Rust's `AsRef<[u8]>`. They have no order and no hash. Names of
+//! two types can't be compared: `From` converts the narrower first.
 //!
 //! ```
 //! let head = TagName::new(BStr::from("refs/heads/main"))?;

@@ -14,7 +14,7 @@ use thiserror::Error;
 /// Why a branch has no full name.
 #[derive(Debug, Drop, Error)]
 pub enum BranchError {
-    /// The full name is refused.
+    /// The full name is invalid.
     #[error("{0}")]
     Name(reference::NameError),
     /// Out of memory.
@@ -25,8 +25,8 @@ pub enum BranchError {
 /// The full name of the branch that a person calls by this short name: `refs/heads/main` for
 /// `main`.
 ///
-/// [`reference::branch_name`] checks full names, so it refuses `main` itself. A short name has to be
-/// put after `refs/heads/` first. (The commands of Git also refuse a short name that begins with
+/// [`reference::branch_name`] checks full names, so it rejects `main` itself. A short name has to be
+/// put after `refs/heads/` first. (The commands of Git also reject a short name that begins with
 /// `-`, which is an option to them.)
 pub fn full_branch_name(alloc: Global, short: BStr<'_>) -> Result<BString, BranchError>
     ensures name { IfOk result (λ name. bstring_bytes name ≡ branch_name_of (bstr_bytes short.entry)) }
@@ -43,10 +43,10 @@ pub fn full_branch_name(alloc: Global, short: BStr<'_>) -> Result<BString, Branc
 /// Why a branch of a remote has no remote-tracking name.
 #[derive(Debug, Drop, Error)]
 pub enum TrackingError {
-    /// The name of the remote is refused.
+    /// The name of the remote is invalid.
     #[error("remote: {0}")]
     Remote(tag::NameError),
-    /// The name of the branch is refused.
+    /// The name of the branch is invalid.
     #[error("branch: {0}")]
     Branch(tag::NameError),
     /// Out of memory.
@@ -56,6 +56,10 @@ pub enum TrackingError {
 
 /// The full name under which a branch of a remote is tracked: `refs/remotes/origin/main` for the
 /// remote `origin` and the branch's short name `main`.
+///
+/// Both have to be tag names, since [`reference::join`] requires that. (Git also accepts a remote
+/// whose name ends with a dot.) They are checked before memory is needed, so `Memory` is returned
+/// only if both are valid.
 #[tactic(auto, unfolding(gix_validate::proofs::OnLiterals::names_on_literals))]
 pub fn remote_tracking_name(
     alloc: Global,

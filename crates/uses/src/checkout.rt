@@ -17,7 +17,7 @@ use thiserror::Error;
 /// Why a name was not entered.
 #[derive(Debug, Drop, Error)]
 pub enum EnterError {
-    /// The name is refused.
+    /// The name is invalid.
     #[error("{0}")]
     Name(ComponentError),
     /// Out of memory.
@@ -26,7 +26,8 @@ pub enum EnterError {
 }
 
 /// Where a checkout is: the names of the folders that it went down, and of the file in the last of
-/// them. Each was accepted under the options of the place.
+/// them. Each is valid under the options of the place. The place has them as a field, since a
+/// `typed_names::Component` says only that its name is valid with no option on.
 ///
 /// Contracts see it as these options and the list of these names.
 #[derive(Debug, Drop)]

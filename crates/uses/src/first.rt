@@ -8,7 +8,7 @@ ghost use Rattle.gix_validate.specs.Reference.{is_branch_name};
 use bstr::BStr;
 use gix_validate::reference;
 
-/// The branch that was asked for, or `refs/heads/main` where that is not the name of a branch.
+/// The branch that was asked for, or `refs/heads/main` if that is not the name of a branch.
 pub fn branch_to_push<'a>(asked: BStr<'a>) -> BStr<'a>
     ensures branch { IsTrue (is_branch_name (bstr_bytes result)) }
     ensures asked { IsTrue (is_branch_name (bstr_bytes asked.entry)) → result ≡ asked.entry }

@@ -7,10 +7,10 @@
 //! | [`literals`] | calls on names that are written in the source |
 //! | [`ref_store`] | references and their targets, by full name |
 //! | [`branches`] | full names of a branch: `refs/heads/main`, `refs/remotes/origin/main` |
-//! | [`paths`] | the first component of a path that is refused |
+//! | [`paths`] | the first component of a path that is invalid |
 //! | [`checkout`] | a walk down a working tree, and the path of a file |
 //! | [`settings`] | the names of the submodules in a `.gitmodules` file |
-//! | [`repair`] | names that are repaired where they stand |
+//! | [`repair`] | names that are repaired in place |
 #![tactic(auto)]
 
 pub mod branches;

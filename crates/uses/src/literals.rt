@@ -1,5 +1,5 @@
-//! Calls on names that are written in the source. What a call asks of them, and what it answers, is
-//! computed from the names, so no proof has to be written.
+//! Calls on names that are written in the source. What a call requires of them, and what it returns,
+//! is computed from the names, so no proof has to be written.
 #![tactic(auto, unfolding(gix_validate::proofs::OnLiterals::names_on_literals, gix_validate::proofs::OnLiterals::components_on_literals))]
 
 ghost use Rattle.std.specs.Prelude.{◌≡◌, codes, IfOk};

@@ -9,8 +9,8 @@ ghost use Rattle.gix_validate.specs.Pieces.{pieces};
 use bstr::BStr;
 use gix_validate::path::{ComponentOptions, component};
 
-/// The place of the first component of a path that these options refuse, counted from 0: 1 for
-/// `a/../b`. It is `None` if they accept each component.
+/// The index of the first component of a path that is invalid under these options: 1 for `a/../b`.
+/// It is `None` if each component is valid.
 pub fn first_hostile_component(path: BStr<'_>, options: ComponentOptions) -> Option<usize>
     ensures { result ≡ position (λ name. not (is_component options None name))
         (pieces (bstr_bytes path.entry)) }

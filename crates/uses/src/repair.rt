@@ -1,4 +1,4 @@
-//! Names that are repaired where they stand.
+//! Names that are repaired in place.
 
 ghost use Rattle.std.specs.Prelude.{◌≡◌, ◌≢◌, ◌≤◌, [], length, take, IsOk, OnOk, OnErr, IsTrue};
 ghost use Rattle.gix_validate.specs.Reference.{is_partial_name};
@@ -27,8 +27,7 @@ pub fn repair(name: &mut Vec<u8>) -> Result<(), AllocError>
     Ok(())
 }
 
-/// Repairs the name in the first `len` bytes of a buffer, and gives it as one that needs no more
-/// tests.
+/// Repairs the name in the first `len` bytes of a buffer, and returns it as a typed name.
 pub fn repaired<'b>(buffer: &'b mut [u8], len: usize) -> PartialName<'b>
     requires some { 1 ≤ length buffer.old }
     requires within { len ≤ length buffer.old }

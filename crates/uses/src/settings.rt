@@ -16,7 +16,7 @@ use thiserror::Error;
 /// Why the names of a file were not read. Offsets are in bytes.
 #[derive(Debug, Drop, Error)]
 pub enum SettingsError {
-    /// The name of the section at this offset is refused.
+    /// The name of the section at this offset is invalid.
     #[error("the section at offset {offset}: {fault}")]
     Name { offset: usize, fault: NameError },
     /// The section at this offset can't be read.
@@ -29,8 +29,9 @@ pub enum SettingsError {
 
 /// The names of the submodules in a `.gitmodules` file: the name of each section, in order.
 ///
-/// The first section whose name is refused or that can't be read is the error. The sections are
+/// The first section whose name is invalid or that can't be read is the error. The sections are
 /// those of [`Sections`], which also finds some that Git doesn't see, as one in a comment.
+#[tactic(auto, using(crate::proofs::SettingsLemmas::read_one_more))]
 pub fn submodule_names(alloc: Global, file: &[u8]) -> Result<Vec<BString>, SettingsError>
     ensures names { IfOk result (λ names. map (λ name. Some (bstring_bytes name)) names.items
         ≡ map (λ section. section.1) (sections 0 file.now)) }

@@ -2,14 +2,14 @@
 # What pre-receive and scan share. Both set `here`, the folder of the programs; `outcome`, the words with which a
 # failure begins; and how many lines of names are shown at most, and how much of each: `most` and `longest`.
 #
-# Nothing here decides about a name. Three proved programs do, and the shell looks at their statuses, at the words with
-# which their lines begin, and counts. It believes no silence:
+# Nothing here decides about a name. Three proved programs do. The shell looks at their statuses and at the words with
+# which their lines begin, and counts. It fails closed:
 #
-# - check_trees and check_submodules accept a stream only if its last line is `..end missing`. Git prints that line if it
-#   is asked for the object `..end`, and it is asked for that only after `git rev-list` has ended with status 0. So
-#   whatever dies on the way, Git or a subshell, cuts that line off, and the program's status is 2.
-# - Whatever checks names in `$( )` prints `ended` last. If no such line arrives, nothing was checked. The status of
-#   `$( )` doesn't count: bash sets it to 0 where it could not even start a subshell.
+# - check_trees and check_submodules accept a stream only if its last line is `..end missing`. Git prints that line for
+#   the word `..end`, and gets that word only after `git rev-list` has ended with status 0. So if Git or a subshell dies
+#   on the way, that line is missing, and the program's status is 2.
+# - Each `$( )` that checks names prints `ended` last. If that line doesn't arrive, nothing was checked. The status of
+#   `$( )` doesn't count: bash sets it to 0 if it could not even start a subshell.
 # - The shell passes ids as arguments. It writes no file and uses no here-document, so it needs no TMPDIR.
 {
     export LC_ALL=C
@@ -20,6 +20,7 @@
     IFS=$nl
     set -f
     refused=0
+    wrong=''
 
     fail() {
         echo "$outcome: $1" >&2
@@ -29,6 +30,20 @@
     for program in check_refs check_trees check_submodules; do
         [ -x "$here/$program" ] || fail "the program $program is missing"
     done
+
+    # Sets `wrong` to what check_trees says of the list `protect`: nothing, if it is a list of file systems.
+    check_list() {
+        wrong=$("$here/check_trees" --protect "$protect" 2>&1 < /dev/null; echo "ended $?")
+        case $wrong in
+        'ended 0') wrong='' ;;
+        'check_trees: '*"${nl}ended 2")
+            wrong=${wrong#*: }
+            wrong=${wrong%"$nl"*}
+            ;;
+        *'ended '*) fail "check_trees failed (status ${wrong##*ended })" ;;
+        *) fail 'check_trees did not finish' ;;
+        esac
+    }
 
     # Checks the names in all trees that git rev-list lists for these arguments.
     trees() {

@@ -1,6 +1,6 @@
-/* Asks one export of libgix_validate_c.a about each name of a file, one name a line, so that callgrind can
-   count what the calls take. With a number it asks about all of them so many times over, and prints the
-   nanoseconds of a call, the least of twenty goes. */
+/* Makes one call on each name of a file, one name a line, so that callgrind can count the instructions. With a number of
+   milliseconds it makes passes over all names for that long, and prints the nanoseconds a name of the best pass. The
+   call is one of libgix_validate_c.a, of the Rust crate (crate_, if it is linked in), or of libgit2 (libgit2_). */
 #include <stdbool.h>
 #include <stdint.h>
 #include <stdio.h>
@@ -16,6 +16,21 @@ uint32_t gix_validate_submodule(const uint8_t *name, size_t len);
 uint32_t gix_validate_component(const uint8_t *name, size_t len, uint32_t flags);
 bool gix_validate_is_windows_device(const uint8_t *name, size_t len);
 size_t gix_validate_sanitize_in_place(uint8_t *buffer, size_t buffer_len, size_t len);
+size_t gix_validate_sanitize(const uint8_t *name, size_t len, uint8_t *buffer, size_t buffer_len);
+
+#ifdef CRATE
+uint32_t crate_tag(const uint8_t *name, size_t len);
+uint32_t crate_partial(const uint8_t *name, size_t len);
+uint32_t crate_full(const uint8_t *name, size_t len);
+uint32_t crate_branch(const uint8_t *name, size_t len);
+uint32_t crate_submodule(const uint8_t *name, size_t len);
+uint32_t crate_component(const uint8_t *name, size_t len, uint32_t flags);
+uint32_t crate_is_windows_device(const uint8_t *name, size_t len);
+size_t crate_sanitize(const uint8_t *name, size_t len, uint8_t *out);
+#endif
+#ifdef LIBGIT2
+#include <git2.h>
+#endif
 
 struct name {
     uint8_t *bytes;
@@ -26,40 +41,65 @@ static struct name *names;
 static size_t count;
 static uint8_t *buffer;
 
-/* The sum of the answers, so that no call can be left out. */
-static size_t ask(const char *call)
+/* So many calls, and the sum of their results, so that no call can be left out. */
+#define EACH(result)                                                                                                   \
+    {                                                                                                                  \
+        size_t sum = 0;                                                                                                \
+        for (size_t i = 0; i < count; i++) {                                                                           \
+            const uint8_t *bytes = names[i].bytes;                                                                     \
+            size_t len = names[i].len;                                                                                 \
+            sum += (result);                                                                                           \
+        }                                                                                                              \
+        return sum;                                                                                                    \
+    }
+static size_t nothing(void) { return 0; }
+static size_t tag(void) EACH(gix_validate_tag(bytes, len))
+static size_t partial(void) EACH(gix_validate_partial(bytes, len))
+static size_t full(void) EACH(gix_validate_full(bytes, len))
+static size_t branch(void) EACH(gix_validate_branch(bytes, len))
+static size_t submodule(void) EACH(gix_validate_submodule(bytes, len))
+static size_t component(void) EACH(gix_validate_component(bytes, len, 7))
+static size_t symlink(void) EACH(gix_validate_component(bytes, len, 15))
+static size_t is_windows_device(void) EACH(gix_validate_is_windows_device(bytes, len))
+static size_t sanitize(void) EACH(gix_validate_sanitize(bytes, len, buffer, len + 1))
+static size_t in_place(void) EACH((memcpy(buffer, bytes, len), gix_validate_sanitize_in_place(buffer, len + 1, len)))
+#ifdef CRATE
+static size_t c_tag(void) EACH(crate_tag(bytes, len))
+static size_t c_partial(void) EACH(crate_partial(bytes, len))
+static size_t c_full(void) EACH(crate_full(bytes, len))
+static size_t c_branch(void) EACH(crate_branch(bytes, len))
+static size_t c_submodule(void) EACH(crate_submodule(bytes, len))
+static size_t c_component(void) EACH(crate_component(bytes, len, 7))
+static size_t c_symlink(void) EACH(crate_component(bytes, len, 15))
+static size_t c_is_windows_device(void) EACH(crate_is_windows_device(bytes, len))
+static size_t c_sanitize(void) EACH(crate_sanitize(bytes, len, buffer))
+#endif
+#ifdef LIBGIT2
+static bool is_valid(int (*valid)(int *, const char *), const uint8_t *bytes)
 {
-    size_t sum = 0;
-#define EACH(answer)                                                                                                   \
-    for (size_t i = 0; i < count; i++) {                                                                               \
-        const uint8_t *bytes = names[i].bytes;                                                                         \
-        size_t len = names[i].len;                                                                                     \
-        sum += (answer);                                                                                               \
-    }
-    if (!strcmp(call, "tag"))
-        EACH(gix_validate_tag(bytes, len))
-    else if (!strcmp(call, "partial"))
-        EACH(gix_validate_partial(bytes, len))
-    else if (!strcmp(call, "full"))
-        EACH(gix_validate_full(bytes, len))
-    else if (!strcmp(call, "branch"))
-        EACH(gix_validate_branch(bytes, len))
-    else if (!strcmp(call, "submodule"))
-        EACH(gix_validate_submodule(bytes, len))
-    else if (!strcmp(call, "component"))
-        EACH(gix_validate_component(bytes, len, 7))
-    else if (!strcmp(call, "symlink"))
-        EACH(gix_validate_component(bytes, len, 15))
-    else if (!strcmp(call, "is_windows_device"))
-        EACH(gix_validate_is_windows_device(bytes, len))
-    else if (!strcmp(call, "sanitize_in_place"))
-        EACH((memcpy(buffer, bytes, len), gix_validate_sanitize_in_place(buffer, len + 1, len)))
-    else if (strcmp(call, "nothing")) {
-        fprintf(stderr, "no such call: %s\n", call);
-        exit(2);
-    }
-    return sum;
+    int result = 0;
+    return valid(&result, (const char *)bytes) == 0 && result;
 }
+static size_t l_tag(void) EACH(((void)len, is_valid(git_tag_name_is_valid, bytes)))
+static size_t l_full(void) EACH(((void)len, is_valid(git_reference_name_is_valid, bytes)))
+#endif
+
+static const struct call {
+    const char *name;
+    size_t (*pass)(void);
+} calls[] = {
+    {"nothing", nothing}, {"tag", tag}, {"partial", partial}, {"full", full}, {"branch", branch},
+    {"submodule", submodule}, {"component", component}, {"symlink", symlink}, {"sanitize", sanitize},
+    {"is_windows_device", is_windows_device}, {"sanitize_in_place", in_place},
+#ifdef CRATE
+    {"crate_tag", c_tag}, {"crate_partial", c_partial}, {"crate_full", c_full}, {"crate_branch", c_branch},
+    {"crate_submodule", c_submodule}, {"crate_component", c_component}, {"crate_symlink", c_symlink},
+    {"crate_is_windows_device", c_is_windows_device}, {"crate_sanitize", c_sanitize},
+#endif
+#ifdef LIBGIT2
+    {"libgit2_tag", l_tag}, {"libgit2_full", l_full},
+#endif
+};
 
 static double now(void)
 {
@@ -92,6 +132,7 @@ static void read_names(const char *path)
             exit(2);
         }
         memcpy(names[count].bytes, line, (size_t)len);
+        names[count].bytes[len] = 0;
         count++;
         longest = (size_t)len > longest ? (size_t)len : longest;
     }
@@ -102,25 +143,32 @@ static void read_names(const char *path)
 
 int main(int argc, char **argv)
 {
-    size_t times = argc > 3 ? strtoul(argv[3], NULL, 10) : 0;
     if (argc < 3) {
-        fprintf(stderr, "usage: driver CALL NAMES [TIMES]\n");
+        fprintf(stderr, "usage: driver CALL NAMES [MILLISECONDS]\n");
+        return 2;
+    }
+    const struct call *call = calls, *end = calls + sizeof calls / sizeof *calls;
+    while (call < end && strcmp(call->name, argv[1]))
+        call++;
+    if (call == end) {
+        fprintf(stderr, "no such call: %s\n", argv[1]);
         return 2;
     }
     read_names(argv[2]);
-    if (times == 0) {
-        printf("%zu\n", ask(argv[1]));
+#ifdef LIBGIT2
+    git_libgit2_init();
+#endif
+    if (argc == 3) {
+        printf("%zu\n", call->pass());
         return 0;
     }
-    double least = 0;
+    double best = 1e300;
     size_t sum = 0;
-    for (int go = 0; go < 20; go++) {
-        double start = now();
-        for (size_t i = 0; i < times; i++)
-            sum += ask(argv[1]);
-        double taken = (now() - start) / (double)(times * count);
-        least = go == 0 || taken < least ? taken : least;
+    for (double start = now(), last = start, next; last < start + 1e6 * atof(argv[3]); last = next) {
+        sum += call->pass();
+        next = now();
+        best = next - last < best ? next - last : best;
     }
-    printf("%.2f\n", least);
+    printf("%.2f\n", best / (double)count);
     return sum == 1;
 }

@@ -2,16 +2,21 @@
 
 import sys
 import time
-from typing import Callable, List
+from typing import Callable, Dict, List
 
 
 def measure(caller: str, call: str, names: List[bytes], accepts: Callable[[bytes], object]) -> None:
-    """Prints the best time of the passes over all names in three seconds."""
+    """Prints the best time of the passes over all names in three seconds, a call for each name."""
+    measure_all(caller, call, names, lambda: all(map(accepts, names)))
+
+
+def measure_all(caller: str, call: str, names: List[bytes], pass_over: Callable[[], bool]) -> None:
+    """The same for a function that checks all names and says whether all are accepted."""
     best = float("inf")
     first = time.perf_counter()
     while time.perf_counter() < first + 3:
         start = time.perf_counter_ns()
-        all_accepted = all(map(accepts, names))
+        all_accepted = pass_over()
         best = min(best, time.perf_counter_ns() - start)
         if not all_accepted:
             sys.exit(f"{caller}, {call}: not all names are accepted")
@@ -20,7 +25,8 @@ def measure(caller: str, call: str, names: List[bytes], accepts: Callable[[bytes
 
 def main() -> None:
     with open(sys.argv[1], "rb") as file:
-        names = file.read().splitlines()
+        buffer = file.read()
+    names = buffer.splitlines()
     if sys.argv[2:] == ["dulwich"]:
         import dulwich
         from dulwich.refs import check_ref_format
@@ -31,6 +37,14 @@ def main() -> None:
 
         python = "Python " + ".".join(map(str, sys.version_info[:3]))
         measure(python, "full name", names, gix_validate.full_name)
+        valid, kind = bytes(len(names)), gix_validate.Kind.FULL
+        calls: Dict[str, Callable[[], bool]] = {
+            "fault_numbers, full names": lambda: gix_validate.fault_numbers(buffer, kind) == valid,
+            "faults, full names": lambda: not any(gix_validate.faults(names, kind)),
+            "first_invalid, full names": lambda: gix_validate.first_invalid(names, kind) is None,
+        }
+        for call, pass_over in calls.items():
+            measure_all(python, call, names, pass_over)
         measure(python, "repair", names, gix_validate.sanitize)
 
 

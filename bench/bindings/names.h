@@ -1,4 +1,4 @@
-/* The names to ask, one a line of a file, and the best time of the passes over all of them in a second. */
+/* The names to check, one a line of a file, and the best time of the passes over all of them in a second. */
 #include <stdio.h>
 #include <stdlib.h>
 #include <string.h>
@@ -9,6 +9,10 @@ enum { MOST_NAMES = 10000 };
 static char *names[MOST_NAMES];
 static size_t lengths[MOST_NAMES];
 static size_t count = 0;
+
+/* The names in one buffer, each ended by a newline. */
+static char buffer[64 * MOST_NAMES];
+static size_t buffer_length = 0;
 
 static void read_names(const char *path) {
     char line[4096];
@@ -22,6 +26,13 @@ static void read_names(const char *path) {
         line[lengths[count]] = '\0';
         names[count] = malloc(lengths[count] + 1);
         strcpy(names[count], line);
+        if (buffer_length + lengths[count] + 1 > sizeof buffer) {
+            fprintf(stderr, "%s: too many bytes\n", path);
+            exit(1);
+        }
+        memcpy(buffer + buffer_length, line, lengths[count]);
+        buffer_length += lengths[count];
+        buffer[buffer_length++] = '\n';
         count++;
     }
     fclose(file);

@@ -1,5 +1,5 @@
 # shellcheck shell=bash disable=SC2154
-# What the scripts share that start rt: they show what it is at, stop it when they are stopped, and say why it failed.
+# What the scripts share that run rt: they show its progress, stop it when they are stopped, and say why it failed.
 # A script that sources this sets `who`, the name that its messages begin with.
 
 log=$(mktemp) || exit 2
@@ -21,13 +21,13 @@ stopped() {
     if [[ -n $work ]]; then
         kill -s TERM "$work" 2> /dev/null || true
         wait "$work" 2> /dev/null || true
-        say 'stopped before it was built'
+        say 'stopped before the build was done'
     fi
     trap - "$1"
     kill -s "$1" "$$"
 }
 
-# Reads what rt has added to the log, and says each step: on a terminal in one line that changes, and else in a line each.
+# Reads what rt has added to the log, and prints each step: on a terminal in one line that changes, and else in a line each.
 show_steps() {
     local line
     while IFS= read -r line <&8; do
@@ -43,7 +43,7 @@ show_steps() {
     fi
 }
 
-# Runs a command that proves and builds, and shows meanwhile what it is at. watched COMMAND..
+# Runs a command that proves and builds, and shows its progress. watched COMMAND..
 watched() {
     local step='' status=0
     "$@" < /dev/null > "$log" 2>&1 &
@@ -61,7 +61,7 @@ watched() {
     return "$status"
 }
 
-# Shows what the log says of a failure: the first goals that are open and the crate, or else its last lines.
+# Shows what the log says of a failure: the first open goals and the crate, or else its last lines.
 explain() {
     grep -a -m 5 -E '^(note: )?[^ ]+:[0-9]+:[0-9]+: (error|it is not proved)|^rt: the library' -- "$log" >&2 ||
         tail -n 5 -- "$log" >&2

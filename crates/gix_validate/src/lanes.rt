@@ -1,6 +1,6 @@
 //! Looks at sixteen bytes at a time, a block. The place of each byte in it is its lane.
 
-ghost use Rattle.std.specs.Prelude.{◌≡◌, ◌≢◌, ℕ, ◌<◌, ◌≤◌, ◌+◌, ◌/◌, ◌%◌, ◌^◌, ◌==◌, map, length, slice_index, bit_and, if◌then◌else◌};
+ghost use Rattle.std.specs.Prelude.{◌≡◌, ◌≢◌, ℕ, ◌<◌, ◌≤◌, ◌+◌, ◌/◌, ◌%◌, ◌^◌, ◌==◌, ◌||◌, map, length, slice_index, bit_and, if◌then◌else◌};
 ghost use Rattle.std.specs.Int.{bit_at};
 ghost use Rattle.std.specs.List.{list_any};
 ghost use Rattle.std.specs.Simd.Lanes.{chunk};
@@ -128,6 +128,17 @@ pub(crate) fn block_contains(text: &[u8], at: usize, byte: u8) -> bool
     ensures { result ≡ list_any (λ b. b == byte) (chunk at LANES text.now) }
 {
     lanes_contain(u8x16::from_slice(&text[at..]), byte)
+}
+
+/// Whether one of the two bytes is one of the sixteen of the text from this place on.
+#[inline(always)]
+#[tactic(auto, using(crate::proofs::Blocks::Lanes::any_of_two))]
+pub(crate) fn block_contains_either(text: &[u8], at: usize, one: u8, other: u8) -> bool
+    requires { at + LANES ≤ length text.now }
+    ensures { result ≡ list_any (λ b. b == one || b == other) (chunk at LANES text.now) }
+{
+    let block = u8x16::from_slice(&text[at..]);
+    lanes_contain(block, one) | lanes_contain(block, other)
 }
 
 /// Whether the byte is in one of the lanes.

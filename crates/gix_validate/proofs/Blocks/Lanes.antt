@@ -1,5 +1,5 @@
 -- Sixteen lanes: look-ups in a table of sixteen, and tests whether some lane passes.
-use Rattle.std.proofs.Common.{◌≡◌, ℕ, zero, suc, ◌+◌, ◌*◌, ◌/◌, ◌%◌, ◌^◌, ◌<◌, ◌↔◌, Bool, true, false, not, cond, eqb, List, [], ◌∷◌, map}
+use Rattle.std.proofs.Common.{◌≡◌, ℕ, zero, suc, ◌+◌, ◌*◌, ◌/◌, ◌%◌, ◌^◌, ◌<◌, ◌↔◌, Bool, true, false, not, ◌||◌, cond, eqb, List, [], ◌∷◌, map}
 use Rattle.std.proofs.Common.{length, get_or, replicate, bit_and, refl, sym, ap, ap₂, subst, ◌∙◌, arith, w8, Fits, eqb-true}
 use Rattle.std.proofs.lemmas.Bool.{agree_below, agree_below_at}
 use Rattle.std.proofs.lemmas.List.{get_or-map, length-map, ext_get_or}
@@ -141,3 +141,8 @@ no_lane p f g v w left right long el er r is =
 -- whether the mask of top bits is empty, in place of whether some lane has one
 pub mask_of : (v : List ℕ) → length v ≡ 16 → not (eqb (mask_l (map (top 7) v) % 2 ^ 64) 0) ≡ list_any (top 7) v
 mask_of v long = ap (λ n. not (eqb n 0)) (mask_l-mod (map (top 7) v) 64 (omega (arith, length-map v (top 7)))) ∙ any_bit (top 7) v
+
+-- whether a lane passes one of two tests
+pub any_of_two : (p q : ℕ → Bool) (v : List ℕ) → list_any (λ b. p b || q b) v ≡ (list_any p v || list_any q v)
+any_of_two p q [] = refl
+any_of_two p q (b ∷ v) = grind (arith, any_of_two p q v)

@@ -1,5 +1,5 @@
 -- Ordinary names: no condition but the one on devices refuses one.
-use Rattle.std.proofs.Common.{◌≡◌, ℕ, zero, suc, ◌<◌, ◌≤◌, Bool, true, false, not, ◌&&◌, ◌||◌, eqb, Option, Some, List}
+use Rattle.std.proofs.Common.{◌≡◌, ℕ, zero, suc, ◌<◌, ◌≤◌, Bool, true, false, not, ◌&&◌, ◌||◌, eqb, Option, Some, None, List}
 use Rattle.std.proofs.Common.{[], ◌∷◌, ◌++◌, length, get_or, refl, ◌∙◌, arith, codes}
 use Rattle.std.specs.Prelude.{slice_index, is_some}
 use Rattle.std.specs.Bool.{◌==◌}
@@ -186,7 +186,15 @@ pub relative_fault : (options : ComponentOptions) (mode : Option ComponentMode) 
 unfolding conditions fault_of
 relative_fault options mode x dots = grind (arith, bytes_eq-Decides)
 
--- what the fast way to the fault of a component needs
-pub ruleset faults_by_looks = (ordinary_by_looks, ordinary_fault, git_fault, modules_fault, slash_fault, backslash_fault, no_plain_git, no_plain_modules, no_dots)
+-- without protections only these conditions are left
+pub unprotected_fault : (options : ComponentOptions) (mode : Option ComponentMode) (x : List ℕ) → options.protect_windows ≡ false
+    → options.protect_hfs ≡ false → options.protect_ntfs ≡ false → 1 ≤ length x
+    → (bytes_eq x (codes ".") || bytes_eq x (codes "..")) ≡ false → is_among x (byte "/") ≡ false
+    → bytes_eq (lower x) (codes ".git") ≡ false → bytes_eq (lower x) (codes ".gitmodules") ≡ false → fault_of options mode x ≡ None
+unfolding conditions fault_of
+unprotected_fault options mode x windows hfs ntfs some dots slash git modules = grind (arith, other_end x)
 
-pub ruleset other_lengths = (empty_fault, relative_fault, no_long_git, no_long_modules, no_tiny_git, no_tiny_modules)
+-- what the fast way to the fault of a component needs
+pub ruleset faults_by_looks = (empty_fault, relative_fault, ordinary_by_looks, ordinary_fault, git_fault, modules_fault, slash_fault, backslash_fault, unprotected_fault, no_plain_git, no_plain_modules, no_dots)
+
+pub ruleset other_lengths = (no_long_git, no_long_modules, no_tiny_git, no_tiny_modules)

@@ -1,13 +1,15 @@
 //! One look at the bytes of a name.
 
-ghost use Rattle.std.specs.Prelude.{◌≡◌, ◌≤◌, ◌<◌, ◌+◌, ◌∷◌, [], List, ℕ, not, length, map};
+ghost use Rattle.std.specs.Prelude.{◌≡◌, ◌≤◌, ◌<◌, ◌+◌, ◌==◌, ◌&&◌, ◌||◌, ◌∷◌, [], List, ℕ, not, length, map};
+ghost use Rattle.std.specs.Str.{byte};
+ghost use Rattle.gix_validate.specs.Bytes.{is_among};
 ghost use Rattle.std.specs.List.{list_any};
 ghost use Rattle.std.specs.Simd.Lanes.{chunk};
 ghost use Rattle.gix_validate.specs.Windows.{is_illegal_byte};
 ghost use Rattle.gix_validate.specs.Private.Ordinary.{is_classed};
-ghost use Rattle.gix_validate.specs.Private.Classes.{any_class, class_of, has_class, HaveClassesOf, Describes, MayHave};
+ghost use Rattle.gix_validate.specs.Private.Classes.{any_class, class_of, is_sought, HaveClassesOf, Describes, MayHave};
 
-use crate::lanes::{LANES, classify, halves, has_nonzero, pairs, quarters};
+use crate::lanes::{LANES, block_contains_either, classify, halves, has_nonzero, pairs, quarters};
 use std::simd::prelude::*;
 
 /// The length of four blocks. A name of at most this length is looked at in one go.
@@ -15,6 +17,17 @@ pub(super) const SHORT: usize = 4 * LANES;
 
 /// The length of two blocks.
 const TWO: usize = 2 * LANES;
+
+/// What a name that isn't short is looked through for.
+#[derive(Clone, Copy)]
+enum Sought {
+    /// A byte of one of the classes, a bit for each.
+    Class { mask: u8 },
+    /// A slash.
+    Slash,
+    /// A slash or a backslash.
+    Separator,
+}
 
 /// Which bytes are in a short name, of those for which a condition asks: their classes, a bit for
 /// each, in any of sixteen lanes.
@@ -162,13 +175,26 @@ impl Suspects {
     }
 }
 
+/// Whether a name that isn't short has a slash, or with Windows protection a backslash.
+#[inline(always)]
+pub(super) fn has_separator(name: &[u8], windows: bool) -> bool
+    requires { SHORT < length name.now }
+    ensures { result ≡ (is_among name.now (byte "/") || (windows && is_among name.now (byte "\\"))) }
+{
+    if windows {
+        blocks_have(name, Sought::Separator)
+    } else {
+        blocks_have(name, Sought::Slash)
+    }
+}
+
 /// Whether a name that isn't short has a byte for which a condition asks.
 #[tactic(auto, using(crate::proofs::Blocks::ByteClasses::classed_is))]
 pub(super) fn has_classed_byte(name: &[u8]) -> bool
     requires { SHORT < length name.now }
     ensures { result ≡ list_any is_classed name.now }
 {
-    blocks_have_class(name, ANY)
+    blocks_have(name, Sought::Class { mask: ANY })
 }
 
 /// Whether the name has a byte that is illegal on Windows.
@@ -178,7 +204,7 @@ pub(super) fn has_illegal_byte(name: &[u8]) -> bool
     ensures { result ≡ list_any is_illegal_byte name.now }
 {
     if name.len() > SHORT {
-        return blocks_have_class(name, ILLEGAL);
+        return blocks_have(name, Sought::Class { mask: ILLEGAL });
     }
     has_class(classes_of(name), ILLEGAL)
 }
@@ -209,33 +235,57 @@ fn classes_of(name: &[u8]) -> u8x16
     classes_in(u8x16::splat(name[0]))
 }
 
-/// Whether a name that isn't short has a byte of one of the classes. The last four blocks overlap
-/// the ones before them.
+/// Whether a name that isn't short has a byte that is sought. The last four blocks overlap the ones
+/// before them.
 #[inline(always)]
-fn blocks_have_class(name: &[u8], mask: u8) -> bool
+fn blocks_have(name: &[u8], sought: Sought) -> bool
     requires { SHORT < length name.now }
-    ensures { result ≡ list_any (has_class mask) name.now }
+    ensures { result ≡ list_any (is_sought sought) name.now }
 {
     let last = name.len() - SHORT;
     let mut at = 0;
     while at < last {
-        if four_have_class(name, at, mask) {
+        if four_have(name, at, sought) {
             return true;
         }
         at += SHORT;
     }
-    four_have_class(name, last, mask)
+    four_have(name, last, sought)
 }
 
-/// Whether four blocks of the name, from this place on, have a byte of one of the classes.
+/// Whether four blocks of the name, from this place on, have a byte that is sought.
 #[inline(always)]
-fn four_have_class(name: &[u8], at: usize, mask: u8) -> bool
+fn four_have(name: &[u8], at: usize, sought: Sought) -> bool
     requires { at + SHORT ≤ length name.now }
-    ensures { result ≡ list_any (has_class mask) (chunk at SHORT name.now) }
+    ensures { result ≡ list_any (is_sought sought) (chunk at SHORT name.now) }
 {
-    let first = classes_of_two(name, at);
-    let second = classes_of_two(name, at + TWO);
-    has_class(first | second, mask)
+    match sought {
+        Sought::Class { mask } => {
+            let first = classes_of_two(name, at);
+            let second = classes_of_two(name, at + TWO);
+            has_class(first | second, mask)
+        }
+        Sought::Slash => four_contain_either(name, at, b'/', b'/'),
+        Sought::Separator => four_contain_either(name, at, b'/', b'\\'),
+    }
+}
+
+/// Whether four blocks of the name, from this place on, have one of the two bytes.
+#[inline(always)]
+fn four_contain_either(name: &[u8], at: usize, one: u8, other: u8) -> bool
+    requires { at + SHORT ≤ length name.now }
+    ensures { result ≡ list_any (λ b. b == one || b == other) (chunk at SHORT name.now) }
+{
+    two_contain_either(name, at, one, other) | two_contain_either(name, at + TWO, one, other)
+}
+
+/// Whether two blocks of the name, from this place on, have one of the two bytes.
+#[inline(always)]
+fn two_contain_either(name: &[u8], at: usize, one: u8, other: u8) -> bool
+    requires { at + TWO ≤ length name.now }
+    ensures { result ≡ list_any (λ b. b == one || b == other) (chunk at TWO name.now) }
+{
+    block_contains_either(name, at, one, other) | block_contains_either(name, at + LANES, one, other)
 }
 
 /// The classes of the bytes of two blocks of the name, from this place on.

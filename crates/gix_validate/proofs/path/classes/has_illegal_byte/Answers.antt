@@ -6,3 +6,6 @@ use Rattle.gix_validate.proofs.path.classes.has_illegal_byte.Goals as goal
 pub returns : goal.returns
 returns c =
     c.has_class.ensures ∙ c.classes_of.ensures ILLEGAL ∙ any_is ILLEGAL c.args.name.now ∙ illegal_is c.args.name.now c.type_inv.name
+
+pub returns-then-name-gt-SHORT : goal.returns-then-name-gt-SHORT
+returns-then-name-gt-SHORT c = c.blocks_have.ensures ∙ illegal_is c.args.name.now c.type_inv.name

@@ -15,7 +15,7 @@ ghost use Rattle.std.specs.Prelude.{◌≡◌, ◌↔◌, ◌<◌, ◌≤◌, �
 ghost use Rattle.std.specs.Int.{bit_at};
 ghost use Rattle.std.specs.Str.{byte};
 ghost use Rattle.gix_validate.specs.Bytes.{is_among, ends};
-ghost use Rattle.gix_validate.specs.Private.Adjacent.{is_suspect, relates, IsClear, MarksSuspects, NoneBetween};
+ghost use Rattle.gix_validate.specs.Private.Adjacent.{is_plain_brace, is_suspect, relates, IsClear, MarksSuspects, NoneBetween};
 
 use crate::bytes::may_be_faulty;
 use crate::lanes::{LANES, classify, halves, nonzero_lanes, quarters};
@@ -162,18 +162,18 @@ pub(crate) fn block_has_none(text: &[u8], at: usize, relation: Relation) -> bool
     )
 }
 
-/// The suspect bytes among sixteen, behind the byte at this place: a bit for each, the lowest for the
-/// first of them.
+/// The bytes among sixteen, behind the byte at this place, that may have a fault or lead to one: a
+/// bit for each, the lowest for the first of them. They are the suspect ones but for each plain
+/// brace.
 #[inline(always)]
 pub(crate) fn suspects_of_block(text: &[u8], at: usize) -> u64
     requires { at + (LANES + 1) ≤ length text.now }
     ensures few { result < 2 ^ LANES }
     ensures marked { MarksSuspects text.now at result }
 {
-    suspects(
-        u8x16::from_slice(&text[at..]),
-        u8x16::from_slice(&text[at + 1..]),
-    )
+    let before = u8x16::from_slice(&text[at..]);
+    let bytes = u8x16::from_slice(&text[at + 1..]);
+    suspects(before, bytes) ^ plain_braces(before, bytes)
 }
 
 /// Whether a text of at most one block has no two related bytes side by side.
@@ -274,6 +274,15 @@ fn suspects(before: u8x16, bytes: u8x16) -> u64
     nonzero_lanes(
         classify(CLASSES_BY_LOW_NIBBLE, CLASSES_BY_HIGH_NIBBLE, bytes) & suspect_behind(before),
     )
+}
+
+/// A bit for each lane which has a `{`, and in `before` another byte than `@`.
+#[inline(always)]
+fn plain_braces(before: u8x16, bytes: u8x16) -> u64
+    ensures few { result < 2 ^ LANES }
+    ensures lanes { (k : ℕ) → k < LANES → bit_at result k ≡ (if is_plain_brace (slice_index before k) (slice_index bytes k) then 1 else 0) }
+{
+    (bytes.simd_eq(u8x16::splat(b'{')) & before.simd_ne(u8x16::splat(b'@'))).to_bitmask()
 }
 
 /// The classes that are suspect behind each byte.

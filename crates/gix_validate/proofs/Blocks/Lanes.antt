@@ -1,5 +1,5 @@
 -- Sixteen lanes: look-ups in a table of sixteen, and tests whether some lane passes.
-use Rattle.std.proofs.Common.{◌≡◌, ℕ, zero, suc, ◌+◌, ◌*◌, ◌/◌, ◌%◌, ◌^◌, ◌<◌, ◌↔◌, Bool, true, false, not, ◌||◌, cond, eqb, List, [], ◌∷◌, map}
+use Rattle.std.proofs.Common.{◌≡◌, ℕ, zero, suc, ◌+◌, ◌*◌, ◌/◌, ◌%◌, ◌^◌, ◌<◌, ◌↔◌, Bool, true, false, not, ◌&&◌, ◌||◌, cond, eqb, List, [], ◌∷◌, map}
 use Rattle.std.proofs.Common.{length, get_or, replicate, bit_and, refl, sym, ap, ap₂, subst, ◌∙◌, arith, w8, Fits, eqb-true}
 use Rattle.std.proofs.lemmas.Bool.{agree_below, agree_below_at}
 use Rattle.std.proofs.lemmas.List.{get_or-map, length-map, ext_get_or}
@@ -123,6 +123,31 @@ lane_of p f g v w left right long el er r is k h =
     let lr : length right ≡ 16 = ap length er ∙ length-map w g ∙ long.1 in
     ap p (get_or-zip2 bit_and left right k 0 0 0 (omega arith) (omega arith)
     ∙ ap₂ bit_and (ap (λ l. get_or l k 0) el ∙ get_or-map f v k 0 0 (omega arith)) (ap (λ l. get_or l k 0) er ∙ get_or-map g w k 0 0 (omega arith))) ∙ is k
+
+-- The mask of the lanes that pass a test of each of two vectors.
+pub both_mask : (s t : ℕ → ℕ → Bool) (v w : List ℕ) (b c : ℕ) → length v ≡ 16 → length w ≡ 16
+    → let mask = mask_l (map (top 7) (zip2 bit_and (zip2 (λ x y. cond (s x y) 255 0) v (replicate 16 b)) (zip2 (λ x y. cond (t x y) 255 0) w (replicate 16 c)))) % 2 ^ 64 in
+    (mask < 2 ^ 16) × ((k : ℕ) → k < 16 → bit_at mask k ≡ cond (s (get_or v k 0) b && t (get_or w k 0) c) 1 0)
+both_mask s t v w b c lv lw =
+    let left = zip2 (λ x y. cond (s x y) 255 0) v (replicate 16 b) in
+    let right = zip2 (λ x y. cond (t x y) 255 0) w (replicate 16 c) in
+    let el : left ≡ map (λ x. cond (s x b) 255 0) v = zip2_splat (λ x y. cond (s x y) 255 0) v 16 b lv in
+    let er : right ≡ map (λ x. cond (t x c) 255 0) w = zip2_splat (λ x y. cond (t x y) 255 0) w 16 c lw in
+    let ll : length left ≡ 16 = ap length el ∙ length-map v (λ x. cond (s x b) 255 0) ∙ lv in
+    let lr : length right ≡ 16 = ap length er ∙ length-map w (λ x. cond (t x c) 255 0) ∙ lw in
+    let both : length (zip2 bit_and left right) ≡ 16 = length-zip2 bit_and left right (ll ∙ sym lr) ∙ ll in
+    let tops = map (top 7) (zip2 bit_and left right) in
+    let long : length tops ≡ 16 = length-map (zip2 bit_and left right) (top 7) ∙ both in
+    let lane = lane_of (top 7) (λ x. cond (s x b) 255 0) (λ x. cond (t x c) 255 0) v w left right (lv, lw) el er (λ x y. s x b && t y c)
+    (λ k. either (s (get_or v k 0) b) (t (get_or w k 0) c)) in
+    rw (mask_l-mod tops 64 (omega arith)) (
+      (rw long at (mask_l-lt tops)),
+      λ k within. bit_mask_l tops k
+          ∙ ap (λ z. cond z 1 0) (get_or-map (top 7) (zip2 bit_and left right) k 0 false (omega arith) ∙ lane k within),
+    )
+  where
+    either : (u z : Bool) → top 7 (bit_and (cond u 255 0) (cond z 255 0)) ≡ (u && z)
+    either u z = grind arith
 
 -- the same where no lane passes
 pub no_lane : (p : ℕ → Bool) (f g : ℕ → ℕ) (v w left right : List ℕ) → (length v ≡ 16) × (length w ≡ 16) → left ≡ map f v → right ≡ map g w

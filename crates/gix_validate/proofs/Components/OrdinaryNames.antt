@@ -192,9 +192,9 @@ pub unprotected_fault : (options : ComponentOptions) (mode : Option ComponentMod
     → (bytes_eq x (codes ".") || bytes_eq x (codes "..")) ≡ false → is_among x (byte "/") ≡ false
     → bytes_eq (lower x) (codes ".git") ≡ false → bytes_eq (lower x) (codes ".gitmodules") ≡ false → fault_of options mode x ≡ None
 unfolding conditions fault_of
-unprotected_fault options mode x windows hfs ntfs some dots slash git modules = grind (arith, other_end x)
+unprotected_fault options mode x windows hfs ntfs some dots slash git modules = grind arith
 
 -- what the fast way to the fault of a component needs
-pub ruleset faults_by_looks = (empty_fault, relative_fault, ordinary_by_looks, ordinary_fault, git_fault, modules_fault, slash_fault, backslash_fault, unprotected_fault, no_plain_git, no_plain_modules, no_dots)
+pub ruleset faults_by_looks = (empty_fault, relative_fault, ordinary_by_looks, ordinary_fault, git_fault, modules_fault, slash_fault, backslash_fault, no_plain_git, no_plain_modules, no_dots)
 
 pub ruleset other_lengths = (no_long_git, no_long_modules, no_tiny_git, no_tiny_modules)

@@ -8,18 +8,18 @@ use Rattle.std.proofs.lemmas.Slice.Eq.{starts_is}
 use Rattle.std.proofs.lemmas.List.{take-append-drop, drop_more, drop_at, get_or-drop, take_more}
 use Rattle.std.proofs.Common.{◌≡◌, ℕ, ◌+◌, ◌-◌, ◌<◌, ◌≤◌, false, List, length, take, drop, get_or, sym, ap, ◌∙◌, arith, Some, None, inl, inr, true, refl}
 use Rattle.std.proofs.Common.{◌∷◌, ◌++◌, suc, length-take, length-append, append_assoc, length-drop, Option, Bool, ◌||◌, subst, eqb-true, cond, ◌≢◌}
-use Rattle.std.proofs.lemmas.Bool.{cases_lt, false_from_ne_true, true≢false}
+use Rattle.std.proofs.lemmas.Bool.{cases_lt, cases_Bool, and_parts, false_from_ne_true, true≢false}
 use Rattle.std.specs.Prelude.{codes, MatchOption, ◌==◌}
 use Rattle.std.specs.Str.{byte}
 use Rattle.gix_validate.specs.declared.tag.NameError.{NameError}
 use Rattle.gix_validate.specs.Bytes.{begins, ends, is_bad, is_among}
-use Rattle.gix_validate.specs.Private.Adjacent.{is_suspect}
+use Rattle.gix_validate.specs.Private.Adjacent.{is_suspect, is_plain_brace, is_looked_at}
 use Rattle.gix_validate.specs.Faults.{at_first_place, when, ◌orelse◌}
 use Rattle.gix_validate.specs.Private.TagWalk.{fault_of_byte_at, fault_of_suspect, first_fault_between, NoFaultBetween, IsFirstFault, IsSettled, fault_of_byte}
 use Rattle.gix_validate.proofs.Texts.Places.{at_first_place_none, at_first_place_more, at_first_place_from, found_below}
 use Rattle.gix_validate.proofs.TagNames.FaultTable.{is_none-fault_of_byte, quiet, lock_ends_in_k}
 use Rattle.std.proofs.lemmas.Bool.Decides.{nat_tests, Decides-eqb}
-use Rattle.gix_validate.proofs.TagNames.ClearTexts.{IsQuiet, settled_quiet, last_read}
+use Rattle.gix_validate.proofs.TagNames.ClearTexts.{IsQuiet, settled_quiet, quiet_place, last_read}
 
 -- where nothing is found before a part, the part says what is found
 pub from_place : (x : List ℕ) (i j : ℕ) → i ≤ j → NoFaultBetween x 0 i → at_first_place (fault_of_byte_at x) j ≡ first_fault_between x i j
@@ -154,6 +154,17 @@ pub at_brace : (x : List ℕ) (p : ℕ) → 1 ≤ p → p < length x → get_or 
     ≡ when (get_or x (p - 1) 0 == byte "@") ReflogPortion
 unfolding fault_of_byte fault_table is_bad
 at_brace x p some within e = grind (arith, nat_tests, not_l x p, last_read x p (byte "@"))
+
+-- A place that isn't looked at is quiet: it isn't suspect, or has a `{` behind another byte than `@`.
+pub quiet_unmarked : (x : List ℕ) (p : ℕ) → 1 ≤ p → p < length x → is_looked_at (get_or x (p - 1) 0) (get_or x p 0) ≡ false → IsQuiet x p
+quiet_unmarked x p some within unmarked = elim (cases_Bool (is_suspect (get_or x (p - 1) 0) (get_or x p 0))) [
+  | inr other ↦ quiet_place x p some (omega arith) other
+  | inl suspect ↦
+      let plain : is_plain_brace (get_or x (p - 1) 0) (get_or x p 0) ≡ true = grind arith in
+      let brace : get_or x p 0 ≡ byte "{" = eqb-true _ _ (and_parts (get_or x p 0 == byte "{") _ plain).0 in
+      let bare : (get_or x (p - 1) 0 == byte "@") ≡ false = grind arith in
+      quiet_suspect x p within (at_brace x p some within brace ∙ ap (λ t. when t ReflogPortion) bare)
+]
 
 pub at_slash : (x : List ℕ) (p : ℕ) → 1 ≤ p → p < length x → is_suspect (get_or x (p - 1) 0) (get_or x p 0) ≡ true → get_or x p 0 ≡ byte "/"
     → fault_of_suspect x p ≡ when (get_or x (p - 1) 0 == byte "/") RepeatedSlash

@@ -1,6 +1,6 @@
 -- Clear texts, recognised by bytes that stand side by side and by the end: each is a tag name, and most tag names are
 -- clear.
-use Rattle.std.specs.Prelude.{◌≡◌, ℕ, ◌+◌, ◌≤◌, ◌<◌, Bool, false, ◌==◌, ◌&&◌, ◌||◌, if◌then◌else◌, List, length, slice_index, codes}
+use Rattle.std.specs.Prelude.{◌≡◌, ℕ, ◌+◌, ◌≤◌, ◌<◌, Bool, false, ◌==◌, ◌&&◌, ◌||◌, not, if◌then◌else◌, List, length, slice_index, codes}
 use Rattle.std.specs.Int.{bit_at}
 use Rattle.std.specs.Str.{byte}
 use Rattle.gix_validate.specs.declared.adjacent.Relation.{Relation}
@@ -17,6 +17,10 @@ is_suspect before b =
     || (is_among (codes "./") before && is_among (codes "./") b)
     || (before == byte "." && b == byte "l")
 
+-- a `{` behind another byte than `@`, which has no fault
+abbrev pub is_plain_brace : ℕ → ℕ → Bool
+is_plain_brace before b = b == byte "{" && not (before == byte "@")
+
 -- the bytes are of those that are looked at closer
 abbrev pub relates : Relation → ℕ → ℕ → Bool
 relates Suspect before b = is_suspect before b
@@ -27,10 +31,14 @@ relates LastDot before b = before == byte "." && (b == byte "/" || b == byte "\\
 abbrev pub NoneBetween : Relation → List ℕ → ℕ → ℕ → Type 0
 NoneBetween relation x i j = (k : ℕ) → i ≤ k → k + 1 < j → relates relation (slice_index x k) (slice_index x (k + 1)) ≡ false
 
--- of the sixteen bytes behind this place, a bit of the mask is set for each that is suspect behind the one before it
+-- the byte is suspect behind the one before it, and no plain brace
+abbrev pub is_looked_at : ℕ → ℕ → Bool
+is_looked_at before b = is_suspect before b && not (is_plain_brace before b)
+
+-- of the sixteen bytes behind this place, a bit of the mask is set for each that is looked at
 abbrev pub MarksSuspects : List ℕ → ℕ → ℕ → Type 0
 MarksSuspects x at mask =
-    (k : ℕ) → k < LANES → bit_at mask k ≡ (if is_suspect (slice_index x (at + k)) (slice_index x (at + k + 1)) then 1 else 0)
+    (k : ℕ) → k < LANES → bit_at mask k ≡ (if is_looked_at (slice_index x (at + k)) (slice_index x (at + k + 1)) then 1 else 0)
 
 -- The text has a byte, none that is suspect, the first as behind a slash, and no slash or dot at its end.
 pub record IsClear (x : List ℕ) : Type 0 where

@@ -285,7 +285,8 @@ fn two_contain_either(name: &[u8], at: usize, one: u8, other: u8) -> bool
     requires { at + TWO ≤ length name.now }
     ensures { result ≡ list_any (λ b. b == one || b == other) (chunk at TWO name.now) }
 {
-    block_contains_either(name, at, one, other) | block_contains_either(name, at + LANES, one, other)
+    block_contains_either(name, at, one, other)
+        | block_contains_either(name, at + LANES, one, other)
 }
 
 /// The classes of the bytes of two blocks of the name, from this place on.

@@ -1,8 +1,27 @@
-use Rattle.std.proofs.Common.{◌∙◌, ap, cond}
+use Rattle.std.proofs.Common.{◌≡◌, ℕ, ◌+◌, ◌%◌, Bool, true, false, not, ◌&&◌, cond, get_or, ap, ap₂, sym, ◌∙◌, arith}
+use Rattle.std.proofs.lemmas.Nat.Bits.{bit_at_xor}
+use Rattle.std.proofs.lemmas.Bool.Decides.{nat_tests}
+use Rattle.std.proofs.lemmas.Simd.{get_or-chunk}
+use Rattle.gix_validate.specs.Private.Adjacent.{is_suspect, is_plain_brace}
 use Rattle.gix_validate.proofs.Blocks.AdjacentBytes.{block_lane}
 use Rattle.gix_validate.specs.declared.adjacent.Relation.TheVariants.{Suspect}
 use Rattle.gix_validate.proofs.adjacent.suspects_of_block.Goals as goal
 
+brace_suspect : (before b : ℕ) → is_plain_brace before b ≡ true → is_suspect before b ≡ true
+unfolding is_suspect
+brace_suspect before b plain = grind (arith, nat_tests)
+
+one_of : (s p : Bool) → (p ≡ true → s ≡ true) → (cond s 1 0 + cond p 1 0) % 2 ≡ cond (s && not p) 1 0
+one_of s p only = grind arith
+
 pub returns-clause-marked : goal.returns-clause-marked
 returns-clause-marked c k within =
-    c.suspects.ensures.lanes k within ∙ ap (λ t. cond t 1 0) (block_lane Suspect c.args.text.now c.args.at c.requires k within)
+    let x = c.args.text.now in
+    let at = c.args.at in
+    let here : get_or x (at + 1 + k) 0 ≡ get_or x (at + k + 1) 0 = ap (λ j. get_or x j 0) (omega arith) in
+    let suspect = c.suspects.ensures.lanes k within ∙ ap (λ t. cond t 1 0) (block_lane Suspect x at c.requires k within) in
+    let plain = c.plain_braces.ensures.lanes k within
+    ∙ ap (λ t. cond t 1 0) (ap₂ is_plain_brace (get_or-chunk at 16 x k 0 within) (get_or-chunk (at + 1) 16 x k 0 within ∙ here)) in
+    bit_at_xor _ _ k
+    ∙ ap₂ (λ a b. (a + b) % 2) suspect plain
+    ∙ one_of _ _ (brace_suspect (get_or x (at + k) 0) (get_or x (at + k + 1) 0))

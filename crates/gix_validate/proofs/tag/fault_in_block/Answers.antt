@@ -1,11 +1,12 @@
 -- Each suspect place in turn leads to the first fault, or is quiet.
-use Rattle.std.proofs.Common.{◌≡◌, ℕ, ◌+◌, ◌-◌, ◌<◌, ◌^◌, Bool, true, false, cond, inl, inr, sym, ap, subst, ◌∙◌, arith, refl}
+use Rattle.std.proofs.Common.{◌≡◌, ℕ, ◌+◌, ◌-◌, ◌<◌, ◌^◌, Bool, true, false, cond, get_or, inl, inr, sym, ap, subst, ◌∙◌, arith, refl}
 use Rattle.std.specs.Int.{bit_at}
-use Rattle.std.proofs.lemmas.Bool.{cases_lt}
+use Rattle.std.proofs.lemmas.Bool.{cases_lt, and_parts}
 use Rattle.std.proofs.lemmas.Nat.Bits.{bit_at_above, bit_at-zero}
+use Rattle.gix_validate.specs.Private.Adjacent.{is_suspect}
 use Rattle.gix_validate.specs.Private.TagWalk.{IsSettled}
-use Rattle.gix_validate.proofs.TagNames.ClearTexts.{IsQuiet, quiet_place}
-use Rattle.gix_validate.proofs.TagNames.Places.{settled_lanes, quiet_suspect, first_of_suspect}
+use Rattle.gix_validate.proofs.TagNames.ClearTexts.{IsQuiet}
+use Rattle.gix_validate.proofs.TagNames.Places.{settled_lanes, quiet_suspect, quiet_unmarked, first_of_suspect}
 use Rattle.gix_validate.proofs.tag.fault_in_block.Goals as goal
 
 marked : (b : ℕ) (t : Bool) → b ≡ cond t 1 0 → (b ≡ 0 → t ≡ false) × (b ≡ 1 → t ≡ true)
@@ -26,8 +27,8 @@ loop-suspects-init c =
       seen = λ k within unset.
           let before : at + 1 + k - 1 ≡ at + k = omega arith in
           let here : at + 1 + k ≡ at + k + 1 = omega arith in
-          quiet_place x (at + 1 + k) (omega arith) (omega arith) (rw (before, here) ((marked _ _ (h.marked k within)).0 unset));
-      left = λ k within set. (marked _ _ (h.marked k within)).1 set;
+          quiet_unmarked x (at + 1 + k) (omega arith) (omega arith) (rw (before, here) ((marked _ _ (h.marked k within)).0 unset));
+      left = λ k within set. (and_parts (is_suspect (get_or x (at + k) 0) (get_or x (at + k + 1) 0)) _ ((marked _ _ (h.marked k within)).1 set)).0;
     }
 
 pub fault_of_suspect-requires : goal.fault_of_suspect-requires

@@ -181,7 +181,7 @@ fn fault_by_blocks(bytes: &[u8]) -> Option<NameError>
     if bytes.len() <= LANES {
         return first_fault_between(bytes, 0, bytes.len());
     }
-    if let Some(fault) = fault_of_byte(&[], bytes[0]) {
+    if let Some(fault) = first_fault_between(bytes, 0, 1) {
         return Some(fault);
     }
     let last = bytes.len() - LANES - 1;

@@ -40,6 +40,22 @@ between_found x i j n a order within none here =
     let there : i + (j - i) ≡ j = omega arith in
     grind (arith, between_none, at_first_place_more f (j - i), found_below f (j - i + 1) (n - i))
 
+pub between_one : (x : List ℕ) → first_fault_between x 0 1 ≡ fault_of_byte_at x 0
+unfolding first_fault_between
+between_one x =
+    grind (
+      arith,
+      at_first_place_none (λ k. fault_of_byte_at x (0 + k)) 0 (λ k small. absurd (omega arith)),
+      at_first_place_more (λ k. fault_of_byte_at x (0 + k)) 0,
+    )
+
+-- a text whose first byte has no fault
+pub settled_one : (x : List ℕ) → fault_of_byte_at x 0 ≡ None → IsSettled x 1
+settled_one x here = record {
+  done = λ p from to. let first : 0 ≡ p = omega arith in subst (λ j. fault_of_byte_at x j ≡ None) first here;
+  ahead = λ p from to within slash. false_from_ne_true _ (λ lock. absurd (omega (arith, (lock_read (take p x) lock).0, length-take p x)));
+}
+
 pub between_more : (x : List ℕ) (i j : ℕ) → NoFaultBetween x i j → fault_of_byte_at x j ≡ None → NoFaultBetween x i (j + 1)
 between_more x i j none here p from to = elim (cases_lt p j) [ inl early ↦ none p from early | inr last ↦ grind (arith, here) ]
 

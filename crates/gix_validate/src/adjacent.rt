@@ -173,7 +173,11 @@ pub(crate) fn suspects_of_block(text: &[u8], at: usize) -> u64
 {
     let before = u8x16::from_slice(&text[at..]);
     let bytes = u8x16::from_slice(&text[at + 1..]);
-    suspects(before, bytes) ^ plain_braces(before, bytes)
+    let all = suspects(before, bytes);
+    if all == 0 {
+        return 0;
+    }
+    all ^ plain_braces(before, bytes)
 }
 
 /// Whether a text of at most one block has no two related bytes side by side.

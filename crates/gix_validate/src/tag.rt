@@ -17,6 +17,9 @@ use bstr::BStr;
 use std::error::Error;
 use std::fmt;
 
+/// How many bytes at the front of a long text are looked at place by place.
+const FRONT: usize = 3;
+
 /// Why a text is not a tag name. What each prints is in docs/RULES.md, "Printed texts".
 #[derive(Debug, Drop)]
 pub enum NameError {
@@ -172,8 +175,9 @@ fn fault_at_first_place(bytes: &[u8]) -> Option<NameError>
 }
 
 /// The fault at the least place that has one by what stands before it. A short text is walked. Of a
-/// longer one the first byte is looked at, and then the suspect bytes of each block of sixteen, of
-/// which the last overlaps the one before.
+/// longer one the first bytes are walked, since a fault there then needs no block. After that come
+/// the suspect bytes of each block of sixteen. The first block starts behind the first byte, and the
+/// last overlaps the one before.
 fn fault_by_blocks(bytes: &[u8]) -> Option<NameError>
     requires { 0 < length bytes.now }
     ensures { result ≡ at_first_place (fault_of_byte_at bytes.now) (length bytes.now) }
@@ -181,7 +185,7 @@ fn fault_by_blocks(bytes: &[u8]) -> Option<NameError>
     if bytes.len() <= LANES {
         return first_fault_between(bytes, 0, bytes.len());
     }
-    if let Some(fault) = first_fault_between(bytes, 0, 1) {
+    if let Some(fault) = first_fault_between(bytes, 0, FRONT) {
         return Some(fault);
     }
     let last = bytes.len() - LANES - 1;

@@ -16,10 +16,10 @@ use Rattle.gix_validate.specs.Bytes.{begins, ends, is_bad, is_among}
 use Rattle.gix_validate.specs.Private.Adjacent.{is_suspect, is_plain_brace, is_looked_at}
 use Rattle.gix_validate.specs.Faults.{at_first_place, when, ◌orelse◌}
 use Rattle.gix_validate.specs.Private.TagWalk.{fault_of_byte_at, fault_of_suspect, first_fault_between, NoFaultBetween, IsFirstFault, IsSettled, fault_of_byte}
-use Rattle.gix_validate.proofs.Texts.Places.{at_first_place_none, at_first_place_more, at_first_place_from, found_below}
+use Rattle.gix_validate.proofs.Texts.Places.{at_first_place_none, at_first_place_more, at_first_place_from, found_below, none_below}
 use Rattle.gix_validate.proofs.TagNames.FaultTable.{is_none-fault_of_byte, quiet, lock_ends_in_k}
 use Rattle.std.proofs.lemmas.Bool.Decides.{nat_tests, Decides-eqb}
-use Rattle.gix_validate.proofs.TagNames.ClearTexts.{IsQuiet, settled_quiet, quiet_place, last_read}
+use Rattle.gix_validate.proofs.TagNames.ClearTexts.{IsQuiet, settled_none, settled_quiet, quiet_place, last_read}
 
 -- where nothing is found before a part, the part says what is found
 pub from_place : (x : List ℕ) (i j : ℕ) → i ≤ j → NoFaultBetween x 0 i → at_first_place (fault_of_byte_at x) j ≡ first_fault_between x i j
@@ -40,21 +40,16 @@ between_found x i j n a order within none here =
     let there : i + (j - i) ≡ j = omega arith in
     grind (arith, between_none, at_first_place_more f (j - i), found_below f (j - i + 1) (n - i))
 
-pub between_one : (x : List ℕ) → first_fault_between x 0 1 ≡ fault_of_byte_at x 0
-unfolding first_fault_between
-between_one x =
-    grind (
-      arith,
-      at_first_place_none (λ k. fault_of_byte_at x (0 + k)) 0 (λ k small. absurd (omega arith)),
-      at_first_place_more (λ k. fault_of_byte_at x (0 + k)) 0,
-    )
+-- what is found at the front is the first fault of the whole text
+pub found_in_front : (x : List ℕ) (n : ℕ) (a : NameError) → n ≤ length x → first_fault_between x 0 n ≡ Some a → IsFirstFault x a
+found_in_front x n a within found =
+    found_below (fault_of_byte_at x) n (length x) a within (from_place x 0 n (omega arith) (λ p from to. absurd (omega arith)) ∙ found)
 
--- a text whose first byte has no fault
-pub settled_one : (x : List ℕ) → fault_of_byte_at x 0 ≡ None → IsSettled x 1
-settled_one x here = record {
-  done = λ p from to. let first : 0 ≡ p = omega arith in subst (λ j. fault_of_byte_at x j ≡ None) first here;
-  ahead = λ p from to within slash. false_from_ne_true _ (λ lock. absurd (omega (arith, (lock_read (take p x) lock).0, length-take p x)));
-}
+-- a text of which nothing is found at the front: its first byte has no fault
+pub settled_front : (x : List ℕ) (n : ℕ) → 1 ≤ n → first_fault_between x 0 n ≡ None → IsSettled x 1
+settled_front x n some none =
+    let whole = from_place x 0 n (omega arith) (λ p from to. absurd (omega arith)) ∙ none in
+    settled_none x 1 (omega arith) (λ p from to. none_below (fault_of_byte_at x) n p (omega arith) whole)
 
 pub between_more : (x : List ℕ) (i j : ℕ) → NoFaultBetween x i j → fault_of_byte_at x j ≡ None → NoFaultBetween x i (j + 1)
 between_more x i j none here p from to = elim (cases_lt p j) [ inl early ↦ none p from early | inr last ↦ grind (arith, here) ]
@@ -101,7 +96,7 @@ quiet_suspect x p within none = record {
   ahead = λ room slash. lock_ahead x p room slash (grind arith);
 }
 
-pub first_of_byte : (x : List ℕ) (p : ℕ) (a : NameError) → p < length x → NoFaultBetween x 0 p → fault_of_byte_at x p ≡ Some a → IsFirstFault x a
+first_of_byte : (x : List ℕ) (p : ℕ) (a : NameError) → p < length x → NoFaultBetween x 0 p → fault_of_byte_at x p ≡ Some a → IsFirstFault x a
 first_of_byte x p a within none found =
     grind (
       arith,

@@ -1,6 +1,6 @@
--- The first byte, then each block, and at last the block at the end.
+-- The front, then each block, and at last the block at the end.
 use Rattle.std.proofs.Common.{◌+◌, length, sym, ◌∙◌, arith}
-use Rattle.gix_validate.proofs.TagNames.Places.{between_one, settled_one, by_last_block, first_of_byte, from_place, settled_before}
+use Rattle.gix_validate.proofs.TagNames.Places.{found_in_front, settled_front, by_last_block, from_place, settled_before}
 use Rattle.gix_validate.proofs.tag.fault_by_blocks.Goals as goal
 use Rattle.gix_validate.proofs.tag.fault_by_blocks.Goals.{else-loop-at-test, then-loop-at-test+in_default-fault_in_block+else-last-at-gt16}
 
@@ -9,8 +9,7 @@ returns-then-bytes-le-LANES c =
     c.first_fault_between.ensures ∙ sym (from_place c.args.bytes.now 0 (length c.args.bytes.now) (omega arith) (λ p from to. absurd (omega arith)))
 
 pub returns-in-Some : goal.returns-in-Some
-returns-in-Some c =
-    sym (first_of_byte c.args.bytes.now 0 c.in-Some.fault c.requires (λ p from to. absurd (omega arith)) (sym (c.first_fault_between-2.ensures ∙ between_one c.args.bytes.now) ∙ c.in-Some.is))
+returns-in-Some c = sym (found_in_front c.args.bytes.now 3 c.in-Some.fault (omega arith) (sym c.first_fault_between-2.ensures ∙ c.in-Some.is))
 
 pub fault_in_block-requires-2-clause-settled : goal.fault_in_block-requires-2-clause-settled
 fault_in_block-requires-2-clause-settled c =
@@ -24,4 +23,4 @@ pub returns : goal.returns
 returns c = by_last_block c.args.bytes.now _ c.fault_in_block-2.result (omega arith) c.fault_in_block-2.ensures
 
 pub loop-at-init : goal.loop-at-init
-loop-at-init c = settled_one c.args.bytes.now (sym (c.first_fault_between-2.ensures ∙ between_one c.args.bytes.now) ∙ c.in_default.is)
+loop-at-init c = settled_front c.args.bytes.now 3 (omega arith) (sym c.first_fault_between-2.ensures ∙ c.in_default.is)

@@ -1,6 +1,6 @@
 //! Looks at sixteen bytes at a time, a block. The place of each byte in it is its lane.
 
-ghost use Rattle.std.specs.Prelude.{◌≡◌, ◌≢◌, ℕ, ◌<◌, ◌≤◌, ◌+◌, ◌/◌, ◌%◌, ◌^◌, ◌==◌, ◌||◌, map, length, slice_index, bit_and, if◌then◌else◌};
+ghost use Rattle.std.specs.Prelude.{◌≡◌, ◌≢◌, ◌↔◌, IsTrue, true, ℕ, ◌<◌, ◌≤◌, ◌+◌, ◌/◌, ◌%◌, ◌^◌, ◌==◌, ◌||◌, map, length, slice_index, bit_and, if◌then◌else◌};
 ghost use Rattle.std.specs.Int.{bit_at};
 ghost use Rattle.std.specs.List.{list_any};
 ghost use Rattle.std.specs.Simd.Lanes.{chunk};
@@ -139,6 +139,17 @@ pub(crate) fn block_contains_either(text: &[u8], at: usize, one: u8, other: u8) 
 {
     let block = u8x16::from_slice(&text[at..]);
     lanes_contain(block, one) | lanes_contain(block, other)
+}
+
+/// Whether each of the sixteen bytes of the text from this place on is one of the two.
+#[inline(always)]
+pub(crate) fn block_has_only(text: &[u8], at: usize, one: u8, other: u8) -> bool
+    requires { at + LANES ≤ length text.now }
+    ensures { IsTrue result
+        ↔ ((k : ℕ) → k < LANES → (slice_index text.now (at + k) == one || slice_index text.now (at + k) == other) ≡ true) }
+{
+    let block = u8x16::from_slice(&text[at..]);
+    (block.simd_ne(u8x16::splat(one)) & block.simd_ne(u8x16::splat(other))).to_bitmask() == 0
 }
 
 /// Whether the byte is in one of the lanes.

@@ -1,15 +1,15 @@
 -- Sixteen lanes: look-ups in a table of sixteen, and tests whether some lane passes.
-use Rattle.std.proofs.Common.{◌≡◌, ℕ, zero, suc, ◌+◌, ◌*◌, ◌/◌, ◌%◌, ◌^◌, ◌<◌, ◌↔◌, Bool, true, false, not, ◌&&◌, ◌||◌, cond, eqb, List, [], ◌∷◌, map}
+use Rattle.std.proofs.Common.{◌≡◌, ℕ, zero, suc, ◌+◌, ◌*◌, ◌/◌, ◌%◌, ◌^◌, ◌<◌, ◌≤◌, ◌↔◌, Bool, true, false, not, ◌&&◌, ◌||◌, cond, eqb, List, [], ◌∷◌, map}
 use Rattle.std.proofs.Common.{length, get_or, replicate, bit_and, refl, sym, ap, ap₂, subst, ◌∙◌, arith, w8, Fits, eqb-true}
 use Rattle.std.proofs.lemmas.Bool.{agree_below, agree_below_at}
 use Rattle.std.proofs.lemmas.List.{get_or-map, length-map, ext_get_or}
 use Rattle.std.proofs.lemmas.Nat.{and_mask}
-use Rattle.std.proofs.lemmas.Simd.{Each1-from_get_or, get_or-zip2, zip2_splat, zip2-map, length-zip2, mask_l-lt, mask_l-mod, bit_mask_l, bitmask_splat}
+use Rattle.std.proofs.lemmas.Simd.{Each1-from_get_or, get_or-zip2, zip2_splat, zip2-map, length-zip2, length-chunk, get_or-chunk, mask_l-lt, mask_l-mod, bit_mask_l, bitmask_splat}
 use Rattle.std.proofs.lemmas.Nat.Bits.{bit_at-zero, same_from_bits_below}
 use Rattle.std.specs.Int.{bit_at}
 use Rattle.std.proofs.lemmas.Simd.{swz_l, SwzOk, SwzOk-from_below, length-swz_l, get_or-swz_l_below}
 use Rattle.std.specs.List.{list_any}
-use lib.Lanes.{zip2, mask_l, top, Each1}
+use lib.Lanes.{zip2, chunk, mask_l, top, Each1}
 use Rattle.gix_validate.specs.Private.Lanes.{is_nonzero}
 use Rattle.gix_validate.proofs.Blocks.Parts.{none_at}
 
@@ -148,6 +148,31 @@ both_mask s t v w b c lv lw =
   where
     either : (u z : Bool) → top 7 (bit_and (cond u 255 0) (cond z 255 0)) ≡ (u && z)
     either u z = grind arith
+
+-- what a comparison puts into a lane whose byte is another one
+abbrev differs : ℕ → ℕ → ℕ
+differs x y = cond (not (eqb x y)) 255 0
+
+-- The mask of the lanes of a part that are neither of two bytes is empty where each byte is one of them.
+pub only_two : (x : List ℕ) (i b c : ℕ) → i + 16 ≤ length x → let v = chunk i 16 x in
+    (eqb (mask_l (map (top 7) (zip2 bit_and (zip2 differs v (replicate 16 b)) (zip2 differs v (replicate 16 c)))) % 2 ^ 64) 0 ≡ true)
+    ↔ ((k : ℕ) → k < 16 → (eqb (get_or x (i + k) 0) b || eqb (get_or x (i + k) 0) c) ≡ true)
+only_two x i b c room =
+    let v = chunk i 16 x in
+    let long = length-chunk i 16 x room in
+    let other = λ (x y : ℕ). not (eqb x y) in
+    let law = both_mask other other v v b c long long in
+    let none = no_bit _ (λ k. other (get_or v k 0) b && other (get_or v k 0) c) law.0 law.1 in
+    let at = λ (k : ℕ) (h : k < 16). get_or-chunk i 16 x k 0 h in (
+      λ t k h. one_of (get_or v k 0) _ b c (at k h) (none.0 t k h),
+      λ all. none.1 (λ k h. none_of (get_or v k 0) _ b c (at k h) (all k h)),
+    )
+  where
+    one_of : (a d b c : ℕ) → a ≡ d → (not (eqb a b) && not (eqb a c)) ≡ false → (eqb d b || eqb d c) ≡ true
+    one_of a d b c e h = grind arith
+
+    none_of : (a d b c : ℕ) → a ≡ d → (eqb d b || eqb d c) ≡ true → (not (eqb a b) && not (eqb a c)) ≡ false
+    none_of a d b c e h = grind arith
 
 -- the same where no lane passes
 pub no_lane : (p : ℕ → Bool) (f g : ℕ → ℕ) (v w left right : List ℕ) → (length v ≡ 16) × (length w ≡ 16) → left ≡ map f v → right ≡ map g w

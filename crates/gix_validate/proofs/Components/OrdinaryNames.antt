@@ -8,7 +8,7 @@ use Rattle.std.specs.Str.{byte, bytes_eq}
 use Rattle.std.proofs.lemmas.Bool.{or_parts}
 use Rattle.std.proofs.lemmas.List.{length-map}
 use Rattle.std.proofs.lemmas.Slice.Eq.{bytes_eq-Decides}
-use Rattle.gix_validate.specs.declared.path.ComponentError.TheVariants.{Empty, Relative, PathSeparator, WindowsReservedName, DotGitDir, SymlinkedGitModules}
+use Rattle.gix_validate.specs.declared.path.ComponentError.TheVariants.{Empty, Relative, PathSeparator, WindowsPathPrefix, WindowsReservedName, DotGitDir, SymlinkedGitModules}
 use Rattle.gix_validate.specs.declared.path.ComponentOptions.{ComponentOptions}
 use Rattle.gix_validate.specs.declared.path.ComponentMode.{ComponentMode}
 use Rattle.gix_validate.specs.Bytes.{is_among, is_empty, ends, lower}
@@ -21,6 +21,7 @@ use Rattle.gix_validate.specs.Private.Ordinary.{is_lead, is_classed, has_ordinar
 use Rattle.gix_validate.proofs.Components.Laws.{case_law}
 use Rattle.gix_validate.proofs.Texts.LetterCase.{list_any-lower, ends-lower}
 use Rattle.gix_validate.proofs.Texts.Endings.{ends_read}
+use Rattle.gix_validate.proofs.Components.FirstUnit.{unit_before_colon}
 use Rattle.gix_validate.proofs.Components.HfsForm.{hfs_form_same}
 use Rattle.std.proofs.lemmas.Bool.Decides.{nat_tests}
 use Rattle.gix_validate.proofs.Components.Forms.{form, form_at}
@@ -185,6 +186,14 @@ pub relative_fault : (options : ComponentOptions) (mode : Option ComponentMode) 
     → fault_of options mode x ≡ Some Relative
 unfolding conditions fault_of
 relative_fault options mode x dots = grind (arith, bytes_eq-Decides)
+
+-- a colon behind the first byte stands behind the first unit
+pub colon_fault : (options : ComponentOptions) (mode : Option ComponentMode) (x : List ℕ) → options.protect_windows ≡ true
+    → (bytes_eq x (codes ".") || bytes_eq x (codes "..")) ≡ false → (is_among x (byte "/") || is_among x (byte "\\")) ≡ false
+    → get_or x 1 0 ≡ byte ":" → fault_of options mode x ≡ Some WindowsPathPrefix
+unfolding conditions fault_of
+colon_fault options mode [] windows dots separator colon = absurd (omega (arith, colon))
+colon_fault options mode (b ∷ x) windows dots separator colon = grind (arith, unit_before_colon (b ∷ x) colon)
 
 -- without protections only these conditions are left
 pub unprotected_fault : (options : ComponentOptions) (mode : Option ComponentMode) (x : List ℕ) → options.protect_windows ≡ false

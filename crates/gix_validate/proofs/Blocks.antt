@@ -4,3 +4,4 @@ pub mod Parts
 pub mod Bits
 pub mod ByteClasses
 pub mod AdjacentBytes
+pub mod FourBytes

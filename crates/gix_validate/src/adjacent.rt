@@ -15,22 +15,11 @@ ghost use Rattle.std.specs.Prelude.{◌≡◌, ◌↔◌, ◌<◌, ◌≤◌, �
 ghost use Rattle.std.specs.Int.{bit_at};
 ghost use Rattle.std.specs.Str.{byte};
 ghost use Rattle.gix_validate.specs.Bytes.{is_among, ends};
-ghost use Rattle.gix_validate.specs.Private.Adjacent.{is_plain_brace, is_suspect, relates, IsClear, MarksSuspects, NoneBetween};
+ghost use Rattle.gix_validate.specs.Private.Adjacent.{is_plain_brace, is_suspect, IsClear, MarksSuspects, NoneBetween};
 
 use crate::bytes::may_be_faulty;
 use crate::lanes::{LANES, classify, halves, nonzero_lanes, quarters};
 use std::simd::prelude::*;
-
-/// Which pairs of bytes have to be looked at closer.
-#[derive(Clone, Copy)]
-pub(crate) enum Relation {
-    /// Those in which the second byte may be the place of a fault of a tag name, or lead to one.
-    Suspect,
-    /// Two dots.
-    Dots,
-    /// A dot and a slash of either class.
-    LastDot,
-}
 
 // The classes of bytes that may be suspect, a bit for each. The bytes of a class have one high
 // nibble, but for the control bytes, which have two. The first five classes are suspect wherever
@@ -107,7 +96,7 @@ pub(crate) fn is_clear(text: &[u8]) -> bool
     if text.is_empty() || may_be_faulty(text[0]) || ends_in_break(text) {
         return false;
     }
-    has_none(text, Relation::Suspect)
+    has_none(text)
 }
 
 /// Whether the text ends in a dot or a slash.
@@ -118,47 +107,45 @@ fn ends_in_break(text: &[u8]) -> bool
     matches!(text.last(), Some(b'.' | b'/'))
 }
 
-/// Whether no two bytes side by side are related.
+/// Whether no byte is suspect behind the one before it.
 #[inline(always)]
-pub(crate) fn has_none(text: &[u8], relation: Relation) -> bool
-    ensures { IsTrue result ↔ NoneBetween relation text.now 0 (length text.now) }
+fn has_none(text: &[u8]) -> bool
+    ensures { IsTrue result ↔ NoneBetween text.now 0 (length text.now) }
 {
     if text.len() > LANES {
-        blocks_have_none(text, relation)
+        blocks_have_none(text)
     } else {
-        pairs_have_none(text, relation)
+        pairs_have_none(text)
     }
 }
 
 /// The same of a text that is longer than a block. The last block overlaps the one before.
 #[inline(always)]
-fn blocks_have_none(text: &[u8], relation: Relation) -> bool
+fn blocks_have_none(text: &[u8]) -> bool
     requires { LANES < length text.now }
-    ensures { IsTrue result ↔ NoneBetween relation text.now 0 (length text.now) }
+    ensures { IsTrue result ↔ NoneBetween text.now 0 (length text.now) }
 {
     let last = text.len() - LANES - 1;
     if last <= LANES {
-        return block_has_none(text, 0, relation) && block_has_none(text, last, relation);
+        return block_has_none(text, 0) && block_has_none(text, last);
     }
     for at in (0..last).step_by(LANES) {
-        if !block_has_none(text, at, relation) {
+        if !block_has_none(text, at) {
             return false;
         }
     }
-    block_has_none(text, last, relation)
+    block_has_none(text, last)
 }
 
-/// Whether none of sixteen bytes is related to the one before it, of which the first is at this
-/// place.
+/// Whether none of the sixteen bytes behind the byte at this place is suspect.
 #[inline(always)]
-pub(crate) fn block_has_none(text: &[u8], at: usize, relation: Relation) -> bool
+fn block_has_none(text: &[u8], at: usize) -> bool
     requires { at + (LANES + 1) ≤ length text.now }
-    ensures { IsTrue result ↔ NoneBetween relation text.now at (at + (LANES + 1)) }
+    ensures { IsTrue result ↔ NoneBetween text.now at (at + (LANES + 1)) }
 {
     lanes_have_none(
         u8x16::from_slice(&text[at..]),
         u8x16::from_slice(&text[at + 1..]),
-        relation,
     )
 }
 
@@ -180,52 +167,34 @@ pub(crate) fn suspects_of_block(text: &[u8], at: usize) -> u64
     all ^ plain_braces(before, bytes)
 }
 
-/// Whether a text of at most one block has no two related bytes side by side.
+/// The same of a text of at most one block.
 #[inline(always)]
-fn pairs_have_none(text: &[u8], relation: Relation) -> bool
+fn pairs_have_none(text: &[u8]) -> bool
     requires { length text.now ≤ LANES }
-    ensures { IsTrue result ↔ NoneBetween relation text.now 0 (length text.now) }
+    ensures { IsTrue result ↔ NoneBetween text.now 0 (length text.now) }
 {
     if text.len() > 8 {
         let back = text.len() - 8;
-        return lanes_have_none(halves(text, 0, back - 1), halves(text, 1, back), relation);
+        return lanes_have_none(halves(text, 0, back - 1), halves(text, 1, back));
     }
     if text.len() > 4 {
         let back = text.len() - 4;
-        return lanes_have_none(
-            quarters(text, 0, back - 1),
-            quarters(text, 1, back),
-            relation,
-        );
+        return lanes_have_none(quarters(text, 0, back - 1), quarters(text, 1, back));
     }
-    few_have_none(text, relation)
+    few_have_none(text)
 }
 
 /// The same of a text of at most four bytes.
 #[inline(always)]
-fn few_have_none(text: &[u8], relation: Relation) -> bool
+fn few_have_none(text: &[u8]) -> bool
     requires { length text.now ≤ 4 }
-    ensures { IsTrue result ↔ NoneBetween relation text.now 0 (length text.now) }
+    ensures { IsTrue result ↔ NoneBetween text.now 0 (length text.now) }
 {
     match text {
-        [a, b] => !relates(relation, *a, *b),
-        [a, b, c] => !relates(relation, *a, *b) && !relates(relation, *b, *c),
-        [a, b, c, d] => {
-            !relates(relation, *a, *b) && !relates(relation, *b, *c) && !relates(relation, *c, *d)
-        }
+        [a, b] => !is_suspect(*a, *b),
+        [a, b, c] => !is_suspect(*a, *b) && !is_suspect(*b, *c),
+        [a, b, c, d] => { !is_suspect(*a, *b) && !is_suspect(*b, *c) && !is_suspect(*c, *d) }
         _ => true,
-    }
-}
-
-/// Whether the two bytes are related.
-#[inline(always)]
-fn relates(relation: Relation, before: u8, byte: u8) -> bool
-    ensures { result ≡ relates relation before byte }
-{
-    match relation {
-        Relation::Suspect => is_suspect(before, byte),
-        Relation::Dots => before == b'.' && byte == b'.',
-        Relation::LastDot => before == b'.' && matches!(byte, b'/' | b'\\'),
     }
 }
 
@@ -249,21 +218,9 @@ fn is_break(byte: u8) -> bool
     matches!(byte, b'.' | b'/')
 }
 
-/// Whether no byte is related to the byte in the same lane of `before`.
-#[inline(always)]
-fn lanes_have_none(before: u8x16, bytes: u8x16, relation: Relation) -> bool
-    ensures { IsTrue result ↔ ((k : ℕ) → k < LANES → relates relation (slice_index before k) (slice_index bytes k) ≡ false) }
-{
-    match relation {
-        Relation::Suspect => has_no_suspect(before, bytes),
-        Relation::Dots => has_no_dots(before, bytes),
-        Relation::LastDot => has_no_last_dot(before, bytes),
-    }
-}
-
 /// Whether no byte is suspect behind the byte in the same lane of `before`.
 #[inline(always)]
-fn has_no_suspect(before: u8x16, bytes: u8x16) -> bool
+fn lanes_have_none(before: u8x16, bytes: u8x16) -> bool
     ensures { IsTrue result ↔ ((k : ℕ) → k < LANES → is_suspect (slice_index before k) (slice_index bytes k) ≡ false) }
 {
     suspects(before, bytes) == 0
@@ -298,23 +255,4 @@ fn suspect_behind(bytes: u8x16) -> u8x16
     // A dot becomes 0, and a slash 1.
     let from_dot = bytes ^ u8x16::splat(b'.');
     u8x16::from_array(SUSPECT_BEHIND).swizzle_dyn(from_dot.simd_min(u8x16::splat(15)))
-}
-
-/// Whether in no lane both bytes are dots.
-#[inline(always)]
-fn has_no_dots(before: u8x16, bytes: u8x16) -> bool
-    ensures { IsTrue result ↔ ((k : ℕ) → k < LANES → (slice_index before k == byte "." && slice_index bytes k == byte ".") ≡ false) }
-{
-    let dot = u8x16::splat(b'.');
-    (before.simd_eq(dot) & bytes.simd_eq(dot)).to_bitmask() == 0
-}
-
-/// Whether in no lane a dot stands before a slash of either class.
-#[inline(always)]
-fn has_no_last_dot(before: u8x16, bytes: u8x16) -> bool
-    ensures { IsTrue result ↔ ((k : ℕ) → k < LANES → (slice_index before k == byte "."
-        && (slice_index bytes k == byte "/" || slice_index bytes k == byte "\\")) ≡ false) }
-{
-    let slashes = bytes.simd_eq(u8x16::splat(b'/')) | bytes.simd_eq(u8x16::splat(b'\\'));
-    (before.simd_eq(u8x16::splat(b'.')) & slashes).to_bitmask() == 0
 }

@@ -2,21 +2,24 @@
 //!
 //! Nothing else is refused: `/etc` is a submodule name.
 //!
-//! A name is never split. A part that is `..` has two adjacent dots, so most names are accepted at
-//! once. Otherwise only the ends of parts are looked at: the end of the name, and separators after
-//! a dot. Parts that end in a dot are rare; parts that begin with one, as `.github`, are not.
+//! A name is never split. A part that is `..` is the start or the end of the name, or two dots
+//! between two separators. So the ends are looked at, and then all places of four adjacent bytes,
+//! sixteen at a time.
 
-ghost use Rattle.std.specs.Prelude.{◌≡◌, ◌↔◌, ◌+◌, ◌≤◌, length, IsOk, IfOk, IsTrue};
+ghost use Rattle.std.specs.Prelude.{◌≡◌, ◌↔◌, ◌||◌, ℕ, ◌+◌, ◌-◌, ◌≤◌, ◌<◌, false, length, slice_index, IsOk, IfOk, IsTrue};
 ghost use Rattle.bstr.specs.BStr.{bstr_bytes};
-ghost use Rattle.gix_validate.specs.Private.Parents.{is_parent_before, NoParentBetween};
+ghost use Rattle.gix_validate.specs.Private.Parents.{is_parent_at, is_parent_between, NoParentWithin};
 ghost use Rattle.gix_validate.specs.Faults.{Validates};
 ghost use Rattle.gix_validate.specs.Submodule.{fault_of, has_parent_part, is_separator, is_submodule_name};
 
-use crate::adjacent::{Relation, block_has_none, has_none};
-use crate::lanes::LANES;
+use crate::lanes::{LANES, halves, quarters};
 use bstr::BStr;
 use std::error::Error;
 use std::fmt;
+use std::simd::prelude::*;
+
+/// Two dots, read as one number.
+const DOTS: u16 = 0x2e2e;
 
 /// Why a text is not a submodule name (docs/RULES.md, "Submodule names").
 #[derive(Debug, Drop)]
@@ -60,7 +63,7 @@ impl Error for NameError {}
 ///
 /// It takes none. On `Ok` it gives the very value that it was given.
 #[tactic(auto, unfolding(crate::specs::Submodule::fault_of, crate::specs::Submodule::is_submodule_name))]
-#[inline]
+#[inline(always)]
 pub fn name<'a>(name: BStr<'a>) -> Result<BStr<'a>, NameError>
     ensures answer { Validates fault_of (bstr_bytes name.entry) result }
     ensures grammar { IsOk result ↔ IsTrue (is_submodule_name (bstr_bytes name.entry)) }
@@ -76,73 +79,125 @@ pub fn name<'a>(name: BStr<'a>) -> Result<BStr<'a>, NameError>
     Ok(name)
 }
 
-/// Whether some part is `..`. Most names have no two dots in a row.
+/// Whether some part is `..`.
 #[inline(always)]
-#[tactic(auto, using(crate::proofs::Submodules::no_dots, crate::proofs::Submodules::at_most_two))]
 fn has_parent_part(bytes: &[u8]) -> bool
     ensures { result ≡ has_parent_part bytes.now }
 {
-    if bytes.len() <= 2 {
-        return is_parent_before(bytes, bytes.len());
+    if bytes.len() < 7 {
+        return few_have_parent(bytes);
     }
-    !has_none(bytes, Relation::Dots) && has_parent_part_by_blocks(bytes)
-}
-
-/// The same. Such a part ends at the end of the text or at a separator. In most blocks of sixteen
-/// bytes no separator stands behind a dot.
-#[inline(never)]
-fn has_parent_part_by_blocks(bytes: &[u8]) -> bool
-    ensures { result ≡ has_parent_part bytes.now }
-{
-    if is_parent_before(bytes, bytes.len()) {
+    if is_parent_at(bytes, 0) || is_parent_at(bytes, bytes.len() - 2) {
         return true;
     }
-    if bytes.len() <= LANES {
-        return !has_no_parent_between(bytes, 0, bytes.len());
-    }
-    let last = bytes.len() - LANES - 1;
-    for at in (0..last).step_by(LANES) {
-        if !block_has_no_parent(bytes, at) {
-            return true;
-        }
-    }
-    !block_has_no_parent(bytes, last)
+    !has_none_between(bytes)
 }
 
-/// Whether no part that is `..` ends at one of the sixteen bytes behind this place.
+/// The same of at most six bytes.
 #[inline(always)]
-fn block_has_no_parent(bytes: &[u8], at: usize) -> bool
-    requires { at + (LANES + 1) ≤ length bytes.now }
-    ensures { IsTrue result ↔ NoParentBetween bytes.now (at + 1) (at + (LANES + 1)) }
+#[tactic(auto, using(crate::proofs::Submodules::parent_by_places))]
+fn few_have_parent(bytes: &[u8]) -> bool
+    requires { length bytes.now < 7 }
+    ensures { result ≡ has_parent_part bytes.now }
 {
-    block_has_none(bytes, at, Relation::LastDot)
-        || has_no_parent_between(bytes, at + 1, at + 1 + LANES)
+    match bytes.len() {
+        0 | 1 => false,
+        2 => is_parent_at(bytes, 0),
+        3 => is_parent_at_either(bytes, 0),
+        4 => is_parent_at_either(bytes, 0) || is_parent_at(bytes, 2),
+        5 => is_parent_at_either(bytes, 0) || is_parent_at_either(bytes, 2),
+        _ => is_parent_at_either(bytes, 0)
+            || is_parent_at_either(bytes, 2)
+            || is_parent_at(bytes, 4),
+    }
 }
 
-/// Whether no part that is `..` ends at a separator from one place on and before another.
-#[tactic(auto, using(crate::proofs::Submodules::no_parent_more))]
-fn has_no_parent_between(bytes: &[u8], from: usize, to: usize) -> bool
-    requires { to ≤ length bytes.now }
-    ensures { IsTrue result ↔ NoParentBetween bytes.now from to }
+/// Whether a part that is `..` begins at this place or the next.
+#[inline(always)]
+fn is_parent_at_either(bytes: &[u8], at: usize) -> bool
+    requires { at + 3 ≤ length bytes.now }
+    ensures { result ≡ (is_parent_at bytes.now at || is_parent_at bytes.now (at + 1)) }
 {
-    for place in from..to {
-        if is_separator(bytes[place]) && is_parent_before(bytes, place) {
+    is_parent_at(bytes, at) || is_parent_at(bytes, at + 1)
+}
+
+/// Whether a part that is `..` begins at this place.
+#[inline(always)]
+fn is_parent_at(bytes: &[u8], at: usize) -> bool
+    requires { at + 2 ≤ length bytes.now }
+    ensures { result ≡ is_parent_at bytes.now at }
+{
+    u16::from_le_bytes([bytes[at], bytes[at + 1]]) == DOTS
+        && (at == 0 || is_separator(bytes[at - 1]))
+        && (at + 2 == bytes.len() || is_separator(bytes[at + 2]))
+}
+
+/// Whether no part between two separators is `..`.
+#[inline(always)]
+fn has_none_between(bytes: &[u8]) -> bool
+    requires { 7 ≤ length bytes.now }
+    ensures { IsTrue result ↔ NoParentWithin bytes.now 1 (length bytes.now - 2) }
+{
+    let len = bytes.len();
+    if len >= LANES + 3 {
+        return blocks_have_none(bytes);
+    }
+    if len > 10 {
+        return lanes_have_none(
+            halves(bytes, 0, len - 11),
+            halves(bytes, 1, len - 10),
+            halves(bytes, 2, len - 9),
+            halves(bytes, 3, len - 8),
+        );
+    }
+    lanes_have_none(
+        quarters(bytes, 0, len - 7),
+        quarters(bytes, 1, len - 6),
+        quarters(bytes, 2, len - 5),
+        quarters(bytes, 3, len - 4),
+    )
+}
+
+/// The same of a name that has a block. The last block overlaps the one before.
+#[inline(always)]
+fn blocks_have_none(bytes: &[u8]) -> bool
+    requires { LANES + 3 ≤ length bytes.now }
+    ensures { IsTrue result ↔ NoParentWithin bytes.now 1 (length bytes.now - 2) }
+{
+    let last = bytes.len() - LANES - 3;
+    for at in (0..last).step_by(LANES) {
+        if !block_has_none(bytes, at) {
             return false;
         }
     }
-    true
+    block_has_none(bytes, last)
 }
 
-/// Whether the part before this place, where a separator or the end is, is `..`.
+/// Whether no part that is `..` begins at one of the sixteen bytes behind this place.
 #[inline(always)]
-fn is_parent_before(bytes: &[u8], place: usize) -> bool
-    requires { place ≤ length bytes.now }
-    ensures { result ≡ is_parent_before bytes.now place }
+fn block_has_none(bytes: &[u8], at: usize) -> bool
+    requires { at + (LANES + 3) ≤ length bytes.now }
+    ensures { IsTrue result ↔ NoParentWithin bytes.now (at + 1) (at + (LANES + 1)) }
 {
-    place >= 2
-        && bytes[place - 1] == b'.'
-        && bytes[place - 2] == b'.'
-        && (place == 2 || is_separator(bytes[place - 3]))
+    lanes_have_none(
+        u8x16::from_slice(&bytes[at..]),
+        u8x16::from_slice(&bytes[at + 1..]),
+        u8x16::from_slice(&bytes[at + 2..]),
+        u8x16::from_slice(&bytes[at + 3..]),
+    )
+}
+
+/// Whether in no lane two dots stand between two separators.
+#[inline(always)]
+fn lanes_have_none(before: u8x16, first: u8x16, second: u8x16, behind: u8x16) -> bool
+    ensures { IsTrue result ↔ ((k : ℕ) → k < LANES
+        → is_parent_between (slice_index before k) (slice_index first k) (slice_index second k) (slice_index behind k) ≡ false) }
+{
+    let (dot, slash, backslash) = (u8x16::splat(b'.'), u8x16::splat(b'/'), u8x16::splat(b'\\'));
+    let dots = first.simd_eq(dot) & second.simd_eq(dot);
+    let before = before.simd_eq(slash) | before.simd_eq(backslash);
+    let behind = behind.simd_eq(slash) | behind.simd_eq(backslash);
+    (dots & before & behind).to_bitmask() == 0
 }
 
 /// Whether the byte ends a part.

@@ -1,20 +1,17 @@
 -- Lanes of suspect bytes: what one look at sixteen pairs says, and what looks at all pairs of a text say together.
-use Rattle.std.proofs.Common.{◌≡◌, ℕ, ◌+◌, ◌-◌, ◌/◌, ◌%◌, ◌^◌, ◌<◌, ◌≤◌, ◌↔◌, Bool, true, false, not, ◌&&◌, ◌||◌, cond, eqb, List, [], ◌∷◌, map, length}
-use Rattle.std.proofs.Common.{get_or, replicate, bit_and, bit_or, bit_xor, ltb, w8, refl, sym, ap, ap₂, ◌∙◌, arith}
+use Rattle.std.proofs.Common.{◌≡◌, ℕ, ◌+◌, ◌-◌, ◌/◌, ◌%◌, ◌<◌, ◌≤◌, ◌↔◌, Bool, true, false, not, ◌&&◌, ◌||◌, cond, List, [], ◌∷◌, map, length}
+use Rattle.std.proofs.Common.{get_or, replicate, bit_and, bit_xor, ltb, w8, refl, sym, ap, ap₂, ◌∙◌, arith}
 use Rattle.std.proofs.lemmas.Bool.{agree_below_at, ltb-true}
-use Rattle.std.proofs.lemmas.List.{length-map}
-use Rattle.std.proofs.lemmas.Simd.{zip2_splat, splat_is_map, zip2_of_maps, map-map, length-zip2, get_or-chunk, swz_l, SwzOk}
+use Rattle.std.proofs.lemmas.Simd.{zip2_splat, splat_is_map, zip2_of_maps, map-map, get_or-chunk, swz_l, SwzOk}
 use Rattle.std.specs.Prelude.{codes, ◌==◌, if◌then◌else◌}
 use Rattle.std.specs.Str.{byte}
-use lib.Lanes.{zip2, sel_l, chunk, top, mask_l}
+use lib.Lanes.{zip2, sel_l, chunk, top}
 use Rattle.gix_validate.specs.declared.adjacent.TheConstants.{CLASSES_BY_LOW_NIBBLE, CLASSES_BY_HIGH_NIBBLE, SUSPECT_BEHIND, BEHIND_DOT, BEHIND_SLASH}
 use Rattle.gix_validate.specs.declared.adjacent.TheConstants.{ANYWHERE}
 use Rattle.gix_validate.specs.Bytes.{is_bad, is_among, ends}
 use Rattle.gix_validate.specs.Private.Lanes.{HasParts, place_of, is_nonzero}
-use Rattle.gix_validate.specs.Private.Adjacent.{is_suspect, relates, NoneBetween, IsClear}
-use Rattle.gix_validate.specs.declared.adjacent.Relation.{Relation}
-use Rattle.gix_validate.specs.declared.adjacent.Relation.TheVariants.{Suspect}
-use Rattle.gix_validate.proofs.Blocks.Lanes.{IsBlock, lane_fits, same_bytes, may_look, looked_up, lane_of, no_lane, mask_of}
+use Rattle.gix_validate.specs.Private.Adjacent.{is_suspect, NoneBetween, IsClear}
+use Rattle.gix_validate.proofs.Blocks.Lanes.{IsBlock, lane_fits, same_bytes, may_look, looked_up, lane_of}
 use Rattle.gix_validate.proofs.Blocks.Parts.{AreAll, all_places}
 use Rattle.std.proofs.lemmas.Bool.Decides.{nat_tests}
 
@@ -91,81 +88,36 @@ suspect_lane before bytes classes behind ba bb ek eb =
     lane_of is_nonzero class classes_behind bytes before classes behind (bb.0, ba.0) ek eb (λ b a. is_suspect a b) (λ k.
     suspect_tabled (get_or before k 0 == byte ".") (get_or before k 0 == byte "/") (get_or bytes k 0) (lane_fits bytes k bb.1))
 
--- the same of dots
-abbrev equals : ℕ → ℕ → ℕ
-equals a b = cond (eqb a b) 255 0
-
-abbrev any_slash : ℕ → ℕ
-any_slash a = bit_or (equals a (byte "/")) (equals a (byte "\\"))
-
--- an empty mask of the lanes that pass two tests
-masked : (f g : ℕ → ℕ) (p q left right : List ℕ) → (length p ≡ 16) × (length q ≡ 16) → left ≡ map f p → right ≡ map g q
-    → (r : ℕ → ℕ → Bool) → ((a b : ℕ) → top 7 (bit_and (f a) (g b)) ≡ r a b)
-    → (eqb (mask_l (map (top 7) (zip2 bit_and left right)) % 2 ^ 64) 0 ≡ true) ↔ ((k : ℕ) → k < 16 → r (get_or p k 0) (get_or q k 0) ≡ false)
-masked f g p q left right long el er r is =
-    let law = no_lane (top 7) f g p q left right long el er r (λ k. is (get_or p k 0) (get_or q k 0)) in
-    let mask = mask_of (zip2 bit_and left right) (omega (arith, length-zip2 bit_and left right, ap length el, ap length er, length-map p f, length-map q g))
-    in (
-      λ z. law.0 (sym mask ∙ ap not z),
-      λ none. not-false _ (mask ∙ law.1 none),
-    )
-  where
-    not-false : (t : Bool) → not t ≡ false → t ≡ true
-    not-false t h = grind arith
-
--- The mask of the lanes in which both bytes are dots is empty exactly where there is no such lane.
-pub dots_lanes : (p q : List ℕ) → IsBlock p → IsBlock q
-    → (eqb (mask_l (map (top 7) (zip2 bit_and (zip2 equals p (replicate 16 (byte "."))) (zip2 equals q (replicate 16 (byte "."))))) % 2 ^ 64) 0 ≡ true)
-    ↔ ((k : ℕ) → k < 16 → (eqb (get_or p k 0) (byte ".") && eqb (get_or q k 0) (byte ".")) ≡ false)
-dots_lanes p q pb qb =
-    masked (λ a. equals a (byte ".")) (λ b. equals b (byte ".")) p q _ _ (pb.0, qb.0) (zip2_splat equals p 16 (byte ".") pb.0)
-    (zip2_splat equals q 16 (byte ".") qb.0)
-    (λ a b. eqb a (byte ".") && eqb b (byte ".")) (λ a b. grind arith)
-
--- The same of the lanes in which a dot stands before a slash of either kind.
-pub last_dot_lanes : (p q : List ℕ) → IsBlock p → IsBlock q
-    → (eqb (mask_l (map (top 7) (zip2 bit_and (zip2 equals p (replicate 16 (byte ".")))
-    (zip2 bit_or (zip2 equals q (replicate 16 (byte "/"))) (zip2 equals q (replicate 16 (byte "\\")))))) % 2 ^ 64) 0 ≡ true)
-    ↔ ((k : ℕ) → k < 16 → (eqb (get_or p k 0) (byte ".") && (eqb (get_or q k 0) (byte "/") || eqb (get_or q k 0) (byte "\\"))) ≡ false)
-last_dot_lanes p q pb qb =
-    masked (λ a. equals a (byte ".")) any_slash p q _ _ (pb.0, qb.0) (zip2_splat equals p 16 (byte ".") pb.0)
-    (zip2_of_maps bit_or (λ b. equals b (byte "/")) (λ b. equals b (byte "\\")) q
-    (zip2_splat equals q 16 (byte "/") qb.0) (zip2_splat equals q 16 (byte "\\") qb.0))
-    (λ a b. eqb a (byte ".") && (eqb b (byte "/") || eqb b (byte "\\"))) (λ a b. either (eqb a (byte ".")) (eqb b (byte "/")) (eqb b (byte "\\")))
-  where
-    either : (u s t : Bool) → top 7 (bit_and (cond u 255 0) (bit_or (cond s 255 0) (cond t 255 0))) ≡ (u && (s || t))
-    either u s t = grind arith
-
 -- ---- from lanes to places
 
--- whether the byte behind this place is related to that at it
-abbrev pair : Relation → List ℕ → ℕ → Bool
-pair r x j = relates r (get_or x j 0) (get_or x (j + 1) 0)
+-- whether the byte behind this place is suspect
+abbrev pair : List ℕ → ℕ → Bool
+pair x j = is_suspect (get_or x j 0) (get_or x (j + 1) 0)
 
 -- a lane and its place
-pub block_lane : (r : Relation) (x : List ℕ) (at : ℕ) → at + 17 ≤ length x → (k : ℕ) → k < 16
-    → relates r (get_or (chunk at 16 x) k 0) (get_or (chunk (at + 1) 16 x) k 0) ≡ pair r x (at + k)
-block_lane r x at room k h = ap₂ (relates r) (get_or-chunk at 16 x k 0 h) (get_or-chunk (at + 1) 16 x k 0 h ∙ ap (λ j. get_or x j 0) (omega arith))
+pub block_lane : (x : List ℕ) (at : ℕ) → at + 17 ≤ length x → (k : ℕ) → k < 16
+    → is_suspect (get_or (chunk at 16 x) k 0) (get_or (chunk (at + 1) 16 x) k 0) ≡ pair x (at + k)
+block_lane x at room k h = ap₂ is_suspect (get_or-chunk at 16 x k 0 h) (get_or-chunk (at + 1) 16 x k 0 h ∙ ap (λ j. get_or x j 0) (omega arith))
 
--- Sixteen lanes without a related pair are as many places of the text, from this one on, without one.
-pub block_places : (r : Relation) (x : List ℕ) (at : ℕ) → at + 17 ≤ length x
-    → ((k : ℕ) → k < 16 → relates r (get_or (chunk at 16 x) k 0) (get_or (chunk (at + 1) 16 x) k 0) ≡ false) ↔ NoneBetween r x at (at + 17)
-block_places r x at room =
-    let lane = block_lane r x at room in (
-      λ z k from to. ap (pair r x) (omega arith) ∙ sym (lane (k - at) (omega arith)) ∙ z (k - at) (omega arith),
+-- Sixteen lanes without a suspect byte are as many places of the text, from this one on, without one.
+pub block_places : (x : List ℕ) (at : ℕ) → at + 17 ≤ length x
+    → ((k : ℕ) → k < 16 → is_suspect (get_or (chunk at 16 x) k 0) (get_or (chunk (at + 1) 16 x) k 0) ≡ false) ↔ NoneBetween x at (at + 17)
+block_places x at room =
+    let lane = block_lane x at room in (
+      λ z k from to. ap (pair x) (omega arith) ∙ sym (lane (k - at) (omega arith)) ∙ z (k - at) (omega arith),
       λ s k h. lane k h ∙ s (at + k) (omega arith) (omega arith),
     )
 
 -- The first n bytes and the last n, each with the byte before it, are all of them.
-pub all_pairs : (r : Relation) (n : ℕ) (x before bytes : List ℕ) → AreAll n (length x - n - 1) (length x - 1)
+pub all_pairs : (n : ℕ) (x before bytes : List ℕ) → AreAll n (length x - n - 1) (length x - 1)
     → HasParts n 0 (length x - n - 1) x before → HasParts n 1 (length x - n) x bytes
-    → ((k : ℕ) → k < 16 → relates r (get_or before k 0) (get_or bytes k 0) ≡ false) ↔ NoneBetween r x 0 (length x)
-all_pairs r n x before bytes all ps qs =
+    → ((k : ℕ) → k < 16 → is_suspect (get_or before k 0) (get_or bytes k 0) ≡ false) ↔ NoneBetween x 0 (length x)
+all_pairs n x before bytes all ps qs =
     let back = length x - n - 1 in
-    let law = all_places n (length x - 1) back (pair r x) all in
+    let law = all_places n (length x - 1) back (pair x) all in
     let next : (k : ℕ) → place_of n 1 (length x - n) k ≡ place_of n 0 back k + 1 = λ k. grind (arith, nat_tests) in
-    let lane : (k : ℕ) → k < 16 → relates r (get_or before k 0) (get_or bytes k 0) ≡ pair r x (place_of n 0 back k) =
-    λ k h. ap₂ (relates r) (ps k h) (qs k h ∙ ap (λ j. get_or x j 0) (next k)) in (
+    let lane : (k : ℕ) → k < 16 → is_suspect (get_or before k 0) (get_or bytes k 0) ≡ pair x (place_of n 0 back k) =
+    λ k h. ap₂ is_suspect (ps k h) (qs k h ∙ ap (λ j. get_or x j 0) (next k)) in (
       λ z k from to. law.0 (λ k h. sym (lane k h) ∙ z k h) k (omega arith),
       λ s k h. lane k h ∙ law.1 (λ j within. s j (omega arith) (omega arith)) k h,
     )
@@ -188,6 +140,6 @@ suspect_other a b letter = grind (arith, nat_tests)
 pub clear_by_looks : (x : List ℕ) → 0 < length x
     → IsClear x
     ↔ (((is_bad (get_or x 0 0) || is_among (codes "*./{") (get_or x 0 0)) ≡ false)
-    × ((ends x (codes ".") || ends x (codes "/")) ≡ false) × NoneBetween Suspect x 0 (length x))
+    × ((ends x (codes ".") || ends x (codes "/")) ≡ false) × NoneBetween x 0 (length x))
 unfolding is_suspect
 clear_by_looks x some = grind (arith, nat_tests, suspect_regrouped)

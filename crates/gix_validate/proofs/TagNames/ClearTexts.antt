@@ -10,7 +10,6 @@ use Rattle.gix_validate.specs.Tag.{fault_of}
 use Rattle.gix_validate.specs.Reference.{is_partial_name}
 use Rattle.gix_validate.specs.Private.Adjacent.{is_suspect, NoneBetween, IsClear}
 use Rattle.gix_validate.specs.Private.TagWalk.{fault_of_byte_at, NoFaultBetween, IsSettled}
-use Rattle.gix_validate.specs.declared.adjacent.Relation.TheVariants.{Suspect}
 use Rattle.gix_validate.proofs.Texts.Places.{at_first_place_none}
 use Rattle.gix_validate.proofs.Texts.Endings.{ends_read, lock_read}
 use Rattle.gix_validate.proofs.TagNames.FaultTable.{is_none-fault_of_byte}
@@ -78,7 +77,7 @@ settled_quiet x i j order within quiet s = record {
 }
 
 -- A part of the text in which nothing is suspect.
-settled_part : (x : List ℕ) (i j : ℕ) → 1 ≤ i → i ≤ j → j ≤ length x → NoneBetween Suspect x (i - 1) j → IsSettled x i → IsSettled x j
+settled_part : (x : List ℕ) (i j : ℕ) → 1 ≤ i → i ≤ j → j ≤ length x → NoneBetween x (i - 1) j → IsSettled x i → IsSettled x j
 settled_part x i j some order within quiet =
     settled_quiet x i j order within (λ k from to. let at : k - 1 + 1 ≡ k = omega arith in
     quiet_place x k (omega arith) (omega arith) (grind (arith, at, quiet (k - 1) (omega arith) (omega arith))))

@@ -3,8 +3,6 @@
 use Rattle.std.specs.Prelude.{◌≡◌, ℕ, ◌+◌, ◌≤◌, ◌<◌, Bool, false, ◌==◌, ◌&&◌, ◌||◌, not, if◌then◌else◌, List, length, slice_index, codes}
 use Rattle.std.specs.Int.{bit_at}
 use Rattle.std.specs.Str.{byte}
-use Rattle.gix_validate.specs.declared.adjacent.Relation.{Relation}
-use Rattle.gix_validate.specs.declared.adjacent.Relation.TheVariants.{Suspect, Dots, LastDot}
 use Rattle.gix_validate.specs.declared.lanes.TheConstants.{LANES}
 use Rattle.gix_validate.specs.Bytes.{is_bad, is_among, ends}
 
@@ -21,15 +19,9 @@ is_suspect before b =
 abbrev pub is_plain_brace : ℕ → ℕ → Bool
 is_plain_brace before b = b == byte "{" && not (before == byte "@")
 
--- the bytes are of those that are looked at closer
-abbrev pub relates : Relation → ℕ → ℕ → Bool
-relates Suspect before b = is_suspect before b
-relates Dots before b = before == byte "." && b == byte "."
-relates LastDot before b = before == byte "." && (b == byte "/" || b == byte "\\")
-
--- no byte behind place i and before place j is related to the one before it
-abbrev pub NoneBetween : Relation → List ℕ → ℕ → ℕ → Type 0
-NoneBetween relation x i j = (k : ℕ) → i ≤ k → k + 1 < j → relates relation (slice_index x k) (slice_index x (k + 1)) ≡ false
+-- no byte behind place i and before place j is suspect
+abbrev pub NoneBetween : List ℕ → ℕ → ℕ → Type 0
+NoneBetween x i j = (k : ℕ) → i ≤ k → k + 1 < j → is_suspect (slice_index x k) (slice_index x (k + 1)) ≡ false
 
 -- the byte is suspect behind the one before it, and no plain brace
 abbrev pub is_looked_at : ℕ → ℕ → Bool
@@ -44,5 +36,5 @@ MarksSuspects x at mask =
 pub record IsClear (x : List ℕ) : Type 0 where
   pub some : 0 < length x
   pub first : is_suspect (byte "/") (slice_index x 0) ≡ false
-  pub between : NoneBetween Suspect x 0 (length x)
+  pub between : NoneBetween x 0 (length x)
   pub end : (ends x (codes ".") || ends x (codes "/")) ≡ false

@@ -1,12 +1,19 @@
--- Parts `..` of a submodule name, by the places where they end.
-use Rattle.std.specs.Prelude.{◌≡◌, ℕ, nat_le, ◌-◌, ◌≤◌, ◌<◌, Bool, false, ◌==◌, ◌&&◌, ◌||◌, List, slice_index}
+-- Parts `..` of a submodule name, by the places where they begin.
+use Rattle.std.specs.Prelude.{◌≡◌, ℕ, ◌+◌, ◌-◌, ◌≤◌, ◌<◌, Bool, false, ◌==◌, ◌&&◌, ◌||◌, List, length, slice_index}
 use Rattle.std.specs.Str.{byte}
 use Rattle.gix_validate.specs.Submodule.{is_separator}
 
--- before this place, where a separator or the end is, stands a part that is `..`
-abbrev pub is_parent_before : List ℕ → ℕ → Bool
-is_parent_before x k = nat_le 2 k && slice_index x (k - 1) == byte "." && slice_index x (k - 2) == byte "." && (k == 2 || is_separator (slice_index x (k - 3)))
+-- a part that is `..` begins at this place: two dots, the start or a separator before them, and the end or one behind them
+abbrev pub is_parent_at : List ℕ → ℕ → Bool
+is_parent_at x i =
+    slice_index x i == byte "." && slice_index x (i + 1) == byte "."
+    && (i == 0 || is_separator (slice_index x (i - 1)))
+    && (i + 2 == length x || is_separator (slice_index x (i + 2)))
 
--- no separator from place i on and before place j ends such a part
-abbrev pub NoParentBetween : List ℕ → ℕ → ℕ → Type 0
-NoParentBetween x i j = (k : ℕ) → i ≤ k → k < j → (is_separator (slice_index x k) && is_parent_before x k) ≡ false
+-- of four adjacent bytes, two dots stand between two separators
+abbrev pub is_parent_between : ℕ → ℕ → ℕ → ℕ → Bool
+is_parent_between a b c d = is_separator a && b == byte "." && c == byte "." && is_separator d
+
+-- no part that is `..` begins at place i or behind it, and before place j
+abbrev pub NoParentWithin : List ℕ → ℕ → ℕ → Type 0
+NoParentWithin x i j = (k : ℕ) → i ≤ k → k < j → is_parent_at x k ≡ false

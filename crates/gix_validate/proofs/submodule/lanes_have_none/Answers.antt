@@ -1,0 +1,5 @@
+use Rattle.gix_validate.proofs.Blocks.FourBytes.{four_lanes}
+use Rattle.gix_validate.proofs.submodule.lanes_have_none.Goals as goal
+
+pub returns : goal.returns
+returns c = four_lanes c.args.before c.args.first c.args.second c.args.behind c.fits-before c.fits-first c.fits-second c.fits-behind

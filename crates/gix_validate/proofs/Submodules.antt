@@ -145,3 +145,21 @@ parent_by_places x n long = elim (cases_Bool (any_parent x 0 n)) [
 -- A text of fewer than two bytes has none.
 pub no_parent_in_one : (x : List ℕ) → length x < 2 → has_parent_part x ≡ false
 no_parent_in_one x short = no_parent x (λ k from to. absurd (omega arith))
+
+-- Without a separator at a place, no part `..` ends before it, and none begins behind it.
+pub separator_behind : (x : List ℕ) (k : ℕ) → 2 ≤ k → k < length x → is_separator (get_or x k 0) ≡ false → is_parent_at x (k - 2) ≡ false
+separator_behind x k front back none = false_from_ne_true _ (λ t. let b = (parent_begins x (k - 2) t).0 in
+    let here : k - 2 + 2 ≡ k = omega arith in
+    elim b.ends [
+      | inl end ↦ absurd (omega (arith, end))
+      | inr s ↦ true≢false (sym s ∙ ap (λ j. is_separator (get_or x j 0)) here ∙ none)
+    ])
+
+pub separator_before : (x : List ℕ) (k : ℕ) → is_separator (get_or x k 0) ≡ false → is_parent_at x (k + 1) ≡ false
+separator_before x k none = false_from_ne_true _ (λ t. nowhere (parent_begins x (k + 1) t).1)
+  where
+    nowhere : (k + 1 ≡ 0) ⊎ (is_separator (get_or x (k + 1 - 1) 0) ≡ true) → ⊥
+    nowhere (inl start) = omega (arith, start)
+    nowhere (inr s) =
+        let here : k + 1 - 1 ≡ k = omega arith in
+        true≢false (sym s ∙ ap (λ j. is_separator (get_or x j 0)) here ∙ none)

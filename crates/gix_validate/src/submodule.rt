@@ -106,10 +106,19 @@ fn few_have_parent(bytes: &[u8]) -> bool
         3 => is_parent_at_either(bytes, 0),
         4 => is_parent_at_either(bytes, 0) || is_parent_at(bytes, 2),
         5 => is_parent_at_either(bytes, 0) || is_parent_at_either(bytes, 2),
-        _ => is_parent_at_either(bytes, 0)
-            || is_parent_at_either(bytes, 2)
-            || is_parent_at(bytes, 4),
+        _ => { is_parent_beside(bytes, 2) || is_parent_beside(bytes, 3) || is_parent_at(bytes, 2) }
     }
+}
+
+/// Whether at this place is a separator, and the part just before it or behind it is `..`.
+#[inline(always)]
+#[tactic(auto, using(crate::proofs::Submodules::separator_before, crate::proofs::Submodules::separator_behind))]
+fn is_parent_beside(bytes: &[u8], place: usize) -> bool
+    requires front { 2 ≤ place }
+    requires back { place + 3 ≤ length bytes.now }
+    ensures { result ≡ (is_parent_at bytes.now (place - 2) || is_parent_at bytes.now (place + 1)) }
+{
+    is_separator(bytes[place]) && (is_parent_at(bytes, place - 2) || is_parent_at(bytes, place + 1))
 }
 
 /// Whether a part that is `..` begins at this place or the next.

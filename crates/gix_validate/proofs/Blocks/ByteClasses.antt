@@ -2,6 +2,8 @@
 use Rattle.std.proofs.Common.{◌≡◌, ℕ, suc, ◌/◌, ◌%◌, ◌<◌, Bool, true, not, ◌||◌, eqb, List, [], ◌∷◌, map, length}
 use Rattle.std.proofs.Common.{get_or, replicate, bit_and, bit_or, refl, sym, ap, ap₂, ◌∙◌, arith, w8, Fits}
 use Rattle.std.specs.List.{list_any}
+use Rattle.std.specs.Prelude.{codes}
+use Rattle.gix_validate.specs.Bytes.{is_among}
 use Rattle.std.proofs.lemmas.Bool.{agree_below, agree_below_at}
 use Rattle.std.proofs.lemmas.Nat.Bits.{bit_at_and, bit_at_or, same_from_bits}
 use Rattle.std.proofs.lemmas.Nat.{le_or_l}
@@ -13,7 +15,7 @@ use Rattle.gix_validate.specs.Private.Lanes.{HasParts, is_nonzero}
 use Rattle.gix_validate.proofs.Blocks.Lanes.{same_bytes}
 use Rattle.gix_validate.specs.declared.path.classes.TheConstants.{BY_LOW_NIBBLE, BY_HIGH_NIBBLE}
 use Rattle.gix_validate.specs.Windows.{is_illegal_byte}
-use Rattle.gix_validate.specs.Private.Ordinary.{is_classed}
+use Rattle.gix_validate.specs.Private.Ordinary.{is_classed, is_lead}
 use Rattle.gix_validate.specs.Private.Classes.{class_of, any_class, has_class, HaveClassesOf, Describes, MayHave}
 use Rattle.gix_validate.specs.declared.path.classes.TheConstants.{SLASH, BACKSLASH, ILLEGAL, LEAD, ANY}
 use Rattle.std.proofs.lemmas.Bool.Decides.{nat_tests}
@@ -99,6 +101,12 @@ classes_describe classes x fit have = record {
 pub classed_is : (x : List ℕ) → ((i : ℕ) → Fits w8 (get_or x i 0)) → list_any (has_class ANY) x ≡ list_any is_classed x
 unfolding class_of is_illegal_byte is_classed
 classed_is x fit = bytes_alike (has_class ANY) is_classed x fit (λ b h. agree_below_at (has_class ANY) is_classed 256 b refl h)
+
+-- An illegal byte in front is one for which a condition asks.
+pub illegal_in_front : (x : List ℕ) → 0 < length x → is_illegal_byte (get_or x 0 0) ≡ true → list_any is_classed x ≡ true
+unfolding is_classed
+illegal_in_front [] some illegal = absurd (omega arith)
+illegal_in_front (b ∷ x) some illegal = ap (λ t. (t || (is_among (codes "/\\~") b || is_lead b)) || list_any is_classed x) illegal
 
 pub illegal_is : (x : List ℕ) → ((i : ℕ) → Fits w8 (get_or x i 0)) → list_any (has_class ILLEGAL) x ≡ list_any is_illegal_byte x
 unfolding class_of is_illegal_byte

@@ -188,13 +188,23 @@ pub(super) fn has_separator(name: &[u8], windows: bool) -> bool
     }
 }
 
-/// Whether a name that isn't short has a byte for which a condition asks.
-#[tactic(auto, using(crate::proofs::Blocks::ByteClasses::classed_is))]
+/// Whether a name that isn't short has a byte for which a condition asks. One that is illegal in
+/// front is found at once.
+#[tactic(auto, using(crate::proofs::Blocks::ByteClasses::classed_is, crate::proofs::Blocks::ByteClasses::illegal_in_front))]
 pub(super) fn has_classed_byte(name: &[u8]) -> bool
     requires { SHORT < length name.now }
     ensures { result ≡ list_any is_classed name.now }
 {
-    blocks_have(name, Sought::Class { mask: ANY })
+    is_illegal(name[0]) || blocks_have(name, Sought::Class { mask: ANY })
+}
+
+/// Whether the byte is illegal on Windows.
+#[inline(always)]
+#[tactic(auto, unfolding(crate::specs::Windows::is_illegal_byte))]
+fn is_illegal(byte: u8) -> bool
+    ensures { result ≡ is_illegal_byte byte }
+{
+    byte < b' ' || matches!(byte, b'<' | b'>' | b':' | b'"' | b'|' | b'?' | b'*')
 }
 
 /// Whether the name has a byte that is illegal on Windows.

@@ -2,19 +2,20 @@ use Rattle.std.proofs.Common.{◌≡◌, Bool, true, false, ◌||◌, sym, arith
 use Rattle.gix_validate.proofs.Submodules.{parent_by_places, no_parent_in_one}
 use Rattle.gix_validate.specs.Private.Parents.{is_parent_at}
 use Rattle.gix_validate.proofs.submodule.few_have_parent.Goals as goal
-use Rattle.gix_validate.proofs.submodule.few_have_parent.Goals.{then-is_parent_at_either-3, else-is_parent_at_either-3}
+use Rattle.gix_validate.proofs.submodule.few_have_parent.Goals.{then-is_parent_beside, else-is_parent_beside}
 
 -- what the looks at two places each say of all places
 of_four : (a b c d r s : Bool) → r ≡ (a || b) → r ≡ false → s ≡ (c || d) → s ≡ (a || (b || (c || (d || false))))
 of_four a b c d r s first none second = grind (arith, first, none, second)
 
-by_first : (a b rest r v : Bool) → r ≡ (a || b) → r ≡ true → v ≡ true → v ≡ (a || (b || rest))
-by_first a b rest r v first some is = grind (arith, first, some, is)
+-- the same of six bytes, whose places are looked at by the separators beside them
+by_first : (a b c d rest r v : Bool) → r ≡ (a || d) → r ≡ true → v ≡ true → v ≡ (a || (b || (c || (d || rest))))
+by_first a b c d rest r v first some is = grind (arith, first, some, is)
 
-by_second : (a b c d rest r v : Bool) → r ≡ (c || d) → v ≡ r → v ≡ true → v ≡ (a || (b || (c || (d || rest))))
-by_second a b c d rest r v second is some = grind (arith, second, is, some)
+by_second : (a b c d e r v : Bool) → r ≡ (b || e) → v ≡ r → v ≡ true → v ≡ (a || (b || (c || (d || (e || false)))))
+by_second a b c d e r v second is some = grind (arith, second, is, some)
 
-by_last : (a b c d e r s v t : Bool) → r ≡ (a || b) → r ≡ false → s ≡ (c || d) → v ≡ s → v ≡ false → t ≡ e
+by_last : (a b c d e r s v t : Bool) → r ≡ (a || d) → r ≡ false → s ≡ (b || e) → v ≡ s → v ≡ false → t ≡ c
     → t ≡ (a || (b || (c || (d || (e || false)))))
 by_last a b c d e r s v t first none second is later last = grind (arith, first, none, second, is, later, last)
 
@@ -38,27 +39,27 @@ returns-else-is_parent_at_either-2 c =
     c.is_parent_at_either-in-5.ensures c.if-is_parent_at_either-2.false c.is_parent_at_either-else-is_parent_at_either-2.ensures
     ∙ parent_by_places c.args.bytes.now 4 c.in-5.is
 
-pub returns-then-is_parent_at_either-4 : goal.returns-then-is_parent_at_either-4
-returns-then-is_parent_at_either-4 c =
+pub returns-then-is_parent_beside-2 : goal.returns-then-is_parent_beside-2
+returns-then-is_parent_beside-2 c =
     let begins = is_parent_at c.args.bytes.now in
-    elim c.if-is_parent_at_either-3.branch [
-      | then-is_parent_at_either-3 w ↦
-          by_first (begins 0) (begins 1) (begins 2 || (begins 3 || (begins 4 || false))) _ _
-          c.is_parent_at_either-in_default.ensures w.if-is_parent_at_either-3.true c.if-is_parent_at_either-4.true
-      | else-is_parent_at_either-3 w ↦
-          by_second (begins 0) (begins 1) (begins 2) (begins 3) (begins 4 || false) _ _
-          w.is_parent_at_either-else-is_parent_at_either-3.ensures w.value-is c.if-is_parent_at_either-4.true
+    elim c.if-is_parent_beside.branch [
+      | then-is_parent_beside w ↦
+          by_first (begins 0) (begins 1) (begins 2) (begins 3) (begins 4 || false) _ _
+          c.is_parent_beside.ensures w.if-is_parent_beside.true c.if-is_parent_beside-2.true
+      | else-is_parent_beside w ↦
+          by_second (begins 0) (begins 1) (begins 2) (begins 3) (begins 4) _ _
+          w.is_parent_beside-else-is_parent_beside.ensures w.value-is c.if-is_parent_beside-2.true
     ]
     ∙ parent_by_places c.args.bytes.now 5 (omega (arith, c.in_default))
 
-pub returns-else-is_parent_at_either-4 : goal.returns-else-is_parent_at_either-4
-returns-else-is_parent_at_either-4 c =
+pub returns-else-is_parent_beside-2 : goal.returns-else-is_parent_beside-2
+returns-else-is_parent_beside-2 c =
     let begins = is_parent_at c.args.bytes.now in
-    elim c.if-is_parent_at_either-3.branch [
-      | then-is_parent_at_either-3 w ↦ absurd (grind (arith, w.if-is_parent_at_either-3.true, w.value-is, c.if-is_parent_at_either-4.false))
-      | else-is_parent_at_either-3 w ↦
+    elim c.if-is_parent_beside.branch [
+      | then-is_parent_beside w ↦ absurd (grind (arith, w.if-is_parent_beside.true, w.value-is, c.if-is_parent_beside-2.false))
+      | else-is_parent_beside w ↦
           by_last (begins 0) (begins 1) (begins 2) (begins 3) (begins 4) _ _ _ _
-          c.is_parent_at_either-in_default.ensures w.if-is_parent_at_either-3.false
-          w.is_parent_at_either-else-is_parent_at_either-3.ensures w.value-is c.if-is_parent_at_either-4.false c.is_parent_at-else-is_parent_at_either-4.ensures
+          c.is_parent_beside.ensures w.if-is_parent_beside.false
+          w.is_parent_beside-else-is_parent_beside.ensures w.value-is c.if-is_parent_beside-2.false c.is_parent_at-else-is_parent_beside-2.ensures
           ∙ parent_by_places c.args.bytes.now 5 (omega (arith, c.in_default))
     ]

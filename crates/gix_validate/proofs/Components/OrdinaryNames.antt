@@ -1,5 +1,5 @@
 -- Ordinary names: no condition but the one on devices refuses one.
-use Rattle.std.proofs.Common.{◌≡◌, ℕ, zero, suc, ◌<◌, ◌≤◌, Bool, true, false, not, ◌&&◌, ◌||◌, eqb, Option, Some, None, List}
+use Rattle.std.proofs.Common.{◌≡◌, ℕ, zero, suc, ◌-◌, ◌<◌, ◌≤◌, Bool, true, false, not, ◌&&◌, ◌||◌, eqb, Option, Some, None, List}
 use Rattle.std.proofs.Common.{[], ◌∷◌, ◌++◌, length, get_or, refl, ◌∙◌, arith, codes}
 use Rattle.std.specs.Prelude.{slice_index, is_some}
 use Rattle.std.specs.Bool.{◌==◌}
@@ -207,3 +207,10 @@ unprotected_fault options mode x windows hfs ntfs some dots slash git modules = 
 pub ruleset faults_by_looks = (empty_fault, relative_fault, ordinary_by_looks, ordinary_fault, git_fault, modules_fault, slash_fault, backslash_fault, no_plain_git, no_plain_modules, no_dots)
 
 pub ruleset other_lengths = (no_long_git, no_long_modules, no_tiny_git, no_tiny_modules)
+
+-- The bytes of a name of one or two are its first and its last.
+pub among_two : (x : List ℕ) (b : ℕ) → 1 ≤ length x → length x < 3 → is_among x b ≡ (get_or x 0 0 == b || get_or x (length x - 1) 0 == b)
+among_two [] b some few = absurd (omega arith)
+among_two (p ∷ []) b some few = grind arith
+among_two (p ∷ q ∷ []) b some few = grind arith
+among_two (p ∷ q ∷ r ∷ x) b some few = absurd (omega arith)

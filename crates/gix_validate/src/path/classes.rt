@@ -7,7 +7,7 @@ ghost use Rattle.std.specs.List.{list_any};
 ghost use Rattle.std.specs.Simd.Lanes.{chunk};
 ghost use Rattle.gix_validate.specs.Windows.{is_illegal_byte};
 ghost use Rattle.gix_validate.specs.Private.Ordinary.{is_classed};
-ghost use Rattle.gix_validate.specs.Private.Classes.{any_class, class_of, is_sought, HaveClassesOf, Describes, MayHave};
+ghost use Rattle.gix_validate.specs.Private.Classes.{has_class, any_class, class_of, is_sought, HaveClassesOf, Describes, MayHave};
 
 use crate::lanes::{LANES, block_contains_either, classify, halves, has_nonzero, pairs, quarters};
 use std::simd::prelude::*;
@@ -214,9 +214,18 @@ pub(super) fn has_illegal_byte(name: &[u8]) -> bool
     ensures { result ≡ list_any is_illegal_byte name.now }
 {
     if name.len() > SHORT {
-        return blocks_have(name, Sought::Class { mask: ILLEGAL });
+        return first_block_has(name, ILLEGAL) || blocks_have(name, Sought::Class { mask: ILLEGAL });
     }
     has_class(classes_of(name), ILLEGAL)
+}
+
+/// Whether one of the first sixteen bytes has a class of the mask.
+#[inline(always)]
+fn first_block_has(name: &[u8], mask: u8) -> bool
+    requires { LANES ≤ length name.now }
+    ensures { result ≡ list_any (has_class mask) (chunk 0 LANES name.now) }
+{
+    has_class(classes_in(u8x16::from_slice(name)), mask)
 }
 
 /// The classes of the bytes of a short name, in any of sixteen lanes. From eight bytes to two

@@ -105,7 +105,7 @@ fn few_have_parent(bytes: &[u8]) -> bool
         2 => is_parent_at(bytes, 0),
         3 => is_parent_at_either(bytes, 0),
         4 => is_parent_at_either(bytes, 0) || is_parent_at(bytes, 2),
-        5 => is_parent_at_either(bytes, 0) || is_parent_at_either(bytes, 2),
+        5 => is_parent_beside(bytes, 2) || is_parent_at_either(bytes, 1),
         _ => { is_parent_beside(bytes, 2) || is_parent_beside(bytes, 3) || is_parent_at(bytes, 2) }
     }
 }

@@ -153,12 +153,16 @@ fn mend_pieces(text: &mut [u8]) -> usize
         if byte == b'/' {
             end = close_piece(text, start, end);
             start = end;
-        } else if byte == b'.' && start < end && text[read..stop].starts_with(b".lock/") {
+        } else if byte == b'.'
+            && next == b'l'
+            && start < end
+            && text[read..stop].starts_with(b".lock/")
+        {
             end = close_piece(text, start, end);
             start = end;
             read += 5;
         } else if byte != b'.' || next != b'.' {
-            text[end] = cleaned_byte(&text[start..end], byte);
+            text[end] = mended_byte(&text[start..end], byte);
             end += 1;
         }
         read += 1;
@@ -212,12 +216,26 @@ fn cleaned_byte(piece: &[u8], next: u8) -> u8
     ensures { result ≡ (if (next == byte "." && is_empty piece.now) || (next == byte "{" && ends piece.now (codes "@"))
         then byte "-" else allowed next) }
 {
+    if is_plain(next) {
+        next
+    } else {
+        mended_byte(piece, next)
+    }
+}
+
+/// The same of a byte that isn't plain.
+#[tactic(auto, unfolding(crate::specs::Bytes::is_bad))]
+fn mended_byte(piece: &[u8], next: u8) -> u8
+    requires no_slash { next ≢ byte "/" }
+    requires faulty { IsTrue (is_bad next || is_among (codes "*./{") next) }
+    ensures { result ≡ (if (next == byte "." && is_empty piece.now) || (next == byte "{" && ends piece.now (codes "@"))
+        then byte "-" else allowed next) }
+{
     match next {
         b'.' if piece.is_empty() => b'-',
         b'.' => b'.',
         b'{' if piece.ends_with(b"@") => b'-',
         b'{' => b'{',
-        _ if is_plain(next) => next,
         _ => b'-',
     }
 }

@@ -36,12 +36,12 @@ loop-text-preserved c =
           rw (w.text-is, w.start-is, w.end-is, w.read-is) (MendedUpTo-closed _ _ _ _ _ _ _ _ _ mended (omega arith) (omega arith)
           (GivesWhole-at_slash _ _ _ _ _ _ mended room (eq-eqb _ _ w.if-byte-eq47.true))
           close.auto.text close.ensures.within close.ensures.text close.ensures.rest)
-      | goal.else-byte-eq47+then-byte-eq46+then-start-end+then-starts_with w ↦ let close = w.close_piece-end-then-starts_with in
+      | goal.else-byte-eq47+then-byte-eq46+then-next-eq108+then-start-end+then-starts_with w ↦ let close = w.close_piece-end-then-starts_with in
           let gives = GivesWhole-at_lock _ _ _ _ _ _ _ mended w.if-start-end.true w.starts_with.ensures.value w.if-starts_with.true in
           rw (w.text-is, w.start-is, w.end-is, w.read-is) (MendedUpTo-closed _ _ _ _ _ _ _ _ _ mended (omega arith) (omega arith)
           gives.1 close.auto.text close.ensures.within close.ensures.text close.ensures.rest)
       | goal.else-byte-eq47+else-byte-eq46+then-byte-ne46 w ↦ rw (w.text-is, w.start-is, w.end-is, w.read-is)
-          (MendedUpTo-byte _ _ _ _ _ _ _ mended room (ne_eqb _ _ w.if-byte-eq47.false) (grind (arith, nat_tests)) w.cleaned_byte.ensures)
+          (MendedUpTo-byte _ _ _ _ _ _ _ mended room (ne_eqb _ _ w.if-byte-eq47.false) (grind (arith, nat_tests)) w.mended_byte.ensures)
       | goal.else-byte-eq47+else-byte-eq46+else-byte-ne46+else-next-ne46 w ↦ rw (w.text-is, w.start-is, w.end-is, w.read-is)
           (MendedUpTo-dots _ _ _ _ _ _ mended room w.if-byte-ne46.false w.if-next-ne46.false)
     ]

@@ -95,7 +95,7 @@ fn has_parent_part(bytes: &[u8]) -> bool
 
 /// The same of at most six bytes.
 #[inline(always)]
-#[tactic(auto, using(crate::proofs::Submodules::parent_by_places))]
+#[tactic(auto, using(crate::proofs::Submodules::parent_by_places, crate::proofs::Submodules::separator_before, crate::proofs::Submodules::separator_behind))]
 fn few_have_parent(bytes: &[u8]) -> bool
     requires { length bytes.now < 7 }
     ensures { result ≡ has_parent_part bytes.now }
@@ -103,7 +103,10 @@ fn few_have_parent(bytes: &[u8]) -> bool
     match bytes.len() {
         0 | 1 => false,
         2 => is_parent_at(bytes, 0),
-        3 => is_parent_at_either(bytes, 0),
+        3 => {
+            is_separator(bytes[2]) && is_parent_at(bytes, 0)
+                || is_separator(bytes[0]) && is_parent_at(bytes, 1)
+        }
         4 => is_parent_at_either(bytes, 0) || is_parent_at(bytes, 2),
         5 => is_parent_beside(bytes, 2) || is_parent_at_either(bytes, 1),
         _ => { is_parent_beside(bytes, 2) || is_parent_beside(bytes, 3) || is_parent_at(bytes, 2) }

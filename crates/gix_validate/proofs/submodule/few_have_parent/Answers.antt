@@ -27,7 +27,7 @@ returns-else-is_parent_at_either c =
     grind (
       arith,
       parent_by_places c.args.bytes.now 3 c.in-4.is,
-      c.is_parent_at_either-in-4.ensures,
+      c.is_parent_at_either.ensures,
       c.if-is_parent_at_either.false,
       c.is_parent_at-else-is_parent_at_either.ensures,
     )

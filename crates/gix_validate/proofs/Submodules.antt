@@ -1,5 +1,5 @@
 -- A part that is `..` stands between two places, each the text's end or a separator's.
-use Rattle.std.proofs.Common.{◌≡◌, ℕ, zero, suc, ◌+◌, ◌-◌, ◌<◌, ◌≤◌, ◌↔◌, Bool, true, false, not, ◌||◌, List, [], ◌∷◌, length, get_or, drop, refl, sym}
+use Rattle.std.proofs.Common.{◌≡◌, ℕ, zero, suc, ◌+◌, ◌-◌, ◌<◌, ◌≤◌, ◌↔◌, Bool, true, false, ◌||◌, List, [], ◌∷◌, length, get_or, drop, refl, sym}
 use Rattle.std.proofs.Common.{ap, ap₂, ◌∙◌, inl, inr, ◌⊎◌, arith}
 use Rattle.std.proofs.lemmas.Bool.{cases_Bool, cases_eq, or_parts, false_from_ne_true, true≢false, cases_lt}
 use Rattle.std.specs.Prelude.{codes}
@@ -91,21 +91,28 @@ no_parent x none =
 
 -- ---- what the looks say
 
--- Where none begins at the start, and none at the last place for one, what the look between them finds is whether the text has such a part.
-pub parent_by_looks : (x : List ℕ) (r : Bool) → 2 ≤ length x → is_parent_at x 0 ≡ false → is_parent_at x (length x - 2) ≡ false
-    → (r ≡ true) ↔ NoParentWithin x 1 (length x - 2) → not r ≡ has_parent_part x
-parent_by_looks x true long start end law =
-    sym (no_parent x (λ k from to. elim (cases_eq k 0) [
-      | inl first ↦ ap (is_parent_at x) first ∙ start
-      | inr later ↦ elim (cases_eq k (length x - 2)) [
-        | inl last ↦ ap (is_parent_at x) last ∙ end
-        | inr inner ↦ law.0 refl k (omega arith) (omega arith)
-      ]
-    ]))
-parent_by_looks x false long start end law = sym (elim (cases_Bool (has_parent_part x)) [
+-- Where none begins at the start, and none between, the last place for one is left.
+pub parent_at_end : (x : List ℕ) → 2 ≤ length x → is_parent_at x 0 ≡ false → NoParentWithin x 1 (length x - 2)
+    → is_parent_at x (length x - 2) ≡ has_parent_part x
+parent_at_end x long start none = elim (cases_Bool (is_parent_at x (length x - 2))) [
+  | inl end ↦ end ∙ sym (some_parent x (length x - 2) end)
+  | inr end ↦
+      end ∙ sym (no_parent x (λ k from to. elim (cases_eq k 0) [
+        | inl first ↦ ap (is_parent_at x) first ∙ start
+        | inr later ↦ elim (cases_eq k (length x - 2)) [
+          | inl last ↦ ap (is_parent_at x) last ∙ end
+          | inr inner ↦ none k (omega arith) (omega arith)
+        ]
+      ]))
+]
+
+-- A look at a range that finds something finds a part `..` of the text.
+pub parent_within : (x : List ℕ) (i j : ℕ) (r : Bool) → (r ≡ true) ↔ NoParentWithin x i j → r ≡ false → has_parent_part x ≡ true
+parent_within x i j r law other = elim (cases_Bool (has_parent_part x)) [
   | inl some ↦ some
-  | inr none ↦ absurd (true≢false (sym (law.1 (λ k from to. false_from_ne_true _ (λ t. true≢false (sym (some_parent x k t) ∙ none))))))
-])
+  | inr none ↦
+      absurd (true≢false (sym (law.1 (λ k from to. false_from_ne_true _ (λ t. true≢false (sym (some_parent x k t) ∙ none)))) ∙ other))
+]
 
 -- Two ranges in which no part `..` begins, and which meet or overlap, are one.
 pub none_across : (x : List ℕ) (h i j k m : ℕ) → (j ≤ i) × (m ≤ k) → NoParentWithin x h i → NoParentWithin x j k → NoParentWithin x h m

@@ -3,8 +3,8 @@
 //! Nothing else is refused: `/etc` is a submodule name.
 //!
 //! A name is never split. A part that is `..` is the start or the end of the name, or two dots
-//! between two separators. So the ends are looked at, and then all places of four adjacent bytes,
-//! sixteen at a time.
+//! between two separators. So the start is looked at, then all places of four adjacent bytes,
+//! sixteen at a time, and then the end.
 
 ghost use Rattle.std.specs.Prelude.{◌≡◌, ◌↔◌, ◌||◌, ℕ, ◌+◌, ◌-◌, ◌≤◌, ◌<◌, false, length, slice_index, IsOk, IfOk, IsTrue};
 ghost use Rattle.bstr.specs.BStr.{bstr_bytes};
@@ -87,10 +87,10 @@ fn has_parent_part(bytes: &[u8]) -> bool
     if bytes.len() < 7 {
         return few_have_parent(bytes);
     }
-    if is_parent_at(bytes, 0) || is_parent_at(bytes, bytes.len() - 2) {
+    if is_parent_at(bytes, 0) || !has_none_between(bytes) {
         return true;
     }
-    !has_none_between(bytes)
+    is_parent_at(bytes, bytes.len() - 2)
 }
 
 /// The same of at most six bytes.

@@ -199,7 +199,7 @@ fn block_has_none(bytes: &[u8], at: usize) -> bool
     )
 }
 
-/// Whether in no lane two dots stand between two separators.
+/// Whether in no lane two dots stand between two separators. Most names have no two dots.
 #[inline(always)]
 fn lanes_have_none(before: u8x16, first: u8x16, second: u8x16, behind: u8x16) -> bool
     ensures { IsTrue result ↔ ((k : ℕ) → k < LANES
@@ -207,6 +207,9 @@ fn lanes_have_none(before: u8x16, first: u8x16, second: u8x16, behind: u8x16) ->
 {
     let (dot, slash, backslash) = (u8x16::splat(b'.'), u8x16::splat(b'/'), u8x16::splat(b'\\'));
     let dots = first.simd_eq(dot) & second.simd_eq(dot);
+    if dots.to_bitmask() == 0 {
+        return true;
+    }
     let before = before.simd_eq(slash) | before.simd_eq(backslash);
     let behind = behind.simd_eq(slash) | behind.simd_eq(backslash);
     (dots & before & behind).to_bitmask() == 0

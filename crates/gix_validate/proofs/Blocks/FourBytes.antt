@@ -8,6 +8,7 @@ use Rattle.std.proofs.lemmas.Bool.Decides.{nat_tests}
 use lib.Lanes.{zip2, chunk, top, mask_l}
 use Rattle.gix_validate.specs.Private.Lanes.{HasParts, place_of}
 use Rattle.gix_validate.specs.Private.Parents.{is_parent_at, is_parent_between, NoParentWithin}
+use Rattle.gix_validate.specs.Submodule.{is_separator}
 use Rattle.gix_validate.proofs.Blocks.Lanes.{IsBlock, mask_of}
 use Rattle.gix_validate.proofs.Blocks.Parts.{AreAll, all_places, none_at}
 
@@ -84,6 +85,21 @@ four_lanes a b c d ba bb bc bd =
         → top 7 (bit_and (bit_and (bit_and (cond f 255 0) (cond s 255 0)) (bit_or (cond a 255 0) (cond b 255 0))) (bit_or (cond c 255 0) (cond d 255 0)))
         ≡ ((a || b) && f && s && (c || d))
     all_four f s a b c d = grind arith
+
+-- Nor where no lane has two dots.
+pub two_lanes : (a b c d : List ℕ) → IsBlock b → IsBlock c → mask_l (map (top 7) (zip2 bit_and (dots b) (dots c))) % 2 ^ 64 ≡ 0
+    → (k : ℕ) → k < 16 → is_parent_between (get_or a k 0) (get_or b k 0) (get_or c k 0) (get_or d k 0) ≡ false
+two_lanes a b c d bb bc none k h =
+    let first = dot_lanes b bb.0 in
+    let second = dot_lanes c bc.0 in
+    let all = zip2 bit_and (dots b) (dots c) in
+    let long : length all ≡ 16 = both_long (dots b) (dots c) first.long second.long in
+    let lane = ap (top 7) (both_lane (dots b) (dots c) first.long second.long k h ∙ ap₂ bit_and (first.lane k h) (second.lane k h)) in
+    let empty = (none_at (top 7) all).0 (sym (mask_of all long) ∙ ap (λ n. not (eqb n 0)) none) k (omega arith) in
+    no_pair _ _ (is_separator (get_or a k 0)) (is_separator (get_or d k 0)) (sym lane ∙ empty)
+  where
+    no_pair : (f s p q : Bool) → top 7 (bit_and (cond f 255 0) (cond s 255 0)) ≡ false → (p && f && s && q) ≡ false
+    no_pair f s p q none = grind (arith, none)
 
 -- ---- from lanes to places
 

@@ -84,7 +84,7 @@ pub fn name<'a>(name: BStr<'a>) -> Result<BStr<'a>, NameError>
 fn has_parent_part(bytes: &[u8]) -> bool
     ensures { result ≡ has_parent_part bytes.now }
 {
-    if bytes.len() < 7 {
+    if bytes.len() < 9 {
         return few_have_parent(bytes);
     }
     if is_parent_at(bytes, 0) || !has_none_between(bytes) {
@@ -93,11 +93,11 @@ fn has_parent_part(bytes: &[u8]) -> bool
     is_parent_at(bytes, bytes.len() - 2)
 }
 
-/// The same of at most six bytes.
+/// The same of at most eight bytes.
 #[inline(always)]
 #[tactic(auto, using(crate::proofs::Submodules::parent_by_places, crate::proofs::Submodules::separator_before, crate::proofs::Submodules::separator_behind))]
 fn few_have_parent(bytes: &[u8]) -> bool
-    requires { length bytes.now < 7 }
+    requires { length bytes.now < 9 }
     ensures { result ≡ has_parent_part bytes.now }
 {
     match bytes.len() {
@@ -109,7 +109,8 @@ fn few_have_parent(bytes: &[u8]) -> bool
         }
         4 => is_parent_at_either(bytes, 0) || is_parent_at(bytes, 2),
         5 => is_parent_beside(bytes, 2) || is_parent_at_either(bytes, 1),
-        _ => { is_parent_beside(bytes, 2) || is_parent_beside(bytes, 3) || is_parent_at(bytes, 2) }
+        6 => is_parent_beside_either(bytes, 2) || is_parent_at(bytes, 2),
+        len => is_parent_beside_either(bytes, 2) || is_parent_beside_either(bytes, len - 4),
     }
 }
 
@@ -122,6 +123,17 @@ fn is_parent_beside(bytes: &[u8], place: usize) -> bool
     ensures { result ≡ (is_parent_at bytes.now (place - 2) || is_parent_at bytes.now (place + 1)) }
 {
     is_separator(bytes[place]) && (is_parent_at(bytes, place - 2) || is_parent_at(bytes, place + 1))
+}
+
+/// The same of this place and the next.
+#[inline(always)]
+fn is_parent_beside_either(bytes: &[u8], place: usize) -> bool
+    requires front { 2 ≤ place }
+    requires back { place + 4 ≤ length bytes.now }
+    ensures { result ≡ (is_parent_at bytes.now (place - 2) || is_parent_at bytes.now (place - 1)
+        || is_parent_at bytes.now (place + 1) || is_parent_at bytes.now (place + 2)) }
+{
+    is_parent_beside(bytes, place) || is_parent_beside(bytes, place + 1)
 }
 
 /// Whether a part that is `..` begins at this place or the next.
@@ -147,7 +159,7 @@ fn is_parent_at(bytes: &[u8], at: usize) -> bool
 /// Whether no part between two separators is `..`.
 #[inline(always)]
 fn has_none_between(bytes: &[u8]) -> bool
-    requires { 7 ≤ length bytes.now }
+    requires { 9 ≤ length bytes.now }
     ensures { IsTrue result ↔ NoParentWithin bytes.now 1 (length bytes.now - 2) }
 {
     let len = bytes.len();

@@ -214,3 +214,11 @@ among_two [] b some few = absurd (omega arith)
 among_two (p ∷ []) b some few = grind arith
 among_two (p ∷ q ∷ []) b some few = grind arith
 among_two (p ∷ q ∷ r ∷ x) b some few = absurd (omega arith)
+
+-- A name of one or two bytes is `.` or `..` if its first and its last are dots.
+pub relative_by_ends : (x : List ℕ) → 1 ≤ length x → length x < 3
+    → (bytes_eq x (codes ".") || bytes_eq x (codes "..")) ≡ (get_or x 0 0 == byte "." && get_or x (length x - 1) 0 == byte ".")
+relative_by_ends [] some few = absurd (omega arith)
+relative_by_ends (p ∷ []) some few = grind arith
+relative_by_ends (p ∷ q ∷ []) some few = grind arith
+relative_by_ends (p ∷ q ∷ r ∷ x) some few = absurd (omega arith)

@@ -2,11 +2,12 @@
 //!
 //! Nothing else is refused: `/etc` is a submodule name.
 //!
-//! A name is never split. A part that is `..` is the start or the end of the name, or two dots
-//! between two separators. So the start is looked at, then all places of four adjacent bytes,
-//! sixteen at a time, and then the end.
+//! A name is never split. Most names have no two dots side by side. A part that is `..` is the start
+//! or the end of the name, or two dots between two separators. So in other names the start is looked
+//! at, then all places of four adjacent bytes, sixteen at a time, and then the end.
 
-ghost use Rattle.std.specs.Prelude.{◌≡◌, ◌↔◌, ◌||◌, ℕ, ◌+◌, ◌-◌, ◌≤◌, ◌<◌, false, length, slice_index, IsOk, IfOk, IsTrue};
+ghost use Rattle.std.specs.Prelude.{◌≡◌, ◌↔◌, ◌||◌, ◌&&◌, ◌==◌, ℕ, ◌+◌, ◌-◌, ◌≤◌, ◌<◌, false, length, slice_index, IsOk, IfOk, IsTrue};
+ghost use Rattle.std.specs.Str.{byte};
 ghost use Rattle.bstr.specs.BStr.{bstr_bytes};
 ghost use Rattle.gix_validate.specs.Private.Parents.{is_parent_at, is_parent_between, NoParentWithin};
 ghost use Rattle.gix_validate.specs.Faults.{Validates};
@@ -87,13 +88,52 @@ fn has_parent_part(bytes: &[u8]) -> bool
     if bytes.len() < 9 {
         return few_have_parent(bytes);
     }
+    if is_plain(bytes) {
+        return false;
+    }
     if is_parent_at(bytes, 0) || !has_none_between(bytes) {
         return true;
     }
     is_parent_at(bytes, bytes.len() - 2)
 }
 
-/// The same of at most eight bytes.
+/// Whether the name has 11 to 33 bytes, and nowhere two dots side by side. Most names are such.
+#[inline(always)]
+fn is_plain(bytes: &[u8]) -> bool
+    ensures { IsTrue result → has_parent_part bytes.now ≡ false }
+{
+    let len = bytes.len();
+    if len < 11 || len > 2 * LANES + 1 {
+        return false;
+    }
+    if len > LANES {
+        return block_is_plain(bytes, 0) && block_is_plain(bytes, len - LANES - 1);
+    }
+    have_no_two_dots(halves(bytes, 0, len - 9), halves(bytes, 1, len - 8))
+}
+
+/// Whether no two dots stand side by side at the sixteen places from this one on.
+#[inline(always)]
+fn block_is_plain(bytes: &[u8], at: usize) -> bool
+    requires { at + (LANES + 1) ≤ length bytes.now }
+    ensures { IsTrue result → NoParentWithin bytes.now at (at + LANES) }
+{
+    have_no_two_dots(
+        u8x16::from_slice(&bytes[at..]),
+        u8x16::from_slice(&bytes[at + 1..]),
+    )
+}
+
+/// Whether no lane has two dots.
+#[inline(always)]
+fn have_no_two_dots(first: u8x16, second: u8x16) -> bool
+    ensures { IsTrue result → ((k : ℕ) → k < LANES → (slice_index first k == byte "." && slice_index second k == byte ".") ≡ false) }
+{
+    let dot = u8x16::splat(b'.');
+    (first.simd_eq(dot) & second.simd_eq(dot)).to_bitmask() == 0
+}
+
+/// Whether some part of a name of at most eight bytes is `..`.
 #[inline(always)]
 #[tactic(auto, using(crate::proofs::Submodules::parent_by_places, crate::proofs::Submodules::separator_before, crate::proofs::Submodules::separator_behind))]
 fn few_have_parent(bytes: &[u8]) -> bool
@@ -217,11 +257,11 @@ fn lanes_have_none(before: u8x16, first: u8x16, second: u8x16, behind: u8x16) ->
     ensures { IsTrue result ↔ ((k : ℕ) → k < LANES
         → is_parent_between (slice_index before k) (slice_index first k) (slice_index second k) (slice_index behind k) ≡ false) }
 {
-    let (dot, slash, backslash) = (u8x16::splat(b'.'), u8x16::splat(b'/'), u8x16::splat(b'\\'));
-    let dots = first.simd_eq(dot) & second.simd_eq(dot);
-    if dots.to_bitmask() == 0 {
+    if have_no_two_dots(first, second) {
         return true;
     }
+    let (dot, slash, backslash) = (u8x16::splat(b'.'), u8x16::splat(b'/'), u8x16::splat(b'\\'));
+    let dots = first.simd_eq(dot) & second.simd_eq(dot);
     let before = before.simd_eq(slash) | before.simd_eq(backslash);
     let behind = behind.simd_eq(slash) | behind.simd_eq(backslash);
     (dots & before & behind).to_bitmask() == 0

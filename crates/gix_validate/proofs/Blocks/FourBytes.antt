@@ -8,7 +8,6 @@ use Rattle.std.proofs.lemmas.Bool.Decides.{nat_tests}
 use lib.Lanes.{zip2, chunk, top, mask_l}
 use Rattle.gix_validate.specs.Private.Lanes.{HasParts, place_of}
 use Rattle.gix_validate.specs.Private.Parents.{is_parent_at, is_parent_between, NoParentWithin}
-use Rattle.gix_validate.specs.Submodule.{is_separator}
 use Rattle.gix_validate.proofs.Blocks.Lanes.{IsBlock, mask_of}
 use Rattle.gix_validate.proofs.Blocks.Parts.{AreAll, all_places, none_at}
 
@@ -86,20 +85,24 @@ four_lanes a b c d ba bb bc bd =
         ≡ ((a || b) && f && s && (c || d))
     all_four f s a b c d = grind arith
 
--- Nor where no lane has two dots.
-pub two_lanes : (a b c d : List ℕ) → IsBlock b → IsBlock c → mask_l (map (top 7) (zip2 bit_and (dots b) (dots c))) % 2 ^ 64 ≡ 0
-    → (k : ℕ) → k < 16 → is_parent_between (get_or a k 0) (get_or b k 0) (get_or c k 0) (get_or d k 0) ≡ false
-two_lanes a b c d bb bc none k h =
+-- In no lane of an empty mask are two dots.
+pub two_lanes : (b c : List ℕ) → IsBlock b → IsBlock c → eqb (mask_l (map (top 7) (zip2 bit_and (dots b) (dots c))) % 2 ^ 64) 0 ≡ true
+    → (k : ℕ) → k < 16 → (eqb (get_or b k 0) (byte ".") && eqb (get_or c k 0) (byte ".")) ≡ false
+two_lanes b c bb bc none k h =
     let first = dot_lanes b bb.0 in
     let second = dot_lanes c bc.0 in
     let all = zip2 bit_and (dots b) (dots c) in
     let long : length all ≡ 16 = both_long (dots b) (dots c) first.long second.long in
     let lane = ap (top 7) (both_lane (dots b) (dots c) first.long second.long k h ∙ ap₂ bit_and (first.lane k h) (second.lane k h)) in
-    let empty = (none_at (top 7) all).0 (sym (mask_of all long) ∙ ap (λ n. not (eqb n 0)) none) k (omega arith) in
-    no_pair _ _ (is_separator (get_or a k 0)) (is_separator (get_or d k 0)) (sym lane ∙ empty)
+    let empty = (none_at (top 7) all).0 (sym (mask_of all long) ∙ ap not none) k (omega arith) in
+    no_pair _ _ (sym lane ∙ empty)
   where
-    no_pair : (f s p q : Bool) → top 7 (bit_and (cond f 255 0) (cond s 255 0)) ≡ false → (p && f && s && q) ≡ false
-    no_pair f s p q none = grind (arith, none)
+    no_pair : (f s : Bool) → top 7 (bit_and (cond f 255 0) (cond s 255 0)) ≡ false → (f && s) ≡ false
+    no_pair f s none = grind (arith, none)
+
+-- Without two dots no part `..` begins.
+pub not_between : (a b c d : ℕ) → (eqb b (byte ".") && eqb c (byte ".")) ≡ false → is_parent_between a b c d ≡ false
+not_between a b c d none = grind (arith, none)
 
 -- ---- from lanes to places
 
@@ -146,3 +149,29 @@ all_fours n f s t u x a b c d all next pa pb pc pd =
       λ z k from to. ap (is_parent_at x) (omega arith) ∙ inner x (k - 1) (omega arith) ∙ law.0 (λ k h. sym (lane k h) ∙ z k h) (k - 1) (omega arith),
       λ s k h. lane k h ∙ law.1 (λ j within. sym (inner x j (omega arith)) ∙ s (j + 1) (omega arith) (omega arith)) k h,
     )
+
+-- two dots from this place on
+abbrev two : List ℕ → ℕ → Bool
+two x j = eqb (get_or x j 0) (byte ".") && eqb (get_or x (j + 1) 0) (byte ".")
+
+without_two : (x : List ℕ) (k : ℕ) → two x k ≡ false → is_parent_at x k ≡ false
+without_two x k none = grind (arith, nat_tests, none)
+
+-- Sixteen lanes without two dots are as many places of the text where no part `..` begins.
+pub plain_block : (x : List ℕ) (at : ℕ) → at + 17 ≤ length x
+    → ((k : ℕ) → k < 16 → (eqb (get_or (chunk at 16 x) k 0) (byte ".") && eqb (get_or (chunk (at + 1) 16 x) k 0) (byte ".")) ≡ false)
+    → NoParentWithin x at (at + 16)
+plain_block x at room none k from to =
+    without_two x k (ap₂ (λ b c. eqb b (byte ".") && eqb c (byte "."))
+    (sym (get_or-chunk at 16 x (k - at) 0 (omega arith) ∙ ap (λ j. get_or x j 0) (omega arith)))
+    (sym (get_or-chunk (at + 1) 16 x (k - at) 0 (omega arith) ∙ ap (λ j. get_or x j 0) (omega arith)))
+    ∙ none (k - at) (omega arith))
+
+-- The first n places of two bytes and the last n are all of them.
+pub all_twos : (n f s : ℕ) (x b c : List ℕ) → AreAll n f (length x - 1) → s ≡ f + 1 → HasParts n 0 f x b → HasParts n 1 s x c
+    → ((k : ℕ) → k < 16 → (eqb (get_or b k 0) (byte ".") && eqb (get_or c k 0) (byte ".")) ≡ false) → NoParentWithin x 0 (length x - 1)
+all_twos n f s x b c all next pb pc none k from to =
+    let law = all_places n (length x - 1) f (two x) all in
+    let one : (k : ℕ) → place_of n 1 s k ≡ place_of n 0 f k + 1 = λ k. grind (arith, nat_tests, next) in
+    without_two x k (law.0 (λ k h. ap₂ (λ b c. eqb b (byte ".") && eqb c (byte "."))
+    (sym (pb k h)) (sym (pc k h ∙ ap (λ j. get_or x j 0) (one k))) ∙ none k h) k to)

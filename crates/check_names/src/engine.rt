@@ -185,13 +185,19 @@ fn push_device(name: BStr<'_>, answers: &mut Vec<u8>) -> Result<(), AllocError>
     }
 }
 
-/// Appends the name, repaired to a partial name. The copy of it is given back.
+/// Appends the name, repaired to a partial name. The repaired name is copied, unless it is the first
+/// result: then it becomes the results.
 fn push_sanitized(alloc: Global, name: BStr<'_>, answers: &mut Vec<u8>) -> Result<(), AllocError>
     ensures { OnOk result (answers.new.items
         ≡ answers.old.items ++ sanitized (bstr_bytes name.entry)) }
 {
     let repaired = reference::name_partial_or_sanitize(alloc, name)?;
-    answers.extend_from_slice(repaired.as_slice())
+    if answers.is_empty() {
+        *answers = repaired.into_vec();
+        Ok(())
+    } else {
+        answers.extend_from_slice(repaired.as_slice())
+    }
 }
 
 /// Appends what a validator says: `ok`, or the fault.

@@ -274,7 +274,10 @@ def fault_numbers(buffer: bytes, kind: Kind, end: bytes = b"\n") -> bytes:
 
 def faults(names: Iterable[bytes], kind: Kind) -> List[Optional[Fault]]:
     """Checks many names: returns None for each that is valid, and the fault of each that isn't, in order."""
-    return [_fault_of[number] for number in _numbers_of_each(names, kind)]
+    numbers = _numbers_of_each(names, kind)
+    if numbers == bytes(len(numbers)):
+        return [None] * len(numbers)
+    return [_fault_of[number] for number in numbers]
 
 
 def first_invalid(names: Iterable[bytes], kind: Kind) -> Optional[int]:
@@ -312,13 +315,14 @@ def _numbers(many: Callable[..., int], buffer: bytes, length: int, end: int, roo
 def _numbers_of_each(names: Iterable[bytes], kind: Kind) -> bytes:
     """The number of each name. A name that holds a NUL can't be in a buffer in which NUL ends each name."""
     many, code_of = _of_kind(_many, kind), _of_kind(_codes, kind)
-    each = list(names)
-    if set(map(type, each)) == {bytes}:
-        buffer = b"\0".join([*each, b""])
-        count, numbers = _numbers(many, buffer, len(buffer), 0, len(each))
-        if count == len(each):
+    parts = [*names, b""]  # (so that a NUL ends the last name, too)
+    wanted = len(parts) - 1
+    if set(map(type, parts)) == {bytes}:
+        buffer = b"\0".join(parts)
+        count, numbers = _numbers(many, buffer, len(buffer), 0, wanted)
+        if count == wanted:
             return numbers
-    return bytes([code_of(name, _length(name)) for name in each])
+    return bytes([code_of(name, _length(name)) for name in parts[:-1]])
 
 
 def _accepted(name: bytes, code_of: Callable[..., int], text_of: Callable[..., int], *flags: int) -> bytes:

@@ -1,16 +1,15 @@
-//! Git names: which byte strings are accepted, the one fault of those that are not, and the repair
-//! of a reference name.
+//! Validates the names that Git uses, returns why a name is invalid, and repairs reference names.
 //!
-//! | Module | What it has |
+//! | Module | Names |
 //! |---|---|
-//! | [`tag`] | tag names, the rule that all reference names build on |
-//! | [`reference`] | partial names, full names and names of branches; the repair and the join of names |
+//! | [`tag`] | tag names, whose rule is part of that of every reference name |
+//! | [`reference`] | partial names, full names and branch names; repair and join |
 //! | [`submodule`] | submodule names |
-//! | [`path`] | path components, and their join to a path |
+//! | [`path`] | path components, and their join |
 //!
-//! Only the joins and `reference::name_partial_or_sanitize` take memory. The rules are in
-//! docs/RULES.md, and the definitions that the contracts cite in `specs/`. Those in `specs/Private`
-//! serve contracts of private functions alone.
+//! Only the joins and `reference::name_partial_or_sanitize` allocate. The rules are in
+//! docs/RULES.md, and the definitions that the contracts cite are in `specs/`. Only contracts of
+//! private functions cite those in `specs/Private`.
 #![tactic(auto)]
 
 mod adjacent;

@@ -1,13 +1,12 @@
-//! Reference names: partial ones, full ones and those of branches, each recognised by one call, and
-//! the join of two names.
+//! Reference names: partial names, full names and branch names, their repair, and the join of two
+//! names.
 //!
-//! The three calls build on one another: a full name is a partial name, and the name of a branch is
-//! a full name.
+//! Each full name is a partial name, and each branch name a full name.
 //!
 //! # Memory
 //!
-//! The three calls take none, and on `Ok` each gives the very value that it was given. `join` and
-//! the repair say what they take.
+//! `name_partial`, `name` and `branch_name` don't allocate. On `Ok` each returns the value that it
+//! was passed.
 
 ghost use Rattle.std.specs.Prelude.{◌≡◌, ◌≢◌, ◌↔◌, ◌⊎◌, ◌+◌, ◌≤◌, [], ◌∷◌, ◌++◌, length, codes, All, Contains, IsOk, IfOk, IsTrue, MatchResult, vec_len, vec_capacity};
 ghost use Rattle.std.specs.List.{list_all};
@@ -32,12 +31,12 @@ mod sanitize;
 
 pub use sanitize::{name_partial_or_sanitize, sanitize_in_place};
 
-/// Why a text is not a reference name (docs/RULES.md, "Reference names").
+/// Why a name is not a valid reference name (docs/RULES.md, "Reference names").
 ///
-/// The first eleven are the faults of [`tag::NameError`], under the same names.
+/// The first eleven are those of [`tag::NameError`].
 #[derive(Debug, Drop)]
 pub enum NameError {
-    /// A bad byte of reference names, the first one.
+    /// It has an invalid byte. `byte` is the first of them.
     InvalidByte { byte: u8 },
     StartsWithSlash,
     RepeatedSlash,
@@ -49,14 +48,13 @@ pub enum NameError {
     EndsWithDot,
     EndsWithSlash,
     Empty,
-    /// A name without a slash has a byte other than `A` to `Z` and `_`: a lowercase letter, but a
-    /// digit too.
+    /// It has no slash, and a byte other than `A` to `Z` and `_`: a lowercase letter, or a digit.
     SomeLowercase,
-    /// A name that is reserved: `@`, and as a branch `refs/heads/HEAD`.
+    /// It is reserved: `@`, or as a branch `refs/heads/HEAD`.
     Reserved { name: ArrayVec<u8, 15> },
 }
 
-/// The texts are those of docs/RULES.md, "Printed texts".
+/// docs/RULES.md, "Printed texts", has what each prints.
 impl fmt::Display for NameError {
     ghost use Rattle.std.specs.Prelude.{Some};
     ghost use Rattle.gix_validate.specs.Reference.{text_of};
@@ -94,7 +92,7 @@ impl fmt::Display for NameError {
 
 impl Error for NameError {}
 
-/// The same fault: the same variant, with the same byte for `InvalidByte`.
+/// Converts to the variant of the same name, and keeps the byte of `InvalidByte`.
 impl From<tag::NameError> for NameError {
     ghost use Rattle.gix_validate.specs.Reference.{carried};
 
@@ -117,17 +115,17 @@ impl From<tag::NameError> for NameError {
     }
 }
 
-/// Gives back `path` where it is a partial name, as `main` is: a tag name, but not `@`
-/// (docs/RULES.md, "Reference names").
+/// Returns `path` if it is a valid partial name, as `main`: any tag name but `@` (docs/RULES.md,
+/// "Reference names").
 ///
 /// ```
-/// name_partial(BStr::from("main"))?; // gives back `main`
+/// name_partial(BStr::from("main"))?; // `main`
 /// name_partial(BStr::from("@")); // Reserved, with the name `@`
 /// ```
 ///
 /// # Errors
 ///
-/// The fault of [`tag::name`], where it has one, and otherwise `Reserved` with `@`.
+/// The fault of [`tag::name`] if there is one, and otherwise `Reserved` with `@`.
 #[tactic(auto, using(crate::proofs::References::reserved_names), unfolding(crate::specs::Reference::partial_fault_of, crate::specs::Reference::is_partial_name))]
 #[inline(always)]
 pub fn name_partial<'a>(path: BStr<'a>) -> Result<BStr<'a>, NameError>
@@ -141,17 +139,17 @@ pub fn name_partial<'a>(path: BStr<'a>) -> Result<BStr<'a>, NameError>
     unless_reserved(tag::name(path)?, b"@")
 }
 
-/// Gives back `path` where it is a full name, as `HEAD` and `refs/heads/main` are: a partial name
-/// that has a slash, or only the letters `A` to `Z` and `_` (docs/RULES.md, "Reference names").
+/// Returns `path` if it is a valid full name, as `HEAD` or `refs/heads/main`: a partial name that
+/// has a slash, or only the letters `A` to `Z` and `_` (docs/RULES.md, "Reference names").
 ///
 /// ```
-/// name(BStr::from("refs/heads/main"))?; // gives back `refs/heads/main`
+/// name(BStr::from("refs/heads/main"))?; // `refs/heads/main`
 /// name(BStr::from("main")); // SomeLowercase
 /// ```
 ///
 /// # Errors
 ///
-/// The fault of [`name_partial`], where it has one, and otherwise `SomeLowercase`.
+/// The fault of [`name_partial`] if there is one, and otherwise `SomeLowercase`.
 #[tactic(auto, using(crate::proofs::References::standing), unfolding(crate::specs::Reference::full_fault_of, crate::specs::Reference::is_full_name))]
 #[inline(always)]
 pub fn name<'a>(path: BStr<'a>) -> Result<BStr<'a>, NameError>
@@ -171,18 +169,17 @@ pub fn name<'a>(path: BStr<'a>) -> Result<BStr<'a>, NameError>
     }
 }
 
-/// Gives back `path` where it may be the full name of a branch: a full name, but not
-/// `refs/heads/HEAD` (docs/RULES.md, "Reference names").
+/// Returns `path` if it may be the full name of a branch: any full name but `refs/heads/HEAD`
+/// (docs/RULES.md, "Reference names").
 ///
 /// ```
-/// branch_name(BStr::from("refs/heads/main"))?; // gives back `refs/heads/main`
+/// branch_name(BStr::from("refs/heads/main"))?; // `refs/heads/main`
 /// branch_name(BStr::from("refs/heads/HEAD")); // Reserved, with the name `refs/heads/HEAD`
 /// ```
 ///
 /// # Errors
 ///
-/// The fault of [`name`], where it has one, and otherwise `Reserved` with all fifteen bytes of
-/// `refs/heads/HEAD`.
+/// The fault of [`name`] if there is one, and otherwise `Reserved` with `refs/heads/HEAD`.
 #[tactic(auto, using(crate::proofs::References::reserved_names), unfolding(crate::specs::Reference::branch_fault_of, crate::specs::Reference::is_branch_name))]
 #[inline(always)]
 pub fn branch_name<'a>(path: BStr<'a>) -> Result<BStr<'a>, NameError>
@@ -196,9 +193,10 @@ pub fn branch_name<'a>(path: BStr<'a>) -> Result<BStr<'a>, NameError>
     unless_reserved(name(path)?, b"refs/heads/HEAD")
 }
 
-/// Joins two tag names by a slash, which gives a full name (docs/RULES.md, "Joining").
+/// Joins two tag names with a slash. The result is a full name (docs/RULES.md, "Joining").
 ///
-/// The caller has to know that both are tag names; [`tag::name`] says so.
+/// Both have to be valid tag names, as [`tag::name`] returns them. A call for which that can't be
+/// proved doesn't compile.
 ///
 /// ```
 /// join(alloc, tag::name(BStr::from("refs"))?, tag::name(BStr::from("v1.0"))?)?; // `refs/v1.0`
@@ -210,8 +208,8 @@ pub fn branch_name<'a>(path: BStr<'a>) -> Result<BStr<'a>, NameError>
 ///
 /// # Memory
 ///
-/// The call asks for it once, before it writes a byte. A length above `isize::MAX` bytes counts as
-/// out of memory.
+/// It allocates once, before it writes a byte. A length above `isize::MAX` bytes counts as out of
+/// memory.
 #[tactic(auto, using(crate::proofs::References::joined_is_full))]
 pub fn join(alloc: Global, a: BStr<'_>, b: BStr<'_>) -> Result<BString, AllocError>
     requires first { IsTrue (is_tag_name (bstr_bytes a)) }
@@ -227,7 +225,7 @@ pub fn join(alloc: Global, a: BStr<'_>, b: BStr<'_>) -> Result<BString, AllocErr
     Ok(BString::new(name))
 }
 
-/// Gives back any name except the reserved one, for which the error has room.
+/// Returns any name except the reserved one, for which the error has room.
 #[inline]
 fn unless_reserved<'a>(name: BStr<'a>, reserved: &[u8]) -> Result<BStr<'a>, NameError>
     requires { length reserved.now ≤ 15 }
@@ -243,7 +241,7 @@ fn unless_reserved<'a>(name: BStr<'a>, reserved: &[u8]) -> Result<BStr<'a>, Name
     })
 }
 
-/// Whether the name has a slash, or may stand alone.
+/// Whether the name has a slash, or is valid without one.
 #[inline(always)]
 fn has_slash_or_stands_alone(bytes: &[u8]) -> bool
     ensures { result ≡ has_slash_or_stands_alone bytes.now }
@@ -251,7 +249,7 @@ fn has_slash_or_stands_alone(bytes: &[u8]) -> bool
     contains_byte(bytes, b'/') || stands_alone(bytes)
 }
 
-/// Whether each byte may stand alone. Most names that don't show it by their first letter.
+/// Whether each byte may be in a name without a slash. Most names fail by their first letter.
 fn stands_alone(bytes: &[u8]) -> bool
     ensures { result ≡ list_all is_standalone_byte bytes.now }
 {
@@ -259,7 +257,7 @@ fn stands_alone(bytes: &[u8]) -> bool
         && bytes.iter().all(|byte| matches!(*byte, b'A'..=b'Z' | b'_'))
 }
 
-/// All that follows the reservation, which was for the join and no byte more: it succeeds.
+/// What follows the allocation, which is for the join and no byte more. So it succeeds.
 fn write_joined(mut buffer: Vec<u8>, a: &[u8], b: &[u8]) -> Result<Vec<u8>, AllocError>
     requires room { vec_capacity buffer ≡ vec_len buffer + length (joined (a.now ∷ b.now ∷ [])) }
     ensures bytes { IfOk result (λ name. name.items ≡ buffer.items ++ joined (a.now ∷ b.now ∷ [])) }

@@ -1,10 +1,10 @@
-//! Submodule names: any nonempty text without a part `..`, where both `/` and `\` end a part.
+//! Submodule names: any nonempty name without a part `..`. Both `/` and `\` separate parts.
 //!
 //! Nothing else is refused: `/etc` is a submodule name.
 //!
-//! A name is never split. Most names have no two dots side by side. A part that is `..` is the start
-//! or the end of the name, or two dots between two separators. So in other names the start is looked
-//! at, then all places of four adjacent bytes, sixteen at a time, and then the end.
+//! A name is never split. Most names have no two adjacent dots. A part that is `..` is at the start
+//! or the end of the name, or between two separators. So in other names the start is checked, then
+//! each four adjacent bytes, sixteen times at once, and then the end.
 
 ghost use Rattle.std.specs.Prelude.{◌≡◌, ◌↔◌, ◌||◌, ◌&&◌, ◌==◌, ℕ, ◌+◌, ◌-◌, ◌≤◌, ◌<◌, false, length, slice_index, IsOk, IfOk, IsTrue};
 ghost use Rattle.std.specs.Str.{byte};
@@ -22,16 +22,16 @@ use std::simd::prelude::*;
 /// Two dots, read as one number.
 const DOTS: u16 = 0x2e2e;
 
-/// Why a text is not a submodule name (docs/RULES.md, "Submodule names").
+/// Why a name is not a valid submodule name (docs/RULES.md, "Submodule names").
 #[derive(Debug, Drop)]
 pub enum NameError {
     /// It is empty.
     Empty,
-    /// A part between two separators, `/` or `\`, is `..`.
+    /// A part of it is `..`. Both `/` and `\` separate parts.
     ParentComponent,
 }
 
-/// The texts are those of docs/RULES.md, "Printed texts".
+/// docs/RULES.md, "Printed texts", has what each prints.
 impl fmt::Display for NameError {
     ghost use Rattle.std.specs.Prelude.{Some};
     ghost use Rattle.gix_validate.specs.Submodule.{text_of};
@@ -48,11 +48,11 @@ impl fmt::Display for NameError {
 
 impl Error for NameError {}
 
-/// Gives back `name` where it is a submodule name: it is not empty, and none of its parts is `..`,
-/// where both `/` and `\` end a part (docs/RULES.md, "Submodule names"). Parts may be empty.
+/// Returns `name` if it is a valid submodule name: it isn't empty, and none of its parts is `..`.
+/// Both `/` and `\` separate parts, and parts may be empty (docs/RULES.md, "Submodule names").
 ///
 /// ```
-/// name(BStr::from("vendor/package"))?; // gives back `vendor/package`
+/// name(BStr::from("vendor/package"))?; // `vendor/package`
 /// name(BStr::from("a\\..")); // ParentComponent
 /// ```
 ///
@@ -62,7 +62,7 @@ impl Error for NameError {}
 ///
 /// # Memory
 ///
-/// It takes none. On `Ok` it gives the very value that it was given.
+/// It doesn't allocate. On `Ok` it returns the value that it was passed.
 #[tactic(auto, unfolding(crate::specs::Submodule::fault_of, crate::specs::Submodule::is_submodule_name))]
 #[inline(always)]
 pub fn name<'a>(name: BStr<'a>) -> Result<BStr<'a>, NameError>
@@ -97,7 +97,7 @@ fn has_parent_part(bytes: &[u8]) -> bool
     is_parent_at(bytes, bytes.len() - 2)
 }
 
-/// Whether the name has 11 to 33 bytes, and nowhere two dots side by side. Most names are such.
+/// Whether the name has 11 to 33 bytes, and no two adjacent dots. Most names are such.
 #[inline(always)]
 fn is_plain(bytes: &[u8]) -> bool
     ensures { IsTrue result → has_parent_part bytes.now ≡ false }

@@ -1,4 +1,4 @@
-//! Tag names: the rule that all reference names build on.
+//! Tag names, whose rule is part of that of every reference name.
 
 ghost use Rattle.std.specs.Prelude.{◌≡◌, ◌↔◌, ◌<◌, ◌≤◌, ◌+◌, ◌-◌, length, slice_index, codes, Some, IsOk, IfOk, IsTrue, MatchOption};
 ghost use Rattle.bstr.specs.BStr.{bstr_bytes};
@@ -17,14 +17,14 @@ use bstr::BStr;
 use std::error::Error;
 use std::fmt;
 
-/// How many bytes at the front of a long text are looked at place by place.
+/// How many bytes at the front of a long name are checked one by one.
 const FRONT: usize = 3;
 
-/// Why a text is not a tag name. What each prints is in docs/RULES.md, "Printed texts".
+/// Why a name is not a valid tag name. docs/RULES.md, "Printed texts", has what each prints.
 #[derive(Debug, Drop)]
 pub enum NameError {
-    /// It has a control byte, a space, DEL, or one of `:` `?` `[` `\` `^` `~`; the first of them is
-    /// given.
+    /// It has a control byte, a space, DEL, or one of `:` `?` `[` `\` `^` `~`. `byte` is the first
+    /// of them.
     InvalidByte { byte: u8 },
     /// It starts with a slash.
     StartsWithSlash,
@@ -32,13 +32,13 @@ pub enum NameError {
     RepeatedSlash,
     /// It has two dots in a row.
     RepeatedDot,
-    /// A piece of it ends in `.lock`.
+    /// A piece ends in `.lock`.
     LockFileSuffix,
     /// It has `@{`.
     ReflogPortion,
     /// It has a `*`.
     Asterisk,
-    /// A piece of it starts with a dot.
+    /// A piece starts with a dot.
     StartsWithDot,
     /// It ends in a dot.
     EndsWithDot,
@@ -83,14 +83,14 @@ impl fmt::Display for NameError {
 
 impl Error for NameError {}
 
-/// Gives back `input` if it is a tag name, and otherwise its first fault.
+/// Returns `input` if it is a valid tag name, and otherwise its first fault.
 ///
-/// A tag name is made of pieces with a slash between each two. No piece is empty, has an invalid
-/// byte or a `*`, starts with a dot, ends in `.lock`, or contains `..` or `@{`. The whole name
-/// doesn't end in a dot. The input needn't be UTF-8.
+/// Slashes split a tag name into pieces. No piece is empty, has an invalid byte or a `*`, starts
+/// with a dot, ends in `.lock`, or contains `..` or `@{`. The whole name doesn't end in a dot. The
+/// input needn't be UTF-8.
 ///
 /// ```
-/// tag::name(BStr::from("v1.2.3"))?; // gives back `v1.2.3`
+/// tag::name(BStr::from("v1.2.3"))?; // `v1.2.3`
 /// tag::name(BStr::from("v1..2")); // RepeatedDot
 /// ```
 ///
@@ -100,7 +100,7 @@ impl Error for NameError {}
 ///
 /// # Memory
 ///
-/// It takes none. On `Ok` it gives the very value that it was given.
+/// It doesn't allocate. On `Ok` it returns the value that it was passed.
 #[inline(always)]
 #[tactic(auto, using(crate::proofs::TagNames::Laws::tag_name_laws))]
 pub fn name<'a>(input: BStr<'a>) -> Result<BStr<'a>, NameError>
@@ -117,7 +117,7 @@ pub fn name<'a>(input: BStr<'a>) -> Result<BStr<'a>, NameError>
     }
 }
 
-/// The answer of `name`, by the walk. Most names that are accepted are clear, and so aren't walked.
+/// The result of `name`, found byte by byte. Most valid names are clear and don't get here.
 #[inline(always)]
 #[tactic(auto, using(crate::proofs::TagNames::Grammar::tag_grammar_law))]
 fn name_on_walk<'a>(input: BStr<'a>) -> Result<BStr<'a>, NameError>
@@ -131,7 +131,7 @@ fn name_on_walk<'a>(input: BStr<'a>) -> Result<BStr<'a>, NameError>
     }
 }
 
-/// The first fault of a text, in the order of docs/RULES.md, "Tag names".
+/// The first fault of a name, in the order of docs/RULES.md, "Tag names".
 #[inline(never)]
 #[tactic(auto, unfolding(crate::specs::Tag::fault_of))]
 fn first_fault_on_walk(bytes: &[u8]) -> Option<NameError>
@@ -160,7 +160,7 @@ fn first_fault_on_walk(bytes: &[u8]) -> Option<NameError>
     None
 }
 
-/// The fault at the least place that has one.
+/// The fault at the least offset that has one.
 fn fault_at_first_place(bytes: &[u8]) -> Option<NameError>
     requires { 0 < length bytes.now }
     ensures { result ≡ at_first_place (λ i. first_of (faults_at bytes.now i)) (length bytes.now) }
@@ -174,10 +174,10 @@ fn fault_at_first_place(bytes: &[u8]) -> Option<NameError>
     None
 }
 
-/// The fault at the least place that has one by what stands before it. A short text is walked. Of a
-/// longer one the first bytes are walked, since a fault there then needs no block. After that come
-/// the suspect bytes of each block of sixteen. The first block starts behind the first byte, and the
-/// last overlaps the one before.
+/// The fault at the least offset where the bytes before it make one. The bytes of a short name are
+/// checked one by one. So are the first bytes of a longer one, since a fault there then needs no
+/// block. After that come the suspect bytes of each block of sixteen. The first block starts after
+/// the first byte, and the last overlaps the one before.
 fn fault_by_blocks(bytes: &[u8]) -> Option<NameError>
     requires { 0 < length bytes.now }
     ensures { result ≡ at_first_place (fault_of_byte_at bytes.now) (length bytes.now) }
@@ -197,8 +197,8 @@ fn fault_by_blocks(bytes: &[u8]) -> Option<NameError>
     fault_in_block(bytes, last)
 }
 
-/// The first fault, where one of the sixteen bytes behind this place has it, or is the `l` of a
-/// `.lock` that has it. Only suspect bytes are looked at.
+/// The first fault, if one of the sixteen bytes after this offset has it, or is the `l` of a
+/// `.lock` that has it. Only suspect bytes are checked.
 #[inline]
 fn fault_in_block(bytes: &[u8], at: usize) -> Option<NameError>
     requires room { at + (LANES + 1) ≤ length bytes.now }
@@ -216,8 +216,8 @@ fn fault_in_block(bytes: &[u8], at: usize) -> Option<NameError>
     None
 }
 
-/// The fault of a suspect byte by what stands before it, or that of the `.lock` whose `l` it is, if
-/// a slash ends that.
+/// The fault that a suspect byte has after the bytes before it, or that of the `.lock` whose `l` it
+/// is, if a slash follows that.
 #[inline(always)]
 #[tactic(auto, using(crate::proofs::TagNames::Places::suspect_bytes))]
 fn fault_of_suspect(bytes: &[u8], place: usize) -> Option<NameError>
@@ -241,8 +241,8 @@ fn fault_of_suspect(bytes: &[u8], place: usize) -> Option<NameError>
     }
 }
 
-/// The first fault by what stands before a byte, from one place on and before another. Most bytes
-/// cost a look into a table.
+/// The first fault that a byte has after those before it, from one offset on and before another.
+/// Most bytes take one look into a table.
 #[inline(always)]
 #[tactic(auto, using(crate::proofs::TagNames::Places::place_by_place))]
 fn first_fault_between(bytes: &[u8], from: usize, to: usize) -> Option<NameError>
@@ -261,7 +261,7 @@ fn first_fault_between(bytes: &[u8], from: usize, to: usize) -> Option<NameError
     None
 }
 
-/// The fault of a byte by what stands before it, where something follows.
+/// The fault of a byte after those before it, if another byte follows.
 #[inline]
 #[tactic(auto, unfolding(crate::specs::Private::TagWalk::fault_of_byte, crate::specs::Tag::fault_table, crate::specs::Bytes::is_bad))]
 fn fault_of_byte(before: &[u8], byte: u8) -> Option<NameError>
@@ -282,7 +282,7 @@ fn fault_of_byte(before: &[u8], byte: u8) -> Option<NameError>
     }
 }
 
-/// Whether the text ends in `.lock`, of which few texts have the last letter.
+/// Whether the bytes end in `.lock`. Few end in its last letter.
 #[inline]
 #[tactic(auto, using(crate::proofs::TagNames::FaultTable::lock_ends_in_k))]
 fn ends_in_lock(text: &[u8]) -> bool

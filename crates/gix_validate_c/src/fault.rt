@@ -1,4 +1,4 @@
-//! What C sees of a fault: a number, and a printed text.
+//! The number and the printed text of a fault.
 
 ghost use Rattle.std.specs.Prelude.{◌≡◌, ◌↔◌, ◌≤◌, ℕ, List, length, IsOk, MatchResult};
 
@@ -45,7 +45,7 @@ pub(crate) trait Fault {
         ensures number { result ≡ number self.now }
         ensures some { 1 ≤ result };
 
-    /// What the fault prints.
+    /// The text that the fault prints.
     fn text(&self) -> Text
         ensures text { result.items ≡ text self.now }
         ensures some { 1 ≤ length result.items };
@@ -235,7 +235,7 @@ impl Fault for ComponentError {
     }
 }
 
-/// The number of the answer: that of the fault, or 0.
+/// The number of the result: that of the fault, or 0.
 pub(crate) fn code<E: Fault + Drop>(answer: Result<BStr<'_>, E>) -> u32
     ensures number { MatchResult answer.entry (λ _. result ≡ 0) (λ fault. result ≡ E.number fault) }
     ensures none { (result ≡ 0) ↔ IsOk answer.entry }

@@ -1,4 +1,4 @@
-//! The flags of the calls on path components.
+//! The flags of path components.
 
 ghost use Rattle.std.specs.Prelude.{◌≡◌};
 ghost use Rattle.gix_validate_c.specs.Flags.{options_of, mode_of};

@@ -5,13 +5,13 @@
 //! empty. So an empty buffer has no name, and two such bytes in a row have an empty name between
 //! them.
 //!
-//! Each call writes one byte for each name, in order, to the front of the caller's array: what the
-//! call for one name returns, 0 or the number of its fault (docs/RULES.md, "Calls for C"). It writes
-//! as many as fit, and the rest of the array stays as it was. It returns how many names there are,
-//! even if more than fit. A name whose number doesn't fit is counted and not checked, so an empty
-//! array counts the names.
+//! Each function writes one byte for each name, in order, to the start of the caller's array: what
+//! the function for one name returns, 0 or the number of its fault (docs/RULES.md, "Calls for C").
+//! It writes as many as fit, and the rest of the array stays as it was. It returns how many names
+//! there are, even if more than fit. A name whose number doesn't fit is counted and not checked, so
+//! with an empty array it only counts the names.
 //!
-//! The calls don't allocate and never fail. The buffer and the array may not overlap.
+//! The functions never fail and don't allocate. The buffer and the array may not overlap.
 
 ghost use Rattle.std.specs.Prelude.{◌≡◌, ◌<◌, ◌≤◌, ℕ, List, [], ◌∷◌, length, map, take, drop, MatchOption, IfSome};
 ghost use Rattle.gix_validate.specs.Tag as tag;

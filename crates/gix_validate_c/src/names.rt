@@ -1,8 +1,8 @@
-//! Questions about names.
+//! Validation of one name.
 //!
-//! Each call on a kind of name returns 0 where the text is such a name, and otherwise the number of
-//! its fault (docs/RULES.md, "Calls for C"). Lengths are bytes. The calls take no memory and never
-//! fail.
+//! The function of a kind returns 0 if the name is valid, and otherwise the number of its fault
+//! (docs/RULES.md, "Calls for C"). Lengths are in bytes. The functions never fail and don't
+//! allocate.
 
 ghost use Rattle.std.specs.Prelude.{◌≡◌, ◌⊎◌, ◌↔◌, ◌≤◌, ◌%◌, IsTrue};
 ghost use Rattle.gix_validate.specs.Tag as tag;
@@ -18,10 +18,10 @@ use crate::flags;
 use bstr::BStr;
 use gix_validate::{path, reference, submodule, tag};
 
-/// What [`gix_validate_invalid_byte`] returns where there is no such byte.
+/// What [`gix_validate_invalid_byte`] returns if there is no such byte.
 const NO_BYTE: u32 = 256;
 
-/// Returns 0 where the text is a tag name, and otherwise the number of its fault (docs/RULES.md,
+/// Returns 0 if this is a valid tag name, and otherwise the number of its fault (docs/RULES.md,
 /// "Tag names").
 ///
 /// ```c
@@ -37,9 +37,9 @@ pub extern "C" fn gix_validate_tag(name: &[u8]) -> u32
     code(tag::name(BStr::new(name)))
 }
 
-/// Returns 0 where the text is a partial reference name, and otherwise the number of its fault
-/// (docs/RULES.md, "Reference names"). A text that is not a tag name has the fault that it has
-/// there.
+/// Returns 0 if this is a valid partial reference name, and otherwise the number of its fault
+/// (docs/RULES.md, "Reference names"). If it isn't a valid tag name, the fault is that of the tag
+/// name.
 ///
 /// ```c
 /// gix_validate_partial((const uint8_t *)"main", 4); // 0
@@ -56,9 +56,9 @@ pub extern "C" fn gix_validate_partial(name: &[u8]) -> u32
     code(reference::name_partial(BStr::new(name)))
 }
 
-/// Returns 0 where the text is a full reference name, and otherwise the number of its fault
-/// (docs/RULES.md, "Reference names"). A text that is not a tag name has the fault that it has
-/// there.
+/// Returns 0 if this is a valid full reference name, and otherwise the number of its fault
+/// (docs/RULES.md, "Reference names"). If it isn't a valid tag name, the fault is that of the tag
+/// name.
 ///
 /// ```c
 /// gix_validate_full((const uint8_t *)"refs/heads/main", 15); // 0
@@ -75,9 +75,9 @@ pub extern "C" fn gix_validate_full(name: &[u8]) -> u32
     code(reference::name(BStr::new(name)))
 }
 
-/// Returns 0 where the text is the full name of a branch, and otherwise the number of its fault
-/// (docs/RULES.md, "Reference names"). A text that is not a tag name has the fault that it has
-/// there.
+/// Returns 0 if this is a valid full name of a branch, and otherwise the number of its fault
+/// (docs/RULES.md, "Reference names"). If it isn't a valid tag name, the fault is that of the tag
+/// name.
 ///
 /// ```c
 /// gix_validate_branch((const uint8_t *)"refs/heads/main", 15); // 0
@@ -94,7 +94,7 @@ pub extern "C" fn gix_validate_branch(name: &[u8]) -> u32
     code(reference::branch_name(BStr::new(name)))
 }
 
-/// Returns 0 where the text is a submodule name, and otherwise the number of its fault
+/// Returns 0 if this is a valid submodule name, and otherwise the number of its fault
 /// (docs/RULES.md, "Submodule names").
 ///
 /// ```c
@@ -110,11 +110,11 @@ pub extern "C" fn gix_validate_submodule(name: &[u8]) -> u32
     code(submodule::name(BStr::new(name)))
 }
 
-/// Returns 0 where the name may stand in a path, and otherwise the number of its fault
+/// Returns 0 if this is a valid path component, and otherwise the number of its fault
 /// (docs/RULES.md, "Path components").
 ///
-/// The flags are 1 for Windows, 2 for HFS+ and 4 for NTFS, on which the name is judged, and 8 for
-/// the name of a symlink. Other bits are ignored. The default of the Rust call is 7.
+/// The flags are 1 for the rules of Windows, 2 for those of HFS+, 4 for those of NTFS, and 8 for the
+/// name of a symlink. Other bits are ignored. The default in Rust is 7.
 ///
 /// ```c
 /// gix_validate_component((const uint8_t *)"src", 3, 7);   // 0
@@ -136,11 +136,10 @@ pub extern "C" fn gix_validate_component(name: &[u8], flags: u32) -> u32
     ))
 }
 
-/// Returns the byte of the fault `InvalidByte` where that is the fault of the text as a tag name,
-/// and otherwise 256.
+/// Returns the invalid byte if the fault of the tag name is `InvalidByte`, and otherwise 256.
 ///
-/// A text that has this fault as a partial name, a full name or the name of a branch has it as a
-/// tag name too, with the same byte (docs/RULES.md, "Reference names").
+/// It serves for all reference names: whichever has this fault also has it as a tag name, with the
+/// same byte (docs/RULES.md, "Reference names").
 ///
 /// ```c
 /// gix_validate_invalid_byte((const uint8_t *)"a b", 3); // 32, the space

@@ -1,12 +1,12 @@
 //! The printed texts of faults.
 //!
-//! Each call returns the length of the text of the fault that the name has, in bytes, and 0 where
-//! it has none. No text has more than [`LONGEST_TEXT`]. It is written to the front of the caller's
-//! buffer where the whole text fits, and the rest of the buffer stays as it was. Where the text
-//! doesn't fit, nothing is written. No NUL byte ends it.
+//! Each function returns the length in bytes of the text of the name's fault, or 0 if it has none.
+//! No text has more than [`LONGEST_TEXT`] bytes. If the whole text fits, it is written to the start
+//! of the caller's buffer, and the rest of the buffer stays as it was. Otherwise nothing is written.
+//! No NUL byte ends it.
 //!
-//! The texts are those of docs/RULES.md, "Printed texts". The calls take no memory and never fail.
-//! The name and the buffer may not overlap.
+//! The texts are those of docs/RULES.md, "Printed texts". The functions never fail and don't
+//! allocate. The name and the buffer may not overlap.
 
 ghost use Rattle.std.specs.Prelude.{◌≡◌, ◌↔◌, ◌≤◌, length, IsOk, IsTrue, MatchResult};
 ghost use Rattle.gix_validate.specs.Tag as tag;
@@ -23,7 +23,7 @@ use crate::printing::write_whole;
 use bstr::BStr;
 use gix_validate::{path, reference, submodule, tag};
 
-/// The text of the fault that the name has as a tag name.
+/// Writes the text of the fault of a tag name.
 ///
 /// ```c
 /// gix_validate_tag_text((const uint8_t *)"a..b", 4, text, sizeof text); // 61
@@ -38,7 +38,7 @@ pub extern "C" fn gix_validate_tag_text(name: &[u8], text: &mut [u8]) -> usize
     write_text(tag::name(BStr::new(name)), text)
 }
 
-/// The text of the fault that the name has as a partial reference name.
+/// Writes the text of the fault of a partial reference name.
 ///
 /// ```c
 /// gix_validate_partial_text((const uint8_t *)"@", 1, text, sizeof text); // 50
@@ -53,7 +53,7 @@ pub extern "C" fn gix_validate_partial_text(name: &[u8], text: &mut [u8]) -> usi
     write_text(reference::name_partial(BStr::new(name)), text)
 }
 
-/// The text of the fault that the name has as a full reference name.
+/// Writes the text of the fault of a full reference name.
 ///
 /// ```c
 /// gix_validate_full_text((const uint8_t *)"main", 4, text, sizeof text); // 57
@@ -68,7 +68,7 @@ pub extern "C" fn gix_validate_full_text(name: &[u8], text: &mut [u8]) -> usize
     write_text(reference::name(BStr::new(name)), text)
 }
 
-/// The text of the fault that the name has as the full name of a branch.
+/// Writes the text of the fault of the full name of a branch.
 ///
 /// ```c
 /// gix_validate_branch_text((const uint8_t *)"refs/heads/HEAD", 15, text, sizeof text); // 64
@@ -83,7 +83,7 @@ pub extern "C" fn gix_validate_branch_text(name: &[u8], text: &mut [u8]) -> usiz
     write_text(reference::branch_name(BStr::new(name)), text)
 }
 
-/// The text of the fault that the name has as a submodule name.
+/// Writes the text of the fault of a submodule name.
 ///
 /// ```c
 /// gix_validate_submodule_text(NULL, 0, text, sizeof text); // 31, "Submodule names cannot be empty"
@@ -98,7 +98,7 @@ pub extern "C" fn gix_validate_submodule_text(name: &[u8], text: &mut [u8]) -> u
     write_text(submodule::name(BStr::new(name)), text)
 }
 
-/// The text of the fault that the name has as a path component under these flags.
+/// Writes the text of the fault of a path component under these flags.
 ///
 /// ```c
 /// gix_validate_component_text((const uint8_t *)".git", 4, 7, text, sizeof text); // 31
@@ -120,7 +120,7 @@ pub extern "C" fn gix_validate_component_text(name: &[u8], flags: u32, text: &mu
     write_text(answer, text)
 }
 
-/// Writes the text of the fault, where there is one, and gives its length.
+/// Writes the text of the fault, if there is one, and returns its length.
 fn write_text<E: Fault + Drop>(answer: Result<BStr<'_>, E>, buffer: &mut [u8]) -> usize
     ensures length { MatchResult answer.entry (λ _. result ≡ 0) (λ fault. result ≡ length (E.text fault)) }
     ensures bytes { MatchResult answer.entry

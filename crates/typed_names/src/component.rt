@@ -13,22 +13,22 @@ use gix_validate::path::{self, ComponentError, ComponentMode, ComponentOptions};
 use std::convert::AsSlice;
 use std::fmt;
 
-/// One name in a directory, as `src` and `a.rs` are (docs/RULES.md, "Path components").
+/// The name of an entry in a directory, as `src` or `a.rs` (docs/RULES.md, "Path components").
 ///
-/// It is tested under the mode and the options that [`new`](Component::new) is handed. The type
-/// keeps what all of these share: the text is accepted with no switch and without a mode. That is
-/// what `gix_validate::path::join` asks of its parts.
+/// [`new`](Component::new) checks it under a mode and options. The type keeps what all of these
+/// have in common: the name is valid with no switch and without a mode. That is what
+/// `gix_validate::path::join` requires of its parts.
 #[derive(Clone, Copy, Debug)]
 pub struct Component<'a> {
     name: BStr<'a>,
-    /// The text is accepted with no switch and without a mode.
+    /// The name is valid with no switch and without a mode.
     pub ghost valid: { fault_of no_protections None (bstr_bytes name) ≡ None },
 }
 
 impl<'a> Component<'a> {
     ghost use Rattle.typed_names.specs.Names.{component_text, Keeps};
 
-    /// Keeps `name` where [`path::component`] accepts it under this mode and these options.
+    /// Keeps `name` if [`path::component`] accepts it under this mode and these options.
     ///
     /// ```
     /// let windows = ComponentOptions { protect_windows: true, protect_hfs: false, protect_ntfs: false };
@@ -38,7 +38,7 @@ impl<'a> Component<'a> {
     ///
     /// # Errors
     ///
-    /// The fault that [`path::component`] gives under this mode and these options.
+    /// The fault that [`path::component`] returns under this mode and these options.
     pub fn new(
         name: BStr<'a>,
         mode: Option<ComponentMode>,
@@ -52,8 +52,8 @@ impl<'a> Component<'a> {
         })
     }
 
-    /// The text that [`new`](Component::new) took, which is accepted with no switch and without a
-    /// mode.
+    /// The byte string that was passed to [`new`](Component::new), which is valid with no switch
+    /// and without a mode.
     pub fn as_bstr(&self) -> BStr<'a>
         ensures same { result ≡ component_text self.now }
         ensures valid { fault_of no_protections None (bstr_bytes result) ≡ None }
@@ -62,7 +62,7 @@ impl<'a> Component<'a> {
     }
 }
 
-/// Two names are equal exactly where their bytes are.
+/// Two names are equal if and only if their bytes are.
 impl<'a> PartialEq for Component<'a> {
     ghost use Rattle.typed_names.specs.Names.{component_bytes};
 

@@ -10,12 +10,12 @@ ghost use Rattle.gix_validate.specs.Pieces.{pieces, joined};
 use bstr::{BStr, BString};
 use std::alloc::{AllocError, Global};
 
-/// Joins components by slashes into a path, whose pieces are the parts in their order
+/// Joins components with slashes to a path, whose pieces are the parts in their order
 /// (docs/RULES.md, "Joining").
 ///
-/// The caller has to know that there is a part, and that each part is a component under no switch
-/// and without a mode. [`component`](super::component) says the second: what it accepts under some
-/// switches it accepts under none.
+/// There has to be a part, and each part has to be a valid component with no switch and without a
+/// mode. [`component`](super::component) returns only such, whatever its options. A call for which
+/// that can't be proved doesn't compile.
 ///
 /// ```
 /// join(alloc, &[BStr::from("src"), BStr::from("a.rs")])?; // `src/a.rs`
@@ -27,8 +27,8 @@ use std::alloc::{AllocError, Global};
 ///
 /// # Memory
 ///
-/// The call asks for it once, before it writes a byte. A length above `isize::MAX` bytes counts as
-/// out of memory.
+/// It allocates once, before it writes a byte. A length above `isize::MAX` bytes counts as out of
+/// memory.
 #[tactic(auto, using(crate::proofs::Components::JoinedParts::joined_path_laws))]
 pub fn join(alloc: Global, parts: &[BStr<'_>]) -> Result<BString, AllocError>
     requires some { 0 < length parts.now }
@@ -44,7 +44,7 @@ pub fn join(alloc: Global, parts: &[BStr<'_>]) -> Result<BString, AllocError>
     Ok(BString::new(path))
 }
 
-/// How long the parts and the slashes between them are, where that fits a `usize`.
+/// The length of the parts and the slashes between them, if that fits a `usize`.
 #[tactic(auto, using(crate::proofs::Components::JoinedParts::length_joined, std::proofs::lemmas::List::Sums::sum_by_more_le, std::proofs::lemmas::List::take_all))]
 fn joined_len(parts: &[BStr<'_>]) -> Option<usize>
     requires { 0 < length parts.now }
@@ -59,7 +59,7 @@ fn joined_len(parts: &[BStr<'_>]) -> Option<usize>
     Some(len)
 }
 
-/// All that follows the reservation, which was for the path and no byte more: it succeeds.
+/// What follows the allocation, which is for the path and no byte more. So it succeeds.
 fn write_joined(mut buffer: Vec<u8>, parts: &[BStr<'_>]) -> Result<Vec<u8>, AllocError>
     requires room { vec_capacity buffer ≡ vec_len buffer + length (joined (map bstr_bytes parts.now)) }
     ensures bytes { IfOk result

@@ -1,12 +1,12 @@
 //! The repair of names that are not partial names.
 //!
-//! A clear name (see `adjacent`) is left as it is. Any other is walked once, in the buffer. The
-//! walk differs from a plain loop that carries the previous byte. Each difference is kept for the
-//! instructions that it saves (`bench/run`):
+//! A clear name (see `adjacent`) stays as it is. Any other is walked once, in the buffer. The walk
+//! differs from a plain loop that carries the previous byte. Each difference saves instructions
+//! (`bench/run`):
 //!
 //! - The last byte is replaced by a slash meanwhile, if it is plain. So each run of plain bytes
 //!   ends by itself, and its loop needs no second test.
-//! - Pieces of plain bytes at the front stay in place, so they are only read.
+//! - Pieces of plain bytes at the front stay where they are, so they are only read.
 //! - A `.lock` right before a slash is skipped, and not written only to be cut again.
 //! - The previous byte is read from the piece that is written so far, so a run of plain bytes has
 //!   nothing to carry.
@@ -25,12 +25,13 @@ use crate::bytes::may_be_faulty;
 use bstr::{BStr, BString};
 use std::alloc::{AllocError, Global};
 
-/// Copies a name, and repairs the copy if the name is not a partial name (docs/RULES.md, "Sanitised
-/// names").
+/// Returns a copy of a name, repaired unless the name is a valid partial name (docs/RULES.md,
+/// "Sanitised names").
 ///
-/// The copy is always a partial name, and it is the name itself if that is one. Each nonempty piece
-/// of `path` gives one piece of the copy, and where nothing is left the copy is `-`. It has at
-/// least one byte, and at most as many as `path`, or one where `path` is empty. Lengths are bytes.
+/// On success the result is a valid partial name, and equals the input if and only if the input was
+/// one. Each nonempty piece of `path` becomes one piece of the result. If nothing is left, the
+/// result is `-`. It has at least one byte, and at most as many as `path`, or one if `path` is
+/// empty. Lengths are in bytes.
 ///
 /// ```
 /// name_partial_or_sanitize(alloc, BStr::from("refs//heads/../x.lock"))?; // `refs/heads/-/x`
@@ -38,12 +39,11 @@ use std::alloc::{AllocError, Global};
 ///
 /// # Errors
 ///
-/// Out of memory, and nothing else. Then nothing is left behind.
+/// Out of memory, and nothing else.
 ///
 /// # Memory
 ///
-/// The call asks for it once, before it writes a byte: the length of `path`, or one byte where that
-/// is empty.
+/// It allocates once, before it writes a byte: the length of `path`, or one byte if that is empty.
 pub fn name_partial_or_sanitize(alloc: Global, path: BStr<'_>) -> Result<BString, AllocError>
     ensures text { IfOk result (λ name. bstring_bytes name ≡ sanitized (bstr_bytes path.entry)) }
     ensures partial { IfOk result (λ name. IsTrue (is_partial_name (bstring_bytes name))) }
@@ -57,7 +57,7 @@ pub fn name_partial_or_sanitize(alloc: Global, path: BStr<'_>) -> Result<BString
     Ok(BString::new(sanitized_copy(alloc, path.as_bytes())?))
 }
 
-/// Makes the one reservation, and then the copy.
+/// Allocates once, and then makes the copy.
 fn sanitized_copy(alloc: Global, path: &[u8]) -> Result<Vec<u8>, AllocError>
     ensures { IfOk result (λ name. name.items ≡ sanitized path.now) }
 {
@@ -66,7 +66,7 @@ fn sanitized_copy(alloc: Global, path: &[u8]) -> Result<Vec<u8>, AllocError>
     Ok(name)
 }
 
-/// Writes the sanitised path to an empty vector that has room for the path, or for one byte if that
+/// Writes the repaired path to an empty vector that has room for the path, or for one byte if that
 /// is empty, and for no more. So it never fails.
 fn fill_sanitized(name: &mut Vec<u8>, path: &[u8]) -> Result<(), AllocError>
     requires empty { name.old.items ≡ [] }
@@ -83,24 +83,24 @@ fn fill_sanitized(name: &mut Vec<u8>, path: &[u8]) -> Result<(), AllocError>
     Ok(())
 }
 
-/// Repairs the name in the first `len` bytes of `buf`, and gives the repaired name's length
-/// (docs/RULES.md, "Sanitised names").
+/// Repairs the name in the first `len` bytes of `buf` in place, and returns the length of the
+/// repaired name (docs/RULES.md, "Sanitised names").
 ///
-/// The repaired name, a partial name, takes the place of the given one from the first byte of `buf`
-/// on. It is what `name_partial_or_sanitize` gives for these `len` bytes.
+/// The repaired name is at the start of `buf`. It is a valid partial name, the one that
+/// [`name_partial_or_sanitize`] returns for these `len` bytes.
 ///
-/// The buffer has to have a byte, since even an empty name becomes `-`. From place `len` on, or
-/// from place 1 on where `len` is 0, its bytes stay as they were. The bytes between the repaired
-/// name and that place are unspecified. Places and lengths are bytes.
+/// The buffer has to have a byte, since even an empty name becomes `-`, and it has to hold the name.
+/// A call for which that can't be proved doesn't compile. The bytes from offset `len` on, or from 1
+/// on if `len` is 0, stay as they were. The bytes between the repaired name and that offset are
+/// unspecified. Offsets and lengths are in bytes.
 ///
 /// ```
 /// let mut buffer = *b"..azz";
 /// sanitize_in_place(&mut buffer, 3); // 2, and the buffer begins with `-a` and ends in `zz`
 /// ```
 ///
-/// The call never fails and takes no memory. The name is looked at once, sixteen bytes at a time,
-/// and, where it isn't clear, walked once, within the buffer. Most names that are partial names are
-/// clear.
+/// It never fails and doesn't allocate. It reads the name once, sixteen bytes at a time, and walks
+/// it once more if it isn't clear. Most valid partial names are clear.
 pub fn sanitize_in_place(buf: &mut [u8], len: usize) -> usize
     requires some { 1 ≤ length buf.old }
     requires within { len ≤ length buf.old }

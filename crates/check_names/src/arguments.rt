@@ -1,4 +1,4 @@
-//! What the program's arguments mean.
+//! The program's arguments (docs/RULES.md, "The program's lines").
 
 ghost use Rattle.std.specs.Prelude.{◌≡◌, map};
 ghost use Rattle.std.specs.Result.{result_map_both};
@@ -8,10 +8,10 @@ ghost use Rattle.check_names.specs.Arguments.{request_of};
 use std::error::Error;
 use std::fmt;
 
-/// What the program is to do.
+/// What the program has to do.
 #[derive(Debug, Clone, Copy, PartialEq, Eq)]
 pub enum Request {
-    /// To validate the lines of standard input.
+    /// To check the lines of standard input.
     Answer,
     /// To print the help.
     Help,
@@ -19,7 +19,7 @@ pub enum Request {
     Version,
 }
 
-/// An argument that is unknown.
+/// The error of an argument that is unknown.
 #[derive(Debug, Clone, Copy)]
 pub struct UnknownArgument<'a> {
     word: &'a str,
@@ -37,8 +37,8 @@ impl fmt::Display for UnknownArgument<'_> {
 
 impl Error for UnknownArgument<'_> {}
 
-/// What the arguments mean: to validate the input if there are none, and else what the first one
-/// means. It does not allocate.
+/// Reads the arguments: to check the input if there are none, or else what the first one says. It
+/// does not allocate.
 ///
 /// ```
 /// request_of([]); // Request::Answer

@@ -1,4 +1,4 @@
-//! The answers to the lines of a text.
+//! The results for the lines of the input.
 
 ghost use Rattle.std.specs.Prelude.{◌≡◌, ◌≢◌, ◌+◌, ◌<◌, [], ◌∷◌, ◌++◌, ℕ, List, codes, length, vec_len, vec_capacity, Some, None, Err, IsOk, IsOkUnless, IfErr, IfOk, OnOk, OnErr, IfSome, MatchOption, MatchResult};
 ghost use Rattle.std.specs.Io.KnownBytes.{Appends, IsAtEnd};
@@ -23,26 +23,32 @@ use typed_names::{Component, FullName, PartialName, TagName};
 
 const UNKNOWN_KIND: &[u8] = b"unknown kind";
 
-/// Reads all of `input`, answers each of its lines by one line, writes the answers to `output` by
-/// one call, and flushes it once (`docs/RULES.md`, "The program's lines").
+/// Reads all of `input`, makes one line of output for each of its lines, writes all of them to
+/// `output` with one call, and flushes it once (docs/RULES.md, "The program's lines").
 ///
-/// A line is a kind, a space and a name, as `tag v1.0`, which is answered by `ok`. Where there is
-/// no line, nothing is written and nothing is flushed.
+/// A line is a kind, a space and a name, such as `tag v1.0`, for which the output is `ok`. If there
+/// is no line, nothing is written and nothing is flushed.
 ///
-/// The whole input and all answers are held in memory, of `alloc`.
+/// # Memory
 ///
-/// Clauses that speak of bytes hold for readers and writers whose bytes std's contracts know. These
-/// are the readers `&[u8]`, `Cursor`, `VecDeque<u8>` and `Empty`, the writers `Vec<u8>` and
-/// `VecDeque<u8>`, and over them `&mut`, `Box`, `Take`, `Chain` and the buffers of `BufReader`,
-/// `BufWriter` and `LineWriter`. They are not a terminal, a file, a pipe, a socket, `&mut [u8]` as
-/// a writer or the writers of `Cursor`. `ok` and `stopped` depend on both sides; `end`, `spent` and
-/// `empty` on the reader alone; `read` and `memory` on neither.
+/// The whole input and all results are held in memory, allocated from `alloc`.
+///
+/// # Contract
+///
+/// Clauses about bytes hold for readers and writers whose bytes std's contracts know. These are the
+/// readers `&[u8]`, `Cursor`, `VecDeque<u8>` and `Empty`, the writers `Vec<u8>` and `VecDeque<u8>`,
+/// and over them `&mut`, `Box`, `Take`, `Chain` and the buffers of `BufReader`, `BufWriter` and
+/// `LineWriter`. They are not a terminal, a file, a pipe, a socket, `&mut [u8]` as a writer or the
+/// writers of `Cursor`. `ok` and `stopped` depend on both sides; `end`, `spent` and `empty` on the
+/// reader alone; `read` and `memory` on neither.
 ///
 /// # Errors
 ///
-/// [`RunError::Read`] if reading to the end failed, or there was no memory for what was read;
-/// [`RunError::Memory`] if there was none for the answers; [`RunError::Write`] if writing or
-/// flushing failed. Only the last can leave anything written, and that begins the answers.
+/// - [`RunError::Read`] if reading to the end failed, or memory for what was read can't be
+///   allocated. Nothing was written.
+/// - [`RunError::Memory`] if memory for the results can't be allocated. Nothing was written.
+/// - [`RunError::Write`] if writing or flushing failed. What was written is the beginning of the
+///   results.
 pub fn run<R: Read, W: Write>(alloc: Global, input: &mut R, output: &mut W) -> Result<(), RunError>
     ensures ok { OnOk result (IfSome (R.remaining input.old)
         (λ text. Appends (W.contents output.old) (W.contents output.new) (answers text))) }
@@ -61,7 +67,7 @@ pub fn run<R: Read, W: Write>(alloc: Global, input: &mut R, output: &mut W) -> R
     write_once(&answers, output)
 }
 
-/// All that the reader has left.
+/// All bytes that the reader has left.
 fn read_all<R: Read>(alloc: Global, input: &mut R) -> io::Result<Vec<u8>>
     ensures bytes { IfOk result (λ text. IfSome (R.remaining input.old) (λ bytes. text.items ≡ bytes)) }
     ensures end { OnOk result (IsAtEnd (R.remaining input.new)) }
@@ -86,7 +92,7 @@ fn write_once<W: Write>(bytes: &[u8], output: &mut W) -> Result<(), RunError>
     output.flush().map_err(|_| RunError::Write)
 }
 
-/// The answers to the lines of a text. No memory is asked for where there is no line.
+/// The results for the lines of the input. It does not allocate if there is no line.
 fn answer_all(alloc: Global, text: &[u8]) -> Result<Vec<u8>, AllocError>
     ensures ok { IfOk result (λ written. written.items ≡ answers text.now) }
     ensures err { OnErr result (text.now ≢ []) }
@@ -101,7 +107,7 @@ fn answer_all(alloc: Global, text: &[u8]) -> Result<Vec<u8>, AllocError>
     Ok(answers)
 }
 
-/// The first line of a text, without its end, and what follows it.
+/// The first line of the bytes, without its newline, and what follows it.
 fn first_line(text: &[u8]) -> Option<(&[u8], &[u8])>
     ensures lines { MatchOption result (text.now ≡ [])
         (λ parts. lines text.now ≡ parts.0.now ∷ lines parts.1.now) }
@@ -116,7 +122,7 @@ fn first_line(text: &[u8]) -> Option<(&[u8], &[u8])>
     }
 }
 
-/// Appends the answer to one line. A kind costs a comparison for each kind before it, and full
+/// Appends the result for one line. Each kind takes a comparison for every kind before it, and full
 /// reference names come first.
 fn push_answer(alloc: Global, line: &[u8], answers: &mut Vec<u8>) -> Result<(), AllocError>
     ensures ok { OnOk result (answers.new.items ≡ answers.old.items ++ answer_of line.now) }
@@ -156,7 +162,7 @@ fn name_behind<'a>(kind_and_space: &[u8], line: &'a [u8]) -> Option<BStr<'a>>
     Some(BStr::new(name))
 }
 
-/// Appends whether the name may be a path component of this mode, under the default options.
+/// Appends the result for the name as a path component with this mode and the default options.
 fn push_component(
     name: BStr<'_>,
     mode: Option<ComponentMode>,
@@ -173,7 +179,7 @@ fn push_component(
     )
 }
 
-/// Appends whether the name is a device on Windows.
+/// Appends whether the name is a device on Windows: `yes` or `no`.
 fn push_device(name: BStr<'_>, answers: &mut Vec<u8>) -> Result<(), AllocError>
     ensures { OnOk result (answers.new.items
         ≡ answers.old.items ++ device_answer (bstr_bytes name.entry)) }
@@ -200,7 +206,7 @@ fn push_sanitized(alloc: Global, name: BStr<'_>, answers: &mut Vec<u8>) -> Resul
     }
 }
 
-/// Appends what a validator says: `ok`, or the fault.
+/// Appends the result of a validator: `ok`, or the error.
 fn push_verdict<T: Drop, E: Display + Drop>(
     verdict: Result<T, E>,
     answers: &mut Vec<u8>,
@@ -218,7 +224,7 @@ fn push_verdict<T: Drop, E: Display + Drop>(
     }
 }
 
-/// Appends a fault: that there is one, and its text.
+/// Appends an error: `error: ` and its printed text.
 fn push_fault<E: Display + Drop>(fault: E, answers: &mut Vec<u8>) -> Result<(), AllocError>
     ensures { OnOk result (IfSome (E.output fault)
         (λ text. answers.new.items ≡ answers.old.items ++ codes "error: " ++ text)) }
@@ -226,7 +232,8 @@ fn push_fault<E: Display + Drop>(fault: E, answers: &mut Vec<u8>) -> Result<(), 
     write!(Appender { answers }, "error: {fault}").map_err(|_| AllocError)
 }
 
-/// The answers, as a target of writes. A write fails where there is no memory for its text.
+/// The results, as a target of formatted writes. A write fails if memory for its bytes can't be
+/// allocated.
 #[derive(Drop)]
 struct Appender<'a> {
     answers: &'a mut Vec<u8>,

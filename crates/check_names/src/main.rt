@@ -99,7 +99,7 @@ fn answer<R: Read, W: Write, E: Write>(
     }
 }
 
-/// The line on standard error of a run that stopped.
+/// The line on standard error if a run failed.
 fn message_of(stop: RunError) -> &'static [u8]
     ensures { result.now ≡ message_of stop }
 {

@@ -39,9 +39,9 @@ impl LineCheck for Options {
     }
 }
 
-/// Reads all of `input`, the lines `OLD NEW REF` of a pre-receive hook. Writes a line to `output` for
-/// each reference whose name is refused and, if new ids are listed, for each new id (docs/RULES.md,
-/// "The report of references").
+/// Reads all of `input`, the lines `OLD NEW REF` of a pre-receive hook. Writes a line to `output`
+/// for each reference whose name is refused and, if new ids are listed, for each new id
+/// (docs/RULES.md, "The report of references").
 ///
 /// ```
 /// let options = Options { lists_ids: false, allows_replace: false };
@@ -59,8 +59,8 @@ impl LineCheck for Options {
 ///
 /// # Memory
 ///
-/// The longest line of the input, of at most 65,536 bytes, and the longest line of the report, of
-/// `alloc`.
+/// It allocates memory for the longest line of the input, of at most 65,536 bytes, and for the
+/// longest line of the report, from `alloc`.
 #[tactic(auto, using(crate::proofs::CleanInputs::update_laws))]
 pub fn run<R: BufRead, W: Write>(
     alloc: Global,

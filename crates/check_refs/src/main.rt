@@ -26,7 +26,7 @@ use streams::program::{Check, VERSION, exit_code, failed, printed, words};
 
 const NAME: &str = "check_refs";
 
-/// What a part of the input is called.
+/// What messages call a part of the input.
 const UNIT: &str = "line";
 
 const HELP: &str = "\

@@ -1,4 +1,4 @@
-//! Which names of references are refused, and why.
+//! Which reference names are refused, and why.
 
 ghost use Rattle.std.specs.Prelude.{◌≡◌};
 ghost use Rattle.check_refs.specs.Refs.{name_fault_of, refusal_of};
@@ -8,17 +8,17 @@ use gix_validate::reference;
 use gix_validate::reference::NameError;
 use std::fmt;
 
-/// Why a name of a reference is refused.
+/// Why a reference name is refused (docs/RULES.md, "The report of references").
 #[derive(Debug, Drop)]
 pub enum Refusal {
     /// The name is invalid.
     Name(NameError),
-    /// The name is under `refs/replace/`. Git shows the object of such a reference in place of
+    /// The name is under `refs/replace/`. Git shows the object of such a reference instead of
     /// another one.
     Replacement,
 }
 
-/// The text is that of the name's error, or `replacement references are not allowed`.
+/// The printed text of the name's error, or `replacement references are not allowed`.
 impl fmt::Display for Refusal {
     ghost use Rattle.std.specs.Prelude.{Some};
     ghost use Rattle.check_refs.specs.Refs.{refusal_text_of};
@@ -33,17 +33,16 @@ impl fmt::Display for Refusal {
     }
 }
 
-/// Why the name of a reference is refused, if it is (docs/RULES.md, "The report of references").
+/// Why a reference name is refused; `None` if it isn't (docs/RULES.md, "The report of references").
 ///
 /// ```
-/// refusal_of(false, b"refs/heads/HEAD"); // Refusal::Name, with the fault `Reserved`
+/// refusal_of(false, b"refs/heads/HEAD"); // Refusal::Name, with the error `Reserved`
 /// refusal_of(false, b"refs/replace/a"); // Refusal::Replacement
 /// refusal_of(true, b"refs/replace/a"); // None
 /// ```
 ///
-/// A name under `refs/heads/` has to pass [`reference::branch_name`], and any other name
-/// [`reference::name`]. A name under `refs/replace/` has to be allowed besides. It does not
-/// allocate.
+/// [`reference::branch_name`] has to accept a name under `refs/heads/`, and [`reference::name`] any
+/// other name. A name under `refs/replace/` also has to be allowed. It does not allocate.
 pub fn refusal_of(allows_replace: bool, name: &[u8]) -> Option<Refusal>
     ensures { result ≡ refusal_of allows_replace name.now }
 {
@@ -56,7 +55,7 @@ pub fn refusal_of(allows_replace: bool, name: &[u8]) -> Option<Refusal>
     None
 }
 
-/// Why a name is invalid, if it is.
+/// Why a name is invalid; `None` if it is valid.
 fn name_fault_of(name: &[u8]) -> Option<NameError>
     ensures { result ≡ name_fault_of name.now }
 {

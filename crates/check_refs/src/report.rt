@@ -1,8 +1,8 @@
-//! What is printed of an update.
+//! What is printed for an update.
 //!
 //! Ids and refusals go to one output, which keeps the order of the input. They can't be confused: a
-//! refusal begins with `ref `, and an id has only hexadecimal digits. Standard error has the one
-//! line that says why there is no verdict.
+//! refusal begins with `ref `, and an id has only hexadecimal digits. If there is no verdict, one
+//! line on standard error says why.
 
 ghost use Rattle.std.specs.Prelude.{◌≡◌, ◌++◌, OnOk, IfOk};
 ghost use Rattle.check_refs.specs.Refs.{id_line, refused_line};
@@ -24,7 +24,7 @@ pub struct Options {
     pub allows_replace: bool,
 }
 
-/// Appends the line of an update, if it has one, and says whether its name is refused
+/// Appends the line of an update, if it has one, and returns whether its name is refused
 /// (docs/RULES.md, "The report of references").
 ///
 /// A refused name has the line `ref "NAME" WHY`. If new ids are listed, an update that is neither
@@ -36,8 +36,8 @@ pub struct Options {
 ///
 /// # Memory
 ///
-/// `lines` grows by the line, which has at most four bytes for each byte of the name, and at most 100
-/// bytes besides.
+/// `lines` grows by the line, which has at most four bytes for each byte of the name, and at most
+/// 100 other bytes.
 pub(crate) fn push_line(
     options: Options,
     update: Update<'_>,

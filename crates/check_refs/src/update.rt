@@ -1,4 +1,4 @@
-//! A line of the input: which reference gets which id.
+//! A line of the input: a reference, the id that it had and the id that it gets.
 
 ghost use Rattle.std.specs.Prelude.{◌≡◌};
 ghost use Rattle.std.specs.Option.{option_map};
@@ -8,7 +8,7 @@ ghost use Rattle.check_refs.specs.Private.{as_parsed};
 
 use streams::text::{is_id, split_once};
 
-/// An update of a reference, as Git tells a pre-receive hook of it. It is borrowed from its line.
+/// An update of a reference, as Git passes it to a pre-receive hook. It borrows its line.
 #[derive(Debug, Clone, Copy)]
 pub struct Update<'a> {
     /// The id that the reference had, or zeros if it is new.
@@ -19,8 +19,8 @@ pub struct Update<'a> {
     pub name: &'a [u8],
 }
 
-/// Reads a line without its newline as an update: an id, a space, an id of the same length, a space
-/// and the name, which is all the rest of the line (docs/RULES.md, "The report of references").
+/// Reads a line, without its newline, as an update: an id, a space, an id of the same length, a
+/// space and the name, which is the rest of the line (docs/RULES.md, "The report of references").
 ///
 /// ```
 /// let zeros = "0000000000000000000000000000000000000000";
@@ -28,8 +28,8 @@ pub struct Update<'a> {
 /// update_of(b"{zeros} refs/heads/main"); // None
 /// ```
 ///
-/// An id has 40 or 64 digits of `0` to `9` and `a` to `f`. Any other line gives `None`. It does not
-/// allocate.
+/// An id has 40 or 64 digits of `0` to `9` and `a` to `f`. For any other line it returns `None`. It
+/// does not allocate.
 #[tactic(auto, using(crate::proofs::UpdateLines::read_as_spelled), unfolding(crate::specs::Refs::parsed_update))]
 pub fn update_of(line: &[u8]) -> Option<Update<'_>>
     ensures says { option_map as_parsed result ≡ parsed_update line.now }

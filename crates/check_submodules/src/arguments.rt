@@ -1,4 +1,4 @@
-//! What the program's arguments mean.
+//! The program's arguments (docs/RULES.md, "The names in a .gitmodules file").
 
 ghost use Rattle.std.specs.Prelude.{◌≡◌, map};
 ghost use Rattle.std.specs.Result.{result_map_both};
@@ -9,10 +9,10 @@ use crate::engine::Options;
 use std::error::Error;
 use std::fmt;
 
-/// What the program is to do.
+/// What the program has to do.
 #[derive(Debug, Clone, Copy, PartialEq, Eq)]
 pub enum Request {
-    /// To check standard input under these options.
+    /// To check standard input with these options.
     Check(Options),
     /// To print the help.
     Help,
@@ -20,7 +20,7 @@ pub enum Request {
     Version,
 }
 
-/// An argument that is unknown.
+/// The error of an argument that is unknown.
 #[derive(Debug, Clone, Copy)]
 pub struct UnknownArgument<'a> {
     word: &'a str,
@@ -38,8 +38,8 @@ impl fmt::Display for UnknownArgument<'_> {
 
 impl Error for UnknownArgument<'_> {}
 
-/// What the arguments mean: a check of the input, which has to be whole if `--end` is among them,
-/// or the help or the version, if that word comes before any unknown one. It does not allocate.
+/// Reads the arguments: a check of the input, which has to be whole if `--end` is among them, or
+/// the help or the version, if that argument comes before any unknown one. It does not allocate.
 ///
 /// ```
 /// request_of(["--end"]); // Request::Check(Options { whole: true })
@@ -48,7 +48,7 @@ impl Error for UnknownArgument<'_> {}
 ///
 /// # Errors
 ///
-/// [`UnknownArgument`] with the first word that is unknown.
+/// [`UnknownArgument`] with the first argument that is unknown.
 pub fn request_of(words: &[String]) -> Result<Request, UnknownArgument<'_>>
     ensures { result_map_both (λ request. request) (λ unknown. unknown.word.now) result
         ≡ request_of (map string_bytes words.now) }

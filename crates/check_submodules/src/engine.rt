@@ -1,7 +1,7 @@
 //! The report of a stream of objects.
 //!
 //! A file is held whole, since a section may begin anywhere in it. 16 MiB have room for some
-//! hundred thousand submodules; a larger file is refused, and skipped.
+//! hundred thousand submodules. A larger file is refused, and skipped.
 
 ghost use Rattle.std.specs.Prelude.{◌≡◌, [], Some, false, true, IfOk, OnErr, IfSome, OnSome};
 ghost use Rattle.std.specs.Io.KnownBytes.{Appends, IsAtEnd};
@@ -25,19 +25,20 @@ use streams::outcome::{Fault, RunError, Verdict};
 use streams::output::write_whole;
 use streams::program::Check;
 
-/// The most bytes of a file that is read.
+/// The size in bytes of the largest file that is read.
 const LARGEST: u64 = 16_777_216;
 
 /// How the input is checked.
 #[derive(Debug, Clone, Copy, PartialEq, Eq)]
 pub struct Options {
-    /// Whether the input has to be whole: no object is missing, and the line `..end missing` ends it.
+    /// Whether the input has to be whole (`--end`): no object is missing, and the line `..end
+    /// missing` ends it.
     pub whole: bool,
 }
 
 /// Reads all of `input`, objects as `git cat-file --batch` prints them, and writes a line to
-/// `output` for each section of a submodule in a blob whose name is refused, and for each that can't
-/// be read (docs/RULES.md, "The names in a .gitmodules file"). Objects that are not blobs are
+/// `output` for each section of a submodule in a blob whose name is refused, and for each that
+/// can't be read (docs/RULES.md, "The names in a .gitmodules file"). Objects that are not blobs are
 /// skipped. A blob of more than 16,777,216 bytes is skipped too, and has a line that says so.
 ///
 /// ```
@@ -45,7 +46,7 @@ pub struct Options {
 /// ```
 ///
 /// The lines of a blob are written once all of it is read, and `output` is not flushed. A malformed
-/// object ends the run; what was found before it is written.
+/// object ends the run, and what was found before it is written.
 ///
 /// # Errors
 ///
@@ -54,8 +55,8 @@ pub struct Options {
 ///
 /// # Memory
 ///
-/// The longest header line, of at most 65,536 bytes, and the largest file that is read, its longest
-/// name and its lines, of `alloc`.
+/// It allocates memory for the longest header line, of at most 65,536 bytes, and for the largest
+/// file that is read, its longest name and its lines, from `alloc`.
 pub fn run<R: BufRead, W: Write>(
     alloc: Global,
     options: Options,
@@ -114,8 +115,8 @@ impl ObjectCheck for Options {
     }
 }
 
-/// Reads or skips the bytes of an object, puts its lines in place of the last ones, and says whether
-/// the input had all of it.
+/// Reads or skips the bytes of an object, replaces the last lines with those of the object, and
+/// returns whether the input had all of it.
 fn read_object<R: BufRead>(
     object: Object<'_>,
     input: &mut R,

@@ -1,4 +1,4 @@
-//! What is printed of a `.gitmodules` file.
+//! What is printed for a `.gitmodules` file.
 
 ghost use Rattle.std.specs.Prelude.{◌≡◌, ◌++◌, OnOk};
 ghost use Rattle.gitmodules.specs.Sections.{sections};
@@ -13,8 +13,8 @@ use std::io;
 use std::io::Write;
 use streams::output::push_quoted;
 
-/// Appends the lines of a file: one for each section whose name [`submodule::name`] refuses, and for
-/// each that can't be read (docs/RULES.md, "The names in a .gitmodules file").
+/// Appends the lines of a file: one for each section whose name [`submodule::name`] refuses, and
+/// one for each section that can't be read (docs/RULES.md, "The names in a .gitmodules file").
 ///
 /// ```
 /// push_lines(id, b"[submodule \"..\"]\n", &mut name, &mut lines)?;
@@ -23,7 +23,8 @@ use streams::output::push_quoted;
 ///
 /// # Errors
 ///
-/// Where memory can't be allocated. A beginning of the lines may be appended then.
+/// An error if `name` or `lines` can't grow. The beginning of the lines may have been appended
+/// then.
 ///
 /// # Memory
 ///
@@ -67,7 +68,8 @@ fn push_line(
     Ok(())
 }
 
-/// Appends the beginning of a line: the file's id, and where the section begins in it.
+/// Appends the beginning of a line: the file's id, and the offset at which the section begins in
+/// it.
 fn push_place(id: &[u8], offset: usize, lines: &mut Vec<u8>) -> io::Result<()>
     ensures { OnOk result (lines.new.items ≡ lines.old.items ++ place id.now offset) }
 {
@@ -79,7 +81,7 @@ fn push_place(id: &[u8], offset: usize, lines: &mut Vec<u8>) -> io::Result<()>
 ///
 /// # Errors
 ///
-/// Where memory can't be allocated. A beginning of the line may be appended then.
+/// `AllocError` if `lines` can't grow. The beginning of the line may have been appended then.
 pub(crate) fn push_too_large(id: &[u8], lines: &mut Vec<u8>) -> Result<(), AllocError>
     ensures { OnOk result (lines.new.items ≡ lines.old.items ++ too_large_line id.now) }
 {

@@ -1,4 +1,4 @@
-//! What the program's arguments mean.
+//! The program's arguments (docs/RULES.md, "The report of trees").
 
 ghost use Rattle.std.specs.Prelude.{◌≡◌, map};
 ghost use Rattle.std.specs.Result.{result_map_both};
@@ -11,10 +11,10 @@ use memchr::memchr;
 use std::error::Error;
 use std::fmt;
 
-/// What the program is to do.
+/// What the program has to do.
 #[derive(Debug, Clone, Copy)]
 pub enum Request {
-    /// To check standard input under these options.
+    /// To check standard input with these options.
     Check(CheckOptions),
     /// To print the help.
     Help,
@@ -27,7 +27,7 @@ pub enum Request {
 pub enum ArgumentError<'a> {
     /// This argument is unknown.
     Unknown(&'a str),
-    /// This is not a list of protections, or there is no list.
+    /// This argument of `--protect` is not a list of protections, or `--protect` has no argument.
     Protections(&'a str),
 }
 
@@ -47,8 +47,17 @@ impl fmt::Display for ArgumentError<'_> {
 
 impl Error for ArgumentError<'_> {}
 
-/// What the arguments mean. The first wrong one is an error, and of several lists the last one
-/// counts.
+/// Reads the arguments. If there are several lists of protections, the last one counts.
+///
+/// ```
+/// request_of(["--end"]); // Request::Check, with `whole`
+/// request_of(["--protect", "mac"]); // ArgumentError::Protections
+/// ```
+///
+/// # Errors
+///
+/// [`ArgumentError`] with the first argument that is wrong, unless `--help` or `--version` comes
+/// before it.
 pub fn request_of(words: &[String]) -> Result<Request, ArgumentError<'_>>
     ensures { result_map_both (λ request. request) wrong_argument result ≡ request_of (map string_bytes words.now) }
 {
@@ -85,7 +94,7 @@ pub fn request_of(words: &[String]) -> Result<Request, ArgumentError<'_>>
     Ok(Request::Check(options))
 }
 
-/// The switches that a list of words turns on.
+/// The switches that a list of words turns on; `None` if a word is unknown.
 #[tactic(auto, using(crate::proofs::ArgumentWords::comma_searched), unfolding(crate::specs::Arguments::protections_of))]
 fn protections_of(list: &[u8]) -> Option<ComponentOptions>
     ensures { result ≡ protections_of list.now }
@@ -106,7 +115,7 @@ fn protections_of(list: &[u8]) -> Option<ComponentOptions>
     switched_on(rest, options)
 }
 
-/// The switch that a word turns on, beside those that are on.
+/// The switches with the one that a word turns on; `None` if the word is unknown.
 fn switched_on(word: &[u8], options: ComponentOptions) -> Option<ComponentOptions>
     ensures { result ≡ switched_on word.now options }
 {

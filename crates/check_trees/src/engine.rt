@@ -32,14 +32,15 @@ use streams::program::Check;
 pub struct CheckOptions {
     /// The file systems to protect.
     pub protections: ComponentOptions,
-    /// Whether files that a checkout reads as `.gitmodules` are listed too.
+    /// Whether files that a checkout reads as `.gitmodules` are listed too (`--modules`).
     pub modules: bool,
-    /// Whether the input has to be whole: no object is missing, and the line `..end missing` ends it.
+    /// Whether the input has to be whole (`--end`): no object is missing, and the line `..end
+    /// missing` ends it.
     pub whole: bool,
 }
 
 /// Reads all of `input`, objects as `git cat-file --batch` prints them, and writes a line to
-/// `output` for each entry of a tree whose name [`path::component`] refuses under these options, and
+/// `output` for each entry of a tree whose name [`path::component`] refuses with these options, and
 /// for each file to be listed (docs/RULES.md, "The report of trees").
 ///
 /// ```
@@ -47,7 +48,7 @@ pub struct CheckOptions {
 /// ```
 ///
 /// Each line is written as it is found, and `output` is not flushed. A malformed object ends the
-/// run; what was found before it is written.
+/// run, and what was found before it is written.
 ///
 /// # Errors
 ///
@@ -56,8 +57,9 @@ pub struct CheckOptions {
 ///
 /// # Memory
 ///
-/// The longest header line, the longest entry and the longest line of the report, of `alloc`,
-/// whatever the sizes: each of the first two has at most 65,536 bytes.
+/// It allocates memory for the longest header line, the longest entry and the longest line of the
+/// report, from `alloc`, whatever the sizes of the objects. Each of the first two has at most
+/// 65,536 bytes.
 pub fn run<R: BufRead, W: Write>(
     alloc: Global,
     options: CheckOptions,
@@ -97,7 +99,7 @@ impl Check for CheckOptions {
     }
 }
 
-/// Trees are checked, and other objects are passed over.
+/// Trees are checked, and other objects are skipped.
 impl ObjectCheck for CheckOptions {
     ghost object_rule = { tree_rule };
 
@@ -119,7 +121,7 @@ impl ObjectCheck for CheckOptions {
     }
 }
 
-/// Checks a tree, and says whether an entry was refused.
+/// Checks a tree, and returns whether an entry was refused.
 fn check_tree<R: BufRead, W: Write>(
     options: CheckOptions,
     tree: Object<'_>,
@@ -144,14 +146,14 @@ fn check_tree<R: BufRead, W: Write>(
     Ok(Ok(refused))
 }
 
-/// How long an entry was, and whether it was refused.
+/// The length of an entry in bytes, and whether it was refused.
 #[derive(Clone, Copy)]
 struct Checked {
     len: u64,
     refused: bool,
 }
 
-/// Checks the first entry of what is left of a tree, so many bytes.
+/// Checks the first entry of the last `left` bytes of a tree.
 fn check_entry<R: BufRead, W: Write>(
     options: CheckOptions,
     tree: Object<'_>,
@@ -199,7 +201,7 @@ fn check_entry<R: BufRead, W: Write>(
     Ok(Ok(Checked { len, refused }))
 }
 
-/// What an entry is.
+/// The result for an entry.
 #[derive(Debug, Drop)]
 enum Finding {
     /// Accepted, and not listed.
@@ -210,12 +212,12 @@ enum Finding {
     Refused(ComponentError),
 }
 
-/// What an entry is under these options.
+/// The result for an entry with these options.
 fn finding_of(options: CheckOptions, front: Front<'_>) -> Finding
     ensures { result ≡ finding_of options (as_front front.entry) }
 {
     let may_be_listed = options.modules && front.is_file;
-    // A name that a symbolic link may have, any entry may have.
+    // A name that is valid for a symbolic link is valid for any entry.
     let kind = if may_be_listed {
         Some(ComponentMode::Symlink)
     } else {
@@ -228,7 +230,8 @@ fn finding_of(options: CheckOptions, front: Front<'_>) -> Finding
     }
 }
 
-/// What is found of a file whose name is invalid, for this reason, as that of a symbolic link.
+/// The result for a file whose name is invalid as that of a symbolic link, for the reason
+/// `as_symlink`.
 #[cold]
 #[inline(never)]
 fn finding_of_file(
@@ -245,8 +248,8 @@ fn finding_of_file(
     }
 }
 
-/// Passes the bytes of an entry's id, and says whether the input had them. They are kept where the
-/// entry is listed.
+/// Reads or skips the bytes of an entry's id, and returns whether the input had them. They are kept
+/// if the entry is listed.
 fn pass_id<R: BufRead>(
     finding: &Finding,
     input: &mut R,
@@ -261,7 +264,7 @@ fn pass_id<R: BufRead>(
     }
 }
 
-/// Writes the line of an entry, if it has one, and says whether it is refused.
+/// Writes the line of an entry, if it has one, and returns whether it is refused.
 fn say<W: Write>(
     finding: Finding,
     tree: Object<'_>,

@@ -1,4 +1,4 @@
-//! What is before the NUL of a tree's entry.
+//! The part of a tree's entry that is before the NUL.
 
 ghost use Rattle.std.specs.Prelude.{◌≡◌};
 ghost use Rattle.std.specs.Option.{option_map};
@@ -9,8 +9,8 @@ ghost use Rattle.check_trees.specs.Private.{as_front};
 use gix_validate::path::ComponentMode;
 use streams::text::{number_of, split_once};
 
-/// What is before the NUL of an entry: a mode, what it means for the name, whether it is that of a
-/// file, and the name.
+/// The part of an entry that is before the NUL: the mode, what it means for the name, whether it is
+/// that of a file, and the name.
 #[derive(Debug, Clone, Copy)]
 pub(crate) struct Front<'a> {
     pub(crate) mode: &'a [u8],
@@ -19,7 +19,7 @@ pub(crate) struct Front<'a> {
     pub(crate) name: &'a [u8],
 }
 
-/// What is before the NUL of an entry.
+/// Reads the part of an entry that is before the NUL.
 #[tactic(auto, unfolding(crate::specs::Entries::parsed_front))]
 pub(crate) fn front_of(front: &[u8]) -> Option<Front<'_>>
     ensures { option_map as_front result ≡ parsed_front front.now }
@@ -51,7 +51,7 @@ pub(crate) fn front_of(front: &[u8]) -> Option<Front<'_>>
     })
 }
 
-/// Whether the text is the word. Its constant length makes this a comparison or two.
+/// Whether the bytes are the word. Its constant length makes this one comparison or two.
 fn is_word<const N: usize>(text: &[u8], word: &[u8; N]) -> bool
     ensures { result ≡ bytes_eq text.now word.now }
 {

@@ -1,12 +1,12 @@
 //! The lines of the report.
 //!
-//! The rest of a header line, the path at which Git found the tree, is for display alone. Git tells
+//! The rest of a header line, the path at which Git found the tree, is only displayed. Git prints
 //! one path of many, none for the tree of a commit, and cuts a path at a newline. So nothing
 //! depends on it.
 //!
-//! A `modules` line refuses nothing: the file is as it should be, and its contents are for
-//! `check_submodules`. So the status alone says whether a name is refused. No other line begins
-//! with that word, since the others begin with an id.
+//! A `modules` line refuses nothing: the file is as it should be, and `check_submodules` checks its
+//! contents. So the status alone says whether a name is refused. No other line begins with that
+//! word, since the others begin with an id.
 
 ghost use Rattle.std.specs.Prelude.{◌≡◌, ◌++◌, OnOk};
 ghost use Rattle.std.specs.Option.{option_map};
@@ -21,7 +21,7 @@ use std::io::Write;
 use streams::header::Object;
 use streams::output::{push_hex, push_quoted};
 
-/// Puts the line of a refused entry in place of the last one. Most entries have none.
+/// Replaces the last line with that of a refused entry. Most entries have none.
 #[cold]
 #[inline(never)]
 pub(crate) fn set_refused_line(
@@ -53,8 +53,7 @@ fn push_refused(
     Ok(())
 }
 
-/// Puts the line of a file that is read as `.gitmodules` in place of the last one. Its id is in
-/// bytes.
+/// Replaces the last line with that of a file that is read as `.gitmodules`. Its id is in bytes.
 #[cold]
 #[inline(never)]
 pub(crate) fn set_modules_line(
@@ -98,7 +97,7 @@ fn push_place(line: &mut Vec<u8>, tree: Object<'_>, front: Front<'_>) -> Result<
     push_quoted(line, front.name)
 }
 
-/// Appends where the tree is, if that is known.
+/// Appends the path of the tree, if it is known.
 fn push_path(line: &mut Vec<u8>, rest: Option<&[u8]>) -> Result<(), AllocError>
     ensures { OnOk result (line.new.items ≡ line.old.items ++ in_path (option_map (λ rest. rest.now) rest.entry)) }
 {

@@ -6,11 +6,11 @@ ghost use Rattle.gitmodules.specs.Sections.{escaped_name, is_never_in_name, unes
 use std::alloc::AllocError;
 use std::marker::Model;
 
-/// The name in the header of a submodule's section, as it is in the file: between the double quotes,
-/// with its backslashes.
+/// The name in the header of a submodule's section, as it is in the file: between the double
+/// quotes, with its backslashes.
 ///
-/// Contracts see it as the name's bytes, without the backslashes that escape. It borrows the bytes
-/// of the file. [`Sections`](crate::Sections) makes it.
+/// In contracts it is the bytes of the name, without the backslashes that escape. It borrows the
+/// bytes of the file. [`Sections`](crate::Sections) makes it.
 #[derive(Clone, Debug, Drop)]
 pub struct EscapedName<'a> {
     /// The bytes between the double quotes.
@@ -27,8 +27,8 @@ impl<'a> Model for EscapedName<'a> {
 }
 
 impl<'a> EscapedName<'a> {
-    /// The name that these bytes begin with, up to `"]`, if they begin with one. The first byte is
-    /// the one after the opening quote.
+    /// The name that these bytes begin with, up to `"]`, if they begin with one. The first of these
+    /// bytes is the one after the opening quote.
     pub(crate) fn after_quote(bytes: &'a [u8]) -> Option<EscapedName<'a>>
         ensures { result ≡ option_map (unescaped false) (escaped_name false bytes.now) }
     {
@@ -40,17 +40,17 @@ impl<'a> EscapedName<'a> {
     /// Appends the bytes of the name to `name`, without the backslashes that escape.
     ///
     /// ```
-    /// section_name.push_to(&mut name)?; // appends `a"b` where the file has `a\"b`
+    /// section_name.push_to(&mut name)?; // appends `a"b` if the file has `a\"b`
     /// ```
     ///
     /// # Errors
     ///
-    /// Where memory can't be allocated. A beginning of the name is then appended, which may be
-    /// empty.
+    /// `AllocError` if `name` can't grow. Then the beginning of the name has been appended, which
+    /// may be empty.
     ///
     /// # Memory
     ///
-    /// What the vector needs to hold the name, of the vector's allocator.
+    /// It allocates what `name` needs to hold the bytes, from the allocator of `name`.
     pub fn push_to(&self, name: &mut Vec<u8>) -> Result<(), AllocError>
         ensures ok { OnOk result (name.new.items ≡ name.old.items ++ self.now) }
         ensures err { OnErr result ((front : List ℕ) × (name.new.items ≡ name.old.items ++ front)

@@ -1,8 +1,8 @@
-//! The reader of a `.gitmodules` file: it finds each section of a submodule and the section's name.
+//! A reader for `.gitmodules` files: it finds each section of a submodule and the section's name.
 //!
-//! [`Sections::new`] takes the bytes of the file. The iterator gives each `[` that begins a
-//! submodule's section, in order, with the section's name, or without one where the section can't
-//! be read. It looks at each `[` of the file, in comments and values too. The values are not read.
+//! [`Sections::new`] takes the bytes of the file. The iterator yields each `[` that begins a
+//! submodule's section, in order, with the section's name, or without one if the section can't be
+//! read. It looks at each `[` of the file, in comments and values too. The values are not read.
 //!
 //! ```
 //! let mut sections = Sections::new(b"[core]\n[submodule \"a\\\"b\"]\n\tpath = x\n[submodule.c]\n");
@@ -13,23 +13,24 @@
 //! **Why the values need not be read.** Git reads a section's header from a `[` on, and what it
 //! finds depends only on the bytes after that `[`. Whether Git looks for a header at a `[` depends
 //! on what is before it: a comment, a value with quotes, or a line that continues. This reader
-//! doesn't ask. It looks at every `[`, so it needs no rule for values, quotes and continuations,
-//! and no section that Git sees is missed. A reader that followed Git through these, and disagreed
-//! with it once, would miss a name; `git config --blob` itself stops at a byte 0xFF that a checkout
-//! reads past. In exchange this reader also gives sections that Git doesn't see, as one in a
-//! comment. A caller in memory needs no stream, so the reader is a crate of its own.
+//! ignores what is before it. It looks at every `[`, so it needs no rule for values, quotes and
+//! continuations, and it finds every section that Git sees. A reader that followed Git through
+//! these, and disagreed with it once, would miss a name; `git config --blob` itself stops at a byte
+//! 0xFF that a checkout reads past. In exchange, this reader also yields sections that Git doesn't
+//! see, such as one in a comment. A caller that has the file in memory needs no stream, so the
+//! reader is a crate of its own.
 //!
-//! **A header**: after the `[` comes the word `submodule` in any ASCII letter case. Then:
+//! **A header**: after the `[` comes the word `submodule` in any ASCII case. Then:
 //!
 //! | Next bytes | What the `[` begins |
 //! |---|---|
-//! | `]`, or a letter, a digit or `-` | another section, which isn't given |
+//! | `]`, or a letter, a digit or `-` | another section, which isn't yielded |
 //! | spaces, tabs or carriage returns (at least one), and a name between double quotes, closed by `"]` | a submodule's section |
 //! | anything else, as in the old form `[submodule.name]` | a section that can't be read |
 //!
 //! Git still reads the old form, but writes the other one.
 //!
-//! In a name a backslash makes the next byte a byte of the name. A NUL, a newline (LF) or the byte
+//! In a name, a backslash makes the next byte part of the name. A NUL, a newline (LF) or the byte
 //! 0xFF ends the name for Git, in one way of its reading or another, so a section with one of them
 //! in its name can't be read.
 //!

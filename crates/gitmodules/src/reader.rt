@@ -10,23 +10,24 @@ use memchr::memchr;
 use std::iter::FusedIterator;
 use std::marker::Model;
 
-/// A section of a submodule.
+/// A section of a submodule (docs/RULES.md, "The names in a .gitmodules file").
 #[derive(Clone, Debug, Drop)]
 pub struct Section<'a> {
-    /// The offset of the `[` in the file.
+    /// The offset of the `[` in the file, in bytes.
     pub offset: usize,
-    /// The name, or `None` where the section can't be read.
+    /// The name, or `None` if the section can't be read.
     pub name: Option<EscapedName<'a>>,
 }
 
-/// The sections of submodules in a `.gitmodules` file, in the order of their offsets.
+/// An iterator over the sections of submodules in a `.gitmodules` file, in the order of their
+/// offsets.
 ///
-/// Contracts see it as the list of the sections that are left: the offset of each, and its name or
+/// In contracts it is the list of the sections that are left: the offset of each, and its name or
 /// `None`.
 #[derive(Clone, Debug, Drop)]
 pub struct Sections<'a> {
     file: &'a [u8],
-    /// The offset from which on the next section is looked for.
+    /// The offset from which on the next section is searched for.
     start: usize,
 }
 
@@ -40,13 +41,13 @@ impl<'a> Model for Sections<'a> {
 }
 
 impl<'a> Sections<'a> {
-    /// The sections of submodules in a file with these bytes.
+    /// Returns an iterator over the sections of submodules in a file with these bytes.
     ///
     /// ```
     /// Sections::new(b"[submodule \"a\"]\n").next(); // the name `a` at offset 0
     /// ```
     ///
-    /// It doesn't allocate. A whole iteration reads each byte a bounded number of times.
+    /// It does not allocate. A whole iteration reads each byte a bounded number of times.
     pub fn new(file: &'a [u8]) -> Sections<'a>
         ensures value { result ≡ sections 0 file.now }
         ensures found { IsEachSectionFound }
@@ -122,7 +123,7 @@ fn bracket_from(file: &[u8], start: usize) -> Option<usize>
     Some(start + count)
 }
 
-/// What a `[` before these bytes begins.
+/// What a `[` begins that has these bytes after it.
 #[tactic(auto, unfolding(crate::specs::Sections::header_after_bracket))]
 fn header_after_bracket(bytes: &[u8]) -> Header<'_>
     ensures { header_of result ≡ header_after_bracket bytes.now }
@@ -133,7 +134,7 @@ fn header_after_bracket(bytes: &[u8]) -> Header<'_>
     }
 }
 
-/// What a `[` and the word `submodule` before these bytes begin.
+/// What a `[` and the word `submodule` begin that have these bytes after them.
 fn header_after_word(bytes: &[u8]) -> Header<'_>
     ensures { header_of result ≡ header_after_word bytes.now }
 {
@@ -150,7 +151,7 @@ fn header_after_word(bytes: &[u8]) -> Header<'_>
     }
 }
 
-/// The bytes from the first one on that is not a blank.
+/// The bytes without the blanks at their start.
 fn without_blanks(bytes: &[u8]) -> &[u8]
     ensures { result.now ≡ without_blanks bytes.now }
 {

@@ -1,4 +1,4 @@
-//! Whether a name has adjacent bytes that need a closer look, sixteen pairs at a time.
+//! Whether a name has adjacent bytes that need a closer check, sixteen pairs at a time.
 //!
 //! Most names have nothing that an error could be made of: no bad byte, no `*` or `{`, no dot or
 //! slash at the start, at the end, or after a dot or a slash, and no `l` after a dot, as each
@@ -9,7 +9,7 @@
 //!
 //! The contract says exactly which names are clear: a test that rejects every name would be right,
 //! but slow. Only contracts of private functions cite that definition, so a reader of the public
-//! ones need not believe it.
+//! ones need not trust it.
 
 ghost use Rattle.std.specs.Prelude.{◌≡◌, ◌↔◌, ◌<◌, ◌≤◌, ◌+◌, ◌^◌, ◌==◌, ◌||◌, ◌&&◌, ℕ, false, if◌then◌else◌, IsTrue, map, length, slice_index, codes};
 ghost use Rattle.std.specs.Int.{bit_at};
@@ -22,8 +22,8 @@ use crate::lanes::{LANES, classify, halves, nonzero_lanes, quarters};
 use std::simd::prelude::*;
 
 // The classes of bytes that may be suspect, a bit for each. The bytes of a class have one high
-// nibble, but for the control bytes, which have two. The first five classes are suspect wherever
-// they stand.
+// nibble, except the control bytes, which have two. The bytes of the first five classes are suspect
+// anywhere.
 
 /// A byte below 0x20.
 const CONTROL: u8 = 0x01;
@@ -40,22 +40,22 @@ const BRACKET_OR_CARET: u8 = 0x08;
 /// `{`, `~` or DEL.
 const BRACE_OR_TILDE: u8 = 0x10;
 
-/// A dot or a slash, suspect behind a dot or a slash.
+/// A dot or a slash, suspect after a dot or a slash.
 const BREAK: u8 = 0x20;
 
-/// `l`, suspect behind a dot.
+/// `l`, suspect after a dot.
 const LETTER: u8 = 0x40;
 
-/// The classes that are suspect behind any byte.
+/// The classes that are suspect after any byte.
 const ANYWHERE: u8 = CONTROL | SPACE_OR_STAR | COLON_OR_MARK | BRACKET_OR_CARET | BRACE_OR_TILDE;
 
-/// The classes that are suspect behind a slash.
+/// The classes that are suspect after a slash.
 const BEHIND_SLASH: u8 = ANYWHERE | BREAK;
 
-/// The classes that are suspect behind a dot.
+/// The classes that are suspect after a dot.
 const BEHIND_DOT: u8 = BEHIND_SLASH | LETTER;
 
-/// The classes that a byte may have with this low nibble.
+/// The classes that a byte with this low nibble may have.
 #[rattlefmt::skip]
 const CLASSES_BY_LOW_NIBBLE: [u8; 16] = [
     CONTROL | SPACE_OR_STAR, // 0: a space
@@ -68,7 +68,7 @@ const CLASSES_BY_LOW_NIBBLE: [u8; 16] = [
     CONTROL | COLON_OR_MARK | BRACE_OR_TILDE | BREAK, // F: `?`, DEL, `/`
 ];
 
-/// The classes that a byte may have with this high nibble. What both tables have for a byte is its
+/// The classes that a byte with this high nibble may have. What both tables have for a byte is its
 /// class, or nothing.
 #[rattlefmt::skip]
 const CLASSES_BY_HIGH_NIBBLE: [u8; 16] = [
@@ -78,7 +78,7 @@ const CLASSES_BY_HIGH_NIBBLE: [u8; 16] = [
     0, 0, 0, 0, // C to F
 ];
 
-/// The classes that are suspect behind a dot, behind a slash, and behind any other byte.
+/// The classes that are suspect after a dot, after a slash, and after any other byte.
 #[rattlefmt::skip]
 const SUSPECT_BEHIND: [u8; 16] = [
     BEHIND_DOT, BEHIND_SLASH, ANYWHERE, ANYWHERE,
@@ -87,7 +87,7 @@ const SUSPECT_BEHIND: [u8; 16] = [
     ANYWHERE, ANYWHERE, ANYWHERE, ANYWHERE,
 ];
 
-/// Whether a text is clear. A clear text is a tag name. About any other text this says nothing.
+/// Whether a name is clear. A clear name is a tag name. For any other name this says nothing.
 #[inline(always)]
 #[tactic(auto, using(crate::proofs::Blocks::AdjacentBytes::clear_by_looks))]
 pub(crate) fn is_clear(text: &[u8]) -> bool
@@ -99,7 +99,7 @@ pub(crate) fn is_clear(text: &[u8]) -> bool
     has_none(text)
 }
 
-/// Whether the text ends in a dot or a slash.
+/// Whether the name ends with a dot or a slash.
 #[inline(always)]
 fn ends_in_break(text: &[u8]) -> bool
     ensures { result ≡ (ends text.now (codes ".") || ends text.now (codes "/")) }
@@ -107,7 +107,7 @@ fn ends_in_break(text: &[u8]) -> bool
     matches!(text.last(), Some(b'.' | b'/'))
 }
 
-/// Whether no byte is suspect behind the one before it.
+/// Whether no byte is suspect after the one before it.
 #[inline(always)]
 fn has_none(text: &[u8]) -> bool
     ensures { IsTrue result ↔ NoneBetween text.now 0 (length text.now) }
@@ -119,7 +119,7 @@ fn has_none(text: &[u8]) -> bool
     }
 }
 
-/// The same of a text that is longer than a block. The last block overlaps the one before.
+/// The same for a name that is longer than a block. The last block overlaps the one before it.
 #[inline(always)]
 fn blocks_have_none(text: &[u8]) -> bool
     requires { LANES < length text.now }
@@ -137,7 +137,7 @@ fn blocks_have_none(text: &[u8]) -> bool
     block_has_none(text, last)
 }
 
-/// Whether none of the sixteen bytes behind the byte at this place is suspect.
+/// Whether none of the sixteen bytes after the one at this offset is suspect.
 #[inline(always)]
 fn block_has_none(text: &[u8], at: usize) -> bool
     requires { at + (LANES + 1) ≤ length text.now }
@@ -149,9 +149,8 @@ fn block_has_none(text: &[u8], at: usize) -> bool
     )
 }
 
-/// The bytes among sixteen, behind the byte at this place, that may have a fault or lead to one: a
-/// bit for each, the lowest for the first of them. They are the suspect ones but for each plain
-/// brace.
+/// Which of the sixteen bytes after the one at this offset may be an error or lead to one: a bit
+/// for each, the lowest for the first byte. These are the suspect bytes except each plain brace.
 #[inline(always)]
 pub(crate) fn suspects_of_block(text: &[u8], at: usize) -> u64
     requires { at + (LANES + 1) ≤ length text.now }
@@ -167,7 +166,7 @@ pub(crate) fn suspects_of_block(text: &[u8], at: usize) -> u64
     all ^ plain_braces(before, bytes)
 }
 
-/// The same of a text of at most one block.
+/// The same for a name of at most one block.
 #[inline(always)]
 fn pairs_have_none(text: &[u8]) -> bool
     requires { length text.now ≤ LANES }
@@ -184,7 +183,7 @@ fn pairs_have_none(text: &[u8]) -> bool
     few_have_none(text)
 }
 
-/// The same of a text of at most four bytes.
+/// The same for a name of at most four bytes.
 #[inline(always)]
 fn few_have_none(text: &[u8]) -> bool
     requires { length text.now ≤ 4 }
@@ -198,7 +197,7 @@ fn few_have_none(text: &[u8]) -> bool
     }
 }
 
-/// Whether the byte is suspect behind the one before it.
+/// Whether the byte is suspect after the one before it.
 #[inline(always)]
 #[tactic(auto, using(crate::proofs::Blocks::AdjacentBytes::suspect_letter))]
 fn is_suspect(before: u8, byte: u8) -> bool
@@ -218,7 +217,7 @@ fn is_break(byte: u8) -> bool
     matches!(byte, b'.' | b'/')
 }
 
-/// Whether no byte is suspect behind the byte in the same lane of `before`.
+/// Whether no byte is suspect after the byte in the same lane of `before`.
 #[inline(always)]
 fn lanes_have_none(before: u8x16, bytes: u8x16) -> bool
     ensures { IsTrue result ↔ ((k : ℕ) → k < LANES → is_suspect (slice_index before k) (slice_index bytes k) ≡ false) }
@@ -226,7 +225,7 @@ fn lanes_have_none(before: u8x16, bytes: u8x16) -> bool
     suspects(before, bytes) == 0
 }
 
-/// A bit for each lane whose byte is suspect behind the byte in the same lane of `before`.
+/// A bit for each lane whose byte is suspect after the byte in the same lane of `before`.
 #[inline(always)]
 fn suspects(before: u8x16, bytes: u8x16) -> u64
     ensures few { result < 2 ^ LANES }
@@ -237,7 +236,7 @@ fn suspects(before: u8x16, bytes: u8x16) -> u64
     )
 }
 
-/// A bit for each lane which has a `{`, and in `before` another byte than `@`.
+/// A bit for each lane that has a `{`, and in `before` a byte other than `@`.
 #[inline(always)]
 fn plain_braces(before: u8x16, bytes: u8x16) -> u64
     ensures few { result < 2 ^ LANES }
@@ -246,7 +245,7 @@ fn plain_braces(before: u8x16, bytes: u8x16) -> u64
     (bytes.simd_eq(u8x16::splat(b'{')) & before.simd_ne(u8x16::splat(b'@'))).to_bitmask()
 }
 
-/// The classes that are suspect behind each byte.
+/// The classes that are suspect after each byte.
 #[inline(always)]
 #[tactic(auto, using(crate::proofs::Blocks::AdjacentBytes::reaches_ok, crate::proofs::Blocks::AdjacentBytes::suspect_classes))]
 fn suspect_behind(bytes: u8x16) -> u8x16

@@ -1,12 +1,12 @@
-//! What single bytes may do in reference names (docs/RULES.md, "Bytes").
+//! The classes of single bytes in reference names (docs/RULES.md, "Bytes").
 //!
-//! One table says which bytes may be faulty, since more than one walk reads it. Its 256 entries are
-//! proved against the rule.
+//! One table says which bytes may be an error, since more than one loop reads it. Its 256 entries
+//! are proved against the rule.
 
 ghost use Rattle.std.specs.Prelude.{◌≡◌, ◌||◌, codes};
 ghost use Rattle.gix_validate.specs.Bytes.{is_bad, is_among};
 
-/// Whether the byte may not stand in a reference name.
+/// Whether the byte is a bad byte of reference names.
 #[tactic(auto, unfolding(crate::specs::Bytes::is_bad))]
 pub(crate) fn is_bad_byte(byte: u8) -> bool
     ensures { result ≡ is_bad byte }
@@ -17,8 +17,7 @@ pub(crate) fn is_bad_byte(byte: u8) -> bool
     )
 }
 
-/// Whether a byte can have a fault, depending on what stands before it. All other bytes never have
-/// one.
+/// Whether a byte can be an error, depending on the bytes before it. No other byte is ever one.
 #[inline]
 #[tactic(auto, using(crate::proofs::TagNames::FaultTable::faulty_tabled))]
 pub(crate) fn may_be_faulty(byte: u8) -> bool
@@ -31,7 +30,7 @@ const T: bool = true;
 
 const F: bool = false;
 
-/// What `may_be_faulty` answers, a row for each sixteen bytes.
+/// The results of `may_be_faulty`, a row for each sixteen bytes.
 #[rattlefmt::skip]
 const MAY_BE_FAULTY: [bool; 256] = [
     T, T, T, T, T, T, T, T, T, T, T, T, T, T, T, T, // 00

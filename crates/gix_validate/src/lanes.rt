@@ -1,4 +1,5 @@
-//! Looks at sixteen bytes at a time, a block. The place of each byte in it is its lane.
+//! Functions on blocks, which are sixteen bytes that are checked together. The index of a byte in
+//! its block is its lane.
 
 ghost use Rattle.std.specs.Prelude.{◌≡◌, ◌≢◌, ◌↔◌, IsTrue, true, ℕ, ◌<◌, ◌≤◌, ◌+◌, ◌/◌, ◌%◌, ◌^◌, ◌==◌, ◌||◌, map, length, slice_index, bit_and, if◌then◌else◌};
 ghost use Rattle.std.specs.Int.{bit_at};
@@ -8,10 +9,10 @@ ghost use Rattle.gix_validate.specs.Private.Lanes.{HasParts, is_nonzero};
 
 use std::simd::prelude::*;
 
-/// How many bytes are looked at together.
+/// How many bytes are checked together.
 pub(crate) const LANES: usize = 16;
 
-/// Eight bytes from one place on, and eight from another.
+/// Eight bytes from one offset on, and eight from another.
 #[inline(always)]
 pub(crate) fn halves(text: &[u8], first: usize, second: usize) -> u8x16
     requires first { first + 8 ≤ length text.now }
@@ -23,7 +24,7 @@ pub(crate) fn halves(text: &[u8], first: usize, second: usize) -> u8x16
     front.shuffle(back, [0, 1, 2, 3, 4, 5, 6, 7, 8, 9, 10, 11, 12, 13, 14, 15])
 }
 
-/// Four bytes from one place on, and four from another, and the same again.
+/// Four bytes from one offset on, and four from another, and the same again.
 #[inline(always)]
 pub(crate) fn quarters(text: &[u8], first: usize, second: usize) -> u8x16
     requires first { first + 4 ≤ length text.now }
@@ -35,7 +36,7 @@ pub(crate) fn quarters(text: &[u8], first: usize, second: usize) -> u8x16
     front.shuffle(back, [0, 1, 2, 3, 4, 5, 6, 7, 0, 1, 2, 3, 4, 5, 6, 7])
 }
 
-/// Two bytes from one place on, and two from another, again and again.
+/// Two bytes from one offset on, and two from another, again and again.
 #[inline(always)]
 pub(crate) fn pairs(text: &[u8], first: usize, second: usize) -> u8x16
     requires first { first + 2 ≤ length text.now }
@@ -47,8 +48,8 @@ pub(crate) fn pairs(text: &[u8], first: usize, second: usize) -> u8x16
     front.shuffle(back, [0, 1, 2, 3, 0, 1, 2, 3, 0, 1, 2, 3, 0, 1, 2, 3])
 }
 
-/// The classes of each byte: the bits that both tables have, the one for its low nibble and the
-/// other for its high nibble.
+/// The classes of each byte: the bits that are set both in the entry for its low nibble and in the
+/// entry for its high nibble.
 #[inline(always)]
 #[tactic(auto, using(crate::proofs::Blocks::Lanes::low_ok))]
 pub(crate) fn classify(by_low_nibble: [u8; 16], by_high_nibble: [u8; 16], bytes: u8x16) -> u8x16
@@ -67,7 +68,7 @@ pub(crate) fn has_nonzero(bytes: u8x16) -> bool
     bytes.simd_ne(u8x16::splat(0)).to_bitmask() != 0
 }
 
-/// A bit for each lane whose byte is not zero, the lowest for the first lane.
+/// A bit for each lane whose byte is not zero. The lowest bit is for the first lane.
 #[inline(always)]
 pub(crate) fn nonzero_lanes(bytes: u8x16) -> u64
     ensures few { result < 2 ^ LANES }
@@ -76,7 +77,7 @@ pub(crate) fn nonzero_lanes(bytes: u8x16) -> u64
     bytes.simd_ne(u8x16::splat(0)).to_bitmask()
 }
 
-/// The first of the lanes that have a bit.
+/// The first of the lanes whose bit is set.
 #[inline(always)]
 pub(crate) fn first_lane(lanes: u64) -> usize
     requires { lanes ≢ 0 }
@@ -87,7 +88,7 @@ pub(crate) fn first_lane(lanes: u64) -> usize
     lanes.trailing_zeros() as usize
 }
 
-/// The lanes without the first of them, which is this one.
+/// The lanes without `first`, which is the first of them.
 #[inline(always)]
 pub(crate) fn without_first(lanes: u64, first: usize) -> u64
     requires set { bit_at lanes first ≡ 1 }
@@ -99,7 +100,7 @@ pub(crate) fn without_first(lanes: u64, first: usize) -> u64
     lanes & (lanes - 1)
 }
 
-/// Whether the byte is one of the text.
+/// Whether the byte occurs in the bytes.
 #[inline(always)]
 pub(crate) fn contains_byte(text: &[u8], byte: u8) -> bool
     ensures { result ≡ list_any (λ b. b == byte) text.now }
@@ -121,7 +122,7 @@ pub(crate) fn contains_byte(text: &[u8], byte: u8) -> bool
     block_contains(text, last, byte)
 }
 
-/// Whether the byte is one of the sixteen of the text from this place on.
+/// Whether the byte is one of the sixteen bytes from this offset on.
 #[inline(always)]
 pub(crate) fn block_contains(text: &[u8], at: usize, byte: u8) -> bool
     requires { at + LANES ≤ length text.now }
@@ -130,7 +131,7 @@ pub(crate) fn block_contains(text: &[u8], at: usize, byte: u8) -> bool
     lanes_contain(u8x16::from_slice(&text[at..]), byte)
 }
 
-/// Whether one of the two bytes is one of the sixteen of the text from this place on.
+/// Whether one of the two bytes is one of the sixteen bytes from this offset on.
 #[inline(always)]
 #[tactic(auto, using(crate::proofs::Blocks::Lanes::any_of_two))]
 pub(crate) fn block_contains_either(text: &[u8], at: usize, one: u8, other: u8) -> bool
@@ -141,7 +142,7 @@ pub(crate) fn block_contains_either(text: &[u8], at: usize, one: u8, other: u8) 
     lanes_contain(block, one) | lanes_contain(block, other)
 }
 
-/// Whether each of the sixteen bytes of the text from this place on is one of the two.
+/// Whether each of the sixteen bytes from this offset on is one of the two.
 #[inline(always)]
 pub(crate) fn block_has_only(text: &[u8], at: usize, one: u8, other: u8) -> bool
     requires { at + LANES ≤ length text.now }

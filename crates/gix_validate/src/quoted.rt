@@ -1,4 +1,4 @@
-//! How the bytes of a name are shown in an error's text.
+//! How the bytes of a name are printed in an error's text.
 
 ghost use Rattle.std.specs.Prelude.{Some};
 ghost use Rattle.std.specs.Fmt.{WritesOnOk};

@@ -97,7 +97,7 @@ fn has_parent_part(bytes: &[u8]) -> bool
     is_parent_at(bytes, bytes.len() - 2)
 }
 
-/// Whether the name has 11 to 33 bytes, and no two adjacent dots. Most names are such.
+/// Whether the name has 11 to 33 bytes, and no two dots in a row. Most names are like that.
 #[inline(always)]
 fn is_plain(bytes: &[u8]) -> bool
     ensures { IsTrue result → has_parent_part bytes.now ≡ false }
@@ -112,7 +112,7 @@ fn is_plain(bytes: &[u8]) -> bool
     have_no_two_dots(halves(bytes, 0, len - 9), halves(bytes, 1, len - 8))
 }
 
-/// Whether no two dots stand side by side at the sixteen places from this one on.
+/// Whether no two dots in a row begin at one of the sixteen offsets from this one on.
 #[inline(always)]
 fn block_is_plain(bytes: &[u8], at: usize) -> bool
     requires { at + (LANES + 1) ≤ length bytes.now }
@@ -154,7 +154,8 @@ fn few_have_parent(bytes: &[u8]) -> bool
     }
 }
 
-/// Whether at this place is a separator, and the part just before it or behind it is `..`.
+/// Whether there is a separator at this offset, and the part right before or right after it is
+/// `..`.
 #[inline(always)]
 #[tactic(auto, using(crate::proofs::Submodules::separator_before, crate::proofs::Submodules::separator_behind))]
 fn is_parent_beside(bytes: &[u8], place: usize) -> bool
@@ -165,7 +166,7 @@ fn is_parent_beside(bytes: &[u8], place: usize) -> bool
     is_separator(bytes[place]) && (is_parent_at(bytes, place - 2) || is_parent_at(bytes, place + 1))
 }
 
-/// The same of this place and the next.
+/// The same for this offset and the next.
 #[inline(always)]
 fn is_parent_beside_either(bytes: &[u8], place: usize) -> bool
     requires front { 2 ≤ place }
@@ -176,7 +177,7 @@ fn is_parent_beside_either(bytes: &[u8], place: usize) -> bool
     is_parent_beside(bytes, place) || is_parent_beside(bytes, place + 1)
 }
 
-/// Whether a part that is `..` begins at this place or the next.
+/// Whether a part that is `..` begins at this offset or the next.
 #[inline(always)]
 fn is_parent_at_either(bytes: &[u8], at: usize) -> bool
     requires { at + 3 ≤ length bytes.now }
@@ -185,7 +186,7 @@ fn is_parent_at_either(bytes: &[u8], at: usize) -> bool
     is_parent_at(bytes, at) || is_parent_at(bytes, at + 1)
 }
 
-/// Whether a part that is `..` begins at this place.
+/// Whether a part that is `..` begins at this offset.
 #[inline(always)]
 fn is_parent_at(bytes: &[u8], at: usize) -> bool
     requires { at + 2 ≤ length bytes.now }
@@ -222,7 +223,7 @@ fn has_none_between(bytes: &[u8]) -> bool
     )
 }
 
-/// The same of a name that has a block. The last block overlaps the one before.
+/// The same for a name that has a block. The last block overlaps the one before it.
 #[inline(always)]
 fn blocks_have_none(bytes: &[u8]) -> bool
     requires { LANES + 3 ≤ length bytes.now }
@@ -237,7 +238,7 @@ fn blocks_have_none(bytes: &[u8]) -> bool
     block_has_none(bytes, last)
 }
 
-/// Whether no part that is `..` begins at one of the sixteen bytes behind this place.
+/// Whether no part that is `..` begins at one of the sixteen bytes after this offset.
 #[inline(always)]
 fn block_has_none(bytes: &[u8], at: usize) -> bool
     requires { at + (LANES + 3) ≤ length bytes.now }
@@ -251,7 +252,7 @@ fn block_has_none(bytes: &[u8], at: usize) -> bool
     )
 }
 
-/// Whether in no lane two dots stand between two separators. Most names have no two dots.
+/// Whether no lane has two dots between two separators. Most names have no two dots.
 #[inline(always)]
 fn lanes_have_none(before: u8x16, first: u8x16, second: u8x16, behind: u8x16) -> bool
     ensures { IsTrue result ↔ ((k : ℕ) → k < LANES

@@ -1,4 +1,4 @@
-//! The line before an object in what `git cat-file --batch` prints.
+//! The header line of an object in the output of `git cat-file --batch`.
 
 ghost use Rattle.std.specs.Prelude.{◌≡◌};
 ghost use Rattle.std.specs.Option.{option_map};
@@ -27,7 +27,7 @@ pub struct Object<'a> {
     pub kind: Kind,
     /// How many bytes it has.
     pub size: u64,
-    /// What else the line says, if a space follows the size.
+    /// What follows the size and a space, if there is a space.
     pub rest: Option<&'a [u8]>,
 }
 
@@ -40,8 +40,8 @@ pub enum Header<'a> {
     Object(Object<'a>),
 }
 
-/// What a header line says, without its end: `ID missing`, `ID TYPE SIZE` or `ID TYPE SIZE REST`
-/// (docs/RULES.md, "Streams of objects"). It does not allocate.
+/// Reads a header line, without its newline: `ID missing`, `ID TYPE SIZE` or `ID TYPE SIZE REST`
+/// (docs/RULES.md, "Streams of objects"). Any other line gives `None`. It does not allocate.
 #[tactic(auto, unfolding(crate::specs::Headers::parsed_header))]
 pub fn header_of(line: &[u8]) -> Option<Header<'_>>
     ensures header { option_map as_parsed result ≡ parsed_header line.now }
@@ -58,7 +58,7 @@ pub fn header_of(line: &[u8]) -> Option<Header<'_>>
     object_of(id, kind, sized)
 }
 
-/// What a header line says behind its type.
+/// What the part of a header line after its type says.
 fn object_of<'a>(id: &'a [u8], kind: Kind, sized: &'a [u8]) -> Option<Header<'a>>
     ensures { option_map as_parsed result ≡ sized_parts id.now kind sized.now (split_once (byte " ") sized.now) }
 {
@@ -75,7 +75,7 @@ fn object_of<'a>(id: &'a [u8], kind: Kind, sized: &'a [u8]) -> Option<Header<'a>
     }))
 }
 
-/// The type of a word.
+/// The type that a word names.
 fn kind_of_word(word: &[u8]) -> Option<Kind>
     ensures { result ≡ kind_of_word word.now }
 {

@@ -1,4 +1,4 @@
-//! Reads that are bounded, and that say where the input ends.
+//! Bounded reads that say where the input ends.
 
 ghost use Rattle.std.specs.Prelude.{◌≡◌, ◌<◌, ◌≤◌, ℕ, true, List, [], ◌++◌, length, IfOk, IfSome, MatchOption, OnSome, Some};
 ghost use Rattle.std.specs.Io.KnownBytes.{Consumes, IsAtEnd};
@@ -9,23 +9,23 @@ use crate::outcome::RunError;
 use memchr::memchr;
 use std::io::{BufRead, ErrorKind};
 
-/// Where a read for a byte came to its end.
+/// Why [`read_before`] stopped.
 #[derive(Debug, Clone, Copy, PartialEq, Eq)]
 pub enum Found {
-    /// After the byte.
+    /// It read the byte.
     Byte,
-    /// At the limit, with no such byte before it.
+    /// It read as many bytes as the limit, and the byte was not among them.
     Limit,
-    /// At the end of the input, before the limit and with no such byte before it.
+    /// The input ended before the limit, without the byte.
     End,
 }
 
-/// Reads what is before the first such byte, and the byte, which is left out. No more than `limit`
-/// bytes are read. `front` is the only thing that grows.
+/// Reads the bytes before the first `byte` into `front`, whose old contents are dropped, and then
+/// `byte` itself, which is not appended. It reads at most `limit` bytes. Only `front` allocates.
 ///
 /// # Errors
 ///
-/// [`RunError::Read`] and [`RunError::Memory`].
+/// [`RunError::Read`] if reading failed, and [`RunError::Memory`] if `front` can't grow.
 pub fn read_before<R: BufRead>(
     input: &mut R,
     byte: u8,
@@ -47,7 +47,8 @@ pub fn read_before<R: BufRead>(
     Err(RunError::Read)
 }
 
-/// Appends what the reader has at hand of such a front, and says where that is all of it.
+/// Appends what the reader has buffered of these bytes. The result says whether the byte was read
+/// or the input has ended; it is `None` if neither.
 fn append_part<R: BufRead>(
     input: &mut R,
     byte: u8,
@@ -73,8 +74,8 @@ fn append_part<R: BufRead>(
     Ok(found)
 }
 
-/// What is before the first such byte, how many bytes that takes with the byte itself, and
-/// whether there is one.
+/// The bytes before the first such byte, how many bytes these are together with the byte itself,
+/// and whether there is one.
 fn cut_at(byte: u8, shown: &[u8]) -> (&[u8], usize, Option<Found>)
     ensures { Cuts byte shown.now result.0.now result.1 result.2 }
 {
@@ -84,11 +85,12 @@ fn cut_at(byte: u8, shown: &[u8]) -> (&[u8], usize, Option<Found>)
     }
 }
 
-/// Reads so many bytes, and says whether the input had them.
+/// Reads `count` bytes into `bytes`, whose old contents are dropped, and returns whether the input
+/// had that many. Only `bytes` allocates.
 ///
 /// # Errors
 ///
-/// [`RunError::Read`] and [`RunError::Memory`].
+/// [`RunError::Read`] if reading failed, and [`RunError::Memory`] if `bytes` can't grow.
 pub fn read_bytes<R: BufRead>(
     input: &mut R,
     count: usize,
@@ -109,7 +111,8 @@ pub fn read_bytes<R: BufRead>(
     Err(RunError::Read)
 }
 
-/// Appends what the reader has at hand of so many bytes, and says whether it has no more.
+/// Appends at most `count` bytes that the reader has buffered, and returns whether the input has
+/// ended.
 fn read_part<R: BufRead>(input: &mut R, count: usize, bytes: &mut Vec<u8>) -> Result<bool, RunError>
     requires { 0 < count }
     ensures { IfOk result (λ ended. (part : List ℕ) × (bytes.new.items ≡ bytes.old.items ++ part) × (length part ≤ count)
@@ -131,11 +134,11 @@ fn read_part<R: BufRead>(input: &mut R, count: usize, bytes: &mut Vec<u8>) -> Re
     Ok(false)
 }
 
-/// Skips so many bytes, and says whether the input had them. It does not allocate.
+/// Skips `count` bytes, and returns whether the input had that many. It does not allocate.
 ///
 /// # Errors
 ///
-/// [`RunError::Read`].
+/// [`RunError::Read`] if reading failed.
 pub fn skip<R: BufRead>(input: &mut R, count: u64) -> Result<bool, RunError>
     ensures { IfOk result (λ whole. (bytes : List ℕ)
         × Skips count (R.remaining input.old) (R.remaining input.new) bytes whole) }
@@ -154,8 +157,8 @@ pub fn skip<R: BufRead>(input: &mut R, count: u64) -> Result<bool, RunError>
     Err(RunError::Read)
 }
 
-/// Skips what the reader has at hand of so many bytes. Only at the end of the input are these no
-/// bytes.
+/// Skips at most `count` bytes that the reader has buffered, and returns how many. That is 0 only
+/// at the end of the input.
 fn skip_part<R: BufRead>(input: &mut R, count: u64) -> Result<Option<u64>, RunError>
     requires { 0 < count }
     ensures bound { IfOk result (λ skipped. IfSome skipped (λ n. n ≤ count)) }
@@ -179,7 +182,7 @@ fn skip_part<R: BufRead>(input: &mut R, count: u64) -> Result<Option<u64>, RunEr
 ///
 /// # Errors
 ///
-/// [`RunError::Read`].
+/// [`RunError::Read`] if reading failed.
 pub fn read_byte<R: BufRead>(input: &mut R) -> Result<Option<u8>, RunError>
     ensures byte { IfOk result (λ byte. Nexts (R.remaining input.old) (R.remaining input.new) byte) }
 {
@@ -191,7 +194,8 @@ pub fn read_byte<R: BufRead>(input: &mut R) -> Result<Option<u8>, RunError>
     Err(RunError::Read)
 }
 
-/// Reads the byte that the reader has at hand, where it could look.
+/// Reads the next byte, or `None` at the end of the input. The outer `None` means that the read was
+/// interrupted.
 fn next_part<R: BufRead>(input: &mut R) -> Result<Option<Option<u8>>, RunError>
     ensures { IfOk result (λ found. MatchOption found
         (Consumes (R.remaining input.old) (R.remaining input.new) [])
@@ -207,11 +211,11 @@ fn next_part<R: BufRead>(input: &mut R) -> Result<Option<Option<u8>>, RunError>
     Ok(Some(Some(byte)))
 }
 
-/// Whether nothing is left. Nothing is read. It does not allocate.
+/// Returns whether the input has ended. It consumes no byte, and does not allocate.
 ///
 /// # Errors
 ///
-/// [`RunError::Read`].
+/// [`RunError::Read`] if reading failed.
 pub fn is_at_end<R: BufRead>(input: &mut R) -> Result<bool, RunError>
     ensures known { IfOk result (λ ended. IfSome (R.remaining input.old) (λ rest. ended ≡ is_empty rest)) }
     ensures kept { IfOk result (λ ended. Consumes (R.remaining input.old) (R.remaining input.new) []) }
@@ -225,7 +229,7 @@ pub fn is_at_end<R: BufRead>(input: &mut R) -> Result<bool, RunError>
     Err(RunError::Read)
 }
 
-/// Whether the reader has nothing at hand, where it could look.
+/// Whether the input has ended. `None` means that the read was interrupted.
 fn look<R: BufRead>(input: &mut R) -> Result<Option<bool>, RunError>
     ensures known { IfOk result (λ found. IfSome found (λ ended. IfSome (R.remaining input.old) (λ rest. ended ≡ is_empty rest))) }
     ensures kept { IfOk result (λ found. Consumes (R.remaining input.old) (R.remaining input.new) []) }

@@ -1,12 +1,12 @@
-//! What the programs share: arguments, whole writes, and the status that a program ends with; and,
-//! for those that check a stream, bounded reads, the header lines of `git cat-file --batch`, the loop
-//! over the lines of an input, and quoted output.
+//! What the programs share: arguments, writing, and exit statuses; and, for those that check a
+//! stream, bounded reads, the header lines of `git cat-file --batch`, the loop over the lines of an
+//! input, and quoted output.
 //!
-//! Three programs read lines, count them, look for the end and keep a verdict. They differ in what
+//! Three programs read lines, count them, check for the end and keep a verdict. They differ in what
 //! a line means, which is the trait [`lines::LineCheck`]: a rule as a definition, and the function
 //! that follows it. [`objects`] implements it for header lines, and has the trait
 //! [`objects::ObjectCheck`] for the bytes of an object. So the loop is proved once for all rules,
-//! and a program proves one step.
+//! and each program proves one step.
 #![tactic(auto)]
 
 pub mod header;

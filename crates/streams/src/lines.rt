@@ -1,4 +1,4 @@
-//! An input that is read line by line, where a line can say what follows it.
+//! An input that is read line by line. A line can say which bytes follow it.
 //!
 //! A line has at most [`LONGEST`] bytes, far more than a file system allows for a name. So
 //! `check_trees` and `check_refs` hold a bounded number of bytes, whatever their input is. No size
@@ -15,17 +15,17 @@ use crate::outcome::{Fault, RunError, Verdict};
 use std::alloc::Global;
 use std::io::{BufRead, Write};
 
-/// The most bytes of a line with its end.
+/// The largest length of a line with its newline, in bytes.
 pub const LONGEST: u64 = 65_536;
 
 /// What Git prints for the word `..end`, without the newline. No reference, object or path can have
 /// that name.
 const END: &[u8; 13] = b"..end missing";
 
-/// How an input has to end.
+/// Where an input has to end.
 #[derive(Debug, Clone, Copy, PartialEq, Eq)]
 pub enum Ending {
-    /// After any line and what belongs to it.
+    /// After any line and the bytes that belong to it.
     Anywhere,
     /// With the line `..end missing`.
     EndLine,
@@ -33,25 +33,25 @@ pub enum Ending {
     AfterALine,
 }
 
-/// Where the parts of an input are read to, and the lines of the report are built.
+/// The buffers for the parts of an input that are read, and for the lines of the report.
 #[derive(Drop)]
 pub struct Buffers {
-    /// What is read.
+    /// What was read.
     pub read: Vec<u8>,
-    /// A part of it, as an id or a name.
+    /// A part of that, such as an id or a name.
     pub part: Vec<u8>,
     /// What is to be written.
     pub lines: Vec<u8>,
 }
 
-/// A rule of lines, how many bytes can belong to a line, and the function that follows the rule.
+/// A rule for lines, how many bytes can belong to a line, and the function that follows the rule.
 pub trait LineCheck: Copy {
     ghost line_rule: { Self → LineRule };
 
     ghost line_reach: { Self → Reach };
 
-    /// Checks a line, which is given without its end, with what belongs to it, writes what is to be
-    /// said of it, and says whether something in it is refused.
+    /// Checks a line, which is passed without its newline, together with the bytes that belong to
+    /// it. Writes the lines of the report for it, and returns whether something in it is refused.
     fn check_line<R: BufRead, W: Write>(
         self,
         line: &[u8],
@@ -64,10 +64,11 @@ pub trait LineCheck: Copy {
         ensures within { IfOk result (λ _. ReadsUpTo (line_reach self line.now) (R.remaining input.old) (R.remaining input.new)) };
 }
 
-/// Reads all of `input`, and writes what `check` says of each line and of what belongs to it.
+/// Reads all of `input`, and writes what `check` reports for each line and the bytes that belong to
+/// it (docs/RULES.md, "Streams of objects" and "The report of references").
 ///
-/// Each line is written as it is found, and `output` is not flushed. What is malformed ends the run;
-/// what was said before it is written.
+/// Each line of the report is written as it is found, and `output` is not flushed. A malformed line
+/// ends the run, and what was reported before it is written.
 ///
 /// # Errors
 ///
@@ -76,7 +77,8 @@ pub trait LineCheck: Copy {
 ///
 /// # Memory
 ///
-/// The longest line, of at most 65,536 bytes, and what `check` allocates, of `alloc`.
+/// It allocates memory for the longest line, of at most 65,536 bytes, and what `check` allocates,
+/// from `alloc`.
 #[tactic(auto, using(crate::proofs::WholeStreams::ended_whole))]
 pub fn run<C: LineCheck, R: BufRead, W: Write>(
     alloc: Global,
@@ -145,7 +147,7 @@ fn is_last<R: BufRead>(ending: Ending, line: &[u8], input: &mut R) -> Result<boo
     }
 }
 
-/// What is wrong where the input ends before a line of this number.
+/// What is wrong if the input ends before the line with this number.
 fn fault_at_end(ending: Ending, number: u64) -> Option<Fault>
     ensures { result ≡ fault_at_end ending number }
 {
@@ -156,7 +158,7 @@ fn fault_at_end(ending: Ending, number: u64) -> Option<Fault>
     }
 }
 
-/// What a whole input comes to.
+/// The verdict on a well-formed input.
 fn whole_input(refused: bool) -> Verdict
     ensures { result ≡ (if refused then Verdict.Refused else Verdict.Clean) }
 {

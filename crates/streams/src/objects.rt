@@ -15,12 +15,12 @@ use crate::outcome::{Fault, RunError, Verdict};
 use std::alloc::Global;
 use std::io::{BufRead, Write};
 
-/// A rule of objects, and the function that follows it.
+/// A rule for objects, and the function that follows it.
 pub trait ObjectCheck: Copy {
     ghost object_rule: { Self → ObjectRule };
 
-    /// Checks the bytes of an object, writes what is to be said of it, and says whether something
-    /// in it is refused.
+    /// Checks the bytes of an object, writes the lines of the report for it, and returns whether
+    /// something in it is refused.
     fn check_object<R: BufRead, W: Write>(
         self,
         object: Object<'_>,
@@ -33,7 +33,7 @@ pub trait ObjectCheck: Copy {
         ensures within { IfOk result (λ _. ReadsUpTo object.entry.size (R.remaining input.old) (R.remaining input.new)) };
 }
 
-/// Each line is the header of an object.
+/// The rule by which each line is the header of an object.
 #[derive(Debug, Clone, Copy)]
 pub struct Objects<C> {
     check: C,
@@ -63,7 +63,7 @@ impl<C: ObjectCheck> LineCheck for Objects<C> {
     }
 }
 
-/// Checks the bytes of an object, and reads the LF behind them.
+/// Checks the bytes of an object, and reads the LF after them.
 fn check_and_close<C: ObjectCheck, R: BufRead, W: Write>(
     check: C,
     object: Object<'_>,
@@ -82,7 +82,7 @@ fn check_and_close<C: ObjectCheck, R: BufRead, W: Write>(
     }
 }
 
-/// Reads the LF behind an object's bytes, and passes on whether something was refused.
+/// Reads the LF after an object's bytes, and returns `refused` if it is there.
 #[tactic(auto, using(crate::proofs::LinesStop::next_within))]
 fn close<R: BufRead>(refused: bool, input: &mut R) -> Result<Result<bool, Fault>, RunError>
     ensures gives { IfSome (R.remaining input.old) (λ text. Closes refused text (R.remaining input.new) result) }
@@ -95,12 +95,12 @@ fn close<R: BufRead>(refused: bool, input: &mut R) -> Result<Result<bool, Fault>
     }
 }
 
-/// Reads all of `input`, objects as `git cat-file --batch` prints them, and writes what `check` says
-/// of each (docs/RULES.md, "Streams of objects"). Where the stream has to be `whole`, its last line
-/// is `..end missing`, and no object is missing.
+/// Reads all of `input`, objects as `git cat-file --batch` prints them, and writes what `check`
+/// reports for each (docs/RULES.md, "Streams of objects"). If `whole` is set, the last line has to
+/// be `..end missing`, and no object may be missing.
 ///
-/// Each line is written as it is found, and `output` is not flushed. A malformed object ends the
-/// run; what was said before it is written.
+/// Each line of the report is written as it is found, and `output` is not flushed. A malformed
+/// object ends the run, and what was reported before it is written.
 ///
 /// # Errors
 ///
@@ -109,7 +109,8 @@ fn close<R: BufRead>(refused: bool, input: &mut R) -> Result<Result<bool, Fault>
 ///
 /// # Memory
 ///
-/// The longest header line, of at most 65,536 bytes, and what `check` allocates, of `alloc`.
+/// It allocates memory for the longest header line, of at most 65,536 bytes, and what `check`
+/// allocates, from `alloc`.
 #[tactic(auto, using(crate::proofs::CleanStreams::object_laws))]
 pub fn run<C: ObjectCheck, R: BufRead, W: Write>(
     alloc: Global,

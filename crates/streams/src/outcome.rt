@@ -1,4 +1,4 @@
-//! How a run ends.
+//! The outcome of a run.
 //!
 //! Malformed input is a verdict, and not an error: `run` fails only if reading, writing or an
 //! allocation does. So one clause says for every input what is written and returned, and no error
@@ -9,21 +9,21 @@ ghost use Rattle.std.specs.Prelude.{Some};
 use std::error::Error;
 use std::fmt;
 
-/// What a run found.
+/// The result of a run that did not fail (docs/RULES.md, "Streams of objects").
 #[derive(Debug, Clone, Copy, PartialEq, Eq)]
 pub enum Verdict {
     /// The input is well-formed, and nothing is refused.
     Clean,
     /// The input is well-formed, and something is refused.
     Refused,
-    /// This object or line of the input, counted from 1, is malformed.
+    /// The object or line with this number, counted from 1, is malformed, for the reason `fault`.
     Malformed { number: u64, fault: Fault },
 }
 
-/// What is wrong with an object or a line of the input.
+/// Why an object or a line of the input is malformed (docs/RULES.md, "Streams of objects").
 #[derive(Debug, Clone, Copy, PartialEq, Eq)]
 pub enum Fault {
-    /// The line before an object is not one of those that Git writes.
+    /// The line before an object is not a header line as Git writes it.
     Header,
     /// A line, or an entry of a tree up to its id, has more than 65,536 bytes.
     TooLong,
@@ -33,13 +33,13 @@ pub enum Fault {
     Entry,
     /// No newline follows the object.
     LineEnd,
-    /// The object is missing, and the input has to be whole.
+    /// An object is missing, and the input has to be whole.
     Absent,
     /// The input has to be whole, and ends before its end line.
     NoEnd,
-    /// The line is not one of a pre-receive hook's.
+    /// The line is not one that Git writes to a pre-receive hook.
     Line,
-    /// The input is empty, and has to have a line.
+    /// The input is empty, and has to have at least one line.
     Empty,
 }
 
@@ -65,14 +65,14 @@ impl fmt::Display for Fault {
     }
 }
 
-/// Why a run stopped before its end.
+/// Why a run failed.
 #[derive(Debug, Drop)]
 pub enum RunError {
     /// Reading failed.
     Read,
-    /// Memory ran out.
+    /// Memory can't be allocated.
     Memory,
-    /// Writing failed. The beginning of a line may be written.
+    /// Writing failed. The beginning of a line may have been written.
     Write,
 }
 

@@ -1,7 +1,8 @@
-//! What is written: quoted names, ids in hexadecimal digits, and whole lines.
+//! Output: quoted names, ids in hexadecimal digits, and whole lines.
 //!
-//! The library quotes names in its errors by a private type. This function is proved against the
-//! same definition, `quoted`. The Rust crate has no public type for this, so the library has none.
+//! The library quotes names in its errors with a private type. [`push_quoted`] is proved against
+//! the same definition, `quoted`. The Rust crate has no public type for this, so the library has
+//! none.
 
 ghost use Rattle.std.specs.Prelude.{◌≡◌, ◌++◌, flat_map, IfErr, OnOk, OnErr};
 ghost use Rattle.std.specs.Io.KnownBytes.{Appends};
@@ -15,7 +16,7 @@ use std::io::{ErrorKind, Write};
 
 const HEX_DIGITS: &[u8; 16] = b"0123456789abcdef";
 
-/// Appends two hexadecimal digits for each byte.
+/// Appends two hexadecimal digits, in lower case, for each byte.
 ///
 /// # Errors
 ///
@@ -38,7 +39,7 @@ fn push_pair(line: &mut Vec<u8>, byte: u8) -> Result<(), AllocError>
     Ok(())
 }
 
-/// Appends a name as it is shown between double quotes (docs/RULES.md, "Quoted bytes").
+/// Appends a name between double quotes, with its bytes escaped (docs/RULES.md, "Quoted bytes").
 ///
 /// # Errors
 ///
@@ -54,7 +55,7 @@ pub fn push_quoted(line: &mut Vec<u8>, name: &[u8]) -> Result<(), AllocError>
     Ok(())
 }
 
-/// Appends a byte as it is shown between double quotes.
+/// Appends a byte as it is printed between double quotes.
 fn push_escape(line: &mut Vec<u8>, byte: u8) -> Result<(), AllocError>
     ensures { OnOk result (line.new.items ≡ line.old.items ++ escape_of byte) }
 {
@@ -79,7 +80,7 @@ fn push_escape(line: &mut Vec<u8>, byte: u8) -> Result<(), AllocError>
 ///
 /// # Errors
 ///
-/// [`RunError::Write`]. What was written then is a front of the bytes.
+/// [`RunError::Write`] if writing failed. What was written then is the beginning of the bytes.
 #[inline(never)]
 pub fn write_whole<W: Write>(bytes: &[u8], output: &mut W) -> Result<(), RunError>
     ensures ok { OnOk result (Appends (W.contents output.old) (W.contents output.new) bytes.now) }

@@ -1,5 +1,4 @@
-//! What a program does around a run: arguments, buffers, the message of a failure, and the exit
-//! status.
+//! What a program does around a run: arguments, buffers, error messages, and the exit status.
 
 ghost use Rattle.std.specs.Prelude.{◌≡◌, ◌≤◌, ℕ, List, IfErr, IfOk, IfSome};
 ghost use Rattle.std.specs.Io.KnownBytes.{Appends};
@@ -23,7 +22,7 @@ const BUFFERED: usize = 65_536;
 pub trait Check: Copy {
     ghost report: { Self → List ℕ → Report };
 
-    /// Reads all of `input`, and writes the lines of the report.
+    /// Reads all of `input`, and writes the lines of the report to `output`.
     fn run<R: BufRead, W: Write>(
         self,
         alloc: Global,
@@ -35,11 +34,12 @@ pub trait Check: Copy {
             × (verdict ≡ verdict_of (report self text)))) };
 }
 
-/// The arguments of the program `name`, without its own name.
+/// Returns the arguments of the program `name`, without its own name.
 ///
 /// # Errors
 ///
-/// The status 2, with a message on standard error, if an argument is not UTF-8 or memory runs out.
+/// The exit status 2, after a message on standard error, if an argument is not UTF-8 or memory
+/// can't be allocated.
 pub fn words(rt: &HostRuntime, name: &str) -> Result<Vec<String>, ExitCode>
     ensures status { IfErr result (λ status. exit_status status ≡ 2) }
 {
@@ -53,14 +53,15 @@ pub fn words(rt: &HostRuntime, name: &str) -> Result<Vec<String>, ExitCode>
     }
 }
 
-/// Checks the input, and gives the status that the program `name` ends with: 0 if nothing is
-/// refused, 1 if something is, and 2, with a message on standard error, if that isn't known. The
-/// message calls a part of the input a `unit`, as `object` or `line`. The lines of the report are
-/// written before the status is known.
+/// Checks the input, and returns the exit status of the program `name`: 0 if nothing is refused, 1
+/// if something is, and 2, after a message on standard error, if the input is malformed or the run
+/// failed (docs/RULES.md, "Streams of objects"). The message calls a part of the input a `unit`,
+/// such as `object` or `line`. The lines of the report are written before the status is known.
 ///
 /// # Memory
 ///
-/// Two buffers of 65,536 bytes, and what `check` allocates, from the runtime's allocator.
+/// It allocates two buffers of 65,536 bytes, and what `check` allocates, from the allocator of
+/// `rt`.
 pub fn exit_code<C: Check, R: Read + Drop, W: Write + Drop>(
     rt: &HostRuntime,
     name: &str,
@@ -87,7 +88,8 @@ pub fn exit_code<C: Check, R: Read + Drop, W: Write + Drop>(
     }
 }
 
-/// A run with a buffer on either side, and all that was said written out. The writer is given back.
+/// Runs `check` with a buffer for the input and one for the output, and writes out all of the
+/// report. Returns the verdict and the writer.
 ///
 /// # Errors
 ///
@@ -115,8 +117,7 @@ pub fn run_buffered<C: Check, R: Read + Drop, W: Write + Drop>(
     }
 }
 
-/// Says on standard error, after the program's name, why it can't say more, and gives the status
-/// for that.
+/// Prints `what` on standard error, after the name of the program, and returns the status 2.
 pub fn failed(rt: &HostRuntime, name: &str, what: impl Display + Drop) -> ExitCode
     ensures status { exit_status result ≡ 2 }
 {
@@ -124,7 +125,8 @@ pub fn failed(rt: &HostRuntime, name: &str, what: impl Display + Drop) -> ExitCo
     ExitCode::from(2)
 }
 
-/// Prints a text in place of a check.
+/// Prints a text instead of checking the input, and returns the exit status: 0, or 2 if that
+/// failed.
 pub fn printed(rt: &HostRuntime, name: &str, text: impl Display + Drop) -> ExitCode
     ensures status { exit_status result ≤ 2 }
 {

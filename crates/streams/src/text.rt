@@ -1,4 +1,4 @@
-//! Parts of a line: what is before a byte, a number in digits, an object's id.
+//! Parts of a line: the bytes before a separator, a number in digits, and the id of an object.
 
 ghost use Rattle.std.specs.Prelude.{◌≡◌};
 ghost use Rattle.std.specs.List.{list_all};
@@ -7,7 +7,7 @@ ghost use Rattle.streams.specs.Texts.{is_hex_digit, is_id, number_of, split_once
 
 use memchr::memchr;
 
-/// What is before the first such byte of a text, and all that follows it.
+/// The bytes before the first `separator`, and all bytes after it; `None` if it doesn't occur.
 ///
 /// ```
 /// split_once(b' ', b"tree 32"); // Some((b"tree", b"32"))
@@ -22,7 +22,7 @@ pub fn split_once(separator: u8, text: &[u8]) -> Option<(&[u8], &[u8])>
     Some((&text[..place], &text[place + 1..]))
 }
 
-/// Whether the text is an object's id in full: 40 or 64 hexadecimal digits in lower case.
+/// Whether the bytes are a full object id: 40 or 64 hexadecimal digits in lower case.
 ///
 /// It does not allocate.
 #[tactic(auto, unfolding(crate::specs::Texts::is_id))]
@@ -32,11 +32,11 @@ pub fn is_id(text: &[u8]) -> bool
     (text.len() == 40 || text.len() == 64) && are_hex_digits(text)
 }
 
-/// Whether the text has only hexadecimal digits in lower case.
+/// Whether all the bytes are hexadecimal digits in lower case.
 fn are_hex_digits(text: &[u8]) -> bool
     ensures { result ≡ list_all is_hex_digit text.now }
 {
-    // All bytes are looked at, so that many are looked at together.
+    // No early return, so that many bytes are checked at once.
     let mut are_digits = true;
     for byte in text {
         are_digits &= matches!(byte, b'0'..=b'9' | b'a'..=b'f');
@@ -44,7 +44,7 @@ fn are_hex_digits(text: &[u8]) -> bool
     are_digits
 }
 
-/// The number that digits of this base spell, if it is below 2^64. The base is at most ten.
+/// The number that the digits stand for in this base, if it is below 2^64. The base is at most ten.
 ///
 /// ```
 /// number_of(8, b"100644"); // Some(0o100644)

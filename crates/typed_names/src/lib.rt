@@ -1,8 +1,8 @@
-//! Borrowed Git names whose rule is an invariant: checked once by `new`, and valid from then on.
+//! Borrowed Git names whose rule is an invariant: `new` checks it once, and it holds from then on.
 //!
 //! A value of one of these types keeps the byte string that was passed to `new`, for as long as the
-//! bytes live. The rule accepts it, so code that is passed a value needn't check it again. The
-//! values are copied freely, and nothing here allocates.
+//! bytes live. The rule accepts it, so code that is passed a value need not check it again. The
+//! values are `Copy`, and nothing here allocates (docs/RULES.md, "Typed names").
 //!
 //! | Type | What it keeps | The rule |
 //! |---|---|---|
@@ -14,17 +14,17 @@
 //! | [`Component`] | one name in a directory, as `src` | docs/RULES.md, "Path components" |
 //!
 //! The first five are one type, [`Name<'a, R>`](Name), whose [`Rule`] is [`Tag`], [`Partial`],
-//! [`Full`], [`Branch`] or [`Submodule`]. As five types they had the same contracts, proofs and tests
-//! five times. A component is checked under a mode and options, and its type keeps less than `new`
-//! checked, so it has a type of its own. A rule has no values, so it is an enum without variants; its
-//! constant `TYPE_NAME` is what `Debug` prints, which derived would print `Name` for all five.
+//! [`Full`], [`Branch`] or [`Submodule`]. As five types they had the same contracts, proofs and
+//! tests five times. A component is checked under a mode and options, and its type keeps less than
+//! `new` checked, so it has a type of its own. A rule has no values, so it is an enum without
+//! variants. `Debug` prints its constant `TYPE_NAME`; derived, it would print `Name` for all five.
 //!
 //! Each name of a branch is a full name, each full name a partial name, and each partial name a tag
-//! name: `From` converts each into the next. [`Pieces`] gives the pieces of a tag name.
+//! name: `From` converts each into the next. [`Pieces`] iterates over the pieces of a tag name.
 //!
-//! Two names of one type are equal if and only if their bytes are. Each prints itself, and each is
-//! an `AsSlice<u8>`, the kit's word for Rust's `AsRef<[u8]>`. They have no order and no hash. Names of
-//! two types can't be compared: `From` converts the narrower first.
+//! Two names of one type are equal if and only if their bytes are. Each prints its bytes, and each
+//! is an `AsSlice<u8>`, which is what Rattle has for Rust's `AsRef<[u8]>`. They have no order and
+//! no hash. Names of two types can't be compared: convert the narrower one with `From` first.
 //!
 //! ```
 //! let head = TagName::new(BStr::from("refs/heads/main"))?;

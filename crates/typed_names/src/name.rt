@@ -77,7 +77,7 @@ pub type SubmoduleName<'a> = Name<'a, Submodule>;
 impl<'a, R: Rule> Name<'a, R> {
     ghost use Rattle.typed_names.specs.Names.{name_text, Keeps};
 
-    /// Keeps `name` if the rule accepts it.
+    /// Returns `name` as a typed name if the rule accepts it. It does not allocate.
     ///
     /// ```
     /// FullName::new(BStr::from("refs/heads/main"))?; // keeps `refs/heads/main`
@@ -86,7 +86,7 @@ impl<'a, R: Rule> Name<'a, R> {
     ///
     /// # Errors
     ///
-    /// The fault that [`Rule::check`] gives.
+    /// The error that [`Rule::check`] returns.
     pub fn new(name: BStr<'a>) -> Result<Name<'a, R>, R::Fault>
         ensures answer { Keeps name_text R.fault_of name.entry result }
         ensures grammar { IsOk result ↔ IsTrue (R.is_name (bstr_bytes name.entry)) }
@@ -109,7 +109,7 @@ impl<'a, R: Rule> Name<'a, R> {
 impl<'a> TagName<'a> {
     ghost use Rattle.typed_names.specs.Names.{name_bytes};
 
-    /// The pieces of the name, in order: what is between its slashes.
+    /// The pieces of the name, in order: what its slashes separate (docs/RULES.md, "Pieces").
     ///
     /// They are parts of the byte string that was passed to [`new`](Name::new), and live as long as
     /// its bytes. A piece need not be a tag name itself: the first one of `a./b` is `a.`, which is

@@ -9,12 +9,13 @@ use bstr::{BStr, ByteSlice};
 use std::iter::FusedIterator;
 use std::marker::Model;
 
-/// The pieces of a tag name, in order, which [`TagName::pieces`](crate::TagName::pieces) makes.
+/// An iterator over the pieces of a tag name, in order. [`TagName::pieces`](crate::TagName::pieces)
+/// returns it.
 ///
-/// Contracts see it as the list of the pieces that are left.
+/// In contracts it is the list of the pieces that are left.
 #[derive(Clone, Debug, Drop)]
 pub struct Pieces<'a> {
-    /// The text whose pieces are left, until the last one is given.
+    /// The bytes whose pieces are left, or `None` after the last piece was returned.
     left: Option<BStr<'a>>,
 }
 
@@ -58,7 +59,7 @@ impl<'a> Iterator for Pieces<'a> {
 
 impl<'a> FusedIterator for Pieces<'a> {}
 
-/// What stands before the first slash of a text, and what follows it, if it has a slash.
+/// What is before the first slash, and what follows it, if there is a slash.
 #[tactic(auto, using(crate::proofs::SlashLemmas::first_slash_found))]
 pub(crate) fn split_at_first_slash<'a>(text: BStr<'a>) -> Option<(BStr<'a>, BStr<'a>)>
     ensures none { IsNone result ↔ IsTrue (has_no_slash (bstr_bytes text.entry)) }

@@ -1,4 +1,4 @@
-//! The rules of names that need nothing but the name.
+//! The rules that decide by the name alone.
 
 ghost use Rattle.std.specs.Prelude.{◌≡◌, ◌↔◌, ℕ, List, Bool, Option, IsOk, IfOk, IsTrue};
 ghost use Rattle.bstr.specs.BStr.{bstr_bytes};
@@ -12,11 +12,11 @@ ghost use Rattle.gix_validate.specs.Tag.{is_tag_name, fault_of as tag_fault_of};
 use bstr::BStr;
 use gix_validate::{reference, submodule, tag};
 
-/// A rule of names: which byte strings are names, and why another one is not.
+/// A rule for names: which byte strings are valid names, and why another one is not.
 ///
 /// [`Tag`], [`Partial`], [`Full`], [`Branch`] and [`Submodule`] are the rules of `gix_validate`. A
-/// rule has no values: it is the `R` of a [`Name<'a, R>`](crate::Name), and the bound of a function
-/// that takes names of every rule.
+/// rule has no values. It is the `R` of a [`Name<'a, R>`](crate::Name), and the bound of a function
+/// that accepts names of every rule.
 ///
 /// ```
 /// fn length<R: Rule>(name: Name<'_, R>) -> usize {
@@ -24,22 +24,22 @@ use gix_validate::{reference, submodule, tag};
 /// }
 /// ```
 pub trait Rule {
-    /// Why a byte string is not a name.
+    /// The error type: why a byte string is not a valid name.
     type Fault;
 
-    /// The type of the names, as `Debug` prints it.
+    /// The name of the type, as `Debug` prints it.
     const TYPE_NAME: &'static str;
 
-    /// Whether a byte string is a name.
+    /// Whether a byte string is a valid name.
     ghost is_name: { List ℕ → Bool };
 
-    /// Why a byte string is not a name; `None` if it is one.
+    /// Why a byte string is not a valid name; `None` if it is one.
     ghost fault_of: { List ℕ → Option Self.Fault };
 
-    /// Gives back `name` if the rule accepts it, and otherwise its fault. It doesn't allocate.
+    /// Returns `name` if the rule accepts it, or else its error. It does not allocate.
     ///
     /// ```
-    /// Branch::check(BStr::from("refs/heads/main"))?; // gives back `refs/heads/main`
+    /// Branch::check(BStr::from("refs/heads/main"))?; // returns `refs/heads/main`
     /// ```
     fn check<'a>(name: BStr<'a>) -> Result<BStr<'a>, Self::Fault>
         ensures answer { Validates fault_of (bstr_bytes name.entry) result }
@@ -50,7 +50,7 @@ pub trait Rule {
 /// The rule of tag names, [`tag::name`] (docs/RULES.md, "Tag names").
 ///
 /// ```
-/// Tag::check(BStr::from("v1.2.3"))?; // gives back `v1.2.3`
+/// Tag::check(BStr::from("v1.2.3"))?; // returns `v1.2.3`
 /// Tag::check(BStr::from("v1..2")); // RepeatedDot
 /// ```
 pub enum Tag {}
@@ -72,7 +72,7 @@ impl Rule for Tag {
 /// The rule of partial names, [`reference::name_partial`] (docs/RULES.md, "Reference names").
 ///
 /// ```
-/// Partial::check(BStr::from("main"))?; // gives back `main`
+/// Partial::check(BStr::from("main"))?; // returns `main`
 /// Partial::check(BStr::from("@")); // Reserved, with the name `@`
 /// ```
 pub enum Partial {}
@@ -94,7 +94,7 @@ impl Rule for Partial {
 /// The rule of full names, [`reference::name`] (docs/RULES.md, "Reference names").
 ///
 /// ```
-/// Full::check(BStr::from("HEAD"))?; // gives back `HEAD`
+/// Full::check(BStr::from("HEAD"))?; // returns `HEAD`
 /// Full::check(BStr::from("main")); // SomeLowercase
 /// ```
 pub enum Full {}
@@ -116,7 +116,7 @@ impl Rule for Full {
 /// The rule of names of branches, [`reference::branch_name`] (docs/RULES.md, "Reference names").
 ///
 /// ```
-/// Branch::check(BStr::from("refs/heads/main"))?; // gives back `refs/heads/main`
+/// Branch::check(BStr::from("refs/heads/main"))?; // returns `refs/heads/main`
 /// Branch::check(BStr::from("refs/heads/HEAD")); // Reserved, with the name `refs/heads/HEAD`
 /// ```
 pub enum Branch {}
@@ -138,7 +138,7 @@ impl Rule for Branch {
 /// The rule of submodule names, [`submodule::name`] (docs/RULES.md, "Submodule names").
 ///
 /// ```
-/// Submodule::check(BStr::from("vendor/package"))?; // gives back `vendor/package`
+/// Submodule::check(BStr::from("vendor/package"))?; // returns `vendor/package`
 /// Submodule::check(BStr::from("a/../b")); // ParentComponent
 /// ```
 pub enum Submodule {}

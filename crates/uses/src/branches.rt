@@ -1,4 +1,4 @@
-//! Full names that are made of the short name of a branch.
+//! Full names, made from the short name of a branch.
 
 ghost use Rattle.std.specs.Prelude.{◌≡◌, IsTrue, IfOk, IfErr};
 ghost use Rattle.bstr.specs.BStr.{bstr_bytes};
@@ -11,7 +11,7 @@ use gix_validate::{reference, tag};
 use std::alloc::{AllocError, Global};
 use thiserror::Error;
 
-/// Why a branch has no full name.
+/// Why a branch has no valid full name.
 #[derive(Debug, Drop, Error)]
 pub enum BranchError {
     /// The full name is invalid.
@@ -22,12 +22,12 @@ pub enum BranchError {
     Memory(AllocError),
 }
 
-/// The full name of the branch that a person calls by this short name: `refs/heads/main` for
-/// `main`.
+/// The full name of the branch with this short name: `refs/heads/main` for `main` (docs/RULES.md,
+/// "Short branch names").
 ///
-/// [`reference::branch_name`] checks full names, so it rejects `main` itself. A short name has to be
-/// put after `refs/heads/` first. (The commands of Git also reject a short name that begins with
-/// `-`, which is an option to them.)
+/// [`reference::branch_name`] checks full names, so it rejects `main` itself. Put a short name
+/// after `refs/heads/` first. (The commands of Git also reject a short name that begins with `-`,
+/// which is an option to them.)
 pub fn full_branch_name(alloc: Global, short: BStr<'_>) -> Result<BString, BranchError>
     ensures name { IfOk result (λ name. bstring_bytes name ≡ branch_name_of (bstr_bytes short.entry)) }
     ensures branch { IfOk result (λ name. IsTrue (is_branch_name (bstring_bytes name))) }
@@ -40,7 +40,7 @@ pub fn full_branch_name(alloc: Global, short: BStr<'_>) -> Result<BString, Branc
     Ok(BString::new(name))
 }
 
-/// Why a branch of a remote has no remote-tracking name.
+/// Why a branch of a remote has no valid remote-tracking name.
 #[derive(Debug, Drop, Error)]
 pub enum TrackingError {
     /// The name of the remote is invalid.
@@ -54,12 +54,12 @@ pub enum TrackingError {
     Memory(AllocError),
 }
 
-/// The full name under which a branch of a remote is tracked: `refs/remotes/origin/main` for the
-/// remote `origin` and the branch's short name `main`.
+/// The full name of the remote-tracking branch: `refs/remotes/origin/main` for the remote `origin`
+/// and the branch's short name `main` (docs/RULES.md, "Short branch names").
 ///
 /// Both have to be tag names, since [`reference::join`] requires that. (Git also accepts a remote
-/// whose name ends with a dot.) They are checked before memory is needed, so `Memory` is returned
-/// only if both are valid.
+/// whose name ends with a dot.) They are checked before anything is allocated, so `Memory` is
+/// returned only if both are valid.
 #[tactic(auto, unfolding(gix_validate::proofs::OnLiterals::names_on_literals))]
 pub fn remote_tracking_name(
     alloc: Global,

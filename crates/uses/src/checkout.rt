@@ -25,16 +25,16 @@ pub enum EnterError {
     Memory(AllocError),
 }
 
-/// Where a checkout is: the names of the folders that it went down, and of the file in the last of
-/// them. Each is valid under the options of the place. The place has them as a field, since a
+/// Where a checkout is: the names of the directories that it entered, and of the file in the last
+/// of them. Each is valid under the options of the `Place`. The options are a field of it, since a
 /// `typed_names::Component` says only that its name is valid with no option on.
 ///
-/// Contracts see it as these options and the list of these names.
+/// In contracts it is these options and the list of these names.
 #[derive(Debug, Drop)]
 pub struct Place<'a> {
     options: ComponentOptions,
     names: Vec<BStr<'a>>,
-    /// Each is accepted under the options, and under fewer.
+    /// Each is valid under the options, and under fewer.
     ghost accepted: { All (λ name. PassesFewer options None (bstr_bytes name)) names.items },
 }
 
@@ -54,11 +54,10 @@ impl<'a> Model for Place<'a> {
 impl<'a> Place<'a> {
     /// The top of a working tree, on a file system that these options protect.
     ///
-    /// With no option on, that is a file system that tells names apart by their bytes, or by these
-    /// without ASCII letter case. `protect_ntfs` is for NTFS, where `git~1` and `.git ` are names
+    /// With no option on, that is a file system that distinguishes names by their bytes, or by
+    /// these without ASCII case. `protect_ntfs` is for NTFS, where `git~1` and `.git ` are names
     /// for `.git`; with `protect_windows`, for Windows, where `\` separates names too.
-    /// `protect_hfs` is for HFS+, which passes over some characters. The default is for all of
-    /// these.
+    /// `protect_hfs` is for HFS+, which ignores some characters. The default is for all of these.
     pub fn top(alloc: Global, options: ComponentOptions) -> Place<'a>
         ensures { result ≡ record { options = options; names = [] } }
     {
@@ -68,8 +67,8 @@ impl<'a> Place<'a> {
         }
     }
 
-    /// Goes one name down, if the options accept it for what it names: a symlink's name is checked
-    /// more strictly.
+    /// Enters a directory or a file with this name, if the name is valid under the options and the
+    /// mode. The name of a symlink is checked more strictly.
     pub fn enter(&mut self, name: BStr<'a>, mode: Option<ComponentMode>) -> Result<(), EnterError>
         ensures entered { OnOk result (self.new
             ≡ record self.old { names = self.old.names ++ bstr_bytes name.entry ∷ [] }) }
@@ -85,7 +84,7 @@ impl<'a> Place<'a> {
             .map_err(|_| EnterError::Memory(AllocError))
     }
 
-    /// Goes back up, from the top to the top.
+    /// Goes back to the parent. At the top it does nothing.
     pub fn leave(&mut self)
         ensures { self.new
             ≡ record self.old { names = take (length self.old.names - 1) self.old.names } }
@@ -93,8 +92,8 @@ impl<'a> Place<'a> {
         self.names.pop();
     }
 
-    /// The path from the top. It has one component for each name, and each is accepted under the
-    /// options of the place. So on the file systems that these protect ([`top`](Place::top)), it
+    /// The path from the top. It has one component for each name, and each is valid under the
+    /// options of the `Place`. So on the file systems that these protect ([`top`](Place::top)), it
     /// leads neither up nor into `.git`, by the rules in docs/RULES.md, "Path components".
     pub fn path(&self, alloc: Global) -> Result<BString, AllocError>
         requires { self.now.names ≢ [] }

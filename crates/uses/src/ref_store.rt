@@ -9,24 +9,24 @@ use std::alloc::{AllocError, Global};
 use std::marker::Model;
 use typed_names::FullName;
 
-/// The name of an object, as SHA-1 gives it.
+/// The id of an object: its SHA-1.
 #[derive(Clone, Copy, Debug, PartialEq, Eq)]
 pub struct ObjectId(pub [u8; 20]);
 
-/// A reference: a name and the object that it stands for.
+/// A reference: a name and the object that it refers to.
 #[derive(Clone, Copy, Debug)]
 pub struct Reference<'a> {
     pub name: FullName<'a>,
     pub target: ObjectId,
 }
 
-/// References, of which no two have one name.
+/// References, no two of which have the same name.
 ///
-/// Contracts see it as the list of the names' bytes and the targets.
+/// In contracts it is the list of the names' bytes and the targets.
 #[derive(Debug, Drop)]
 pub struct RefStore<'a> {
     refs: Vec<Reference<'a>>,
-    /// No two have one name.
+    /// No two have the same name.
     ghost distinct: { HasDistinctNames (map entry_of refs.items) },
 }
 
@@ -40,7 +40,7 @@ impl<'a> Model for RefStore<'a> {
 }
 
 impl<'a> RefStore<'a> {
-    /// No references.
+    /// A store without references. It does not allocate.
     pub fn new(alloc: Global) -> RefStore<'a>
         ensures { result ≡ [] }
     {
@@ -49,7 +49,7 @@ impl<'a> RefStore<'a> {
         }
     }
 
-    /// The object that the name stands for, if the store has the name.
+    /// The object that the name refers to, if the store has the name.
     #[tactic(auto, using(crate::proofs::TargetLemmas::lookups))]
     pub fn get(&self, name: FullName<'_>) -> Option<ObjectId>
         ensures target { result ≡ target_of self.now (name_bytes name.entry) }
@@ -59,8 +59,8 @@ impl<'a> RefStore<'a> {
         Some(self.refs[i].target)
     }
 
-    /// Lets the name stand for an object, and leaves every other name as it was. It fails only if
-    /// there is no memory for a new name.
+    /// Sets the object that the name refers to, and leaves every other name unchanged. It fails
+    /// only if memory for a new name can't be allocated.
     #[tactic(auto, using(crate::proofs::TargetLemmas::writes))]
     pub fn set(&mut self, name: FullName<'a>, target: ObjectId) -> Result<(), AllocError>
         ensures this { OnOk result (target_of self.new (name_bytes name.entry) ≡ Some target) }
@@ -75,7 +75,7 @@ impl<'a> RefStore<'a> {
         Ok(())
     }
 
-    /// Where the first reference of this name is.
+    /// The index of the first reference with this name.
     fn place_of(&self, name: FullName<'_>) -> Option<usize>
         ensures place { result ≡ position (is_named (name_bytes name.entry)) self.now }
         ensures distinct { HasDistinctNames self.now }

@@ -10,7 +10,8 @@ use gix_validate::reference::sanitize_in_place;
 use std::alloc::AllocError;
 use typed_names::PartialName;
 
-/// Repairs a name in its own memory. Only the empty name may need more: the byte `-`.
+/// Repairs a name in its own memory (docs/RULES.md, "Sanitised names"). Only the empty name may
+/// need more: the byte `-`.
 #[tactic(auto, unfolding(gix_validate::proofs::OnLiterals::names_on_literals))]
 pub fn repair(name: &mut Vec<u8>) -> Result<(), AllocError>
     ensures text { OnOk result (name.new.items ≡ sanitized name.old.items) }

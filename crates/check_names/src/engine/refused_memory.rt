@@ -1,8 +1,9 @@
-//! Calls that allocate, made again if they are refused memory. `.ci/refused_memory` builds these
-//! tests once, has the same allocation of each refused, and counts what they print.
+//! Calls that allocate, made again if an allocation fails. `.ci/refused_memory` builds these tests
+//! once, makes the same allocation of each fail, and counts what they print.
 //!
-//! A test is named after the allocation of the calls that is refused in it: it makes so many of its
-//! own first that this one is the one that is refused. In the last test none of the calls is.
+//! A test is named after the allocation of the calls that fails in it: it first makes so many
+//! allocations of its own that this one is the one that fails. In the last test none of the calls'
+//! allocations fails.
 
 use super::tests::{ANSWERS, LINES};
 use super::{RunError, run};
@@ -34,7 +35,7 @@ fn name_of(call: Call) -> &'static str {
     }
 }
 
-/// What a call gives.
+/// What a call returns.
 fn given(alloc: Global, call: Call) -> Result<BString, AllocError> {
     match call {
         Call::SanitizeNothing => name_partial_or_sanitize(alloc, BStr::new(b"")),
@@ -46,7 +47,7 @@ fn given(alloc: Global, call: Call) -> Result<BString, AllocError> {
     }
 }
 
-/// What it has to give.
+/// What it has to return.
 fn wanted(call: Call) -> &'static [u8] {
     match call {
         Call::SanitizeNothing => b"-",
@@ -64,7 +65,7 @@ fn join_names(alloc: Global, a: BStr<'_>, b: BStr<'_>) -> Result<BString, AllocE
     }
 }
 
-/// A component by the default options.
+/// A component with the default options.
 fn part(name: &'static [u8]) -> Result<Component<'static>, ComponentError> {
     Component::new(BStr::new(name), None, ComponentOptions::default())
 }
@@ -77,18 +78,18 @@ fn join_components(alloc: Global) -> Result<BString, AllocError> {
     }
 }
 
-/// Whether a call gives what it has to.
+/// Whether a call returns what it has to.
 fn is_right(alloc: Global, call: Call) -> Result<bool, AllocError> {
     Ok(given(alloc, call)?.as_bytes() == wanted(call))
 }
 
-/// Prints what became of a call.
+/// Prints the outcome of a call.
 fn say<R: Print>(rt: &R, call: &str, outcome: &str) -> Result<(), Fail> {
     println!(rt; "{call}: {outcome}")?;
     Ok(())
 }
 
-/// Makes a call, and once more if it is refused memory.
+/// Makes a call, and once more if its allocation fails.
 fn ask<R: Abort + AllocGlobal + Print>(rt: &R, call: Call) -> Result<(), Fail> {
     let right = match is_right(rt.alloc(), call) {
         Ok(right) => right,
@@ -101,7 +102,7 @@ fn ask<R: Abort + AllocGlobal + Print>(rt: &R, call: Call) -> Result<(), Fail> {
     say(rt, name_of(call), "answered")
 }
 
-/// Whether a run writes the answers, into a writer that doesn't allocate.
+/// Whether a run writes the right output, to a writer that doesn't allocate.
 fn run_is_right(alloc: Global) -> Result<bool, RunError> {
     let mut room = [0; 8];
     let mut output = room.as_mut_slice();
@@ -109,7 +110,7 @@ fn run_is_right(alloc: Global) -> Result<bool, RunError> {
     Ok(room.starts_with(ANSWERS))
 }
 
-/// Answers the lines, and once more if that is refused memory.
+/// Runs on the lines, and once more if an allocation fails.
 fn ask_run<R: Abort + AllocGlobal + Print>(rt: &R) -> Result<(), Fail> {
     let right = match run_is_right(rt.alloc()) {
         Ok(right) => right,
@@ -122,7 +123,7 @@ fn ask_run<R: Abort + AllocGlobal + Print>(rt: &R) -> Result<(), Fail> {
     say(rt, "run", "answered")
 }
 
-/// Allocates until the given allocation of the calls is the one that is refused, and then makes each
+/// Allocates until the given allocation of the calls is the one that fails, and then makes each
 /// call.
 fn ask_with_refused<R: Abort + AllocGlobal + Print>(rt: &R, request: u8) -> Result<(), Fail> {
     for _ in request..8 {

@@ -1,5 +1,5 @@
 //! Readers and writers that fail, and what only a writer can count. The rows of the rule are in the
-//! stored run (`stdin`, `stdout`).
+//! golden files (`stdin`, `stdout`).
 
 ghost use Rattle.std.specs.Prelude.{◌≡◌, IfOk};
 ghost use Rattle.check_names.specs.Answers.{answers};
@@ -11,13 +11,13 @@ use std::io::{ErrorKind, Read, Write};
 use std::process::Abort;
 use std::test::Fail;
 
-/// Two lines, the last one without its end.
+/// Two lines, the last one without its newline.
 pub(super) const LINES: &[u8] = b"tag v1.2.3\nsanitize a b.lock";
 
-/// Their answers.
+/// The output for these.
 pub(super) const ANSWERS: &[u8] = b"ok\na-b\n";
 
-/// A run over memory, which meets each premise of the contract of `run`.
+/// A run in memory, which meets each premise of the contract of `run`.
 fn answered(alloc: Global, text: &[u8]) -> Result<Vec<u8>, RunError>
     ensures { IfOk result (λ output. output.items ≡ answers text.now) }
 {
@@ -26,7 +26,7 @@ fn answered(alloc: Global, text: &[u8]) -> Result<Vec<u8>, RunError>
     Ok(output)
 }
 
-/// The lines are answered.
+/// Whether a run on the lines writes the right output.
 fn answers_again(alloc: Global) -> bool {
     match answered(alloc, LINES) {
         Ok(output) => output.as_slice() == ANSWERS,
@@ -34,7 +34,7 @@ fn answers_again(alloc: Global) -> bool {
     }
 }
 
-/// Gives its bytes, and then fails where the end would be.
+/// Returns its bytes, and then fails instead of reporting the end.
 #[derive(Drop)]
 struct BrokenReader<'a> {
     left: &'a [u8],
@@ -49,8 +49,8 @@ impl Read for BrokenReader<'_> {
     }
 }
 
-/// Whether a run says that reading failed, and writes nothing, over a reader that fails after so
-/// many bytes.
+/// Whether a run returns that reading failed, and writes nothing, if its reader fails after `count`
+/// bytes.
 fn stops_reading(alloc: Global, count: usize) -> bool {
     let mut input = BrokenReader {
         left: &LINES[..count.min(LINES.len())],
@@ -60,7 +60,7 @@ fn stops_reading(alloc: Global, count: usize) -> bool {
     matches!(result, Err(RunError::Read)) && output.is_empty()
 }
 
-/// The reader fails at each place of its text, and behind the last byte.
+/// The reader fails at each offset of its bytes, and after the last one.
 #[test]
 fn reports_a_failed_read(rt: HostRuntime) -> Result<(), Fail> {
     for count in 0..=LINES.len() {
@@ -72,7 +72,7 @@ fn reports_a_failed_read(rt: HostRuntime) -> Result<(), Fail> {
     Ok(())
 }
 
-/// Takes bytes while it has room, and then fails. It counts its writes and its flushes.
+/// Accepts bytes while it has room, and then fails. It counts its writes and its flushes.
 #[derive(Drop)]
 struct FakeWriter<'a> {
     room: &'a mut [u8],
@@ -115,8 +115,8 @@ impl Write for FakeWriter<'_> {
     }
 }
 
-/// Whether a run says that writing failed, over a writer with so much room. Without lines it is
-/// well even then.
+/// Whether a run returns that writing failed, if its writer has room for `count` bytes. Without
+/// lines it succeeds even then.
 fn stops_writing(alloc: Global, count: usize, can_flush: bool) -> bool {
     let mut room = [0; 64];
     let mut output = FakeWriter::new(&mut room[..count.min(64)], can_flush);

@@ -1,10 +1,10 @@
-//! Words in any ASCII letter case.
+//! Words in any ASCII case.
 
 ghost use Rattle.std.specs.Prelude.{◌≡◌, ◌==◌, true, false, drop, length, MatchOption};
 ghost use Rattle.std.specs.Str.{bytes_eq};
 ghost use Rattle.gix_validate.specs.Bytes.{begins, lower, lower_byte};
 
-/// What stands after the word, where the text begins with it in any ASCII letter case.
+/// What follows the word, if the bytes begin with it in any ASCII case.
 #[inline(always)]
 #[tactic(auto, using(crate::proofs::Texts::LetterCase::begins_word, crate::proofs::Texts::LetterCase::begins_short))]
 pub(super) fn strip_prefix_ignore_ascii_case<'a>(text: &'a [u8], word: &[u8]) -> Option<&'a [u8]>
@@ -18,7 +18,7 @@ pub(super) fn strip_prefix_ignore_ascii_case<'a>(text: &'a [u8], word: &[u8]) ->
     }
 }
 
-/// Whether the text is the word in any ASCII letter case.
+/// Whether the bytes are the word in any ASCII case.
 #[inline(always)]
 pub(super) fn eq_ignore_ascii_case(text: &[u8], word: &[u8]) -> bool
     ensures { result ≡ bytes_eq (lower text.now) (lower word.now) }
@@ -34,7 +34,7 @@ pub(super) fn eq_ignore_ascii_case(text: &[u8], word: &[u8]) -> bool
     true
 }
 
-/// Whether the two bytes are one in any ASCII letter case.
+/// Whether the two bytes are equal without ASCII case.
 #[inline(always)]
 #[tactic(auto, unfolding(crate::specs::Bytes::lower_byte))]
 pub(super) fn bytes_eq_ignore_ascii_case(byte: u8, wanted: u8) -> bool

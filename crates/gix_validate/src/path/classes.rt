@@ -1,4 +1,4 @@
-//! One look at the bytes of a name.
+//! One check of the bytes of a name.
 
 ghost use Rattle.std.specs.Prelude.{◌≡◌, ◌≤◌, ◌<◌, ◌+◌, ◌==◌, ◌&&◌, ◌||◌, ◌∷◌, [], List, ℕ, not, length, map};
 ghost use Rattle.std.specs.Str.{byte};
@@ -12,13 +12,13 @@ ghost use Rattle.gix_validate.specs.Private.Classes.{has_class, any_class, class
 use crate::lanes::{LANES, block_contains_either, classify, halves, has_nonzero, pairs, quarters};
 use std::simd::prelude::*;
 
-/// The length of four blocks. A name of at most this length is looked at in one go.
+/// The length of four blocks. A name of at most this length is checked in one go.
 pub(super) const SHORT: usize = 4 * LANES;
 
 /// The length of two blocks.
 const TWO: usize = 2 * LANES;
 
-/// What a name that isn't short is looked through for.
+/// What a name that isn't short is searched for.
 #[derive(Clone, Copy)]
 enum Sought {
     /// A byte of one of the classes, a bit for each.
@@ -29,20 +29,20 @@ enum Sought {
     Separator,
 }
 
-/// Which bytes are in a short name, of those for which a condition asks: their classes, a bit for
+/// Which of the bytes that a condition looks for are in a short name: their classes, a bit for
 /// each, in any of sixteen lanes.
 #[derive(Clone, Copy)]
 pub(super) struct Classes {
     lanes: u8x16,
 }
 
-/// The classes of bytes that a name may have, a bit for each. Of the other classes it has none.
+/// The classes of bytes that a name may have, a bit for each. It has no byte of the other classes.
 #[derive(Clone, Copy)]
 pub(super) struct Suspects {
     classes: u8,
 }
 
-// The classes of bytes, a bit for each. The bytes of a class have one high nibble, but for the
+// The classes of bytes, a bit for each. The bytes of a class have one high nibble, except the
 // control bytes, which have two.
 
 /// A byte below 0x20.
@@ -75,7 +75,7 @@ const ILLEGAL: u8 = CONTROL | QUOTE_OR_STAR | COLON_ANGLE_OR_MARK | PIPE;
 /// All classes.
 const ANY: u8 = 0xFF;
 
-/// The classes that a byte may have with this low nibble.
+/// The classes that a byte with this low nibble may have.
 #[rattlefmt::skip]
 const BY_LOW_NIBBLE: [u8; 16] = [
     CONTROL, CONTROL, // 0, 1
@@ -89,7 +89,7 @@ const BY_LOW_NIBBLE: [u8; 16] = [
     CONTROL | COLON_ANGLE_OR_MARK | LEAD | SLASH, // F: `?`, 0xEF, `/`
 ];
 
-/// The classes that a byte may have with this high nibble. What both tables have for a byte is its
+/// The classes that a byte with this high nibble may have. What both tables have for a byte is its
 /// class, or nothing.
 #[rattlefmt::skip]
 const BY_HIGH_NIBBLE: [u8; 16] = [
@@ -100,7 +100,7 @@ const BY_HIGH_NIBBLE: [u8; 16] = [
 ];
 
 impl Classes {
-    /// What is in the name.
+    /// The classes of the bytes of the name.
     #[inline(always)]
     pub(super) fn of(name: &[u8]) -> Classes
         requires some { 1 ≤ length name.now }
@@ -112,7 +112,7 @@ impl Classes {
         }
     }
 
-    /// Whether nothing was seen for which a condition asks.
+    /// Whether no byte that a condition looks for was seen.
     #[inline(always)]
     pub(super) fn is_nothing(&self) -> bool
         ensures { result ≡ not (any_class ANY self.now.lanes) }
@@ -136,7 +136,7 @@ impl Classes {
         has_class(self.lanes, BACKSLASH)
     }
 
-    /// What was seen, for the conditions that ask for it.
+    /// What was seen, for the conditions that use it.
     #[inline(always)]
     pub(super) fn suspects(&self) -> Suspects
         ensures { (x : List ℕ) → Describes self.now.lanes x → MayHave result.classes x }
@@ -148,7 +148,7 @@ impl Classes {
 }
 
 impl Suspects {
-    /// Any bytes at all, of a name that was not looked at.
+    /// Any bytes at all, for a name that was not checked.
     #[inline(always)]
     pub(super) fn any() -> Suspects
         ensures { (x : List ℕ) → MayHave result.classes x }
@@ -165,7 +165,7 @@ impl Suspects {
         self.classes & ILLEGAL != 0
     }
 
-    /// Whether the name may have a byte with which a character begins that HFS+ may ignore.
+    /// Whether the name may have a byte that begins a character which HFS+ may ignore.
     #[inline(always)]
     #[tactic(auto, unfolding(crate::specs::Private::Classes::any_class))]
     pub(super) fn lead(self) -> bool
@@ -175,7 +175,7 @@ impl Suspects {
     }
 }
 
-/// Whether a name that isn't short has a slash, or with Windows protection a backslash.
+/// Whether a name that isn't short has a slash, or, with Windows protection, a backslash.
 #[inline(always)]
 pub(super) fn has_separator(name: &[u8], windows: bool) -> bool
     requires { SHORT < length name.now }
@@ -188,8 +188,8 @@ pub(super) fn has_separator(name: &[u8], windows: bool) -> bool
     }
 }
 
-/// Whether a name that isn't short has a byte for which a condition asks. One that is illegal in
-/// front is found at once.
+/// Whether a name that isn't short has a byte that a condition looks for. A first byte that is
+/// illegal is found at once.
 #[tactic(auto, using(crate::proofs::Blocks::ByteClasses::classed_is, crate::proofs::Blocks::ByteClasses::illegal_in_front))]
 pub(super) fn has_classed_byte(name: &[u8]) -> bool
     requires { SHORT < length name.now }
@@ -229,7 +229,7 @@ fn first_block_has(name: &[u8], mask: u8) -> bool
 }
 
 /// The classes of the bytes of a short name, in any of sixteen lanes. From eight bytes to two
-/// blocks, all names are looked at in the same way: a branch on the length would be mispredicted.
+/// blocks, all names are checked in the same way: a branch on the length would be mispredicted.
 #[inline(always)]
 fn classes_of(name: &[u8]) -> u8x16
     requires some { 1 ≤ length name.now }
@@ -254,8 +254,8 @@ fn classes_of(name: &[u8]) -> u8x16
     classes_in(u8x16::splat(name[0]))
 }
 
-/// Whether a name that isn't short has a byte that is sought. The last four blocks overlap the ones
-/// before them.
+/// Whether a name that isn't short has a byte that is searched for. The last four blocks overlap
+/// the ones before them.
 #[inline(always)]
 fn blocks_have(name: &[u8], sought: Sought) -> bool
     requires { SHORT < length name.now }
@@ -272,7 +272,7 @@ fn blocks_have(name: &[u8], sought: Sought) -> bool
     four_have(name, last, sought)
 }
 
-/// Whether four blocks of the name, from this place on, have a byte that is sought.
+/// Whether four blocks of the name, from this offset on, have a byte that is searched for.
 #[inline(always)]
 fn four_have(name: &[u8], at: usize, sought: Sought) -> bool
     requires { at + SHORT ≤ length name.now }
@@ -289,7 +289,7 @@ fn four_have(name: &[u8], at: usize, sought: Sought) -> bool
     }
 }
 
-/// Whether four blocks of the name, from this place on, have one of the two bytes.
+/// Whether four blocks of the name, from this offset on, have one of the two bytes.
 #[inline(always)]
 fn four_contain_either(name: &[u8], at: usize, one: u8, other: u8) -> bool
     requires { at + SHORT ≤ length name.now }
@@ -298,7 +298,7 @@ fn four_contain_either(name: &[u8], at: usize, one: u8, other: u8) -> bool
     two_contain_either(name, at, one, other) | two_contain_either(name, at + TWO, one, other)
 }
 
-/// Whether two blocks of the name, from this place on, have one of the two bytes.
+/// Whether two blocks of the name, from this offset on, have one of the two bytes.
 #[inline(always)]
 fn two_contain_either(name: &[u8], at: usize, one: u8, other: u8) -> bool
     requires { at + TWO ≤ length name.now }
@@ -308,7 +308,7 @@ fn two_contain_either(name: &[u8], at: usize, one: u8, other: u8) -> bool
         | block_contains_either(name, at + LANES, one, other)
 }
 
-/// The classes of the bytes of two blocks of the name, from this place on.
+/// The classes of the bytes of two blocks of the name, from this offset on.
 #[inline(always)]
 fn classes_of_two(name: &[u8], at: usize) -> u8x16
     requires { at + TWO ≤ length name.now }

@@ -1,4 +1,4 @@
-//! How a name reads on HFS+, which ignores sixteen characters.
+//! How a name is read on HFS+, which ignores sixteen characters.
 
 ghost use Rattle.std.specs.Prelude.{◌≡◌, false, ◌<◌, ◌∷◌, [], MatchOption, codes, length, drop, slice_index};
 ghost use Rattle.std.specs.List.{list_any};
@@ -9,7 +9,7 @@ ghost use Rattle.gix_validate.specs.Private.Ordinary.{is_lead};
 
 use crate::path::ascii_case::{bytes_eq_ignore_ascii_case, eq_ignore_ascii_case};
 
-/// Whether the name reads as `.git`.
+/// Whether the name is read as `.git`.
 #[tactic(auto, unfolding(crate::specs::Bytes::lower_byte))]
 pub(super) fn is_git(name: &[u8], may_have_lead: bool) -> bool
     requires { may_have_lead ≡ false → list_any is_lead name.now ≡ false }
@@ -18,7 +18,7 @@ pub(super) fn is_git(name: &[u8], may_have_lead: bool) -> bool
     reads_as(name, b".git", may_have_lead)
 }
 
-/// Whether the name reads as `.gitmodules`.
+/// Whether the name is read as `.gitmodules`.
 #[tactic(auto, unfolding(crate::specs::Bytes::lower_byte))]
 pub(super) fn is_modules(name: &[u8], may_have_lead: bool) -> bool
     requires { may_have_lead ≡ false → list_any is_lead name.now ≡ false }
@@ -27,8 +27,8 @@ pub(super) fn is_modules(name: &[u8], may_have_lead: bool) -> bool
     reads_as(name, b".gitmodules", may_have_lead)
 }
 
-/// Whether the name reads as the word, in any ASCII letter case. It has ignored characters only
-/// where it has a byte with which one begins.
+/// Whether the name is read as the word, in any ASCII case. It has ignored characters only if it
+/// has a byte that one begins with.
 #[tactic(auto, using(crate::proofs::Components::HfsForm::hfs_form_same))]
 #[inline(always)]
 fn reads_as(name: &[u8], word: &[u8], may_have_lead: bool) -> bool
@@ -42,7 +42,7 @@ fn reads_as(name: &[u8], word: &[u8], may_have_lead: bool) -> bool
     }
 }
 
-/// Whether the name without what is ignored is the word, in any ASCII letter case.
+/// Whether the name without the ignored characters is the word, in any ASCII case.
 #[tactic(auto, using(crate::proofs::Components::HfsForm::word_steps))]
 #[inline(always)]
 fn kept_is(name: &[u8], word: &[u8]) -> bool
@@ -61,7 +61,7 @@ fn kept_is(name: &[u8], word: &[u8]) -> bool
     next_kept(rest).is_none()
 }
 
-/// The first byte that isn't ignored, and what stands after it.
+/// The first byte that isn't ignored, and what follows it.
 #[inline(always)]
 #[tactic(auto, unfolding(crate::specs::Hfs::hfs_form))]
 fn next_kept(bytes: &[u8]) -> Option<(u8, &[u8])>
@@ -78,7 +78,7 @@ fn next_kept(bytes: &[u8]) -> Option<(u8, &[u8])>
     }
 }
 
-/// What stands after the ignored character that the bytes begin with, if they begin with one.
+/// What follows the ignored character that the bytes begin with, if they begin with one.
 #[inline(always)]
 #[tactic(auto, unfolding(crate::specs::Hfs::hfs_form))]
 fn after_ignored(bytes: &[u8]) -> Option<&[u8]>

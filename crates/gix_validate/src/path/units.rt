@@ -1,13 +1,13 @@
-//! The first unit of a text, by Unicode's table of whole UTF-8 sequences.
+//! The first unit of a name, by Unicode's table of whole UTF-8 sequences.
 
 ghost use Rattle.std.specs.Prelude.{◌≡◌};
 ghost use Rattle.gix_validate.specs.Units.{first_unit_len, fitting_len};
 
-/// The second and later bytes of a whole sequence, but for some seconds.
+/// The range of the second and later bytes of a whole sequence, except some second bytes.
 const TAIL: (u8, u8) = (0x80, 0xBF);
 
-/// How many bytes the first unit has: the whole sequence in front, else what begins one, else one
-/// byte.
+/// How many bytes the first unit has: the whole sequence at the start, or else what begins one, or
+/// else one byte.
 #[tactic(auto, using(crate::proofs::Components::FirstUnit::by_row), unfolding(crate::specs::Units::whole_sequences))]
 pub(super) fn first_unit_len(text: &[u8]) -> usize
     ensures { result ≡ first_unit_len text.now }
@@ -28,7 +28,7 @@ pub(super) fn first_unit_len(text: &[u8]) -> usize
     }
 }
 
-/// How many bytes in front fit the row, one for each range.
+/// How many bytes at the start fit the row, one for each range.
 #[tactic(auto, using(std::proofs::lemmas::Bool::Decides::nat_tests, crate::proofs::Components::FirstUnit::fits_past))]
 fn fitting_len(row: &[(u8, u8)], text: &[u8]) -> usize
     ensures { result ≡ fitting_len row.now text.now }

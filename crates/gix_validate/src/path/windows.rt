@@ -1,9 +1,9 @@
 //! Names that mean something else on Windows, and names that it forbids.
 //!
 //! The names of devices begin with `aux`, `com`, `con`, `lpt`, `nul` or `prn`. Tables say which of
-//! these words may have a letter at each of the first three places. The first letters of file names
-//! are hard to predict, so a branch on each took most of the time. Now there is one, which hardly
-//! any other name takes.
+//! these words may have a letter at each of the first three offsets. The first letters of file
+//! names are hard to predict, so a branch for each took most of the time. Now there is one branch,
+//! which hardly any other name takes.
 
 ghost use Rattle.std.specs.Prelude.{◌≡◌, ◌≤◌, false, length, ◌==◌, ◌||◌, ◌∷◌, [], ◌++◌, ◌%◌, slice_index, bit_and, codes, IsTrue};
 ghost use Rattle.std.specs.List.{list_all, list_any};
@@ -26,14 +26,14 @@ pub(super) fn has_prefix(name: &[u8], may_be_illegal: bool) -> bool
     may_be_illegal && name.get(first_unit_len(name)) == Some(&b':')
 }
 
-/// Whether the name ends in a dot or a space.
+/// Whether the name ends with a dot or a space.
 pub(super) fn ends_illegally(name: &[u8]) -> bool
     ensures { result ≡ (ends name.now (codes ".") || ends name.now (codes " ")) }
 {
     matches!(name.last(), Some(b'.' | b' '))
 }
 
-/// The six words with which the names of devices begin, and the front of `.git`, a bit for each.
+/// The six words that names of devices begin with, and the start of `.git`, a bit for each.
 const AUX: u8 = 0x01;
 
 const CON: u8 = 0x02;
@@ -48,14 +48,14 @@ const PRN: u8 = 0x20;
 
 const DOT_GIT: u8 = 0x40;
 
-/// The words with which the names of devices begin.
+/// The words that names of devices begin with.
 const DEVICES: u8 = AUX | CON | COM | LPT | NUL | PRN;
 
-/// The same and the front of `.git`.
+/// The same and the start of `.git`.
 const WORDS: u8 = DEVICES | DOT_GIT;
 
 /// The words that may have a byte as their first letter, by the low five bits of the byte, which
-/// are the same for a capital.
+/// are the same for an uppercase letter.
 #[rattlefmt::skip]
 const BY_FIRST: [u8; 32] = [
     0, AUX, 0, CON | COM, 0, 0, 0, 0, // a, c
@@ -85,7 +85,7 @@ const BY_THIRD: [u8; 32] = [
 /// The words by letter, in one table.
 const BY_LETTER: [[u8; 32]; 3] = [BY_FIRST, BY_SECOND, BY_THIRD];
 
-/// The words with which a name of this length may begin: `.git` and `.gitmodules` have four bytes
+/// The words that a name of this length may begin with: `.git` and `.gitmodules` have four bytes
 /// and eleven.
 #[rattlefmt::skip]
 const BY_LENGTH: [u8; 65] = [
@@ -100,8 +100,8 @@ const BY_LENGTH: [u8; 65] = [
     DEVICES,
 ];
 
-/// Whether a short name may mean a device, or be `.git` or `.gitmodules` in any ASCII letter case.
-/// Hardly any other name gets past this look, which has no branch for a letter.
+/// Whether a short name may be a device, or be `.git` or `.gitmodules` in any ASCII case. Hardly
+/// any other name passes this test, which has no branch for a letter.
 #[inline(always)]
 #[tactic(auto, using(crate::proofs::Components::Devices::device_short, crate::proofs::Components::Devices::no_special), unfolding(crate::proofs::Components::Devices::bits))]
 pub(super) fn may_be_special(name: &[u8]) -> bool
@@ -114,8 +114,8 @@ pub(super) fn may_be_special(name: &[u8]) -> bool
     words_with(name[0], name[1], name[2]) & BY_LENGTH[name.len()] != 0
 }
 
-/// Whether the name means a device. Hardly any other name gets past its first three letters, which
-/// are looked at without a branch for each.
+/// Whether the name is a device. Hardly any other name passes the test of its first three letters,
+/// which has no branch for each letter.
 #[inline(always)]
 #[tactic(auto, using(crate::proofs::Components::Devices::device_short, crate::proofs::Components::Devices::device_no_word), unfolding(crate::proofs::Components::Devices::bits))]
 pub(super) fn is_device(name: &[u8]) -> bool
@@ -127,7 +127,7 @@ pub(super) fn is_device(name: &[u8]) -> bool
     words_with(name[0], name[1], name[2]) != 0 && is_device_by_letters(name)
 }
 
-/// Which of the words may have these letters, a bit for each.
+/// Which of the words may have these three letters, a bit for each.
 #[inline(always)]
 fn words_with(first: u8, second: u8, third: u8) -> u8
     ensures { result ≡ bit_and (bit_and (slice_index BY_FIRST (first % 32)) (slice_index BY_SECOND (second % 32)))
@@ -155,7 +155,7 @@ pub(super) fn is_device_by_letters(name: &[u8]) -> bool
     }
 }
 
-/// Whether the form ends after `con`, or in what makes it one of the console's two other names.
+/// Whether the device form ends after `con`, or is one of the console's two other names.
 #[inline(always)]
 #[tactic(auto, unfolding(crate::specs::Bytes::lower_byte))]
 fn ends_console(rest: &[u8]) -> bool
@@ -166,7 +166,7 @@ fn ends_console(rest: &[u8]) -> bool
     ends_form(rest) || form_is(rest, b"IN$") || form_is(rest, b"OUT$")
 }
 
-/// Whether the form of the name is the word, in any ASCII letter case.
+/// Whether the form of the name is the word, in any ASCII case.
 #[inline(always)]
 #[tactic(auto, using(crate::proofs::Components::Devices::device_word))]
 fn form_is(name: &[u8], word: &[u8]) -> bool
@@ -179,7 +179,7 @@ fn form_is(name: &[u8], word: &[u8]) -> bool
     }
 }
 
-/// Whether the form is a digit.
+/// Whether the form is one digit.
 #[inline(always)]
 #[tactic(auto, using(std::proofs::lemmas::Grind::common_steps, crate::proofs::Components::Devices::ends_in_digit))]
 fn ends_in_digit(rest: &[u8]) -> bool
@@ -191,7 +191,7 @@ fn ends_in_digit(rest: &[u8]) -> bool
     }
 }
 
-/// Whether the form is a digit, and not zero.
+/// Whether the form is one digit other than zero.
 #[inline(always)]
 #[tactic(auto, using(std::proofs::lemmas::Grind::common_steps, crate::proofs::Components::Devices::ends_in_nonzero_digit))]
 fn ends_in_nonzero_digit(rest: &[u8]) -> bool
@@ -203,7 +203,7 @@ fn ends_in_nonzero_digit(rest: &[u8]) -> bool
     }
 }
 
-/// Whether nothing of the form is in what stands after a word.
+/// Whether what follows a word adds nothing to the form.
 #[tactic(auto, using(crate::proofs::Components::Devices::device_left, crate::proofs::Components::Devices::device_all_left))]
 #[inline(always)]
 fn ends_form(rest: &[u8]) -> bool

@@ -57,7 +57,7 @@ pub fn name_partial_or_sanitize(alloc: Global, path: BStr<'_>) -> Result<BString
     Ok(BString::new(sanitized_copy(alloc, path.as_bytes())?))
 }
 
-/// Allocates once, and then makes the copy.
+/// Reserves memory once, and then makes the copy.
 fn sanitized_copy(alloc: Global, path: &[u8]) -> Result<Vec<u8>, AllocError>
     ensures { IfOk result (λ name. name.items ≡ sanitized path.now) }
 {
@@ -66,8 +66,8 @@ fn sanitized_copy(alloc: Global, path: &[u8]) -> Result<Vec<u8>, AllocError>
     Ok(name)
 }
 
-/// Writes the repaired path to an empty vector that has room for the path, or for one byte if that
-/// is empty, and for no more. So it never fails.
+/// Writes the sanitised path to an empty vector. The vector has room for exactly the path, or for
+/// one byte if that is empty. So it never fails.
 fn fill_sanitized(name: &mut Vec<u8>, path: &[u8]) -> Result<(), AllocError>
     requires empty { name.old.items ≡ [] }
     requires room { vec_capacity name.old ≡ max 1 (length path.now) }
@@ -119,13 +119,13 @@ pub fn sanitize_in_place(buf: &mut [u8], len: usize) -> usize
     repair_end(buf, end)
 }
 
-/// Writes the nonempty pieces of the text over it, each cleaned and cut, and gives the length of
-/// what it wrote. A byte is written at the place of the one just read, or before it.
+/// Writes the nonempty pieces of the name over it, each cleaned and cut, and returns how many bytes
+/// it wrote. A byte is written at the offset of the byte just read, or before it.
 ///
-/// The last byte comes at the end. If it is plain, a slash stands in its place until then, so that
-/// each run of plain bytes ends before the text does. Pieces of plain bytes at the front, and the
-/// plain bytes behind them, stay in place, so they are only read. A `.lock` right before a slash is
-/// skipped, where something stands before it in its piece: it would be cut.
+/// The last byte is handled at the end. If it is plain, a slash is in its position until then, so
+/// that each run of plain bytes ends before the name does. Pieces of plain bytes at the start, and
+/// the plain bytes after them, stay where they are, so they are only read. A `.lock` right before a
+/// slash is skipped, if something is before it in its piece: it would be cut.
 fn mend_pieces(text: &mut [u8]) -> usize
     ensures within { result ≤ length text.old }
     ensures text { take result text.new ≡ joined (mended_pieces text.old) }
@@ -170,7 +170,7 @@ fn mend_pieces(text: &mut [u8]) -> usize
     write_last(text, start, end, last)
 }
 
-/// Puts a slash in the place `stop`, if the byte there is plain, and gives that byte.
+/// Writes a slash at the offset `stop`, if the byte there is plain, and returns that byte.
 fn guard_end(text: &mut [u8], stop: usize) -> u8
     requires { stop < length text.old }
     ensures last { result ≡ get_or text.old stop 0 }
@@ -184,7 +184,7 @@ fn guard_end(text: &mut [u8], stop: usize) -> u8
     last
 }
 
-/// The first place from this one on whose byte isn't plain. The text's last byte isn't.
+/// The first offset from this one on whose byte isn't plain. The last byte isn't.
 #[inline(always)]
 fn end_of_run(text: &[u8], from: usize) -> usize
     requires within { from < length text.now }
@@ -201,15 +201,15 @@ fn end_of_run(text: &[u8], from: usize) -> usize
     read
 }
 
-/// Whether the byte stays itself wherever it stands.
+/// Whether the repair keeps the byte wherever it is.
 fn is_plain(next: u8) -> bool
     ensures { result ≡ not (is_bad next || is_among (codes "*./{") next) }
 {
     !may_be_faulty(next)
 }
 
-/// What a byte adds to the piece that was written so far: any byte but a slash, and of the dots in
-/// a row the last.
+/// The byte that is written for any byte other than a slash, after the piece that is written so
+/// far. Of dots in a row this handles the last.
 #[tactic(auto, unfolding(crate::specs::Bytes::is_bad))]
 fn cleaned_byte(piece: &[u8], next: u8) -> u8
     requires no_slash { next ≢ byte "/" }
@@ -223,7 +223,7 @@ fn cleaned_byte(piece: &[u8], next: u8) -> u8
     }
 }
 
-/// The same of a byte that isn't plain.
+/// The same for a byte that isn't plain.
 #[tactic(auto, unfolding(crate::specs::Bytes::is_bad))]
 fn mended_byte(piece: &[u8], next: u8) -> u8
     requires no_slash { next ≢ byte "/" }
@@ -240,8 +240,8 @@ fn mended_byte(piece: &[u8], next: u8) -> u8
     }
 }
 
-/// Cuts the written piece from `start` to `end`, if it has a byte, writes a slash behind it, and
-/// gives the place behind that.
+/// Cuts the written piece from `start` to `end`, if it has a byte, writes a slash after it, and
+/// returns the offset after that.
 fn close_piece(text: &mut [u8], start: usize, end: usize) -> usize
     requires in_order { start ≤ end }
     requires room { end < length text.old }
@@ -259,8 +259,8 @@ fn close_piece(text: &mut [u8], start: usize, end: usize) -> usize
     end + 1
 }
 
-/// Writes the text's last byte to its last piece, which was written from `start` to `end`, unless
-/// that byte is a slash, and gives where the text ends.
+/// Writes the last byte, unless it is a slash, to the last piece, which was written from `start` to
+/// `end`, and returns the offset at which the result ends.
 #[tactic(auto, using(crate::proofs::Sanitizing::OneBuffer::take_pushed))]
 fn write_last(text: &mut [u8], start: usize, end: usize, last: u8) -> usize
     requires in_order { start ≤ end }
@@ -280,8 +280,8 @@ fn write_last(text: &mut [u8], start: usize, end: usize, last: u8) -> usize
     end_of_cut(text, start, end + 1)
 }
 
-/// Where the text ends whose last piece was written from `start` to `end`: that piece is cut, or if
-/// it has no byte, the slash before it goes.
+/// The offset at which the result ends if its last piece was written from `start` to `end`: that
+/// piece is cut, or if it has no byte, the slash before it is dropped.
 fn end_of_text(text: &[u8], start: usize, end: usize) -> usize
     requires in_order { start ≤ end }
     requires within { end ≤ length text.now }
@@ -297,8 +297,8 @@ fn end_of_text(text: &[u8], start: usize, end: usize) -> usize
     }
 }
 
-/// Where the piece that was written from `start` to `end` ends once the `.lock`s at its end are
-/// cut. Few pieces end in a `k`.
+/// The offset at which the piece that was written from `start` to `end` ends once the `.lock`s at
+/// its end are cut. Few pieces end with a `k`.
 #[tactic(auto, using(crate::proofs::Sanitizing::OneBuffer::part_ends))]
 fn end_of_cut(text: &[u8], start: usize, end: usize) -> usize
     requires some { start < end }
@@ -313,7 +313,7 @@ fn end_of_cut(text: &[u8], start: usize, end: usize) -> usize
     }
 }
 
-/// How long a piece is without the `.lock`s at its end.
+/// The length of a piece without the `.lock`s at its end.
 fn length_of_cut(mut piece: &[u8]) -> usize
     ensures within { result ≤ length piece.now }
     ensures front { take result piece.now ≡ cut piece.now }
@@ -324,8 +324,8 @@ fn length_of_cut(mut piece: &[u8]) -> usize
     piece.len()
 }
 
-/// Makes the last three repairs of the text of `end` bytes that `buf` begins with, and gives its
-/// length.
+/// Makes the last three repairs to the first `end` bytes of `buf`, and returns the length of the
+/// result.
 #[tactic(auto, using(crate::proofs::Sanitizing::OneBuffer::repaired_none))]
 fn repair_end(buf: &mut [u8], end: usize) -> usize
     requires some { 1 ≤ length buf.old }

@@ -4,7 +4,7 @@
 //!
 //! A name is never split. Most names have no two adjacent dots. A part that is `..` is at the start
 //! or the end of the name, or between two separators. So in other names the start is checked, then
-//! each four adjacent bytes, sixteen times at once, and then the end.
+//! all four adjacent bytes from each of sixteen offsets at a time, and then the end.
 
 ghost use Rattle.std.specs.Prelude.{◌≡◌, ◌↔◌, ◌||◌, ◌&&◌, ◌==◌, ℕ, ◌+◌, ◌-◌, ◌≤◌, ◌<◌, false, length, slice_index, IsOk, IfOk, IsTrue};
 ghost use Rattle.std.specs.Str.{byte};

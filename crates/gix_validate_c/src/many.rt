@@ -20,10 +20,8 @@ ghost use Rattle.gix_validate.specs.Submodule as submodule;
 ghost use Rattle.gix_validate_c.specs.Numbers.{code_by, tag_number, reference_number, submodule_number};
 ghost use Rattle.gix_validate_c.specs.Many.{names_in};
 
-use crate::names::{
-    gix_validate_branch, gix_validate_full, gix_validate_partial, gix_validate_submodule,
-    gix_validate_tag,
-};
+use crate::fault::code;
+use bstr::BStr;
 use memchr::memchr;
 
 /// Checks the names as [`gix_validate_tag`] does.
@@ -106,7 +104,8 @@ pub extern "C" fn gix_validate_submodule_many(names: &[u8], end: u8, faults: &mu
     write_numbers::<Submodule>(names, end, faults)
 }
 
-/// A kind of name.
+/// A kind of name. Its check is not the function that C calls for one name: a second caller would
+/// keep the compiler from inlining that, and such a call would take a sixth longer.
 trait Kind {
     ghost number_of: { List ℕ → ℕ };
 
@@ -121,7 +120,7 @@ impl Kind for Tag {
     ghost number_of = { λ name. code_by tag_number (tag.fault_of name) };
 
     fn number(name: &[u8]) -> u8 {
-        gix_validate_tag(name) as u8
+        code(gix_validate::tag::name(BStr::new(name))) as u8
     }
 }
 
@@ -131,7 +130,7 @@ impl Kind for Partial {
     ghost number_of = { λ name. code_by reference_number (partial_fault_of name) };
 
     fn number(name: &[u8]) -> u8 {
-        gix_validate_partial(name) as u8
+        code(gix_validate::reference::name_partial(BStr::new(name))) as u8
     }
 }
 
@@ -141,7 +140,7 @@ impl Kind for Full {
     ghost number_of = { λ name. code_by reference_number (full_fault_of name) };
 
     fn number(name: &[u8]) -> u8 {
-        gix_validate_full(name) as u8
+        code(gix_validate::reference::name(BStr::new(name))) as u8
     }
 }
 
@@ -151,7 +150,7 @@ impl Kind for Branch {
     ghost number_of = { λ name. code_by reference_number (branch_fault_of name) };
 
     fn number(name: &[u8]) -> u8 {
-        gix_validate_branch(name) as u8
+        code(gix_validate::reference::branch_name(BStr::new(name))) as u8
     }
 }
 
@@ -161,7 +160,7 @@ impl Kind for Submodule {
     ghost number_of = { λ name. code_by submodule_number (submodule.fault_of name) };
 
     fn number(name: &[u8]) -> u8 {
-        gix_validate_submodule(name) as u8
+        code(gix_validate::submodule::name(BStr::new(name))) as u8
     }
 }
 

@@ -7,8 +7,9 @@ use bstr::BStr;
 use gix_validate::path::ComponentError;
 use gix_validate::{reference, submodule, tag};
 
-/// The numbers of the faults of all four types (docs/RULES.md, "Calls for C"). A fault that several
-/// types share has one number. The numbers never change, and a new fault takes the next one.
+/// The numbers of the faults of all four types (docs/RULES.md, "Printed texts"). A fault that
+/// several types share has one number. The numbers never change, and a new fault takes the next
+/// one.
 #[derive(Clone, Copy)]
 pub(crate) enum Number {
     InvalidByte = 1,

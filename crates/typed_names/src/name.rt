@@ -239,7 +239,8 @@ impl<'a, R: Rule> AsSlice<u8> for Name<'a, R> {
     }
 }
 
-/// Prints the name. Bytes that are not UTF-8 are printed as U+FFFD.
+/// Prints the name, with U+FFFD for each maximal subpart of ill-formed UTF-8 (docs/RULES.md,
+/// "Typed names").
 impl<'a, R: Rule> fmt::Display for Name<'a, R> {
     ghost use Rattle.typed_names.specs.Names.{name_bytes};
 

@@ -1,4 +1,4 @@
-//! The callers of `uses`, each once, with names and texts that were worked out by hand.
+//! Tests of each caller in `uses`, with names and results worked out by hand.
 
 use bstr::{BStr, BString};
 use gix_validate::path::{ComponentMode, ComponentOptions};
@@ -16,8 +16,8 @@ use uses::ref_store::{ObjectId, RefStore};
 use uses::repair::{repair, repaired};
 use uses::settings::{SettingsError, submodule_names};
 
-/// Compares a name. (Behind a call, as what is below, so that the proofs of the tests carry neither
-/// texts nor contracts.)
+/// Asserts that the name is the expected one. (It is a function, as are those below, so that the
+/// proofs of the tests stay short.)
 fn expect<R: Abort>(rt: &R, name: BStr<'_>, want: &str) {
     assert_eq!(rt; name, BStr::from(want));
 }
@@ -78,7 +78,7 @@ fn full_name(text: &str) -> Result<FullName<'_>, Fail> {
     Ok(FullName::new(BStr::from(text))?)
 }
 
-/// An object whose bytes are all the same.
+/// An object id whose bytes are all the same.
 fn object(byte: u8) -> ObjectId {
     ObjectId([byte; 20])
 }
@@ -96,12 +96,12 @@ fn keeps_references(rt: HostRuntime) -> Result<(), Fail> {
     Ok(())
 }
 
-/// Enters a file or a folder, not a symlink.
+/// Enters a file or a directory, not a symlink.
 fn enter<'a>(place: &mut Place<'a>, name: &'a str) -> Result<(), EnterError> {
     place.enter(BStr::from(name), None)
 }
 
-/// The top of a tree on all the file systems that are protected.
+/// The top of a working tree, with all protections.
 fn top<'a>(alloc: Global) -> Place<'a> {
     Place::top(alloc, ComponentOptions::default())
 }
@@ -117,7 +117,7 @@ fn walks_down_a_tree(rt: HostRuntime) -> Result<(), Fail> {
     Ok(())
 }
 
-/// Whether the place refuses the name of a file or of a symlink, for that name's fault.
+/// Whether entering the name with this mode fails because the name is invalid.
 fn is_refused(place: &mut Place<'_>, name: &'static str, mode: Option<ComponentMode>) -> bool {
     matches!(
         place.enter(BStr::from(name), mode),
@@ -137,7 +137,7 @@ fn enters_by_the_options_of_the_place(rt: HostRuntime) -> Result<(), Fail> {
     Ok(())
 }
 
-/// The place of the first component that the default options refuse.
+/// The index of the first component that is invalid under the default options.
 fn hostile(path: &str) -> Option<usize> {
     first_hostile_component(BStr::from(path), ComponentOptions::default())
 }
@@ -150,14 +150,14 @@ fn finds_hostile_components(rt: HostRuntime) {
     assert_eq!(rt; hostile("src/main.rs"), None);
 }
 
-/// The repair of a copy of a name.
+/// A repaired copy of a name.
 fn repaired_copy(alloc: Global, name: &[u8]) -> Result<Vec<u8>, AllocError> {
     let mut name = Vec::from_slice(alloc, name)?;
     repair(&mut name)?;
     Ok(name)
 }
 
-/// The repair of nothing.
+/// The repaired empty name.
 fn repaired_nothing(alloc: Global) -> Result<Vec<u8>, AllocError> {
     let mut nothing = Vec::new(alloc);
     repair(&mut nothing)?;
@@ -180,7 +180,7 @@ fn names_of(alloc: Global, file: &[u8]) -> Result<Vec<BString>, SettingsError> {
     submodule_names(alloc, file)
 }
 
-/// Settings of two submodules, the second by its header as Git also reads it.
+/// Settings of two submodules. The second has a header in another form that Git also reads.
 fn settings() -> &'static [u8] {
     b"[submodule \"a\"]\n\tpath = a\n[core]\n [SubModule\t\"b\\/c\"] # old\n\turl = ../b.git\n"
 }

@@ -1,9 +1,9 @@
-//! One type for the faults of all rules, which can be compared.
+//! One error type for all rules, whose values can be compared.
 
 use gix_validate::path::ComponentError;
 use gix_validate::{reference, submodule, tag};
 
-/// What is wrong with a text, with the byte or the name that the fault carries.
+/// Why a name is invalid, with the byte or the name that the error carries.
 #[derive(Debug, Clone, Copy, PartialEq, Eq)]
 pub enum Fault<'a> {
     Empty,
@@ -29,7 +29,7 @@ pub enum Fault<'a> {
     Relative,
 }
 
-/// The fault of the first line that applies.
+/// The error of the first line whose condition holds.
 pub(crate) fn first_of(lines: &[(bool, Fault<'static>)]) -> Option<Fault<'static>> {
     lines.iter().find(|line| line.0).map(|line| line.1)
 }

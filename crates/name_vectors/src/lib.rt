@@ -1,19 +1,21 @@
 //! The tests of `gix_validate`, `typed_names` and `uses`. A crate that has tests is proved a second
-//! time with them, so these three have none. The crate holds three things:
+//! time with them, so these three have none. This crate has three parts:
 //!
-//! - Names and texts whose answers are written out, for calls that take memory, for the typed names
-//!   and for their callers.
-//! - The rules of docs/RULES.md, written a second time. The first writing is the definitions in
-//!   `crates/gix_validate/specs`, against which the library is proved. The second is code, and goes
-//!   another way: it searches where the library walks, and lists all names where the library
-//!   compares fronts. Only the types of the faults are the library's.
-//! - Tests that give tens of thousands of texts, all texts of up to two bytes among them, to each
-//!   call of `gix_validate` and to the second writing, and compare the answers.
+//! - Names with expected results, for functions that allocate, for the typed names and for their
+//!   callers.
+//! - An independent second implementation of the rules of docs/RULES.md. The first is the
+//!   definitions in `crates/gix_validate/specs`, against which the library is proved. The second is
+//!   code, and uses other algorithms than the library: it searches names instead of scanning them,
+//!   and lists all names instead of comparing prefixes. Of the library it uses only the types of
+//!   the errors.
+//! - Tests that pass tens of thousands of names to the validators and sanitisers of `gix_validate`
+//!   and to the second implementation, and compare the results. All names of up to two bytes are
+//!   among them.
 //!
 //! All of it is built for the tests alone.
 #![tactic(auto)]
 
-/// The callers of `uses`.
+/// The callers in `uses`.
 #[cfg(test)]
 mod callers;
 #[cfg(test)]
@@ -32,16 +34,16 @@ mod submodule;
 mod tag;
 #[cfg(test)]
 mod text;
-/// The types of `typed_names`, on worked names.
+/// The types of `typed_names`, on names with expected results.
 #[cfg(test)]
 mod typed;
 #[cfg(test)]
 mod units;
 
-/// Names whose answers are written out, for the calls that take memory or copy a value.
+/// Names with expected results, for functions that allocate or copy a value.
 #[cfg(test)]
 mod worked;
 
-/// The calls, compared with the second writing.
+/// The functions of the library, compared with the second implementation.
 #[cfg(test)]
 mod tests;

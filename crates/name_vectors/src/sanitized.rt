@@ -3,7 +3,7 @@
 use crate::text::{is_bad, is_slash};
 use std::alloc::{AllocError, Global};
 
-/// The sanitised text.
+/// The sanitised name.
 pub(crate) fn sanitized(alloc: Global, text: &[u8]) -> Result<Vec<u8>, AllocError> {
     let mut name = Vec::new(alloc);
     let mut separator: &[u8] = b"";
@@ -17,7 +17,7 @@ pub(crate) fn sanitized(alloc: Global, text: &[u8]) -> Result<Vec<u8>, AllocErro
     Ok(name)
 }
 
-/// Puts the sanitised piece behind the name and the separator.
+/// Appends the separator and the sanitised piece to the name.
 fn push_piece(
     alloc: Global,
     name: &mut Vec<u8>,
@@ -28,8 +28,7 @@ fn push_piece(
     name.extend_from_slice(cut(&cleaned(alloc, piece)?))
 }
 
-/// The piece with each of its runs cleaned. A run is as many dots as stand together, or one other
-/// byte.
+/// The piece with each of its runs cleaned. A run is all dots in a row, or one other byte.
 fn cleaned(alloc: Global, piece: &[u8]) -> Result<Vec<u8>, AllocError> {
     let mut text = Vec::new(alloc);
     let mut before: &[u8] = b"";
@@ -40,7 +39,7 @@ fn cleaned(alloc: Global, piece: &[u8]) -> Result<Vec<u8>, AllocError> {
     Ok(text)
 }
 
-/// What a run gives, by the run before it, which is empty at the start of the piece.
+/// What a run gives, depending on the run before it. That is empty at the start of the piece.
 fn cleaned_run<'a>(before: &[u8], run: &'a [u8]) -> &'a [u8] {
     match run {
         [b'.', ..] if before.is_empty() => b"-",
@@ -51,7 +50,7 @@ fn cleaned_run<'a>(before: &[u8], run: &'a [u8]) -> &'a [u8] {
     }
 }
 
-/// The shortest front of the text behind which there is only `.lock`, some number of times.
+/// The shortest prefix of the piece that is followed only by `.lock`, any number of times.
 fn cut(text: &[u8]) -> &[u8] {
     for end in 0..text.len() {
         if let Some((front, rest)) = text.split_at_checked(end)
@@ -63,7 +62,7 @@ fn cut(text: &[u8]) -> &[u8] {
     text
 }
 
-/// The last three repairs.
+/// Makes the last three repairs.
 fn repair(name: &mut Vec<u8>) -> Result<(), AllocError> {
     if name.ends_with(b".") {
         name.pop();

@@ -3,7 +3,7 @@
 use crate::fault::Fault;
 use crate::text::stands_at;
 
-/// The fault of the text as the name of a submodule.
+/// The error of the name as a submodule name.
 pub(crate) fn fault(text: &[u8]) -> Option<Fault<'static>> {
     if text.is_empty() {
         Some(Fault::Empty)
@@ -14,7 +14,7 @@ pub(crate) fn fault(text: &[u8]) -> Option<Fault<'static>> {
     }
 }
 
-/// Whether `..` stands at the place, between two separators or ends of the text.
+/// Whether `..` is at this offset, between two separators or ends of the name.
 fn is_parent_at(text: &[u8], place: usize) -> bool {
     let before = place.checked_sub(1).and_then(|last| text.get(last));
     let after = text.get(place.saturating_add(2));

@@ -3,7 +3,7 @@
 use crate::fault::{Fault, first_of};
 use crate::text::{contains, is_bad, is_slash};
 
-/// Whether the text is a tag name.
+/// Whether the name is a tag name.
 pub(crate) fn is_name(text: &[u8]) -> bool {
     text.split(is_slash).all(|piece| is_good_piece(piece)) && !text.ends_with(b".")
 }
@@ -18,7 +18,7 @@ fn is_good_piece(piece: &[u8]) -> bool {
         && !piece.ends_with(b".lock")
 }
 
-/// The first fault of the text, if it has one.
+/// The first error of the name, if it has one.
 pub(crate) fn fault(text: &[u8]) -> Option<Fault<'static>> {
     let fault = first_of(&[
         (text.is_empty(), Fault::Empty),
@@ -38,12 +38,12 @@ pub(crate) fn fault(text: &[u8]) -> Option<Fault<'static>> {
     ])
 }
 
-/// The fault of the first place that has one.
+/// The error at the lowest offset that has one.
 fn first_at_places(text: &[u8]) -> Option<Fault<'static>> {
     (0..text.len()).find_map(|place| first_of(&faults_at(text, place)))
 }
 
-/// The faults that a place may have, and which of them it has: at most one.
+/// The errors that an offset may have, and which of them this one has: at most one.
 pub(crate) fn faults_at(text: &[u8], place: usize) -> [(bool, Fault<'static>); 8] {
     let (before, here) = text.split_at_checked(place).unwrap_or((text, b""));
     let byte = here.first().copied().unwrap_or(0);
@@ -60,12 +60,12 @@ pub(crate) fn faults_at(text: &[u8], place: usize) -> [(bool, Fault<'static>); 8
     ]
 }
 
-/// Whether the one text ends with the last word, and the other starts with the next one.
+/// Whether `before` ends with `last`, and `here` starts with `next`.
 fn meet(before: &[u8], last: &[u8], here: &[u8], next: &[u8]) -> bool {
     before.ends_with(last) && here.starts_with(next)
 }
 
-/// Whether the text ends with `.lock`, and is more than that.
+/// Whether the name ends with `.lock`, and is longer than that.
 fn is_locked(text: &[u8]) -> bool {
     text.len() > 5 && text.ends_with(b".lock")
 }

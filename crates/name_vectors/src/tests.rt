@@ -1,4 +1,4 @@
-//! The calls of the library against the rules written down here.
+//! The functions of the library, compared with the second implementation of the rules.
 
 mod exhaustive;
 mod printed;
@@ -14,8 +14,8 @@ use gix_validate::path::{ComponentMode, ComponentOptions};
 use std::alloc::{AllocError, Global};
 use std::process::Abort;
 
-/// Asks every call about the text, and stops where an answer is not the rule's. (All else answers
-/// by a value: the proof of an assertion is dear.)
+/// Passes the name to the functions of the library, and panics if a result isn't the rule's. (All
+/// other functions here return a value, since the proof of an assertion is slow.)
 fn ask(rt: &impl Abort, alloc: Global, text: &[u8]) -> Result<(), AllocError> {
     match differing(alloc, text)? {
         None => Ok(()),
@@ -39,7 +39,8 @@ fn differing(alloc: Global, text: &[u8]) -> Result<Option<&'static str>, AllocEr
     Ok(agrees.iter().find(|line| !line.1).map(|line| line.0))
 }
 
-/// What the rules say both as a grammar and as faults agrees; and no place has two faults.
+/// Whether rules that are both a grammar and errors say the same in both, and no offset has two
+/// errors.
 fn rules_agree(text: &[u8]) -> bool {
     tag::is_name(text) == tag::fault(text).is_none()
         && reference::is_partial(text) == reference::partial_fault(text).is_none()
@@ -48,7 +49,7 @@ fn rules_agree(text: &[u8]) -> bool {
         && (0..text.len()).all(|place| count_of_faults(text, place) < 2)
 }
 
-/// How many faults the place has as one of a tag name.
+/// How many errors of a tag name are at the offset.
 fn count_of_faults(text: &[u8], place: usize) -> usize {
     tag::faults_at(text, place)
         .iter()
@@ -56,12 +57,12 @@ fn count_of_faults(text: &[u8], place: usize) -> usize {
         .count()
 }
 
-/// The rule has no fault, and the text itself was given back.
+/// Whether the rule finds no error, and the name itself was returned.
 fn is_same(text: &[u8], given: BStr<'_>, fault: Option<Fault<'_>>) -> bool {
     fault.is_none() && given.as_bytes() == text
 }
 
-/// The answer for tag names.
+/// Checks the result for tag names.
 fn tag_agrees(text: &[u8]) -> bool {
     let fault = tag::fault(text);
     match gix_validate::tag::name(BStr::new(text)) {
@@ -70,7 +71,7 @@ fn tag_agrees(text: &[u8]) -> bool {
     }
 }
 
-/// The answer for names of submodules.
+/// Checks the result for submodule names.
 fn submodule_agrees(text: &[u8]) -> bool {
     let fault = submodule::fault(text);
     match gix_validate::submodule::name(BStr::new(text)) {
@@ -79,7 +80,7 @@ fn submodule_agrees(text: &[u8]) -> bool {
     }
 }
 
-/// The answers for the three kinds of reference names.
+/// Checks the results for the three kinds of reference names.
 fn references_agree(text: &[u8]) -> bool {
     use gix_validate::reference::{branch_name, name, name_partial};
 
@@ -89,7 +90,7 @@ fn references_agree(text: &[u8]) -> bool {
         && reference_agrees(text, branch_name(path), reference::branch_fault(text))
 }
 
-/// The answer for one kind of reference names.
+/// Checks the result for one kind of reference names.
 fn reference_agrees(
     text: &[u8],
     answer: Result<BStr<'_>, gix_validate::reference::NameError>,
@@ -101,7 +102,7 @@ fn reference_agrees(
     }
 }
 
-/// The answers for components, under all settings of the switches, without the mode and with it.
+/// Checks the results for components, under all options, without and with the mode.
 fn components_agree(text: &[u8], readings: &Readings<'_>) -> bool {
     for bits in 0..16 {
         let setting = setting_of(bits);
@@ -112,7 +113,7 @@ fn components_agree(text: &[u8], readings: &Readings<'_>) -> bool {
     true
 }
 
-/// The setting that the last four bits say.
+/// The setting that the lowest four bits encode.
 fn setting_of(bits: u8) -> Setting {
     Setting {
         windows: bits & 1 != 0,
@@ -122,7 +123,7 @@ fn setting_of(bits: u8) -> Setting {
     }
 }
 
-/// The answer for components under one setting.
+/// Checks the result for components under one setting.
 fn component_agrees(text: &[u8], setting: Setting, fault: Option<Fault<'_>>) -> bool {
     let mode = if setting.symlink {
         Some(ComponentMode::Symlink)
@@ -140,19 +141,19 @@ fn component_agrees(text: &[u8], setting: Setting, fault: Option<Fault<'_>>) -> 
     }
 }
 
-/// The answer for devices.
+/// Checks the result for devices.
 fn device_agrees(text: &[u8]) -> bool {
     gix_validate::path::component_is_windows_device(BStr::new(text)) == forms::is_device(text)
 }
 
-/// The units are the text, cut; and without the ignored characters they are what HFS+ reads.
+/// Whether the units together are the name, and without the ignored characters its HFS form.
 fn forms_agree(alloc: Global, text: &[u8], on_hfs: &[u8]) -> Result<bool, AllocError> {
     let units = units::units(alloc, text)?;
     let kept = forms::kept_units(alloc, &units)?;
     Ok(behind(text, &units).is_some_and(|rest| rest.is_empty()) && kept.as_slice() == on_hfs)
 }
 
-/// What follows the units in the text, if it begins with them.
+/// What follows the units in the name, if it begins with them.
 fn behind<'a>(text: &'a [u8], units: &[&[u8]]) -> Option<&'a [u8]> {
     let mut rest = text;
     for unit in units {
@@ -161,7 +162,7 @@ fn behind<'a>(text: &'a [u8], units: &[&[u8]]) -> Option<&'a [u8]> {
     Some(rest)
 }
 
-/// Both sanitisers. Behind the text in the buffer stand no bytes, one, and some.
+/// Checks both sanitisers. In the buffer, no bytes, one or several follow the name.
 fn repairs_agree(alloc: Global, text: &[u8]) -> Result<bool, AllocError> {
     let want = sanitized::sanitized(alloc, text)?;
     let name = gix_validate::reference::name_partial_or_sanitize(alloc, BStr::new(text))?;
@@ -173,7 +174,7 @@ fn repairs_agree(alloc: Global, text: &[u8]) -> Result<bool, AllocError> {
     )
 }
 
-/// The sanitiser in place, in a buffer that has these bytes behind the text.
+/// Checks the sanitiser in place, in a buffer that has these bytes after the name.
 fn repair_agrees(
     alloc: Global,
     text: &[u8],
@@ -187,14 +188,14 @@ fn repair_agrees(
     Ok(given.is_empty() || buffer.get(..len) == Some(want) && buffer.get(end..) == given.get(end..))
 }
 
-/// The two texts, one behind the other.
+/// The two byte strings, one after the other.
 fn joined(alloc: Global, front: &[u8], back: &[u8]) -> Result<Vec<u8>, AllocError> {
     let mut text = front.to_vec(alloc)?;
     text.extend_from_slice(back)?;
     Ok(text)
 }
 
-/// Sanitises the front of the buffer, and says how long it is then. An empty buffer has none.
+/// Sanitises the name at the start of the buffer. Returns its new length, 0 if the buffer is empty.
 fn sanitize_front(buffer: &mut [u8], len: usize) -> usize {
     if buffer.is_empty() || len > buffer.len() {
         return 0;

@@ -1,6 +1,6 @@
-//! The types of `typed_names`: worked names, how long their parts live, and callers that rest on
-//! what the types say of their traits. The names of five rules are one type, so a caller of them is
-//! generic over the rule, and a test calls it once for each.
+//! The types of `typed_names`: names with expected results, how long their parts live, and
+//! callers that depend on the contracts of the types' traits. The names of five rules are one type,
+//! so a caller of them is generic over the rule, and a test calls it once for each rule.
 
 ghost use Rattle.std.specs.Prelude.{◌≡◌, [], ◌∷◌, map, IfOk, MatchOption};
 ghost use Rattle.bstr.specs.BStr.{bstr_bytes};
@@ -21,7 +21,7 @@ use typed_names::{
     Submodule, Tag, TagName,
 };
 
-/// Whether there is a fault, and it prints the text.
+/// Whether there is an error, and it prints this text.
 fn prints(
     alloc: Global,
     fault: Option<impl Display + Drop>,
@@ -33,28 +33,28 @@ fn prints(
     }
 }
 
-/// A tag name, by what `From` says of it.
+/// The name as a tag name, by the contract of `From`.
 fn tag_of<'a>(partial: PartialName<'a>) -> TagName<'a>
     ensures { name_text result ≡ name_text partial.entry }
 {
     partial.into()
 }
 
-/// A partial name, by what `From` says of it.
+/// The name as a partial name, by the contract of `From`.
 fn partial_of<'a>(full: FullName<'a>) -> PartialName<'a>
     ensures { name_text result ≡ name_text full.entry }
 {
     full.into()
 }
 
-/// A full name, by what `From` says of it.
+/// The name as a full name, by the contract of `From`.
 fn full_of<'a>(branch: BranchName<'a>) -> FullName<'a>
     ensures { name_text result ≡ name_text branch.entry }
 {
     branch.into()
 }
 
-/// A clone, where `Clone` says that there is one.
+/// A clone of a value. The contract of `Clone` has to say that there is one.
 fn twin<T: Clone>(value: &T) -> T
     requires { T.is_infallible value.now }
     ensures { T.is_clone value.now result }
@@ -83,7 +83,7 @@ fn pieces_twin<'a>(pieces: &Pieces<'a>) -> Pieces<'a>
     twin(pieces)
 }
 
-/// The next piece, by what `Iterator` says of it.
+/// The next piece, by the contract of `Iterator`.
 fn next_of<'a>(pieces: &mut Pieces<'a>) -> Option<BStr<'a>>
     ensures { MatchOption result
         ((pieces.old ≡ []) × (pieces.new ≡ []))
@@ -92,14 +92,14 @@ fn next_of<'a>(pieces: &mut Pieces<'a>) -> Option<BStr<'a>>
     pieces.next()
 }
 
-/// All pieces, of which there is an end.
+/// All pieces, of which there are finitely many.
 fn listed<'a>(alloc: Global, name: TagName<'a>) -> Result<Vec<BStr<'a>>, AllocError>
     ensures { IfOk result (λ list. map bstr_bytes list.items ≡ pieces_of (name_bytes name.entry)) }
 {
     name.pieces().collect(alloc)
 }
 
-/// Whether the name has these pieces and no more, and clones of `Pieces` give the same.
+/// Whether the name has these pieces and no more, and clones of `Pieces` yield the same.
 fn has_pieces(name: &str, wanted: &[&str]) -> Result<bool, tag::NameError> {
     let mut pieces = TagName::new(BStr::from(name))?.pieces();
     for piece in wanted {
@@ -127,7 +127,7 @@ fn gives_pieces(rt: HostRuntime) -> Result<(), Fail> {
     Ok(())
 }
 
-/// Whether these texts follow the slashes of the name, one after the other.
+/// Whether these are what follows each slash of the name, in order.
 fn has_rests(name: &str, wanted: &[&str]) -> Result<bool, tag::NameError> {
     let mut rest = TagName::new(BStr::from(name))?.after_first_slash();
     for text in wanted {
@@ -139,7 +139,7 @@ fn has_rests(name: &str, wanted: &[&str]) -> Result<bool, tag::NameError> {
     Ok(rest.is_none())
 }
 
-/// The text of the name, if there is one.
+/// The bytes of the name, if there is one.
 fn text_of(name: Option<TagName<'_>>) -> Option<BStr<'_>> {
     Some(name?.as_bstr())
 }
@@ -157,7 +157,7 @@ fn goes_past_slashes(rt: HostRuntime) -> Result<(), Fail> {
     Ok(())
 }
 
-/// Whether the rule refuses the name, and the fault prints the text.
+/// Whether the rule refuses the name, and the error prints this text.
 fn is_refused<R: Rule>(alloc: Global, name: &str, text: &str) -> Result<bool, AllocError>
 where
     R::Fault: Display + Drop,
@@ -180,7 +180,7 @@ fn tells_faults(rt: HostRuntime) -> Result<(), Fail> {
     Ok(())
 }
 
-/// Whether the rule accepts the name, and a clone of what it keeps is the same text.
+/// Whether the rule accepts the name, and a clone of the typed name has the same bytes.
 fn is_kept_by<R: Rule>(text: &str) -> bool
 where
     R::Fault: Drop,
@@ -198,7 +198,7 @@ fn keeps_names(rt: HostRuntime) {
     assert!(rt; is_kept_by::<Submodule>("vendor/package"));
 }
 
-/// Whether the name of a branch stays the same text as a full name, a partial name and a tag name.
+/// Whether the name of a branch keeps its bytes as a full name, a partial name and a tag name.
 fn keeps_its_text(text: &str) -> Result<bool, reference::NameError> {
     let text = BStr::from(text);
     let branch = BranchName::new(text)?;
@@ -226,7 +226,7 @@ const WINDOWS_ALONE: ComponentOptions = ComponentOptions {
     protect_ntfs: false,
 };
 
-/// Whether the component is refused under all switches and this mode, and the fault prints the text.
+/// Whether all protections and this mode refuse the component, and the error prints this text.
 fn is_refused_as_component(
     alloc: Global,
     name: &str,
@@ -258,13 +258,13 @@ fn judges_components_by_what_it_is_handed(rt: HostRuntime) -> Result<(), Fail> {
     Ok(())
 }
 
-/// The pieces of the name, and what follows its first slash. The name itself ends here.
+/// The pieces of the name, and what follows its first slash. The `TagName` itself lives only here.
 fn parts_of(text: &str) -> Result<(Pieces<'_>, Option<TagName<'_>>), tag::NameError> {
     let name = TagName::new(BStr::from(text))?;
     Ok((name.pieces(), name.after_first_slash()))
 }
 
-/// Whether the pieces that are left are the wanted ones.
+/// Whether the pieces that are left are the expected ones.
 fn are_left(mut pieces: Pieces<'_>, wanted: &[&str]) -> bool {
     for piece in wanted {
         if pieces.next() != Some(BStr::from(*piece)) {

@@ -1,4 +1,4 @@
-//! Units of a text, by the table of whole sequences (docs/RULES.md, "Path components").
+//! The units of a name, by the table of whole sequences (docs/RULES.md, "Path components").
 
 use std::alloc::{AllocError, Global};
 
@@ -17,7 +17,7 @@ pub(crate) fn rows() -> [&'static [(u8, u8)]; 9] {
     ]
 }
 
-/// The units of a text, in order.
+/// The units of a name, in order.
 pub(crate) fn units(alloc: Global, text: &[u8]) -> Result<Vec<&[u8]>, AllocError> {
     let mut units = Vec::new(alloc);
     let mut rest = text;
@@ -32,8 +32,8 @@ pub(crate) fn units(alloc: Global, text: &[u8]) -> Result<Vec<&[u8]>, AllocError
     Ok(units)
 }
 
-/// The first unit: the front that is a whole sequence, else the longest front that begins one, else
-/// one byte.
+/// The first unit: the prefix that is a whole sequence, or else the longest prefix that begins one,
+/// or else one byte.
 pub(crate) fn first_unit(text: &[u8]) -> &[u8] {
     let rows = rows();
     if let Some(front) = whole_front(text, &rows) {
@@ -45,7 +45,7 @@ pub(crate) fn first_unit(text: &[u8]) -> &[u8] {
     text.get(..1).unwrap_or(text)
 }
 
-/// The front that is a whole sequence.
+/// The prefix that is a whole sequence.
 fn whole_front<'a>(text: &'a [u8], rows: &[&[(u8, u8)]]) -> Option<&'a [u8]> {
     for len in (1..=4).rev() {
         if let Some(front) = text.get(..len)
@@ -59,7 +59,7 @@ fn whole_front<'a>(text: &'a [u8], rows: &[&[(u8, u8)]]) -> Option<&'a [u8]> {
     None
 }
 
-/// The longest front that begins a sequence.
+/// The longest prefix that begins a sequence.
 fn begun_front<'a>(text: &'a [u8], rows: &[&[(u8, u8)]]) -> Option<&'a [u8]> {
     for len in (1..=4).rev() {
         if let Some(front) = text.get(..len)
@@ -71,7 +71,7 @@ fn begun_front<'a>(text: &'a [u8], rows: &[&[(u8, u8)]]) -> Option<&'a [u8]> {
     None
 }
 
-/// Whether the front begins a sequence of the row.
+/// Whether the prefix begins a sequence of the row.
 fn begins(front: &[u8], row: &[(u8, u8)]) -> bool {
     front.len() <= row.len()
         && front.iter().zip(row).all(|(byte, (least, greatest))| *least <= *byte

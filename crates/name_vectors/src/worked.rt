@@ -1,5 +1,5 @@
-//! Names whose answers are written out, for the calls that take memory or copy a value. (Those of
-//! the other calls are proved: see the rows of `gix_validate`.)
+//! Names with expected results, for functions that allocate or copy a value. (The results of the
+//! other functions are proved: see the rows of `gix_validate`.)
 
 mod joined;
 mod options;

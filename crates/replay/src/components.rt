@@ -1,4 +1,4 @@
-//! What the call for path components returns, under each of the sixteen settings.
+//! What the function for path components returns, under each of the sixteen settings.
 
 use crate::questions::agreed;
 use bstr::BStr;
@@ -6,11 +6,11 @@ use gix_validate::path::{self, ComponentError, ComponentMode, ComponentOptions};
 use std::alloc::{AllocError, Global};
 use typed_names::Component;
 
-/// How many answers there are: one for each setting.
+/// How many results there are: one for each setting.
 pub const ANSWERS: usize = 16;
 
-/// The letters for a component, one for each setting in the order of its number, each of the
-/// library and of the typed name.
+/// The letters for a component, one for each setting, in the order of the settings' numbers. Each
+/// is that of the library and of the typed name.
 pub fn answers(alloc: Global, name: BStr<'_>) -> Result<Vec<String>, AllocError> {
     let mut letters = Vec::with_capacity(alloc, ANSWERS)?;
     for setting in 0..ANSWERS {
@@ -24,7 +24,7 @@ pub fn answers(alloc: Global, name: BStr<'_>) -> Result<Vec<String>, AllocError>
     Ok(letters)
 }
 
-/// The switches of a setting: its number is the sum of 1 for Windows, 2 for HFS, 4 for NTFS, and 8
+/// The options of a setting. Its number is the sum of 1 for Windows, 2 for HFS, 4 for NTFS, and 8
 /// for a symlink.
 fn options_of(setting: usize) -> ComponentOptions {
     ComponentOptions {

@@ -1,4 +1,4 @@
-//! The answers of the record that aren't compared, as the file `data/exclusions` lists them.
+//! The recorded results that aren't compared, as the file `data/exclusions` lists them.
 
 use crate::questions::Kind;
 use anyhow::{Context, Result, bail, ensure};
@@ -11,30 +11,30 @@ pub struct Exclusions {
     lines: Vec<Exclusion>,
 }
 
-/// One line: which answers to which names are excluded.
+/// One line: which results for which names are excluded.
 #[derive(Drop)]
 struct Exclusion {
     /// The number of the line.
     number: usize,
     kind: Kind,
-    /// A byte for each answer of the kind, `-` where it is excluded.
+    /// A byte for each result of the kind, `-` if it is excluded.
     marks: Vec<u8>,
     scope: Scope,
     /// Whether a question had such a name.
     is_used: bool,
 }
 
-/// Which names an exclusion is about.
+/// Which names an exclusion applies to.
 #[derive(Drop)]
 enum Scope {
-    /// This one.
+    /// This name.
     Is(Vec<u8>),
-    /// Those that contain this.
+    /// The names that contain these bytes.
     Contains(Vec<u8>),
 }
 
 impl Exclusions {
-    /// Reads a file. Empty lines and those that begin with `#` say nothing.
+    /// Reads a file. Empty lines and those that begin with `#` are ignored.
     pub fn parse(alloc: Global, text: &str) -> Result<Exclusions> {
         let mut lines = Vec::new(alloc);
         for (index, line) in text.lines().enumerate() {
@@ -49,7 +49,7 @@ impl Exclusions {
         Ok(Exclusions { lines })
     }
 
-    /// Puts `-` in the place of each answer that is excluded.
+    /// Replaces each excluded result with `-`.
     pub fn leave_out(
         &mut self,
         alloc: Global,
@@ -70,7 +70,7 @@ impl Exclusions {
         Ok(())
     }
 
-    /// Fails if an exclusion was about no name of all that were asked.
+    /// Fails if an exclusion applied to no name of the input.
     pub fn check_all_used(&self) -> Result<()> {
         for line in &self.lines {
             ensure!(line.is_used, "line {} excludes nothing", line.number);
@@ -80,7 +80,7 @@ impl Exclusions {
 }
 
 impl Exclusion {
-    /// Reads a line in the form `KIND ANSWERS is|contains HEX REASON`.
+    /// Reads a line in the format `KIND ANSWERS is|contains HEX REASON`.
     fn parse(alloc: Global, number: usize, line: &str) -> Result<Exclusion> {
         let mut words = line.splitn(5, ' ');
         let (Some(kind), Some(marks), Some(relation), Some(digits), Some(_reason)) = (
@@ -107,7 +107,7 @@ impl Exclusion {
     }
 }
 
-/// Whether the text has a mark for each of so many answers, one of which is excluded.
+/// Whether the string has a mark for each of `count` results, and at least one is excluded.
 fn is_marks(text: &str, count: usize) -> bool {
     text.len() == count
         && text.contains('-')
@@ -115,8 +115,8 @@ fn is_marks(text: &str, count: usize) -> bool {
 }
 
 impl Scope {
-    /// Reads which names an exclusion is about. All names contain the empty one, so that is
-    /// refused.
+    /// Reads which names an exclusion applies to. All names contain the empty one, so `contains`
+    /// with that is refused.
     fn parse(alloc: Global, relation: &str, digits: &str) -> Result<Scope> {
         let bytes = hex::decode(alloc, digits)?;
         match relation {
@@ -127,7 +127,7 @@ impl Scope {
         }
     }
 
-    /// Whether the name is one of these.
+    /// Whether the exclusion applies to the name.
     fn has(&self, name: &[u8]) -> bool {
         match self {
             Scope::Is(bytes) => name == bytes.as_slice(),

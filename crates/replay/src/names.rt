@@ -1,4 +1,4 @@
-//! What the calls for whole names return.
+//! What the functions for whole names return.
 
 use crate::questions::agreed;
 use bstr::BStr;
@@ -7,14 +7,14 @@ use std::alloc::{AllocError, Global};
 use std::fmt::Debug;
 use typed_names::{BranchName, FullName, PartialName, SubmoduleName, TagName};
 
-/// How many answers there are.
+/// How many results there are.
 pub const ANSWERS: usize = 7;
 
-/// What is after the name while it is sanitised in place.
+/// The bytes after the name while it is sanitised in place.
 const AFTER: &[u8] = b"x/.lock\xA5";
 
-/// The answers for a name. Where two calls answer one question, they are to agree: those of the
-/// library and of the typed name, and the two sanitisers.
+/// The results for a name. Functions for the same question have to agree: those of the library and
+/// of the typed names, and the two sanitisers.
 pub fn answers(alloc: Global, name: BStr<'_>) -> Result<Vec<String>, AllocError> {
     Ok(vec![in alloc;
         verdict(alloc, tag::name(name), TagName::new(name))?,
@@ -66,7 +66,7 @@ impl Fault for submodule::NameError {
     }
 }
 
-/// What the library and the typed name say of a name.
+/// What the library and the typed name return for a name.
 fn verdict<T: Drop, N: Drop, F: Fault + Drop>(
     alloc: Global,
     library: Result<T, F>,
@@ -112,7 +112,7 @@ fn sanitized_in_place(alloc: Global, name: &[u8]) -> Result<String, AllocError> 
     let untouched = buffer.to_vec(alloc)?;
     let len = reference::sanitize_in_place(&mut buffer, name.len());
     let sanitized = hex::encode(alloc, &buffer[..len])?;
-    // An empty name becomes one byte, which takes the place of the first one after it.
+    // An empty name becomes one byte, which overwrites the first byte after it.
     let kept = name.len().max(1);
     if buffer[kept..] == untouched[kept..] {
         return Ok(sanitized);

@@ -1,4 +1,4 @@
-//! The questions of the record, and the form of their answers.
+//! The questions of the record, and the format of their results.
 
 use crate::exclusions::Exclusions;
 use crate::{components, names};
@@ -6,12 +6,12 @@ use anyhow::{Context, Result, bail};
 use bstr::BStr;
 use std::alloc::{AllocError, Global};
 
-/// What is asked about a name.
+/// Which functions a name is passed to.
 #[derive(Clone, Copy, PartialEq, Eq)]
 pub enum Kind {
-    /// What the calls for whole names return.
+    /// The functions for whole names.
     Names,
-    /// What the call for path components returns, under each setting.
+    /// The function for path components, under each setting.
     Components,
 }
 
@@ -25,7 +25,7 @@ impl Kind {
         }
     }
 
-    /// How many answers a question has.
+    /// How many results a question has.
     pub fn answer_count(self) -> usize {
         match self {
             Kind::Names => names::ANSWERS,
@@ -33,7 +33,7 @@ impl Kind {
         }
     }
 
-    /// The answers for a name.
+    /// The results for a name.
     fn answers(self, alloc: Global, name: BStr<'_>) -> Result<Vec<String>, AllocError> {
         match self {
             Kind::Names => names::answers(alloc, name),
@@ -41,7 +41,7 @@ impl Kind {
         }
     }
 
-    /// What is between each two answers.
+    /// What is between two results.
     fn separator(self) -> &'static str {
         match self {
             Kind::Names => " ",
@@ -50,7 +50,7 @@ impl Kind {
     }
 }
 
-/// The line that answers a question: a kind, a space, and a name in hexadecimal.
+/// The line of results for a question. A question is a kind, a space, and a name in hexadecimal.
 pub fn answer(alloc: Global, question: &str, exclusions: &mut Exclusions) -> Result<String> {
     let Some((kind, digits)) = question.split_once(' ') else {
         bail!("there is no space after the kind of question")
@@ -62,7 +62,7 @@ pub fn answer(alloc: Global, question: &str, exclusions: &mut Exclusions) -> Res
     Ok(joined(alloc, &answers, kind.separator())?)
 }
 
-/// The texts with a separator between each two.
+/// The strings, with a separator between each two.
 fn joined(alloc: Global, texts: &[String], separator: &str) -> Result<String, AllocError> {
     let mut line = String::new(alloc);
     for (index, text) in texts.iter().enumerate() {
@@ -74,7 +74,8 @@ fn joined(alloc: Global, texts: &[String], separator: &str) -> Result<String, Al
     Ok(line)
 }
 
-/// What two calls answer that are to agree: the one answer, or both with a bar between them.
+/// The results of two functions that have to agree: the one result, or both with a bar between
+/// them.
 pub fn agreed(alloc: Global, first: String, second: String) -> Result<String, AllocError> {
     if first == second {
         Ok(first)

@@ -1,11 +1,11 @@
-//! Every text of some parts, up to some number of them.
+//! All names made of some parts, up to some number of parts.
 
 use super::ask;
 use std::alloc::{AllocError, Global};
 use std::process::Abort;
 use std::test::Fail;
 
-/// Texts that mean something to a rule, and that may mean something else beside one another.
+/// Byte strings that mean something to a rule, and may mean something else next to one another.
 fn tokens() -> &'static [&'static [u8]] {
     &[
         b".git",
@@ -42,7 +42,7 @@ fn answers_all_texts_of_five_marks(rt: HostRuntime) -> Result<(), Fail> {
     Ok(())
 }
 
-/// The suffix that Git reserves for its own files, among the marks of the other rules.
+/// The suffix that Git reserves for its own files, among the special bytes of the other rules.
 #[test]
 fn answers_all_texts_of_four_marks_and_suffixes(rt: HostRuntime) -> Result<(), Fail> {
     let parts: [&[u8]; 6] = [b".lock", b"/", b".", b"a", b"@", b"{"];
@@ -56,7 +56,7 @@ fn answers_all_texts_of_three_tokens(rt: HostRuntime) -> Result<(), Fail> {
     Ok(())
 }
 
-/// Asks about each text of at most so many parts, and says how many texts it asked about.
+/// Checks each name of at most `most` parts, and returns how many names it checked.
 fn ask_all(
     rt: &impl Abort,
     alloc: Global,
@@ -75,8 +75,8 @@ fn ask_all(
     Ok(asked)
 }
 
-/// So many parts, one after the other: those that the digits of the number name, in the base of all
-/// parts.
+/// `count` parts, one after the other. Their indices are the digits of `number`, in the base of how
+/// many parts there are.
 fn text_of(
     alloc: Global,
     parts: &[&[u8]],

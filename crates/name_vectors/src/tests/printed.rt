@@ -1,4 +1,4 @@
-//! What each error prints, against the texts written out (docs/RULES.md, "Printed texts").
+//! What each error prints, compared with the expected texts (docs/RULES.md, "Printed texts").
 
 ghost use Rattle.std.specs.Prelude.{◌≡◌, IfOk, string_bytes};
 ghost use Rattle.gix_validate.specs.Component.{text_of as component_text_of};
@@ -12,45 +12,44 @@ use gix_validate::{reference, submodule, tag};
 use std::alloc::{AllocError, Global};
 use std::test::Fail;
 
-// Callers that rest on what the types say that they print.
+// Callers that depend on what the types' contracts say they print.
 
-/// What a fault of a tag name prints.
+/// What an error of a tag name prints.
 fn tag_text(alloc: Global, fault: &tag::NameError) -> Result<String, AllocError>
     ensures { IfOk result (λ text. string_bytes text ≡ tag_text_of fault.now) }
 {
     format!(in alloc; "{fault}")
 }
 
-/// What a fault of a reference name prints.
+/// What an error of a reference name prints.
 fn reference_text(alloc: Global, fault: &reference::NameError) -> Result<String, AllocError>
     ensures { IfOk result (λ text. string_bytes text ≡ reference_text_of fault.now) }
 {
     format!(in alloc; "{fault}")
 }
 
-/// What a fault of a submodule name prints.
+/// What an error of a submodule name prints.
 fn submodule_text(alloc: Global, fault: &submodule::NameError) -> Result<String, AllocError>
     ensures { IfOk result (λ text. string_bytes text ≡ submodule_text_of fault.now) }
 {
     format!(in alloc; "{fault}")
 }
 
-/// What a fault of a component prints.
+/// What an error of a component prints.
 fn component_text(alloc: Global, fault: &ComponentError) -> Result<String, AllocError>
     ensures { IfOk result (λ text. string_bytes text ≡ component_text_of fault.now) }
 {
     format!(in alloc; "{fault}")
 }
 
-/// The fault of a reference name that carries a fault of a tag name, by what the conversion
-/// promises.
+/// The error of reference names that an error of tag names converts to, by the contract of `From`.
 fn converted(fault: tag::NameError) -> reference::NameError
     ensures { result ≡ carried fault }
 {
     reference::NameError::from(fault)
 }
 
-/// Faults of tag names, and their texts.
+/// Errors of tag names, and their printed texts.
 fn faults_of_tag_names() -> &'static [(tag::NameError, &'static str)] {
     use tag::NameError::*;
 
@@ -88,7 +87,7 @@ fn prints_faults_of_tag_names(rt: HostRuntime) -> Result<(), Fail> {
     Ok(())
 }
 
-/// Faults of reference names, and their texts.
+/// Errors of reference names, and their printed texts.
 fn faults_of_reference_names() -> [(reference::NameError, &'static str); 11] {
     use reference::NameError::*;
 
@@ -121,7 +120,7 @@ fn prints_faults_of_reference_names(rt: HostRuntime) -> Result<(), Fail> {
     Ok(())
 }
 
-/// Faults of submodule names, and their texts.
+/// Errors of submodule names, and their printed texts.
 fn faults_of_submodule_names() -> &'static [(submodule::NameError, &'static str)] {
     use submodule::NameError::*;
 
@@ -139,7 +138,7 @@ fn prints_faults_of_submodule_names(rt: HostRuntime) -> Result<(), Fail> {
     Ok(())
 }
 
-/// Faults of components, and their texts.
+/// Errors of components, and their printed texts.
 fn faults_of_components() -> &'static [(ComponentError, &'static str)] {
     use ComponentError::*;
 
@@ -209,7 +208,7 @@ fn names() -> &'static [&'static [u8]] {
     ]
 }
 
-/// What is printed of the reserved name, where it has at most fifteen bytes.
+/// What is printed for the reserved name, if it has at most fifteen bytes.
 fn reserved_text(alloc: Global, bytes: &[u8]) -> Result<String, AllocError> {
     let mut name = ArrayVec::new();
     for byte in bytes {
@@ -229,7 +228,7 @@ fn prints_reserved_names(rt: HostRuntime) -> Result<(), Fail> {
     Ok(())
 }
 
-/// The text, and the bytes in their quoted form.
+/// The text, followed by the bytes in their quoted form.
 fn followed_by_quoted(alloc: Global, text: &str, bytes: &[u8]) -> Result<Vec<u8>, AllocError> {
     let mut printed = text.as_bytes().to_vec(alloc)?;
     printed.push(b'"')?;
@@ -240,7 +239,7 @@ fn followed_by_quoted(alloc: Global, text: &str, bytes: &[u8]) -> Result<Vec<u8>
     Ok(printed)
 }
 
-/// Puts the quoted form of the byte behind the text.
+/// Appends the quoted form of the byte.
 fn push_quoted(alloc: Global, printed: &mut Vec<u8>, byte: u8) -> Result<(), AllocError> {
     if let Some(escape) = short_escape(byte) {
         printed.extend_from_slice(escape)
@@ -251,7 +250,7 @@ fn push_quoted(alloc: Global, printed: &mut Vec<u8>, byte: u8) -> Result<(), All
     }
 }
 
-/// The escape of a byte that has one of its own.
+/// The short escape of the byte, if it has one.
 fn short_escape(byte: u8) -> Option<&'static [u8]> {
     match byte {
         0x00 => Some(b"\\0"),

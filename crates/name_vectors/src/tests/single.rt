@@ -1,4 +1,4 @@
-//! Long texts, and texts that are not UTF-8, with answers that are written out.
+//! Long names, and names that are not UTF-8, with expected results.
 
 use super::ask;
 use crate::units::units;
@@ -9,7 +9,7 @@ use gix_validate::tag;
 use std::alloc::{AllocError, Global};
 use std::test::Fail;
 
-/// The front, a thousand times the word, and the end.
+/// The front, the word a thousand times, and the end.
 fn long(alloc: Global, front: &[u8], word: &[u8], end: &[u8]) -> Result<Vec<u8>, AllocError> {
     let mut text = front.to_vec(alloc)?;
     text.extend_from_slice(&word.repeat(alloc, 1000)?)?;
@@ -17,7 +17,7 @@ fn long(alloc: Global, front: &[u8], word: &[u8], end: &[u8]) -> Result<Vec<u8>,
     Ok(text)
 }
 
-/// What a long text begins with, repeats and ends with, and what it is sanitised to.
+/// What a long name begins with, repeats and ends with, and what it is sanitised to.
 fn long_texts() -> &'static [(&'static [u8], &'static [u8], &'static [u8], &'static [u8])] {
     &[
         (b"a", b".lock", b"", b"a"),
@@ -47,7 +47,7 @@ fn finds_the_fault_of_a_long_text(rt: HostRuntime) -> Result<(), Fail> {
     Ok(())
 }
 
-/// The word, with a thousand ignored characters on either side of it.
+/// The word, with a thousand ignored characters on each side.
 fn among_ignored(alloc: Global, word: &[u8]) -> Result<Vec<u8>, AllocError> {
     let ignored = "\u{200C}".as_bytes().repeat(alloc, 1000)?;
     let mut text = ignored.to_vec(alloc)?;
@@ -71,7 +71,7 @@ fn sees_through_ignored_characters(rt: HostRuntime) -> Result<(), Fail> {
     Ok(())
 }
 
-/// Texts, and the units that they are cut into.
+/// Names, and the units that they are split into.
 fn texts_of_units() -> &'static [(&'static [u8], &'static [&'static [u8]])] {
     &[
         (b"\xE2\x82:", &[b"\xE2\x82", b":"]),
@@ -100,7 +100,7 @@ fn texts_of_units() -> &'static [(&'static [u8], &'static [&'static [u8]])] {
     ]
 }
 
-/// Ill-formed texts, and the units that they are cut into.
+/// Names, most of them ill-formed UTF-8, and the units that they are split into.
 #[test]
 fn cuts_texts_into_units(rt: HostRuntime) -> Result<(), Fail> {
     for (text, want) in texts_of_units() {
@@ -132,7 +132,7 @@ fn accepts_bytes_past_ascii(rt: HostRuntime) -> Result<(), Fail> {
     Ok(())
 }
 
-/// Each byte behind the two bytes with which an ignored character begins.
+/// Each byte after the first two bytes of an ignored character.
 #[test]
 fn tells_ignored_characters_from_others(rt: HostRuntime) -> Result<(), Fail> {
     let mut asked: u32 = 0;

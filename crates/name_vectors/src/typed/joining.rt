@@ -12,7 +12,7 @@ use std::alloc::{AllocError, Global};
 use std::test::Fail;
 use typed_names::{Component, TagName};
 
-/// What components keep is all that the join asks of its parts.
+/// Joins two components. What a `Component` keeps is all that the join requires of its parts.
 fn path_of(alloc: Global, folder: Component<'_>, name: Component<'_>) -> Result<BString, AllocError>
     ensures { IfOk result (λ path. bstring_bytes path ≡ joined
         (bstr_bytes (component_text folder.entry) ∷ bstr_bytes (component_text name.entry) ∷ [])) }

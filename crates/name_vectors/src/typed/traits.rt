@@ -1,5 +1,5 @@
-//! What the typed names share: equality, bytes and printed text, by callers that rest on what
-//! `Name` and `Component` say of them.
+//! What the typed names share: equality, bytes and printed text. The callers here depend on the
+//! contracts that `Name` and `Component` have for these.
 
 ghost use Rattle.std.specs.Prelude.{◌≡◌, ◌↔◌, IfOk, IsTrue, string_bytes, encode_utf8_all};
 ghost use Rattle.bstr.specs.Utf8.{lossy_chars};
@@ -13,7 +13,7 @@ use std::fmt::Debug;
 use std::test::Fail;
 use typed_names::{Branch, Component, Full, Name, Partial, Rule, Submodule, Tag};
 
-/// The bytes of a name, by what its type says that it gives as a slice.
+/// The bytes of a name, by its type's contract for `AsSlice`.
 fn slice_of<T: AsSlice<u8>>(name: &T) -> &[u8]
     ensures { result.now ≡ T.items name.now }
 {
@@ -68,7 +68,7 @@ const ALL: ComponentOptions = ComponentOptions {
     protect_ntfs: true,
 };
 
-/// Whether the rule's name is equal to itself, gives the name's bytes and prints this text.
+/// Whether the rule's typed name is equal to itself, has the name's bytes and prints this text.
 fn name_shows<R: Rule>(alloc: Global, name: BStr<'_>, text: &str) -> Result<bool, Fail>
 where
     R::Fault: Debug + Drop,
@@ -81,7 +81,7 @@ where
     )
 }
 
-/// Whether a `Component` is equal to itself, gives the name's bytes and prints this text.
+/// Whether a `Component` is equal to itself, has the name's bytes and prints this text.
 fn component_shows(alloc: Global, name: BStr<'_>, text: &str) -> Result<bool, Fail> {
     let component = Component::new(name, None, ALL)?;
     Ok(
@@ -105,7 +105,7 @@ fn shows_names(rt: HostRuntime) -> Result<(), Fail> {
     Ok(())
 }
 
-/// Whether `Debug` prints the rule's name as this.
+/// Whether `Debug` prints the rule's typed name like this.
 fn is_debugged_as<R: Rule>(alloc: Global, text: &str) -> Result<bool, Fail>
 where
     R::Fault: Debug + Drop,

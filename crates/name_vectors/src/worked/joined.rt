@@ -15,7 +15,7 @@ fn join_to(alloc: Global, a: &str, b: &str, want: &str) -> Result<bool, AllocErr
     Ok(name == BStr::from(want) && reference::name(name).is_ok())
 }
 
-/// Tag names, and what each two join to.
+/// Pairs of tag names, and what each pair joins to.
 fn pairs() -> &'static [(&'static str, &'static str, &'static str)] {
     &[
         ("@", "v1.0", "@/v1.0"),
@@ -32,7 +32,7 @@ fn joins_tag_names(rt: HostRuntime) -> Result<(), Fail> {
     Ok(())
 }
 
-/// A file in a folder in a folder.
+/// A file in a directory in a directory.
 #[tactic(auto, unfolding(gix_validate::proofs::OnLiterals::components_on_literals))]
 fn three_parts(alloc: Global) -> Result<BString, AllocError> {
     let parts = [BStr::from("src"), BStr::from(".github"), BStr::from("a.rs")];

@@ -1,4 +1,4 @@
-//! Options and modes of components, by callers that rest on what the types say of their traits.
+//! Options and modes of components. The callers here depend on the contracts of the types' traits.
 
 ghost use Rattle.std.specs.Prelude.{◌≡◌, IsTrue};
 ghost use Rattle.gix_validate.specs.Component.{all_protections};
@@ -6,28 +6,28 @@ ghost use Rattle.gix_validate.specs.Component.{all_protections};
 use bstr::BStr;
 use gix_validate::path::{ComponentError, ComponentMode, ComponentOptions, component};
 
-/// The default has every protection.
+/// The default options have every protection.
 fn default_options() -> ComponentOptions
     ensures { result ≡ all_protections }
 {
     ComponentOptions::default()
 }
 
-/// A clone of options is made, and has the same switches.
+/// Cloning options succeeds, and the clone has the same protections.
 fn cloned_options(options: &ComponentOptions) -> ComponentOptions
     ensures { result ≡ options.now }
 {
     options.clone().unwrap()
 }
 
-/// A clone of a mode is made, and is the same.
+/// Cloning a mode succeeds, and the clone is the same.
 fn cloned_mode(mode: &ComponentMode) -> ComponentMode
     ensures { result ≡ mode.now }
 {
     mode.clone().unwrap()
 }
 
-/// There is one mode.
+/// There is only one mode.
 fn same_mode(a: ComponentMode, b: ComponentMode) -> bool
     ensures { IsTrue result }
 {

@@ -5,13 +5,13 @@ use gix_validate::reference::{name_partial_or_sanitize, sanitize_in_place};
 use std::alloc::{AllocError, Global};
 use std::test::Fail;
 
-/// The copy, repaired.
+/// The repaired copy.
 fn repaired(alloc: Global, name: &[u8]) -> Result<BString, AllocError> {
     name_partial_or_sanitize(alloc, BStr::new(name))
 }
 
-/// Repairs the name in the first `len` bytes of the buffer, and gives the repaired name's length:
-/// 0 where the buffer has no byte or too few.
+/// Repairs the name in the first `len` bytes of the buffer, and returns the repaired name's length:
+/// 0 if the buffer is empty or too short.
 fn repair_front(buffer: &mut [u8], len: usize) -> usize {
     if buffer.is_empty() || len > buffer.len() {
         return 0;
@@ -19,8 +19,8 @@ fn repair_front(buffer: &mut [u8], len: usize) -> usize {
     sanitize_in_place(buffer, len)
 }
 
-/// Whether both calls repair the name to this one. In place it stands before two bytes more, the
-/// last of which has to stay.
+/// Whether both functions repair the name to this one. In place, two more bytes follow the name.
+/// The last of them has to stay.
 fn is_repaired_to(alloc: Global, name: &str, want: &str) -> Result<bool, AllocError> {
     let mut buffer = Vec::from_slice(alloc, name.as_bytes())?;
     buffer.extend_from_slice(b"!!")?;
@@ -66,7 +66,7 @@ fn repairs_names(rt: HostRuntime) -> Result<(), Fail> {
     Ok(())
 }
 
-/// Names with several faults, and what they are repaired to.
+/// Names with several errors, and what they are repaired to.
 fn names_with_several_faults() -> &'static [(&'static str, &'static str)] {
     &[
         ("refs//heads/../x.lock.lock/.y*", "refs/heads/-/x/-y-"),
@@ -99,8 +99,8 @@ fn repairs_several_faults_at_once(rt: HostRuntime) -> Result<(), Fail> {
     Ok(())
 }
 
-/// A buffer, the length of the name in it, and what it begins with and ends in afterwards, where
-/// the beginning is the whole repaired name.
+/// A buffer, the length of the name in it, and what the buffer begins with and ends in after the
+/// repair. The beginning is the whole repaired name.
 fn buffers() -> &'static [(&'static str, usize, &'static str, &'static str)] {
     &[
         ("..azz", 3, "-a", "zz"),
@@ -115,7 +115,7 @@ fn buffers() -> &'static [(&'static str, usize, &'static str, &'static str)] {
     ]
 }
 
-/// Whether the name that a buffer begins with is repaired to this one, and what is behind it stays.
+/// Whether the name at the start of a buffer is repaired to this one, and what follows it stays.
 fn is_front_repaired_to(
     alloc: Global,
     row: &(&str, usize, &str, &str),

@@ -275,7 +275,7 @@ def fault_numbers(buffer: bytes, kind: Kind, end: bytes = b"\n") -> bytes:
 def faults(names: Iterable[bytes], kind: Kind) -> List[Optional[Fault]]:
     """Checks many names: returns None for each that is valid, and the fault of each that isn't, in order."""
     numbers = _numbers_of_each(names, kind)
-    if numbers == bytes(len(numbers)):
+    if _all_zero(numbers):
         return [None] * len(numbers)
     return [_fault_of[number] for number in numbers]
 
@@ -283,8 +283,7 @@ def faults(names: Iterable[bytes], kind: Kind) -> List[Optional[Fault]]:
 def first_invalid(names: Iterable[bytes], kind: Kind) -> Optional[int]:
     """Checks many names: returns the index of the first that is invalid, and None if all are valid."""
     numbers = _numbers_of_each(names, kind)
-    valid = len(numbers) - len(numbers.lstrip(b"\0"))
-    return valid if valid < len(numbers) else None
+    return None if _all_zero(numbers) else len(numbers) - len(numbers.lstrip(b"\0"))
 
 
 def version() -> Tuple[int, int, int]:
@@ -315,14 +314,20 @@ def _numbers(many: Callable[..., int], buffer: bytes, length: int, end: int, roo
 def _numbers_of_each(names: Iterable[bytes], kind: Kind) -> bytes:
     """The number of each name. A name that holds a NUL can't be in a buffer in which NUL ends each name."""
     many, code_of = _of_kind(_many, kind), _of_kind(_codes, kind)
-    parts = [*names, b""]  # (so that a NUL ends the last name, too)
-    wanted = len(parts) - 1
-    if set(map(type, parts)) == {bytes}:
+    parts = names if type(names) is list else list(names)
+    wanted = len(parts)
+    if list(map(type, parts)).count(bytes) == wanted:
         buffer = b"\0".join(parts)
+        if not buffer or buffer.endswith(b"\0"):
+            buffer += b"\0"  # (which ends the last name, if that is empty)
         count, numbers = _numbers(many, buffer, len(buffer), 0, wanted)
         if count == wanted:
             return numbers
-    return bytes([code_of(name, _length(name)) for name in parts[:-1]])
+    return bytes([code_of(name, _length(name)) for name in parts])
+
+
+def _all_zero(numbers: bytes) -> bool:
+    return numbers == bytes(len(numbers))
 
 
 def _accepted(name: bytes, code_of: Callable[..., int], text_of: Callable[..., int], *flags: int) -> bytes:

@@ -105,7 +105,7 @@ pub extern "C" fn gix_validate_submodule_many(names: &[u8], end: u8, faults: &mu
 }
 
 /// A kind of name. Its check is not the function that C calls for one name: a second caller would
-/// keep the compiler from inlining that, and such a call would take a sixth longer.
+/// keep the compiler from inlining that one.
 trait Kind {
     ghost number_of: { List ℕ → ℕ };
 

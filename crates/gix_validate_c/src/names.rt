@@ -28,6 +28,8 @@ const NO_BYTE: u32 = 256;
 /// gix_validate_tag((const uint8_t *)"v1.2.3", 6); // 0
 /// gix_validate_tag((const uint8_t *)"a..b", 4);   // 4, RepeatedDot
 /// ```
+// (Inlined in the function that C calls, it refuses a name at its first byte in 7.7 ns for 4.4.)
+#[inline(never)]
 #[unsafe(no_mangle)]
 pub extern "C" fn gix_validate_tag(name: &[u8]) -> u32
     ensures answer { result ≡ code_by tag_number (tag.fault_of name.now) }

@@ -103,6 +103,8 @@ pub extern "C" fn gix_validate_branch(name: &[u8]) -> u32
 /// gix_validate_submodule((const uint8_t *)"vendor/package", 14); // 0
 /// gix_validate_submodule((const uint8_t *)"a\\..", 4);           // 14, ParentComponent
 /// ```
+// (Not inlined, for the reason given at `gix_validate_tag`.)
+#[inline(never)]
 #[unsafe(no_mangle)]
 pub extern "C" fn gix_validate_submodule(name: &[u8]) -> u32
     ensures answer { result ≡ code_by submodule_number (submodule.fault_of name.now) }

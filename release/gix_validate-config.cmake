@@ -1,4 +1,4 @@
-# find_package(gix_validate 2) gives the targets gix_validate::static and gix_validate::shared.
+# find_package(gix_validate @MAJOR@) gives the targets gix_validate::static and gix_validate::shared.
 get_filename_component(_gix_validate "${CMAKE_CURRENT_LIST_DIR}/../../.." ABSOLUTE)
 if(NOT TARGET gix_validate::static)
   add_library(gix_validate::static STATIC IMPORTED)

@@ -20,7 +20,12 @@ metadata = f"""Metadata-Version: 2.1
 Name: gix-validate
 Version: {version}
 Summary: Proved validation of the names that Git uses
+Author: The authors of Dihareku
 License: MIT OR Apache-2.0
+Classifier: License :: OSI Approved :: MIT License
+Classifier: License :: OSI Approved :: Apache Software License
+Classifier: Operating System :: POSIX :: Linux
+Classifier: Typing :: Typed
 Requires-Python: >=3.7
 Description-Content-Type: text/markdown
 

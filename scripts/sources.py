@@ -6,6 +6,7 @@ ROOT = os.path.dirname(os.path.dirname(os.path.realpath(__file__)))
 QUOTED = re.compile(r'"(\\.|[^"\\])*"', re.S)
 LETTER = re.compile(r"b?'(\\.[^']*|[^'\\])'")
 CLAUSE = re.compile(r"\s*(requires|ensures)(?: (\w+))? \{")
+HEAD = re.compile(r"(?m)^(?:    )?(?:pub(?:\([\w ]+\))? )?(?:const )?(?:extern \"C\" )?(fn|struct|enum|trait|impl|const|static)\b.*")
 # Words of a line 'refused:' for what has no name of its own: a function's one clause, what holds in its loops, and what a
 # call of another crate asks for.
 WORDS = ("answer", "loop", "invariant", "call", "unwrap")
@@ -53,6 +54,7 @@ class Item:
         self.module, self.owner, self.name = module, owner, name
         self.is_public, self.of_trait, self.ghosts = is_public, of_trait, None
         self.ensures, self.requires = [], []
+        self.heads = set()
         self.shown, self.is_empty, self.is_declared = None, False, False
 
     @property
@@ -97,6 +99,7 @@ def items_of(module, text):
         is_public = it[1] == "pub"
         if it[2] == "fn":
             item = Item(module, None, re.match(r"\w+", it[3])[0], is_public)
+            item.heads = {it[0]}
             item.read_clauses(text[it.start() :])
             yield item
             continue
@@ -107,11 +110,13 @@ def items_of(module, text):
         name = " ".join(text[it.end(2) : opening.start()].split())
         if it[2] == "struct":
             item = Item(module, re.match(r"\w+", name)[0], "", is_public)
+            item.heads = {it[0]}
             item.ensures = re.findall(r"(?m)^    (?:pub )?ghost (\w+): \{", inside)
             yield item
             continue
         for member in members(module, it[2], name, is_public or it[2] == "impl", inside):
             member.is_public &= member.owner not in hidden
+            member.heads.add(it[0])
             yield member
 
 
@@ -128,15 +133,19 @@ def members(module, kind, name, is_public, inside):
     for it in re.finditer(r"(?m)^    (pub(?:\([\w ]+\))? )?(?:const )?fn (\w+)", inside):
         is_method = is_public and (it[1] == "pub " or kind == "trait")
         item = Item(module, owner, it[2], is_method, trait if kind == "impl" else owner)
+        item.heads = {inside[it.start() : inside.index("\n", it.start())]}
         item.read_clauses(inside[it.start() :])
         item.ghosts = ghosts
         yield item
 
 
+def root_of(crate):
+    return "main" if os.path.isfile(f"{ROOT}/crates/{crate}/src/main.rt") else "lib"
+
+
 def modules(crate):
     """The modules of a crate without its tests: path, text, and whether another crate can name it. In a program all can be."""
-    top = f"crates/{crate}/src"
-    root = "main" if os.path.isfile(f"{ROOT}/{top}/main.rt") else "lib"
+    top, root = f"crates/{crate}/src", root_of(crate)
 
     def visit(path, is_public):
         text = read(f"{top}/{'/'.join(path) or root}.rt")
@@ -152,12 +161,14 @@ def items(crate):
     """All functions and ghost members of a crate. Each that another crate can name, by a `pub use` too, is public; in a
     program each `pub` function is, and each that `main` calls."""
     found, offered = [], {}
+    root = root_of(crate)
     for path, text, is_public in modules(crate):
         for source, names in re.findall(r"(?m)^pub use (?:crate::|self::)?([\w:]+)::(\{[^}]*\}|\w+);", text):
             for name in re.findall(r"\w+", names):
                 offered[source.rpartition("::")[2], name] = path
         called = re.findall(r"\b(\w+)\(", re.search(r"(?ms)^fn main\(.*?^\}|\Z", text)[0])
         for item in items_of(path, text):
+            item.heads = {(f"src/{'/'.join(path) or root}.rt", it) for it in item.heads}
             item.is_said = item.is_public
             item.is_public = item.is_said and is_public or bool(item.name in called and item.ensures)
             found.append(item)
@@ -191,10 +202,12 @@ class Edit:
                 path = rest.strip()
             elif word == "old":
                 old = rest
-            elif word == "new" and path and old:
+            elif word == "new" and path and old and old != rest:
                 self.pairs.append((path, old, rest))
             elif word == "refused":
                 self.refused = [self.parsed(it) for it in rest.split(",")]
+            elif line:
+                raise Fault(f"{self.file}: its line '{line}' is none of file:, old:, new: and refused:, or changes nothing")
 
     def parsed(self, text):
         words = text.split()
@@ -210,21 +223,35 @@ class Edit:
             i += 1
         return words[0], clauses
 
-    def texts(self):
-        """The files that it changes, as they are with it."""
-        found = {}
+    def texts(self, before=None):
+        """The files that it changes, as they are with it, and those of `before`, which it changes further."""
+        found = dict(before or {})
         for path, old, new in self.pairs:
             text = found.get(path) or read(f"crates/{self.crate}/{path}")
             if text.count(old) != 1:
                 raise Fault(f"{self.file} no longer applies: an 'old:' text is in {path} {text.count(old)} times, and not once")
             found[path] = text.replace(old, new)
-        if not found:
+        if not self.pairs:
             raise Fault(f"{self.file} has no 'old:' and 'new:' pair")
+        return found
+
+    def heads(self):
+        """The heads of the functions that it changes, or None if it changes anything else."""
+        found, texts = set(), {}
+        for path, old, new in self.pairs:
+            text = texts.get(path) or read(f"crates/{self.crate}/{path}")
+            at = text.find(old)
+            above = list(HEAD.finditer(text, 0, at + len(old)))
+            if not above or above[-1][1] != "fn":
+                return None
+            found.add((path, above[-1][0]))
+            if above[-1][0].startswith("    "):
+                found.add((path, [it for it in above if not it[0].startswith("    ")][-1][0]))
+            texts[path] = text.replace(old, new)
         return found
 
 
 def edits(crate):
-    folder = f"crates/{crate}/must-fail"
-    if not os.path.isdir(f"{ROOT}/{folder}"):
-        return []
-    return [Edit(crate, f"{folder}/{it}") for it in sorted(os.listdir(f"{ROOT}/{folder}")) if it.endswith(".edit")]
+    """The edits of a crate: those that `scripts/edit` alone tries, and those that rt tries, too."""
+    folders = [it for it in (f"crates/{crate}/edits", f"crates/{crate}/must-fail") if os.path.isdir(f"{ROOT}/{it}")]
+    return [Edit(crate, f"{it}/{name}") for it in folders for name in sorted(os.listdir(f"{ROOT}/{it}")) if name.endswith(".edit")]

@@ -1,5 +1,5 @@
 /*
- * Replays the rows of bindings/rows through the functions of gix_validate.h, and checks what no row can say: texts,
+ * Replays the rows of tests/rows through the functions of gix_validate.h, and checks what no row can say: texts,
  * repairs and numbers into buffers that are too small, large enough and larger; flags with other bits; NULL with length
  * 0; reads and writes past either end of a name, a buffer and an array; the version.
  * Each name and each buffer is a block of its exact size, so that valgrind sees any byte beyond it.
@@ -59,9 +59,9 @@ static bool same(const uint8_t *left, const void *right, size_t length) {
 /* The calls by their words in the rows. A component asks under its flags, the others leave them aside. */
 struct question {
     const char *call;
-    uint32_t (*code)(const uint8_t *, size_t);
-    size_t (*text)(const uint8_t *, size_t, uint8_t *, size_t);
-    size_t (*many)(const uint8_t *, size_t, uint8_t, uint8_t *, size_t);
+    uint32_t (*code)(const uint8_t *, size_t) GIX_VALIDATE_ABI;
+    size_t (*text)(const uint8_t *, size_t, uint8_t *, size_t) GIX_VALIDATE_ABI;
+    size_t (*many)(const uint8_t *, size_t, uint8_t, uint8_t *, size_t) GIX_VALIDATE_ABI;
 };
 
 static const struct question questions[] = {

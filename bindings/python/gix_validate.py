@@ -1,7 +1,7 @@
 r"""Validation of the names that Git uses, and the repair of a bad reference name.
 
 Each function calls a proved function of the Rattle crate gix_validate_c, in its shared object. The rules are those
-of docs/RULES.md; docs/BINDINGS.md says what is proved and what is not.
+of docs/RULES.md; docs/ASSURANCE.md says what is proved and what is not.
 
 >>> import gix_validate
 >>> gix_validate.tag_name(b"v1.2.3")
@@ -12,7 +12,9 @@ b'refs/heads/-/x'
 ...     gix_validate.path_component(b".GIT ")
 ... except gix_validate.InvalidName as error:
 ...     print(error.fault, "-", error)
-DotGitDir - The .git name may never be used
+DotGitDir - b'.GIT ': The .git name may never be used
+>>> gix_validate.is_valid_tag_name(b"v1..2")
+False
 
 Many names are checked by one call, which is much faster than a call for each:
 
@@ -24,8 +26,8 @@ Many names are checked by one call, which is much faster than a call for each:
 >>> gix_validate.fault_numbers(b"refs/heads/main\nmain\n", Kind.FULL)
 b'\x00\x0c'
 
-A name is bytes, of any values; a str or None is a TypeError. The functions have no state and may be called from any
-thread.
+A name is bytes of any values, or a bytearray or memoryview, which is copied; a str or None is a TypeError. The
+functions have no state and may be called from any thread.
 
 The shared object is the one beside this module, as the wheel has it, or that of bindings/out. The environment variable
 GIX_VALIDATE_LIBRARY may name another path.
@@ -36,7 +38,7 @@ import ctypes
 import enum
 import os
 from pathlib import Path
-from typing import Any, Callable, Dict, Iterable, List, Optional, Tuple
+from typing import Any, Callable, Dict, Iterable, List, Optional, Tuple, Union
 
 __all__ = [
     "Fault",
@@ -47,6 +49,12 @@ __all__ = [
     "faults",
     "first_invalid",
     "full_name",
+    "is_valid_branch_name",
+    "is_valid_full_name",
+    "is_valid_partial_name",
+    "is_valid_path_component",
+    "is_valid_submodule_name",
+    "is_valid_tag_name",
     "is_windows_device",
     "partial_name",
     "path_component",
@@ -57,7 +65,9 @@ __all__ = [
 ]
 
 _VERSION = (2, 1, 0)
+__version__ = ".".join(map(str, _VERSION))
 _TEXT_MAX = 134
+Bytes = Union[bytes, bytearray, memoryview]
 
 
 class Fault(enum.IntEnum):
@@ -108,7 +118,7 @@ class Kind(enum.Enum):
 class InvalidName(ValueError):
     """A name that is invalid.
 
-    str() of it is the text of the fault.
+    str() of it is the name, of which it shows 200 bytes at most, and the text of the fault.
     """
 
     name: bytes
@@ -125,7 +135,7 @@ class InvalidName(ValueError):
         self.name, self.fault, self.text, self.byte = name, fault, text, byte
 
     def __str__(self) -> str:
-        return self.text
+        return f"{self.name[:200]!r}{'..' if len(self.name) > 200 else ''}: {self.text}"
 
 
 def _library() -> ctypes.CDLL:
@@ -195,84 +205,116 @@ _many = {
 _fault_of: List[Optional[Fault]] = [None, *Fault]
 
 
-def tag_name(name: bytes) -> bytes:
-    """Returns `name` if it is a valid name of a tag, as b"v1.2.3"; else raises InvalidName."""
+def tag_name(name: Bytes) -> bytes:
+    """Returns `name` if it is a valid name of a tag, such as b"v1.2.3"; otherwise raises InvalidName."""
     return _accepted(name, _tag, _tag_text)
 
 
-def partial_name(name: bytes) -> bytes:
-    """Returns `name` if it is a valid partial name of a reference, as b"main"; else raises InvalidName."""
+def partial_name(name: Bytes) -> bytes:
+    """Returns `name` if it is a valid partial name of a reference, such as b"main"; otherwise raises InvalidName."""
     return _accepted(name, _partial, _partial_text)
 
 
-def full_name(name: bytes) -> bytes:
-    """Returns `name` if it is a valid full name of a reference; else raises InvalidName.
+def full_name(name: Bytes) -> bytes:
+    """Returns `name` if it is a valid full name of a reference; otherwise raises InvalidName.
 
-    A full name has a slash, as b"refs/heads/main", or has no byte but A to Z and _, as b"HEAD".
+    A full name has a slash, like b"refs/heads/main", or has no byte but A to Z and _, like b"HEAD".
     """
     return _accepted(name, _full, _full_text)
 
 
-def branch_name(name: bytes) -> bytes:
-    """Returns `name` if it is a full name other than b"refs/heads/HEAD"; else raises InvalidName.
+def branch_name(name: Bytes) -> bytes:
+    """Returns `name` if it is a full name other than b"refs/heads/HEAD"; otherwise raises InvalidName.
 
     b"HEAD" and b"refs/tags/v1" pass too: put b"refs/heads/" before a branch's short name.
     """
     return _accepted(name, _branch, _branch_text)
 
 
-def submodule_name(name: bytes) -> bytes:
-    """Returns `name` if it is a valid name of a submodule, as b"vendor/package"; else raises InvalidName."""
+def submodule_name(name: Bytes) -> bytes:
+    """Returns `name` if it is a valid name of a submodule, such as b"vendor/package"; otherwise raises InvalidName."""
     return _accepted(name, _submodule, _submodule_text)
 
 
 def path_component(
-    name: bytes, *, windows: bool = True, hfs: bool = True, ntfs: bool = True, symlink: bool = False
+    name: Bytes, *, windows: bool = True, hfs: bool = True, ntfs: bool = True, symlink: bool = False
 ) -> bytes:
-    """Returns `name` if it may be one component of a path, as b"src"; else raises InvalidName.
+    """Returns `name` if it may be one component of a path, such as b"src"; otherwise raises InvalidName.
 
-    `windows`, `hfs` and `ntfs` protect against what these systems read otherwise. `symlink` says that the component
+    `windows`, `hfs` and `ntfs` protect against what these systems read differently. `symlink` says that the component
     is to be a symbolic link, which .gitmodules may not be.
 
     The default, all three, is right for a server, and wherever it isn't known where a name will be checked out.
-    Devices, as b"NUL" and b"aux.c", and what Windows forbids in a name, as a dot at its end, are refused only if
-    `windows` and `ntfs` are both set. `ntfs` without `windows` accepts b"a\\.git", which Windows reads as a path and
+    Devices, such as b"NUL" and b"aux.c", and what Windows forbids in a name, such as a dot at its end, are refused only
+    if `windows` and `ntfs` are both set. `ntfs` without `windows` accepts b"a\\.git", which Windows reads as a path and
     `git fsck` refuses.
     """
-    flags = bool(windows) | bool(hfs) << 1 | bool(ntfs) << 2 | bool(symlink) << 3
-    return _accepted(name, _component, _component_text, flags)
+    return _accepted(name, _component, _component_text, _flags(windows, hfs, ntfs, symlink))
 
 
-def is_windows_device(name: bytes) -> bool:
-    """Whether Windows takes `name` for a device, as b"NUL" or b"com1.txt"."""
-    result: bool = _is_windows_device(name, _length(name))
+def is_valid_tag_name(name: Bytes) -> bool:
+    """Whether `tag_name` accepts the name."""
+    return not _tag(*_given(name))
+
+
+def is_valid_partial_name(name: Bytes) -> bool:
+    """Whether `partial_name` accepts the name."""
+    return not _partial(*_given(name))
+
+
+def is_valid_full_name(name: Bytes) -> bool:
+    """Whether `full_name` accepts the name."""
+    return not _full(*_given(name))
+
+
+def is_valid_branch_name(name: Bytes) -> bool:
+    """Whether `branch_name` accepts the name."""
+    return not _branch(*_given(name))
+
+
+def is_valid_submodule_name(name: Bytes) -> bool:
+    """Whether `submodule_name` accepts the name."""
+    return not _submodule(*_given(name))
+
+
+def is_valid_path_component(
+    name: Bytes, *, windows: bool = True, hfs: bool = True, ntfs: bool = True, symlink: bool = False
+) -> bool:
+    """Whether `path_component` accepts the name."""
+    return not _component(*_given(name), _flags(windows, hfs, ntfs, symlink))
+
+
+def is_windows_device(name: Bytes) -> bool:
+    """Whether Windows takes `name` for a device, such as b"NUL" or b"com1.txt"."""
+    result: bool = _is_windows_device(*_given(name))
     return result
 
 
-def sanitize(name: bytes) -> bytes:
+def sanitize(name: Bytes) -> bytes:
     """Repairs any bytes to a valid partial name of a reference. A valid one is returned as it is."""
-    length = _length(name)
+    name, length = _given(name)
     if not _partial(name, length):
         return name
     buffer = ctypes.create_string_buffer(max(1, length))
     return ctypes.string_at(buffer, _sanitize(name, length, buffer, len(buffer)))
 
 
-def fault_numbers(buffer: bytes, kind: Kind, end: bytes = b"\n") -> bytes:
+def fault_numbers(buffer: Bytes, kind: Kind, end: bytes = b"\n") -> bytes:
     """Checks the names in a buffer: returns a byte for each, in order, which is 0 or the number of its Fault.
 
     The byte `end` ends each name. What follows the last such byte is a name too, unless it is empty.
     """
-    length = _length(buffer, "a buffer of names")
-    if _length(end, "the end of a name") != 1:
-        raise ValueError(f"the end of a name has to be one byte, not {bytes.__len__(end)}")
+    buffer, length = _given(buffer, "a buffer of names")
+    end, ends = _given(end, "the end of a name")
+    if ends != 1:
+        raise ValueError(f"the end of a name has to be one byte, not {ends}")
     many, last = _of_kind(_many, kind), bytes.__getitem__(end, 0)
     room = length // 8 + 1
     count, numbers = _numbers(many, buffer, length, last, room)
     return numbers if count <= room else _numbers(many, buffer, length, last, count)[1]
 
 
-def faults(names: Iterable[bytes], kind: Kind) -> List[Optional[Fault]]:
+def faults(names: Iterable[Bytes], kind: Kind) -> List[Optional[Fault]]:
     """Checks many names: returns None for each that is valid, and the fault of each that isn't, in order."""
     numbers = _numbers_of_each(names, kind)
     if _all_zero(numbers):
@@ -280,7 +322,7 @@ def faults(names: Iterable[bytes], kind: Kind) -> List[Optional[Fault]]:
     return [_fault_of[number] for number in numbers]
 
 
-def first_invalid(names: Iterable[bytes], kind: Kind) -> Optional[int]:
+def first_invalid(names: Iterable[Bytes], kind: Kind) -> Optional[int]:
     """Checks many names: returns the index of the first that is invalid, and None if all are valid."""
     numbers = _numbers_of_each(names, kind)
     return None if _all_zero(numbers) else len(numbers) - len(numbers.lstrip(b"\0"))
@@ -291,11 +333,17 @@ def version() -> Tuple[int, int, int]:
     return _version_of(_loaded)
 
 
-def _length(name: bytes, what: str = "a name") -> int:
-    """How many bytes the name has, whatever the `__len__` of a subclass says."""
+def _given(name: Bytes, what: str = "a name") -> Tuple[bytes, int]:
+    """The name, and how many bytes it has, whatever the `__len__` of a subclass says."""
     if not isinstance(name, bytes):
-        raise TypeError(f"{what} has to be bytes, not {type(name).__name__}")
-    return bytes.__len__(name)
+        if not isinstance(name, (bytearray, memoryview)):
+            raise TypeError(f"{what} has to be bytes, not {type(name).__name__}")
+        name = bytes(name)
+    return name, bytes.__len__(name)
+
+
+def _flags(windows: bool, hfs: bool, ntfs: bool, symlink: bool) -> int:
+    return bool(windows) | bool(hfs) << 1 | bool(ntfs) << 2 | bool(symlink) << 3
 
 
 def _of_kind(functions: Dict[Kind, Callable[..., int]], kind: Kind) -> Callable[..., int]:
@@ -311,7 +359,7 @@ def _numbers(many: Callable[..., int], buffer: bytes, length: int, end: int, roo
     return count, ctypes.string_at(numbers, min(count, room))
 
 
-def _numbers_of_each(names: Iterable[bytes], kind: Kind) -> bytes:
+def _numbers_of_each(names: Iterable[Bytes], kind: Kind) -> bytes:
     """The number of each name. A name that holds a NUL can't be in a buffer in which NUL ends each name."""
     many, code_of = _of_kind(_many, kind), _of_kind(_codes, kind)
     parts = names if type(names) is list else list(names)
@@ -323,15 +371,15 @@ def _numbers_of_each(names: Iterable[bytes], kind: Kind) -> bytes:
         count, numbers = _numbers(many, buffer, len(buffer), 0, wanted)
         if count == wanted:
             return numbers
-    return bytes([code_of(name, _length(name)) for name in parts])
+    return bytes([code_of(*_given(name)) for name in parts])
 
 
 def _all_zero(numbers: bytes) -> bool:
     return numbers == bytes(len(numbers))
 
 
-def _accepted(name: bytes, code_of: Callable[..., int], text_of: Callable[..., int], *flags: int) -> bytes:
-    length = _length(name)
+def _accepted(name: Bytes, code_of: Callable[..., int], text_of: Callable[..., int], *flags: int) -> bytes:
+    name, length = _given(name)
     code = code_of(name, length, *flags)
     if code:
         raise _refused(name, length, code, text_of, flags)

@@ -1,4 +1,4 @@
-"""Tests of gix_validate: the rows of bindings/rows, and what no row says."""
+"""Tests of gix_validate: the rows of tests/rows, and what no row says."""
 
 import doctest
 import os
@@ -10,7 +10,7 @@ import tempfile
 import threading
 import unittest
 from pathlib import Path
-from typing import Callable, Dict, Iterator, Optional
+from typing import Callable, Dict, Iterator, Optional, Tuple
 
 import gix_validate
 from gix_validate import Fault, InvalidName, Kind
@@ -27,8 +27,13 @@ CALLS: Dict[str, Callable[[bytes], bytes]] = {
 EVERY_CALL = [*CALLS.values(), gix_validate.path_component, gix_validate.is_windows_device, gix_validate.sanitize]
 
 
+def whether(call: Callable[..., bytes]) -> Callable[..., bool]:
+    """The function that returns whether this one accepts a name."""
+    return getattr(gix_validate, f"is_valid_{call.__name__}")
+
+
 def rows() -> Iterator[str]:
-    for row in (HERE.parent / "rows").read_text(encoding="ascii").splitlines():
+    for row in (HERE.parents[1] / "tests" / "rows").read_text(encoding="ascii").splitlines():
         if row and not row.startswith("#"):
             yield row
 
@@ -42,12 +47,13 @@ def fault_of(word: str) -> Fault:
     return Fault[re.sub("(?<=[a-z])(?=[A-Z])", "_", word).upper()]
 
 
-def validate(call: str, name: bytes) -> bytes:
+def function(call: str) -> Tuple[Callable[..., bytes], Dict[str, bool]]:
+    """The function of a row, and its settings."""
     if call in CALLS:
-        return CALLS[call](name)
+        return CALLS[call], {}
     word, letters = call.split(":")
     assert word == "component" and set(letters) <= set(SETTINGS)
-    return gix_validate.path_component(name, **{setting: letter in letters for letter, setting in SETTINGS.items()})
+    return gix_validate.path_component, {setting: letter in letters for letter, setting in SETTINGS.items()}
 
 
 class Rows(unittest.TestCase):
@@ -80,17 +86,22 @@ class Rows(unittest.TestCase):
             self.assertIs(gix_validate.is_windows_device(name), {"yes": True, "no": False}[answer])
         elif call == "sanitize":
             self.assertEqual(gix_validate.sanitize(name), unquoted(answer[1:-1]))
-        elif answer == "Ok":
-            self.assertIs(validate(call, name), name)
+        else:
+            self.validate(*function(call), name, answer)
+
+    def validate(self, call: Callable[..., bytes], settings: Dict[str, bool], name: bytes, answer: str) -> None:
+        self.assertIs(whether(call)(name, **settings), answer == "Ok")
+        if answer == "Ok":
+            self.assertIs(call(name, **settings), name)
         else:
             word, _, text = answer.partition(" ")
             fault, _, byte = word.partition(":")
             with self.assertRaises(InvalidName) as refused:
-                validate(call, name)
+                call(name, **settings)
             self.assertIs(refused.exception.fault, fault_of(fault))
             self.assertEqual(refused.exception.byte, int(byte, 16) if byte else None)
             self.assertEqual(refused.exception.name, name)
-            self.assertEqual(str(refused.exception), refused.exception.text)
+            self.assertTrue(str(refused.exception).endswith(f": {refused.exception.text}"))
             self.assertTrue(refused.exception.text)
             if text:
                 self.assertEqual(refused.exception.text, text)
@@ -98,10 +109,22 @@ class Rows(unittest.TestCase):
 
 class Interface(unittest.TestCase):
     def test_only_bytes_are_names(self) -> None:
-        for call in EVERY_CALL:
-            for other in ("main", None, 1, bytearray(b"main"), memoryview(b"main"), [109]):
+        for call in [*EVERY_CALL, *map(whether, CALLS.values()), gix_validate.is_valid_path_component]:
+            for other in ("main", None, 1, [109]):
                 with self.subTest(call=call, other=other), self.assertRaisesRegex(TypeError, "has to be bytes"):
                     call(other)
+
+    def test_bytearray_and_memoryview(self) -> None:
+        for make in (bytearray, memoryview):
+            for call in (*CALLS.values(), gix_validate.path_component, gix_validate.sanitize):
+                name = call(make(b"HEAD"))
+                self.assertEqual((type(name), name), (bytes, b"HEAD"))
+            self.assertIs(gix_validate.is_windows_device(make(b"nul")), True)
+            self.assertIs(gix_validate.is_valid_tag_name(make(b"a..b")), False)
+            self.assertEqual(gix_validate.sanitize(make(b"a//b")), b"a/b")
+            self.assertEqual(gix_validate.fault_numbers(make(b"v1\na..b"), Kind.TAG, make(b"\n")), b"\0\4")
+            self.assertEqual(gix_validate.faults([b"v1", make(b"a..b")], Kind.TAG), [None, Fault.REPEATED_DOT])
+        self.assertEqual(gix_validate.tag_name(memoryview(b"v-1-")[::2]), b"v1")
 
     def test_a_subclass_of_bytes_is_bytes(self) -> None:
         class Name(bytes):
@@ -177,7 +200,7 @@ class Interface(unittest.TestCase):
 
     def test_only_bytes_are_names_among_many(self) -> None:
         for call in (gix_validate.faults, gix_validate.first_invalid):
-            for others in (["main"], [b"main", None], b"main", [bytearray(b"main")], "main"):
+            for others in (["main"], [b"main", None], b"main", "main"):
                 with self.subTest(call=call, others=others), self.assertRaisesRegex(TypeError, "name has to be bytes"):
                     call(others, Kind.TAG)
             with self.assertRaises(TypeError):
@@ -185,7 +208,7 @@ class Interface(unittest.TestCase):
             for kind in ("tag", None, gix_validate.tag_name):
                 with self.assertRaisesRegex(TypeError, "a kind has to be a Kind"):
                     call([b"main"], kind)
-        for buffer in ("main", None, bytearray(b"main"), [b"main"]):
+        for buffer in ("main", None, [b"main"]):
             with self.assertRaisesRegex(TypeError, "a buffer of names has to be bytes"):
                 gix_validate.fault_numbers(buffer, Kind.TAG)
         with self.assertRaisesRegex(TypeError, "the end of a name has to be bytes, not str"):
@@ -224,7 +247,8 @@ class Interface(unittest.TestCase):
             gix_validate.full_name(b"a\x1bb")
         error = refused.exception
         self.assertEqual((error.name, error.fault.name, error.byte), (b"a\x1bb", "INVALID_BYTE", 0x1B))
-        self.assertEqual(str(error), 'Reference name contains invalid byte: "\\x1b"')
+        self.assertEqual(error.text, 'Reference name contains invalid byte: "\\x1b"')
+        self.assertEqual(str(error), f"b'a\\x1bb': {error.text}")
         copied = pickle.loads(pickle.dumps(error))
         self.assertEqual((copied.args, copied.text), (error.args, error.text))
 
@@ -232,6 +256,9 @@ class Interface(unittest.TestCase):
         name = b"a" * 1_000_000
         self.assertIs(gix_validate.tag_name(name), name)
         self.assertTrue(gix_validate.sanitize(name + b".lock" * 1000) == name)
+        with self.assertRaises(InvalidName) as refused:
+            gix_validate.tag_name(name + b" ")
+        self.assertEqual(str(refused.exception), f"{name[:200]!r}..: {refused.exception.text}")
 
     def test_from_many_threads(self) -> None:
         answers = []
@@ -249,6 +276,7 @@ class Interface(unittest.TestCase):
 
     def test_version(self) -> None:
         self.assertEqual(gix_validate.version(), gix_validate._VERSION)
+        self.assertEqual(gix_validate.__version__, "%d.%d.%d" % gix_validate.version())
 
     def test_the_examples_of_the_docstring(self) -> None:
         self.assertEqual(doctest.testmod(gix_validate).failed, 0)

@@ -1,7 +1,8 @@
 //! Validation of the names that Git uses, and the repair of a bad reference name.
 //!
 //! This is the API of the crate gix-validate 0.13.1. Behind it stand the calls of the Rattle crate `gix_validate_c`,
-//! each with a contract that is proved. `docs/BINDINGS.md` says what that covers and what differs from gix-validate.
+//! each with a contract that is proved. `docs/ASSURANCE.md` says what that covers, `docs/BINDINGS.md` what differs
+//! from gix-validate.
 //! Beyond that API, [`reference::names`], [`tag::names`] and [`submodule::names`] check the names in a buffer.
 //!
 //! ```
@@ -16,10 +17,22 @@
 #![deny(missing_docs, rust_2018_idioms, unsafe_code)]
 
 #[allow(unsafe_code)]
-mod archive;
+mod block;
 mod many;
 
 pub mod path;
 pub mod reference;
 pub mod submodule;
 pub mod tag;
+
+/// The source of every error: its class by gix-error, which the feature `gix-error` gives it.
+fn class() -> Option<&'static (dyn std::error::Error + 'static)> {
+    #[cfg(feature = "gix-error")]
+    {
+        const CLASS: &gix_error::ClassificationMarker =
+            &gix_error::ClassificationMarker::VALIDATION;
+        Some(CLASS)
+    }
+    #[cfg(not(feature = "gix-error"))]
+    None
+}

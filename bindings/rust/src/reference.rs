@@ -2,7 +2,7 @@
 
 use bstr::{BStr, BString};
 
-use crate::archive::{self, Code, ACCEPTED};
+use crate::block::{self, Code, ACCEPTED};
 use crate::many::names_in;
 use crate::tag;
 
@@ -58,7 +58,11 @@ pub mod name {
         }
     }
 
-    impl std::error::Error for Error {}
+    impl std::error::Error for Error {
+        fn source(&self) -> Option<&(dyn std::error::Error + 'static)> {
+            crate::class()
+        }
+    }
 
     impl From<tag::name::Error> for Error {
         fn from(error: tag::name::Error) -> Self {
@@ -97,20 +101,20 @@ pub mod name {
 /// ```
 #[inline]
 pub fn name(path: &BStr) -> Result<&BStr, name::Error> {
-    accepted(path, archive::full(path))
+    accepted(path, block::full(path))
 }
 
 /// Gives `path` back where it is a valid partial name, and else its first fault. `main` is one.
 #[inline]
 pub fn name_partial(path: &BStr) -> Result<&BStr, name::Error> {
-    accepted(path, archive::partial(path))
+    accepted(path, block::partial(path))
 }
 
 /// Gives `path` back where it is a full name other than `refs/heads/HEAD`, and else its first fault. `HEAD` and
 /// `refs/tags/v1` pass too: put `refs/heads/` before a branch's short name.
 #[inline]
 pub fn branch_name(path: &BStr) -> Result<&BStr, name::Error> {
-    accepted(path, archive::branch(path))
+    accepted(path, block::branch(path))
 }
 
 /// Checks many names: returns what [`name()`] returns for each name in `buffer`, in order.
@@ -150,7 +154,7 @@ pub fn branch_names(buffer: &BStr, end: u8) -> impl Iterator<Item = Result<&BStr
 /// assert_eq!(repaired, b"refs/heads/-/x".as_bstr());
 /// ```
 pub fn name_partial_or_sanitize(path: &BStr) -> BString {
-    archive::sanitized(path)
+    block::sanitized(path)
 }
 
 #[inline]

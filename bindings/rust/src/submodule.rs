@@ -2,7 +2,7 @@
 
 use bstr::BStr;
 
-use crate::archive::{self, ACCEPTED};
+use crate::block::{self, ACCEPTED};
 use crate::many::names_in;
 
 /// The error of [`name()`].
@@ -27,7 +27,11 @@ pub mod name {
         }
     }
 
-    impl std::error::Error for Error {}
+    impl std::error::Error for Error {
+        fn source(&self) -> Option<&(dyn std::error::Error + 'static)> {
+            crate::class()
+        }
+    }
 }
 
 /// Gives `name` back where it is a valid name of a submodule, and else its fault. It may be neither empty nor have a
@@ -42,7 +46,7 @@ pub mod name {
 /// ```
 #[inline]
 pub fn name(name: &BStr) -> Result<&BStr, name::Error> {
-    match archive::submodule(name) {
+    match block::submodule(name) {
         ACCEPTED => Ok(name),
         code => Err(fault(code)),
     }
@@ -57,7 +61,7 @@ pub fn names(buffer: &BStr, end: u8) -> impl Iterator<Item = Result<&BStr, name:
 }
 
 #[cold]
-fn fault(code: archive::Code) -> name::Error {
+fn fault(code: block::Code) -> name::Error {
     match code {
         11 => name::Error::Empty,
         14 => name::Error::ParentComponent,

@@ -2,7 +2,7 @@
 
 use bstr::BStr;
 
-use crate::archive::{self, Code, ACCEPTED};
+use crate::block::{self, Code, ACCEPTED};
 use crate::many::names_in;
 
 /// The error of [`name()`].
@@ -50,7 +50,11 @@ pub mod name {
         }
     }
 
-    impl std::error::Error for Error {}
+    impl std::error::Error for Error {
+        fn source(&self) -> Option<&(dyn std::error::Error + 'static)> {
+            crate::class()
+        }
+    }
 }
 
 /// Gives `input` back where it is a valid name of a tag, and else its first fault. It may hold slashes.
@@ -64,7 +68,7 @@ pub mod name {
 /// ```
 #[inline]
 pub fn name(input: &BStr) -> Result<&BStr, name::Error> {
-    match archive::tag(input) {
+    match block::tag(input) {
         ACCEPTED => Ok(input),
         code => Err(fault(code, input)),
     }
@@ -94,8 +98,8 @@ pub(crate) fn fault(code: Code, input: &BStr) -> name::Error {
     use name::Error;
     match code {
         1 => {
-            let byte = archive::invalid_byte(input)
-                .expect("a name whose fault is its invalid byte has one");
+            let byte =
+                block::invalid_byte(input).expect("a name whose fault is its invalid byte has one");
             Error::InvalidByte {
                 byte: vec![byte].into(),
             }

@@ -1,5 +1,5 @@
-//! The examples of the front page of gix-validate, and what no row says: texts of values that a caller made, and the
-//! two conversions.
+//! The examples of the front page of gix-validate, and what no row says: texts of values that a caller made, classes,
+//! and the two conversions.
 
 use bstr::{BString, ByteSlice};
 use gix_validate::{path, reference, submodule, tag};
@@ -93,4 +93,19 @@ fn errors_may_be_boxed_and_sent() {
         boxed(path::component::Error::Empty).to_string(),
         "A path component must not be empty"
     );
+}
+
+#[cfg(feature = "gix-error")]
+#[test]
+fn every_error_is_a_validation_error() {
+    let errors: [&(dyn std::error::Error + 'static); 4] = [
+        &tag::name::Error::Empty,
+        &reference::name::Error::Empty,
+        &submodule::name::Error::Empty,
+        &path::component::Error::Empty,
+    ];
+    for error in errors {
+        let classes: Vec<_> = gix_error::classify(error).map(|c| c.class()).collect();
+        assert_eq!(classes, [gix_error::Class::Validation], "{error:?}");
+    }
 }

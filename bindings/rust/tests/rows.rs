@@ -1,4 +1,4 @@
-//! Replays the rows of `bindings/rows`.
+//! Replays the rows of `tests/rows`.
 
 use bstr::{BStr, BString, ByteSlice};
 use gix_validate::{path, reference, submodule, tag};
@@ -20,7 +20,7 @@ fn answer<E: std::error::Error>(name: &BStr, given: Result<&BStr, E>) -> Answer 
             }
         }
         Err(error) => {
-            assert!(error.source().is_none());
+            assert_eq!(error.source().is_some(), cfg!(feature = "gix-error"));
             Answer {
                 variant: format!("{error:?}"),
                 text: Some(error.to_string()),
@@ -161,7 +161,7 @@ fn replay(row: &str) {
 
 #[test]
 fn rows() {
-    let rows: Vec<&str> = include_str!("../../rows")
+    let rows: Vec<&str> = include_str!("../../../tests/rows")
         .lines()
         .filter(|row| !row.is_empty() && !row.starts_with('#'))
         .collect();

@@ -1,9 +1,9 @@
 -- The lines of a text and their answers, computed on literals.
-use Rattle.std.proofs.Common.{◌≡◌, refl, [], ◌∷◌, Some, None}
+use Rattle.std.proofs.Common.{refl, [], ◌∷◌, Some, None}
 use Rattle.std.specs.Prelude.{codes}
 use Rattle.gix_validate.proofs.OnLiterals.{names_on_literals, components_on_literals}
 use Rattle.gix_validate.proofs.Rows.Tables.{Gives}
-use Rattle.check_names.specs.Lines.{lines, split_once, request_of}
+use Rattle.check_names.specs.Lines.{lines, request_of}
 use Rattle.check_names.specs.Answers.{answer_of, answers, kinds}
 
 -- texts, and their lines
@@ -27,7 +27,6 @@ requests : Gives request_of
     ∷ (codes "tag ", Some (codes "tag", []))  -- empty name
     ∷ (codes "tag", None)  -- no space
     ∷ [])
-unfolding split_once
 requests = refl
 
 -- lines, and their answers
@@ -38,7 +37,7 @@ answers_on_tags : Gives answer_of
     ∷ (codes "tag  x", codes "error: A ref must not contain invalid bytes or ascii control characters: \" \"")  -- tag of two spaces
     ∷ (codes "tag ", codes "error: A ref must not be empty")  -- tag without name
     ∷ [])
-unfolding kinds answer_of split_once names_on_literals
+unfolding kinds answer_of names_on_literals
 answers_on_tags = refl
 
 answers_of_other_kinds : Gives answer_of
@@ -49,7 +48,7 @@ answers_of_other_kinds : Gives answer_of
     ∷ (codes "device nul.txt", codes "yes")  -- device
     ∷ (codes "sanitize a b.lock", codes "a-b")  -- repaired
     ∷ [])
-unfolding kinds answer_of split_once names_on_literals components_on_literals
+unfolding kinds answer_of names_on_literals components_on_literals
 answers_of_other_kinds = refl
 
 unknown_kinds : Gives answer_of
@@ -59,7 +58,7 @@ unknown_kinds : Gives answer_of
     ∷ (codes "bogus x", codes "unknown kind")  -- unknown word
     ∷ ([], codes "unknown kind")  -- empty line
     ∷ [])
-unfolding kinds answer_of split_once
+unfolding kinds answer_of
 unknown_kinds = refl
 
 -- texts, and the answers to their lines
@@ -71,5 +70,5 @@ answers_to_texts : Gives answers
     ∷ ([], [])  -- no answers
     ∷ (codes "\n", codes "unknown kind\n")  -- answer of empty line
     ∷ [])
-unfolding answers lines kinds answer_of split_once names_on_literals
+unfolding answers lines kinds answer_of names_on_literals
 answers_to_texts = refl

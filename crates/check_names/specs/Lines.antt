@@ -1,13 +1,9 @@
 -- The lines of a text, and what a line asks for. A text and a line are lists of bytes.
 use Rattle.std.specs.Prelude.{ℕ, ◌==◌, if◌then◌else◌, List, [], ◌∷◌, Option}
-use Rattle.std.specs.List.{slice_split, list_any, before_first, after_first}
+use Rattle.std.specs.List.{slice_split}
 use Rattle.std.specs.Str.{byte}
 use Rattle.gix_validate.specs.Bytes.{is_empty}
-use Rattle.gix_validate.specs.Faults.{when}
-
--- the byte that ends a line
-abbrev pub line_end : ℕ
-line_end = 0x0A
+pub use Rattle.program.specs.Lines.{line_end, split_once}
 
 -- the texts in order, without the last one if that is empty
 abbrev pub less_empty_last : List (List ℕ) → List (List ℕ)
@@ -18,11 +14,6 @@ less_empty_last (text ∷ next ∷ more) = text ∷ less_empty_last (next ∷ mo
 -- the texts that a line end ends, and then what follows the last line end, if that isn't empty
 unfoldable pub lines : List ℕ → List (List ℕ)
 lines text = less_empty_last (slice_split (λ b. b == line_end) text)
-
--- what stands before the first such byte of a text, and all that follows it, if the text has one
-unfoldable pub split_once : ℕ → List ℕ → Option (List ℕ × List ℕ)
-split_once sep text =
-    when (list_any (λ b. b == sep) text) (before_first (λ b. b == sep) text, after_first (λ b. b == sep) text)
 
 -- what a line asks for, a kind and a name: the kind stands before the first space, the name is all after it
 abbrev pub request_of : List ℕ → Option (List ℕ × List ℕ)

@@ -1,8 +1,8 @@
 -- What the program says where it can't answer.
 use Rattle.std.specs.Prelude.{ℕ, List, [], ◌∷◌, ◌++◌, codes}
-use Rattle.streams.specs.declared.outcome.RunError.{RunError}
-use Rattle.streams.specs.Messages.{stop_text_of}
-use Rattle.streams.specs.Texts.{line_end}
+use Rattle.program.specs.declared.outcome.RunError.{RunError}
+use Rattle.program.specs.Messages.{stop_text_of}
+use Rattle.check_names.specs.Lines.{line_end}
 
 -- the line on standard error of a run that stopped
 abbrev pub message_of : RunError → List ℕ

@@ -2,23 +2,23 @@
 
 ghost use Rattle.std.specs.Prelude.{◌≡◌, ◌≢◌, ◌+◌, ◌<◌, [], ◌∷◌, ◌++◌, ℕ, List, codes, length, vec_len, vec_capacity, Some, None, Err, IsOk, IsOkUnless, IfErr, IfOk, OnOk, OnErr, IfSome, MatchOption, MatchResult};
 ghost use Rattle.std.specs.Io.KnownBytes.{Appends, IsAtEnd};
+ghost use Rattle.program.specs.Writes.{AppendsPrefixOf};
 ghost use Rattle.bstr.specs.BStr.{bstr_bytes};
 ghost use Rattle.gix_validate.specs.Component.{all_protections, fault_of, text_of as component_text};
 ghost use Rattle.gix_validate.specs.Sanitized.{sanitized};
 ghost use Rattle.check_names.specs.Answers.{answer_of, answers, device_answer, unknown_kind, verdict};
 ghost use Rattle.check_names.specs.Lines.{lines, request_of};
-ghost use Rattle.streams.specs.Promises.{Begins};
 
 use bstr::BStr;
 use gix_validate::path::{ComponentMode, ComponentOptions};
 use gix_validate::{path, reference, submodule};
 use memchr::memchr;
+pub use program::outcome::RunError;
+use program::output::write_all;
 use std::alloc::{AllocError, Global};
 use std::fmt::{Display, Write as _};
 use std::io::{Read, Write};
 use std::{fmt, io};
-use streams::outcome::RunError;
-use streams::output::write_whole;
 use typed_names::{Component, FullName, PartialName, TagName};
 
 const UNKNOWN_KIND: &[u8] = b"unknown kind";
@@ -58,7 +58,7 @@ pub fn run<R: Read, W: Write>(alloc: Global, input: &mut R, output: &mut W) -> R
     ensures read { result ≡ Err RunError.Read → output.new ≡ output.old }
     ensures memory { result ≡ Err RunError.Memory → output.new ≡ output.old }
     ensures stopped { OnErr result (IfSome (R.remaining input.old) (λ text.
-        Begins (W.contents output.old) (W.contents output.new) (answers text))) }
+        AppendsPrefixOf (W.contents output.old) (W.contents output.new) (answers text))) }
     ensures empty { R.remaining input.old ≡ Some [] → IsOkUnless result RunError.Read
         × (output.new ≡ output.old) }
 {
@@ -82,13 +82,13 @@ fn read_all<R: Read>(alloc: Global, input: &mut R) -> io::Result<Vec<u8>>
 fn write_once<W: Write>(bytes: &[u8], output: &mut W) -> Result<(), RunError>
     ensures ok { OnOk result (Appends (W.contents output.old) (W.contents output.new) bytes.now) }
     ensures none { bytes.now ≡ [] → IsOk result × (output.new ≡ output.old) }
-    ensures err { OnErr result (Begins (W.contents output.old) (W.contents output.new) bytes.now) }
+    ensures err { OnErr result (AppendsPrefixOf (W.contents output.old) (W.contents output.new) bytes.now) }
     ensures stop { IfErr result (λ stop. stop ≡ RunError.Write) }
 {
     if bytes.is_empty() {
         return Ok(());
     }
-    write_whole(bytes, output)?;
+    write_all(bytes, output)?;
     output.flush().map_err(|_| RunError::Write)
 }
 
@@ -249,8 +249,3 @@ impl fmt::Write for Appender<'_> {
             .map_err(|_| fmt::Error)
     }
 }
-
-#[cfg(test)]
-mod refused_memory;
-#[cfg(test)]
-mod tests;

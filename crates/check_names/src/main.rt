@@ -1,24 +1,24 @@
 //! Validates the names on the lines of standard input, and prints a line for each.
 #![tactic(auto)]
 
-ghost use Rattle.std.specs.Prelude.{◌≡◌, ◌≢◌, ◌≤◌, Ok, IfSome, IsErr, map};
+ghost use Rattle.std.specs.Prelude.{◌≡◌, ◌≢◌, ◌≤◌, ⊤, Ok, IfSome, IsErr, map};
 ghost use Rattle.std.specs.Io.KnownBytes.{Appends};
 ghost use Rattle.std.specs.Process.{exit_status};
 ghost use Rattle.std.specs.String.{string_bytes};
-ghost use Rattle.streams.specs.Promises.{Begins};
+ghost use Rattle.program.specs.Writes.{AppendsPrefixOf};
 ghost use Rattle.check_names.specs.Answers.{answers};
-ghost use Rattle.check_names.specs.Arguments.{AsksForAnswers, request_of};
+ghost use Rattle.check_names.specs.Arguments.{AsksForAnswers, request_of, rule};
+ghost use Rattle.program.specs.Arguments.{Check};
 ghost use Rattle.check_names.specs.Messages.{message_of};
 
-mod arguments;
 mod engine;
 
-use arguments::Request;
+use program::arguments::{Options, Request, Setting, request_of};
+use program::outcome::RunError;
+use program::output::write_all;
+use program::{VERSION, fail, print, words};
 use std::io::{Read, Write};
 use std::process::ExitCode;
-use streams::outcome::RunError;
-use streams::output::write_whole;
-use streams::program::{VERSION, failed, printed, words};
 
 const NAME: &str = "check_names";
 
@@ -44,11 +44,36 @@ space, up to the newline.
 
 For any other kind, and for a line without a space, it prints: unknown kind
 
-    --help       prints this text
+    -h, --help   prints this text
     --version    prints the version
 
-The status is 0 whether or not the names are valid, 1 if reading or writing
-fails or memory runs out, and 2 if an argument is wrong.";
+The status is 0 whether or not the names are valid. It is 1 if reading the lines
+or writing the results fails or memory for them runs out, and 2 if an argument
+is wrong or can't be read, or if this text or the version can't be printed.";
+
+/// The program has no options.
+#[derive(Clone, Copy)]
+struct NoOptions;
+
+impl<'a> Options<'a> for NoOptions {
+    const NAME: &'static str = NAME;
+
+    ghost View = { ⊤ };
+
+    ghost view = { λ _. tt };
+
+    ghost start = { tt };
+
+    ghost rule = { rule };
+
+    fn start() -> Self {
+        NoOptions
+    }
+
+    fn set(self, _name: &str, _value: Option<&'a str>) -> Setting<'a, Self> {
+        Setting::Unknown
+    }
+}
 
 fn main(rt: HostRuntime) -> ExitCode {
     match words(&rt, NAME) {
@@ -72,30 +97,29 @@ fn answer<R: Read, W: Write, E: Write>(
     errors: &mut E,
 ) -> ExitCode
     ensures answered { AsksForAnswers words.now → exit_status result ≡ 0 → IfSome (R.remaining input.old) (λ text.
-        Appends (W.contents output.old) (W.contents output.new) (answers text)) }
-    ensures begun { AsksForAnswers words.now → exit_status result ≢ 0 → IfSome (R.remaining input.old) (λ text.
-        Begins (W.contents output.old) (W.contents output.new) (answers text)) }
-    ensures stopped { AsksForAnswers words.now → exit_status result ≢ 0 → exit_status result ≡ 1 }
-    ensures message { AsksForAnswers words.now → exit_status result ≢ 0 → (stop : RunError)
-        × Begins (E.contents errors.old) (E.contents errors.new) (message_of stop)
+        Appends (W.contents output.old) (W.contents output.new) (answers text)) × (errors.new ≡ errors.old) }
+    ensures begun { AsksForAnswers words.now → exit_status result ≡ 1 → IfSome (R.remaining input.old) (λ text.
+        AppendsPrefixOf (W.contents output.old) (W.contents output.new) (answers text)) }
+    ensures message { AsksForAnswers words.now → exit_status result ≡ 1 → (stop : RunError)
+        × AppendsPrefixOf (E.contents errors.old) (E.contents errors.new) (message_of stop)
         × (stop ≢ RunError.Write → output.new ≡ output.old) }
-    ensures quiet { AsksForAnswers words.now → exit_status result ≡ 0 → errors.new ≡ errors.old }
-    ensures unread { request_of (map string_bytes words.now) ≢ Ok Request.Answer
+    ensures arguments { exit_status result ≡ 2 → request_of (map string_bytes words.now) ≢ Ok (Check tt) }
+    ensures unread { request_of (map string_bytes words.now) ≢ Ok (Check tt)
         → (input.new ≡ input.old) × (output.new ≡ output.old) }
     ensures unknown { IsErr (request_of (map string_bytes words.now)) → exit_status result ≡ 2 }
     ensures status { exit_status result ≤ 2 }
 {
-    match arguments::request_of(words) {
-        Ok(Request::Answer) => match engine::run(rt.alloc(), input, output) {
+    match request_of::<NoOptions>(words) {
+        Ok(Request::Check(_)) => match engine::run(rt.alloc(), input, output) {
             Ok(()) => ExitCode::SUCCESS,
             Err(stop) => {
-                let _ = write_whole(message_of(stop), errors);
+                let _ = write_all(message_of(stop), errors);
                 ExitCode::FAILURE
             }
         },
-        Ok(Request::Help) => printed(rt, NAME, HELP),
-        Ok(Request::Version) => printed(rt, NAME, format_args!("{NAME} {VERSION}")),
-        Err(fault) => failed(rt, NAME, fault),
+        Ok(Request::Help) => print(rt, NAME, HELP),
+        Ok(Request::Version) => print(rt, NAME, format_args!("{NAME} {VERSION}")),
+        Err(fault) => fail(rt, NAME, fault),
     }
 }
 

@@ -1,5 +1,6 @@
 -- The verdict is clean if and only if the input is accepted.
-use Rattle.std.proofs.Common.{◌≡◌, ◌≢◌, ◌↔◌, ℕ, ◌+◌, Bool, true, false, not, ◌&&◌, ◌||◌, IsTrue, List, [], ◌∷◌, ◌⊎◌, Option, None, Some, cond, length, map, codes}
+use Rattle.std.proofs.Common.{◌≡◌, ◌≢◌, ◌↔◌, ℕ, ◌+◌, Bool, true, false, not, ◌&&◌, ◌||◌, IsTrue, List, [], ◌∷◌, ◌⊎◌, Option, None, Some, cond, length, map}
+use Rattle.std.proofs.Common.{codes}
 use Rattle.std.proofs.Common.{refl, arith, ap, ◌∙◌, sym, append-nil}
 use Rattle.std.specs.List.{AllByRecursion, flat_map}
 use Rattle.std.specs.Option.{is_some, is_none, option_map}
@@ -14,7 +15,7 @@ use Rattle.gix_validate.proofs.TagNames.Grammar.{tag_grammar_law}
 use Rattle.streams.specs.declared.outcome.Verdict.{Verdict}
 use Rattle.streams.specs.declared.outcome.Verdict.TheVariants.{Clean}
 use Rattle.streams.specs.declared.lines.Ending.TheVariants.{AfterALine}
-use Rattle.streams.specs.Reports.{all_said, before_report, lines_from, verdict_of}
+use Rattle.streams.specs.Reports.{all_said, before_report, at_end_line, lines_from, report, verdict_of}
 use Rattle.streams.proofs.LinesRead.{lines_none}
 use Rattle.streams.proofs.CleanStreams.{neither, clean_by}
 use Rattle.check_refs.specs.declared.report.Options.{Options}
@@ -23,7 +24,8 @@ use Rattle.check_refs.specs.declared.refusal.Refusal.TheVariants.{Name, Replacem
 use Rattle.check_refs.specs.Report.{said_of, update_rule, refs_report}
 use Rattle.check_refs.specs.Spelled.{spelling}
 use Rattle.check_refs.specs.Accepted.{IsAccepted, IsAcceptedInput}
-use Rattle.check_refs.proofs.SpelledInputs.{reported_in_order, well_formed_only_if_spelled}
+use Rattle.check_refs.proofs.LinearReports.{linear_report}
+use Rattle.check_refs.proofs.SpelledInputs.{reported_in_order, updates_reported, well_formed_only_if_spelled}
 
 -- ---- a name
 
@@ -87,13 +89,15 @@ accepted : (options : Options) (update : ParsedUpdate) → IsAccepted options up
 accepted options update good = refused_law options update
     ∙ accepted_by (is_deletion update) (is_branch_name update.name) options.allows_replace (begins update.name (codes "refs/replace/")) good
 
-all_accept : (options : Options) (updates : List ParsedUpdate) → (all_said (map (said_of options) updates)).refused ≡ false → AllByRecursion (IsAccepted options) updates
+all_accept : (options : Options) (updates : List ParsedUpdate) → (all_said (map (said_of options) updates)).refused ≡ false
+    → AllByRecursion (IsAccepted options) updates
 all_accept options [] e = tt
 all_accept options (update ∷ updates) e =
     let both = neither (said_of options update).refused (all_said (map (said_of options) updates)).refused e in
     (accepts options update both.0, all_accept options updates both.1)
 
-all_accepted : (options : Options) (updates : List ParsedUpdate) → AllByRecursion (IsAccepted options) updates → (all_said (map (said_of options) updates)).refused ≡ false
+all_accepted : (options : Options) (updates : List ParsedUpdate) → AllByRecursion (IsAccepted options) updates
+    → (all_said (map (said_of options) updates)).refused ≡ false
 all_accepted options [] each = refl
 all_accepted options (update ∷ updates) (first, each) = grind (arith, accepted options update first, all_accepted options updates each)
 
@@ -112,14 +116,15 @@ only_accepted options text e =
     }
 
 ended : (options : Options) (updates : List ParsedUpdate) → updates ≢ []
-    → lines_from (update_rule options) AfterALine (1 + length updates) [] ≡ record { said = record { lines = []; refused = false }; malformed = None }
+    → lines_from (update_rule options) AfterALine (1 + length updates) [] ≡ at_end_line
 ended options [] some = absurd (some refl)
 ended options (update ∷ updates) some = lines_none (update_rule options) AfterALine (1 + length (update ∷ updates)) ∙ grind (arith, nat_tests)
 
 accepted_clean : (options : Options) (text : List ℕ) → IsAcceptedInput options text → verdict_of (refs_report options text) ≡ Clean
+unfolding report
 accepted_clean options text good =
-    let all : refs_report options text ≡ before_report (all_said (map (said_of options) good.updates)) (record { said = record { lines = []; refused = false }; malformed = None })
-    = ap (refs_report options) (good.text_is ∙ sym (append-nil (flat_map spelling good.updates))) ∙ reported_in_order options good.updates [] good.each
+    let all : refs_report options text ≡ before_report (all_said (map (said_of options) good.updates)) at_end_line
+    = ap (refs_report options) (good.text_is ∙ sym (append-nil (flat_map spelling good.updates))) ∙ updates_reported options 1 good.updates [] good.each
     ∙ ap (before_report (all_said (map (said_of options) good.updates))) (ended options good.updates good.some) in
     rw all (grind (arith, all_accepted options good.updates good.accepted))
 
@@ -128,4 +133,4 @@ pub clean_if_accepted : (options : Options) (text : List ℕ) (verdict : Verdict
 clean_if_accepted options text verdict is = (λ e. only_accepted options text (sym is ∙ e), λ good. is ∙ accepted_clean options text good)
 
 -- what the promises of `engine::run` need
-pub ruleset update_laws = (reported_in_order, well_formed_only_if_spelled, clean_if_accepted)
+pub ruleset update_laws = (reported_in_order, well_formed_only_if_spelled, clean_if_accepted, linear_report)

@@ -2,5 +2,5 @@ pub mod SplitLines
 pub mod UpdateLines
 pub mod SpelledInputs
 pub mod CleanInputs
-pub mod ArgumentWords
+pub mod LinearReports
 mod Rows

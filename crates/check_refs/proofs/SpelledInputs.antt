@@ -6,12 +6,13 @@ use Rattle.std.proofs.lemmas.List.Elements.{All-append, All-cons, All-from_recur
 use Rattle.std.specs.Str.{byte}
 use Rattle.streams.specs.declared.lines.Ending.TheVariants.{AfterALine}
 use Rattle.streams.specs.Texts.{line_end}
-use Rattle.streams.specs.Reports.{Said, all_said, then_said, Step, with_rest, before_report, lines_then, Report, lines_from, line_of, report}
+use Rattle.streams.specs.Reports.{Said, all_said, then_said, Step, before_report, lines_then, Report, lines_from, line_of, report}
 use Rattle.streams.proofs.LinesRead.{line_found, lines_first, lines_none}
 use Rattle.check_refs.specs.declared.report.Options.{Options}
 use Rattle.check_refs.specs.Refs.{ParsedUpdate, parsed_update}
-use Rattle.check_refs.specs.Report.{said_of, said_by, update_rule}
+use Rattle.check_refs.specs.Report.{said_of, step_of, update_rule}
 use Rattle.check_refs.specs.Spelled.{IsSpelled, update_line, spelling, IsReportedInOrder, IsWellFormedOnlyIfSpelled}
+use Rattle.check_refs.specs.Private.{update_leaves}
 use Rattle.check_refs.proofs.SplitLines.{first_line}
 use Rattle.check_refs.proofs.UpdateLines.{id_whole, spelled_read, read_spelled}
 
@@ -44,7 +45,14 @@ module _ (options : Options) where
   some_bytes : (update : ParsedUpdate) (rest : List ℕ) → 0 < length (spelling update ++ rest)
   some_bytes update rest = grind (arith, length-append)
 
-  updates_reported : (number : ℕ) (updates : List ParsedUpdate) (rest : List ℕ) → AllByRecursion IsSpelled updates
+  pub reported_in_order : IsReportedInOrder options
+  reported_in_order number update rest good =
+      let rule = update_rule options in
+      lines_first rule (update_leaves options) AfterALine number (spelling update ++ rest) (some_bytes update rest) refl
+      ∙ ap (lines_then (lines_from rule AfterALine (number + 1)) number (spelling update ++ rest)) (update_spelled update rest good)
+
+  -- the same of many updates
+  pub updates_reported : (number : ℕ) (updates : List ParsedUpdate) (rest : List ℕ) → AllByRecursion IsSpelled updates
       → lines_from (update_rule options) AfterALine number (flat_map spelling updates ++ rest)
       ≡ before_report (all_said (map (said_of options) updates)) (lines_from (update_rule options) AfterALine (number + length updates) rest)
   updates_reported number [] rest each = grind arith
@@ -52,15 +60,11 @@ module _ (options : Options) where
       let rule = update_rule options in
       let more = flat_map spelling updates ++ rest in
       ap (lines_from rule AfterALine number) (append_assoc (spelling update) (flat_map spelling updates) rest)
-      ∙ lines_first rule AfterALine number (spelling update ++ more) (some_bytes update more) refl
-      ∙ ap (lines_then (lines_from rule AfterALine (number + 1)) number) (update_spelled update more first)
+      ∙ reported_in_order number update more first
       ∙ ap (before_report (said_of options update)) (updates_reported (number + 1) updates rest each)
       ∙ before_both (said_of options update) _ _
-      ∙ ap (λ n. before_report (then_said (said_of options update) (all_said (map (said_of options) updates))) (lines_from rule AfterALine n rest)) (omega arith)
-
-pub reported_in_order : (options : Options) → IsReportedInOrder options
-unfolding report
-reported_in_order options updates rest each = updates_reported options 1 updates rest each
+      ∙ ap (λ n. before_report (then_said (said_of options update) (all_said (map (said_of options) updates))) (lines_from rule AfterALine n rest))
+      (omega arith)
 
 -- ---- nothing else is well-formed
 
@@ -87,10 +91,11 @@ module _ (options : Options) where
     text_is : text ≡ spelling update ++ rest
     said_is : said ≡ said_of options update
 
-  first_by : (text : List ℕ) (said : Said) (rest front : List ℕ) (parsed : Option ParsedUpdate) → parsed_update front ≡ parsed → text ≡ front ++ line_end ∷ rest
-      → AllByRecursion NoEnd front → length front < 65536 → said_by options parsed ≡ (said, Ok 0) → IsSpelledFirst text said rest
-  first_by text said rest front None e is none few given = grind arith
-  first_by text said rest front (Some update) e is none few given =
+  first_given : (text : List ℕ) (said : Said) (rest front after : List ℕ) (parsed : Option ParsedUpdate) → parsed_update front ≡ parsed
+      → text ≡ front ++ line_end ∷ after → AllByRecursion NoEnd front → length front < 65536 → step_of options parsed after ≡ (said, Ok rest)
+      → IsSpelledFirst text said rest
+  first_given text said rest front after None e is none few given = grind arith
+  first_given text said rest front after (Some update) e is none few given =
       let (good, line) = read_spelled front update e in
       record {
         update = update;
@@ -99,21 +104,18 @@ module _ (options : Options) where
         said_is = grind arith;
       }
 
-  first_given : (text : List ℕ) (said : Said) (rest front after : List ℕ) (parsed : Option ParsedUpdate) → parsed_update front ≡ parsed
-      → text ≡ front ++ line_end ∷ after → AllByRecursion NoEnd front → length front < 65536 → with_rest (said_by options parsed) after ≡ (said, Ok rest)
-      → IsSpelledFirst text said rest
-  first_given text said rest front after None e is none few given = grind arith
-  first_given text said rest front after (Some update) e is none few given =
-      let same : after ≡ rest = grind arith in
-      first_by text said rest front (Some update) e (rw (← same) is) none few (grind arith)
-
   spelled_first : (text : List ℕ) (said : Said) (rest : List ℕ) → line_of (update_rule options) text ≡ (said, Ok rest) → IsSpelledFirst text said rest
   spelled_first text said rest given =
       let line = first_line (update_rule options) text said rest given in
       first_given text said rest line.front line.after (parsed_update line.front) refl line.text_is line.none line.few line.given
 
   none_written : (number : ℕ) → AreWrittenOut [] (lines_from (update_rule options) AfterALine number []).said
-  none_written number = record { updates = []; each = tt; text_is = refl; said_is = ap (λ (all : Report). all.said) (lines_none (update_rule options) AfterALine number) }
+  none_written number = record {
+    updates = [];
+    each = tt;
+    text_is = refl;
+    said_is = ap (λ (all : Report). all.said) (lines_none (update_rule options) AfterALine number);
+  }
 
   next_written : (text : List ℕ) (said : Said) (rest : List ℕ) (after : Said) → IsSpelledFirst text said rest → AreWrittenOut rest after
       → AreWrittenOut text (then_said said after)
@@ -125,9 +127,9 @@ module _ (options : Options) where
   }
 
   then_written : (more : List ℕ → Report) (number : ℕ) (text : List ℕ) (step : Step) → line_of (update_rule options) text ≡ step
-      → (lines_then more number step).malformed ≡ None
+      → (lines_then more number text step).malformed ≡ None
       → ((rest : List ℕ) → length rest < length text → (more rest).malformed ≡ None → AreWrittenOut rest (more rest).said)
-      → AreWrittenOut text (lines_then more number step).said
+      → AreWrittenOut text (lines_then more number text step).said
   then_written more number text (said, Err fault) e none go = grind arith
   then_written more number text (said, Ok rest) e none go =
       let first = spelled_first text said rest e in
@@ -140,7 +142,7 @@ module _ (options : Options) where
   lines_written zero number (b ∷ text) few none = absurd (omega arith)
   lines_written (suc n) number (b ∷ text) few none =
       let rule = update_rule options in
-      let first = lines_first rule AfterALine number (b ∷ text) (omega arith) refl in
+      let first = lines_first rule (update_leaves options) AfterALine number (b ∷ text) (omega arith) refl in
       rw first (then_written (lines_from rule AfterALine (number + 1)) number (b ∷ text) (line_of rule (b ∷ text)) refl (rw first at none)
       (λ rest less good. lines_written n (number + 1) rest (omega arith) good))
 

@@ -3,7 +3,7 @@ use Rattle.std.proofs.Common.{◌≡◌, ◌≢◌, ℕ, ◌<◌, ◌+◌, List,
 use Rattle.std.specs.Prelude.{IfSome}
 use Rattle.std.specs.List.{AllByRecursion}
 use Rattle.streams.specs.Texts.{line_end, split_once}
-use Rattle.streams.specs.Reports.{longest, Said, LineRule, with_rest, line_with, line_of}
+use Rattle.streams.specs.Reports.{longest, Said, LineRule, line_with, line_of}
 use Rattle.streams.proofs.SplitTexts.{IsCut, split_cuts, whole}
 
 -- a whole line at the front of a text, and what is said of it
@@ -13,7 +13,7 @@ pub record IsFirstLine (rule : LineRule) (text : List ℕ) (said : Said) (rest :
   pub text_is : text ≡ front ++ line_end ∷ after
   pub none : AllByRecursion (λ b. b ≢ line_end) front
   pub few : length front < longest
-  pub given : with_rest (rule front after) after ≡ (said, Ok rest)
+  pub given : rule front after ≡ (said, Ok rest)
 
 module _ (rule : LineRule) (text : List ℕ) (said : Said) (rest : List ℕ) where
   first_with : (parts : Option (List ℕ × List ℕ)) → IfSome parts (IsCut line_end (take longest text)) → line_with rule text parts ≡ (said, Ok rest)

@@ -1,7 +1,13 @@
--- What the private functions promise: an update as the code has it.
-use Rattle.check_refs.specs.declared.update.Update.{Update}
-use Rattle.check_refs.specs.Refs.{ParsedUpdate}
+-- The law of the rule of updates.
+use Rattle.std.specs.Prelude.{[], refl, Some, None, IfOk}
+use Rattle.streams.specs.Reports.{EndsIn, LeavesTheEnd}
+use Rattle.check_refs.specs.declared.report.Options.{Options}
+use Rattle.check_refs.specs.Refs.{parsed_update}
+use Rattle.check_refs.specs.Report.{step_of, update_rule}
 
--- an update as the code has it
-abbrev pub as_parsed : Update → ParsedUpdate
-as_parsed update = record { old_id = update.old_id.now; new_id = update.new_id.now; name = update.name.now }
+pub update_leaves : (options : Options) → LeavesTheEnd (update_rule options)
+update_leaves options line text =
+    elim (parsed_update line) as (λ parsed. IfOk (step_of options parsed text).1 (EndsIn text)) [
+      | None ↦ tt
+      | Some update ↦ ([], refl)
+    ]

@@ -10,6 +10,7 @@ use Rattle.gix_validate.specs.Faults.{when, ◌orelse◌}
 use Rattle.gix_validate.specs.Quoted.{quoted}
 use Rattle.gix_validate.specs.Reference.{full_fault_of, branch_fault_of, text_of}
 use Rattle.streams.specs.Texts.{split_once, is_id}
+use Rattle.check_refs.specs.declared.update.Update.{Update}
 use Rattle.check_refs.specs.declared.refusal.Refusal.{Refusal}
 use Rattle.check_refs.specs.declared.refusal.Refusal.TheVariants.{Name, Replacement}
 use Rattle.check_refs.specs.declared.report.Options.{Options}
@@ -21,6 +22,10 @@ pub record ParsedUpdate : Type 0 where
   pub old_id : List ℕ
   pub new_id : List ℕ
   pub name : List ℕ
+
+-- an update as the code has it
+abbrev pub as_parsed : Update → ParsedUpdate
+as_parsed update = record { old_id = update.old_id.now; new_id = update.new_id.now; name = update.name.now }
 
 -- two ids of one length, and a name of at least one byte
 abbrev pub is_update : ParsedUpdate → Bool

@@ -37,12 +37,12 @@ IsSpelled update = IsUpdate update × All (λ b. b ≢ line_end) update.name × 
 abbrev pub spelling : ParsedUpdate → List ℕ
 spelling update = update_line update ++ line_end ∷ []
 
--- Of updates that are written out just this is said, and then what follows them gives its own.
+-- From any number on, an update that is written out is reported first, and then what follows it, whatever that is.
 abbrev pub IsReportedInOrder : Options → Type 0
 IsReportedInOrder options =
-    (updates : List ParsedUpdate) (rest : List ℕ) → AllByRecursion IsSpelled updates
-    → refs_report options (flat_map spelling updates ++ rest)
-    ≡ before_report (all_said (map (said_of options) updates)) (lines_from (update_rule options) AfterALine (1 + length updates) rest)
+    let report_from = lines_from (update_rule options) AfterALine in
+    (number : ℕ) (update : ParsedUpdate) (rest : List ℕ) → IsSpelled update
+    → report_from number (spelling update ++ rest) ≡ before_report (said_of options update) (report_from (number + 1) rest)
 
 -- some updates that are written out, and what is said of them
 pub record IsWrittenOut (options : Options) (text : List ℕ) (said : Said) : Type 0 where

@@ -1,26 +1,29 @@
 //! The report of an input, line by line.
 
-ghost use Rattle.std.specs.Prelude.{◌≡◌, ◌↔◌, [], Some, false, true, IfOk, OnErr, IfSome, OnSome};
-ghost use Rattle.std.specs.Io.KnownBytes.{Appends, IsAtEnd};
-ghost use Rattle.streams.specs.Promises.{Begins, StopsWithin};
-ghost use Rattle.streams.specs.Reports.{is_malformed, verdict_of};
+ghost use Rattle.std.specs.Prelude.{◌≡◌, ◌↔◌, Some, IfOk, IfSome};
+ghost use Rattle.streams.specs.Promises.{Runs};
+ghost use Rattle.streams.specs.Reports.{PrintsAtMost};
 ghost use Rattle.check_refs.specs.Accepted.{IsAcceptedInput};
+ghost use Rattle.check_refs.specs.Private.{update_leaves};
 ghost use Rattle.check_refs.specs.Report.{refs_report, update_rule};
 ghost use Rattle.check_refs.specs.Spelled.{IsReportedInOrder, IsWellFormedOnlyIfSpelled};
 
 use crate::report::{Options, push_line};
 use crate::update::update_of;
+use program::outcome::RunError;
+use program::output::write_all;
 use std::alloc::Global;
 use std::io::{BufRead, Write};
 use streams::lines;
 use streams::lines::{Buffers, Ending, LineCheck};
-use streams::outcome::{Fault, RunError, Verdict};
-use streams::output::write_whole;
+use streams::outcome::{Fault, Verdict};
 
 impl LineCheck for Options {
     ghost line_rule = { λ options. update_rule options };
 
     ghost line_reach = { λ options line. 0 };
+
+    ghost leaves = { update_leaves };
 
     fn check_line<R: BufRead, W: Write>(
         self,
@@ -34,7 +37,7 @@ impl LineCheck for Options {
         };
         buffers.lines.clear();
         let refused = push_line(self, update, &mut buffers.lines).map_err(|_| RunError::Memory)?;
-        write_whole(&buffers.lines, output)?;
+        write_all(&buffers.lines, output)?;
         Ok(Ok(refused))
     }
 }
@@ -68,21 +71,13 @@ pub fn run<R: BufRead, W: Write>(
     input: &mut R,
     output: &mut W,
 ) -> Result<Verdict, RunError>
-    ensures verdict { IfOk result (λ verdict. IfSome (R.remaining input.old) (λ text.
-        Appends (W.contents output.old) (W.contents output.new) (refs_report options text).said.lines
-        × (verdict ≡ verdict_of (refs_report options text)))) }
+    ensures runs { Runs (refs_report options) (λ line. 0) (R.remaining input.old) (R.remaining input.new)
+        (W.contents output.old) (W.contents output.new) result }
     ensures clean { IfOk result (λ verdict. IfSome (R.remaining input.old) (λ text.
         (verdict ≡ Verdict.Clean) ↔ IsAcceptedInput options text)) }
-    ensures end { IfOk result (λ verdict. is_malformed verdict ≡ false
-        → OnSome (R.remaining input.old) (IsAtEnd (R.remaining input.new))) }
-    ensures spent { IfOk result (λ verdict. is_malformed verdict ≡ false
-        → IfSome (R.remaining input.old) (λ _. R.remaining input.new ≡ Some [])) }
-    ensures within { IfOk result (λ verdict. is_malformed verdict ≡ true
-        → IfSome (R.remaining input.old) (StopsWithin (update_rule options) (λ line. 0) (R.remaining input.new))) }
-    ensures stopped { OnErr result (IfSome (R.remaining input.old) (λ text.
-        Begins (W.contents output.old) (W.contents output.new) (refs_report options text).said.lines)) }
     ensures spelled { IsReportedInOrder options }
     ensures well_formed { IsWellFormedOnlyIfSpelled options }
+    ensures linear { PrintsAtMost 4 (refs_report options) }
 {
     lines::run(alloc, options, Ending::AfterALine, input, output)
 }

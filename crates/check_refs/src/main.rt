@@ -2,32 +2,25 @@
 //! of the references, as Git writes them to a pre-receive hook.
 #![tactic(auto)]
 
-ghost use Rattle.std.specs.Prelude.{◌≡◌, ◌≤◌, Ok, IfSome, IsErr, map};
-ghost use Rattle.std.specs.Process.{exit_status};
-ghost use Rattle.std.specs.String.{string_bytes};
-ghost use Rattle.streams.specs.Reports.{verdict_of};
 ghost use Rattle.check_refs.specs.Accepted.{IsAcceptedInput};
-ghost use Rattle.check_refs.specs.Arguments.{request_of};
+ghost use Rattle.check_refs.specs.Arguments.{no_options, rule};
+ghost use Rattle.std.proofs.Common.{ap, subst};
 ghost use Rattle.check_refs.specs.Report.{refs_report};
 
-mod arguments;
 mod engine;
 mod refusal;
 mod report;
 mod update;
 
-use arguments::Request;
+use program::arguments::Setting;
+use program::outcome::RunError;
+use program::{arguments, words};
 use report::Options;
 use std::alloc::Global;
-use std::io::{BufRead, Read, Write};
+use std::io::{BufRead, Write};
 use std::process::ExitCode;
-use streams::outcome::{RunError, Verdict};
-use streams::program::{Check, VERSION, exit_code, failed, printed, words};
-
-const NAME: &str = "check_refs";
-
-/// What messages call a part of the input.
-const UNIT: &str = "line";
+use streams::outcome::Verdict;
+use streams::runs::{Check, answer};
 
 const HELP: &str = "\
 Prints a line for each reference of a push whose name is refused. A pre-receive
@@ -46,7 +39,7 @@ is not checked. A line has the refused name in quotes, and why it is refused:
     --ids        also prints a line with the id NEW for each reference that is
                  neither deleted nor refused
     --replace    allows names under refs/replace/, which are refused otherwise
-    --help       prints this text
+    -h, --help   prints this text
     --version    prints the version
 
 The status is 0 if nothing is refused and 1 if something is. It is 2 if the
@@ -54,8 +47,51 @@ input is empty, a line is malformed or longer than 65536 bytes, the last line
 has no newline, reading or writing fails, memory runs out, or an argument is
 wrong.";
 
-impl Check for Options {
+impl<'a> arguments::Options<'a> for Options {
+    ghost use Rattle.check_refs.specs.declared.report.Options.{Options};
+
+    const NAME: &'static str = "check_refs";
+
+    ghost View = { Options };
+
+    ghost view = { λ options. options };
+
+    ghost start = { no_options };
+
+    ghost rule = { rule };
+
+    fn start() -> Self {
+        Options {
+            lists_ids: false,
+            allows_replace: false,
+        }
+    }
+
+    fn set(self, name: &str, value: Option<&'a str>) -> Setting<'a, Self> {
+        match value {
+            None if name == "--ids" => Setting::Set(Options {
+                lists_ids: true,
+                ..self
+            }),
+            None if name == "--replace" => Setting::Set(Options {
+                allows_replace: true,
+                ..self
+            }),
+            _ => Setting::Unknown,
+        }
+    }
+}
+
+impl Check<'_> for Options {
+    const HELP: &'static str = HELP;
+
+    const UNIT: &'static str = "line";
+
+    const HINT: &'static str = "";
+
     ghost report = { λ options. refs_report options };
+
+    ghost accepts = { λ options. IsAcceptedInput options };
 
     fn run<R: BufRead, W: Write>(
         self,
@@ -65,36 +101,15 @@ impl Check for Options {
     ) -> Result<Verdict, RunError> {
         engine::run(alloc, self, input, output)
     }
+
+    ghost by_view = { λ a b same. ap refs_report same };
+
+    ghost accepts_by_view = { λ a b text same. subst (λ options. IsAcceptedInput options text) same };
 }
 
 fn main(rt: HostRuntime) -> ExitCode {
-    match words(&rt, NAME) {
-        Ok(words) => answer(&rt, &words, rt.stdin(), rt.stdout()),
+    match words(&rt, "check_refs") {
+        Ok(words) => answer::<Options, _, _>(&rt, &words, rt.stdin(), rt.stdout()).0,
         Err(status) => status,
-    }
-}
-
-/// Does what the arguments say, and returns the exit status.
-#[tactic(auto, using(crate::proofs::CleanInputs::only_accepted))]
-fn answer<R: Read + Drop, W: Write + Drop>(
-    rt: &HostRuntime,
-    words: &[String],
-    input: R,
-    output: W,
-) -> ExitCode
-    ensures clean { IfSome (R.remaining input) (λ text. (options : Options)
-        → request_of (map string_bytes words.now) ≡ Ok (Request.Check options)
-        → exit_status result ≡ 0 → IsAcceptedInput options text) }
-    ensures refused { IfSome (R.remaining input) (λ text. (options : Options)
-        → request_of (map string_bytes words.now) ≡ Ok (Request.Check options)
-        → exit_status result ≡ 1 → verdict_of (refs_report options text) ≡ Verdict.Refused) }
-    ensures unknown { IsErr (request_of (map string_bytes words.now)) → exit_status result ≡ 2 }
-    ensures status { exit_status result ≤ 2 }
-{
-    match arguments::request_of(words) {
-        Ok(Request::Check(options)) => exit_code(rt, NAME, UNIT, options, input, output),
-        Ok(Request::Help) => printed(rt, NAME, HELP),
-        Ok(Request::Version) => printed(rt, NAME, format_args!("{NAME} {VERSION}")),
-        Err(fault) => failed(rt, NAME, fault),
     }
 }

@@ -5,9 +5,8 @@
 //! line on standard error says why.
 
 ghost use Rattle.std.specs.Prelude.{◌≡◌, ◌++◌, OnOk, IfOk};
-ghost use Rattle.check_refs.specs.Refs.{id_line, refused_line};
+ghost use Rattle.check_refs.specs.Refs.{as_parsed, id_line, refused_line};
 ghost use Rattle.check_refs.specs.Report.{said_of};
-ghost use Rattle.check_refs.specs.Private.{as_parsed};
 
 use crate::refusal::{Refusal, refusal_of};
 use crate::update::{Update, is_deletion};

@@ -2,9 +2,8 @@
 
 ghost use Rattle.std.specs.Prelude.{◌≡◌};
 ghost use Rattle.std.specs.Option.{option_map};
-ghost use Rattle.check_refs.specs.Refs.{is_deletion, parsed_update};
+ghost use Rattle.check_refs.specs.Refs.{as_parsed, is_deletion, parsed_update};
 ghost use Rattle.check_refs.specs.Spelled.{IsReadAsSpelled};
-ghost use Rattle.check_refs.specs.Private.{as_parsed};
 
 use streams::text::{is_id, split_once};
 

@@ -15,7 +15,7 @@ use Rattle.streams.specs.Spelled as stream
 use Rattle.streams.specs.Spelled.{Spelled, Present, Absent, IsSpelled, spelled_said, IsCleanStream}
 use Rattle.check_submodules.specs.Lines.{place, line_if, line_of, lines_of, too_large_line}
 use Rattle.check_submodules.specs.Report.{largest, file_lines, object_lines, submodules_rule}
-use Rattle.check_submodules.specs.Spelled.{IsAccepted, IsAcceptedFile, IsAcceptedObject, IsAcceptedStream, IsCleanIfAccepted}
+use Rattle.check_submodules.specs.Spelled.{IsAccepted, IsAcceptedFile, IsAcceptedObject, IsAcceptedStream, IsCleanIff}
 
 -- ---- lines
 
@@ -72,7 +72,8 @@ kind_accepts Tree id bytes size e is = absurd (cc)
 kind_accepts Commit id bytes size e is = absurd (cc)
 kind_accepts Tag id bytes size e is = absurd (cc)
 
-kind_accepted : (kind : Kind) (id bytes : List ℕ) (size : ℕ) → (kind ≡ Blob → IsAcceptedFile size bytes) → not (is_empty (object_lines kind id size bytes)) ≡ false
+kind_accepted : (kind : Kind) (id bytes : List ℕ) (size : ℕ) → (kind ≡ Blob → IsAcceptedFile size bytes) → not (is_empty (object_lines kind id size bytes))
+    ≡ false
 kind_accepted Blob id bytes size fine = ap (λ lines. not (is_empty lines)) (file_empty id bytes size (fine refl))
 kind_accepted Tree id bytes size fine = refl
 kind_accepted Commit id bytes size fine = refl
@@ -114,13 +115,13 @@ clean_if_each_accepted whole text fine = record {
   text_is = fine.text_is;
 }
 
-clean_if_accepted : (whole : Bool) (verdict : Verdict) (text : List ℕ) → stream.IsCleanIfAccepted submodules_rule whole verdict text
-    → IsCleanIfAccepted whole verdict text
+clean_if_accepted : (whole : Bool) (verdict : Verdict) (text : List ℕ) → stream.IsCleanIff submodules_rule whole verdict text
+    → IsCleanIff whole verdict text
 clean_if_accepted whole verdict text (there, back) =
     (λ clean. accepted_if_clean whole text (there clean), λ fine. back (clean_if_each_accepted whole text fine))
 
 pub clean_run : {E : Type 0} (whole : Bool) (r : Result Verdict E) (a : Option (List ℕ))
-    → IfOk r (λ verdict. IfSome a (λ text. stream.IsCleanIfAccepted submodules_rule whole verdict text))
-    → IfOk r (λ verdict. IfSome a (IsCleanIfAccepted whole verdict))
+    → IfOk r (λ verdict. IfSome a (λ text. stream.IsCleanIff submodules_rule whole verdict text))
+    → IfOk r (λ verdict. IfSome a (IsCleanIff whole verdict))
 clean_run whole (Ok verdict) a both = IfSome_then a both (λ text e. clean_if_accepted whole verdict text e)
 clean_run whole (Err stop) a both = tt

@@ -1,2 +1,3 @@
 pub mod ReportedSections
 pub mod AcceptedFiles
+pub mod LinearReports

@@ -1,19 +1,14 @@
--- What the arguments of the command ask for.
-use Rattle.std.specs.Prelude.{ℕ, true, false, if◌then◌else◌, List, [], ◌∷◌, codes, Result, Ok, Err}
+-- What the options of the command do.
+use Rattle.std.specs.Prelude.{true, false, if◌then◌else◌, codes, Some, None}
 use Rattle.std.specs.Str.{bytes_eq}
+use Rattle.program.specs.Arguments.{OptionRule, Unknown, Sets}
 use Rattle.check_submodules.specs.declared.engine.Options.{Options}
-use Rattle.check_submodules.specs.declared.arguments.Request.{Request}
-use Rattle.check_submodules.specs.declared.arguments.Request.TheVariants.{Check, Help, Version}
 
--- what words ask for, read from the first, where a check would have these options so far
-abbrev pub request_from : Options → List (List ℕ) → Result Request (List ℕ)
-request_from options [] = Ok (Check options)
-request_from options (word ∷ words) =
-    if bytes_eq word (codes "--end") then request_from (record { whole = true }) words else
-    if bytes_eq word (codes "--help") then Ok Help else
-    if bytes_eq word (codes "--version") then Ok Version else
-    Err word
+-- without options
+abbrev pub no_options : Options
+no_options = record { whole = false }
 
--- what all arguments ask for
-abbrev pub request_of : List (List ℕ) → Result Request (List ℕ)
-request_of words = request_from (record { whole = false }) words
+-- what an option does
+abbrev pub rule : OptionRule Options
+rule name (Some value) options = Unknown
+rule name None options = if bytes_eq name (codes "--end") then Sets (record { whole = true }) else Unknown

@@ -1,27 +1,35 @@
--- Each section that a file has is reported, whatever is before and after it.
-use Rattle.std.specs.Prelude.{◌≡◌, ◌↔◌, ℕ, Bool, false, nat_lt, List, ◌++◌, flat_map, Option, Some, None, ⊤}
+-- Each section that a file has is reported on a line of its own, whatever is before and after it.
+use Rattle.std.specs.Prelude.{◌≡◌, ◌↔◌, ◌⊎◌, ℕ, Bool, false, nat_lt, List, ◌++◌, codes, flat_map, Option, Some, None, ⊤}
 use Rattle.std.specs.List.{AllByRecursion}
-use Rattle.gix_validate.specs.Submodule.{fault_of}
+use Rattle.gix_validate.specs.declared.submodule.NameError.{NameError}
+use Rattle.gix_validate.specs.Submodule.{fault_of, text_of}
+use Rattle.gix_validate.specs.Quoted.{quoted}
 use Rattle.gitmodules.specs.Sections.{sections}
 use Rattle.gitmodules.specs.Spelled.{SectionAt, HeaderAt}
 use Rattle.streams.specs.declared.header.Kind.TheVariants.{Blob}
 use Rattle.streams.specs.declared.outcome.Verdict.{Verdict}
 use Rattle.streams.specs.declared.outcome.Verdict.TheVariants.{Clean}
 use Rattle.streams.specs.Spelled.{Spelled, Present, Absent, IsSpelled, spelling, end_of}
-use Rattle.check_submodules.specs.Lines.{line_of, lines_of}
+use Rattle.check_submodules.specs.Lines.{place, lines_of}
 use Rattle.check_submodules.specs.Report.{largest, submodules_rule}
 
--- the lines of a file have the line of this section
-abbrev pub HasLine : List ℕ → List ℕ → ℕ × Option (List ℕ) → Type 0
-HasLine id file section = (front back : List ℕ) × (lines_of id (sections 0 file) ≡ front ++ line_of id section ++ back)
+-- the lines of a file are whole lines, then these bytes, then others
+abbrev pub HasLine : List ℕ → List ℕ → List ℕ → Type 0
+HasLine id file line =
+    (above : List (List ℕ)) × (below : List ℕ)
+    × (lines_of id (sections 0 file) ≡ flat_map (λ whole. whole ++ codes "\n") above ++ line ++ below)
 
--- a section that is spelled out in a file has its line
+-- a section that is spelled out in a file has the line of its name's fault
 abbrev pub IsEachNameReported : Type 0
-IsEachNameReported = (id file : List ℕ) (offset : ℕ) (name : List ℕ) → SectionAt file offset name → HasLine id file (offset, Some name)
+IsEachNameReported =
+    (id file : List ℕ) (offset : ℕ) (name : List ℕ) (fault : NameError) → SectionAt file offset name → fault_of name ≡ Some fault
+    → HasLine id file (place id offset ++ quoted name ++ codes " " ++ text_of fault ++ codes "\n")
 
--- a header of a submodule's section has its line, whether the name can be read or not
+-- at a header a section is spelled out, or else there is a line that says that it can't be read
 abbrev pub IsEachHeaderReported : Type 0
-IsEachHeaderReported = (id file : List ℕ) (offset : ℕ) → HeaderAt file offset → (name : Option (List ℕ)) × HasLine id file (offset, name)
+IsEachHeaderReported =
+    (id file : List ℕ) (offset : ℕ) → HeaderAt file offset
+    → ((name : List ℕ) × SectionAt file offset name) ⊎ HasLine id file (place id offset ++ codes "a section can't be read\n")
 
 -- ---- nothing refused
 
@@ -47,5 +55,5 @@ pub record IsAcceptedStream (whole : Bool) (text : List ℕ) : Type 0 where
   pub text_is : text ≡ flat_map spelling stream ++ end_of whole
 
 -- A run finds a text clean if and only if it is such a stream.
-abbrev pub IsCleanIfAccepted : Bool → Verdict → List ℕ → Type 0
-IsCleanIfAccepted whole verdict text = (verdict ≡ Clean) ↔ IsAcceptedStream whole text
+abbrev pub IsCleanIff : Bool → Verdict → List ℕ → Type 0
+IsCleanIff whole verdict text = (verdict ≡ Clean) ↔ IsAcceptedStream whole text

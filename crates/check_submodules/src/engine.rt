@@ -3,17 +3,20 @@
 //! A file is held whole, since a section may begin anywhere in it. 16 MiB have room for some
 //! hundred thousand submodules. A larger file is refused, and skipped.
 
-ghost use Rattle.std.specs.Prelude.{◌≡◌, [], Some, false, true, IfOk, OnErr, IfSome, OnSome};
-ghost use Rattle.std.specs.Io.KnownBytes.{Appends, IsAtEnd};
-ghost use Rattle.streams.specs.Objects.{IsWholeStream, object_reach, object_rule};
-ghost use Rattle.streams.specs.Promises.{Begins, StopsWithin, as_object};
-ghost use Rattle.streams.specs.Reports.{is_malformed, verdict_of};
+ghost use Rattle.std.specs.Prelude.{false, true, IfOk, IfSome};
+ghost use Rattle.std.proofs.Common.{ap, subst};
+ghost use Rattle.streams.specs.Objects.{IsWholeStream, object_reach};
+ghost use Rattle.streams.specs.Promises.{Runs, as_object};
+ghost use Rattle.streams.specs.Reports.{PrintsAtMost};
 ghost use Rattle.streams.specs.Spelled.{IsReportedInOrder, IsWellFormedOnlyIfSpelled};
 ghost use Rattle.check_submodules.specs.Private.{Reads};
 ghost use Rattle.check_submodules.specs.Report.{report, submodules_rule};
-ghost use Rattle.check_submodules.specs.Spelled.{IsCleanIfAccepted, IsEachHeaderReported, IsEachNameReported};
+ghost use Rattle.check_submodules.specs.Spelled.{IsAcceptedStream, IsCleanIff, IsEachHeaderReported, IsEachNameReported};
 
+use crate::HELP;
 use crate::report::{push_lines, push_too_large};
+use program::outcome::RunError;
+use program::output::write_all;
 use std::alloc::Global;
 use std::io::{BufRead, Write};
 use streams::header::{Kind, Object};
@@ -21,9 +24,8 @@ use streams::input::{read_bytes, skip};
 use streams::lines::Buffers;
 use streams::objects;
 use streams::objects::ObjectCheck;
-use streams::outcome::{Fault, RunError, Verdict};
-use streams::output::write_whole;
-use streams::program::Check;
+use streams::outcome::{Fault, Verdict};
+use streams::runs::Check;
 
 /// The size in bytes of the largest file that is read.
 const LARGEST: u64 = 16_777_216;
@@ -63,29 +65,32 @@ pub fn run<R: BufRead, W: Write>(
     input: &mut R,
     output: &mut W,
 ) -> Result<Verdict, RunError>
-    ensures verdict { IfOk result (λ verdict. IfSome (R.remaining input.old) (λ text.
-        Appends (W.contents output.old) (W.contents output.new) (report options.whole text).said.lines
-        × (verdict ≡ verdict_of (report options.whole text)))) }
-    ensures clean { IfOk result (λ verdict. IfSome (R.remaining input.old) (IsCleanIfAccepted options.whole verdict)) }
-    ensures end { IfOk result (λ verdict. is_malformed verdict ≡ false
-        → OnSome (R.remaining input.old) (IsAtEnd (R.remaining input.new))) }
-    ensures spent { IfOk result (λ verdict. is_malformed verdict ≡ false
-        → IfSome (R.remaining input.old) (λ _. R.remaining input.new ≡ Some [])) }
-    ensures within { IfOk result (λ verdict. is_malformed verdict ≡ true
-        → IfSome (R.remaining input.old) (StopsWithin (object_rule submodules_rule options.whole) object_reach (R.remaining input.new))) }
-    ensures stopped { OnErr result (IfSome (R.remaining input.old) (λ text.
-        Begins (W.contents output.old) (W.contents output.new) (report options.whole text).said.lines)) }
+    ensures runs { Runs (report options.whole) object_reach (R.remaining input.old) (R.remaining input.new)
+        (W.contents output.old) (W.contents output.new) result }
+    ensures clean { IfOk result (λ verdict. IfSome (R.remaining input.old) (IsCleanIff options.whole verdict)) }
     ensures spelled { IsReportedInOrder submodules_rule options.whole }
     ensures well_formed { IsWellFormedOnlyIfSpelled submodules_rule options.whole }
     ensures whole { IsWholeStream submodules_rule options.whole }
     ensures names { IsEachNameReported }
     ensures headers { IsEachHeaderReported }
+    ensures linear { PrintsAtMost 17 (report options.whole) }
 {
     objects::run(alloc, options, options.whole, input, output)
 }
 
-impl Check for Options {
+impl Check<'_> for Options {
+    ghost use Rattle.check_submodules.specs.declared.engine.Options.{Options};
+
+    const HELP: &'static str = HELP;
+
+    const UNIT: &'static str = "object";
+
+    const HINT: &'static str = "; pass a file through git cat-file --batch, as in: \
+        echo HEAD:.gitmodules | git cat-file --batch | check_submodules";
+
     ghost report = { λ options. report options.whole };
+
+    ghost accepts = { λ options. IsAcceptedStream options.whole };
 
     fn run<R: BufRead, W: Write>(
         self,
@@ -95,6 +100,10 @@ impl Check for Options {
     ) -> Result<Verdict, RunError> {
         run(alloc, self, input, output)
     }
+
+    ghost by_view = { λ a b same. ap (λ (options : Options). report options.whole) same };
+
+    ghost accepts_by_view = { λ a b text same. subst (λ (options : Options). IsAcceptedStream options.whole text) same };
 }
 
 impl ObjectCheck for Options {
@@ -110,7 +119,7 @@ impl ObjectCheck for Options {
         if !read_object(object, input, buffers)? {
             return Ok(Err(Fault::Ended));
         }
-        write_whole(&buffers.lines, output)?;
+        write_all(&buffers.lines, output)?;
         Ok(Ok(!buffers.lines.is_empty()))
     }
 }

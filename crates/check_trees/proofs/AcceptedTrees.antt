@@ -17,10 +17,10 @@ use Rattle.streams.specs.Objects.{Judged}
 use Rattle.streams.specs.Spelled as stream
 use Rattle.streams.specs.Spelled.{Spelled, Present, Absent, IsSpelled, spelled_said, IsCleanStream}
 use Rattle.streams.proofs.CleanStreams.{neither}
-use Rattle.check_trees.specs.declared.engine.CheckOptions.{CheckOptions}
+use Rattle.check_trees.specs.Options.{Options, protections_for}
 use Rattle.check_trees.specs.Entries.{ParsedEntry, kind_of, named}
 use Rattle.check_trees.specs.Report.{finding_by, finding_said, entries, judged_by_kind, tree_rule}
-use Rattle.check_trees.specs.Spelled.{Item, item_said, IsAcceptedTree, IsAcceptedObject, IsAcceptedStream, IsCleanIfAccepted}
+use Rattle.check_trees.specs.Spelled.{Item, item_said, IsAcceptedTree, IsAcceptedObject, IsAcceptedStream, IsCleanIff}
 use Rattle.check_trees.proofs.SpelledTrees.{entries_spelled, read_as_items}
 
 -- ---- an entry
@@ -31,13 +31,13 @@ refused_by tree entry modules (Some fault) = refl
 refused_by tree entry true None = refl
 refused_by tree entry false None = refl
 
-module _ (options : CheckOptions) (tree : ParsedObject) where
+module _ (options : Options) (tree : ParsedObject) where
   abbrev IsAcceptedItem : Item → Type 0
-  IsAcceptedItem item = fault_of options.protections (kind_of item.number) item.name ≡ None
+  IsAcceptedItem item = fault_of (protections_for options item.name) (kind_of item.number) item.name ≡ None
 
-  item_refused : (item : Item) → (item_said options tree item).refused ≡ is_some (fault_of options.protections (kind_of item.number) item.name)
+  item_refused : (item : Item) → (item_said options tree item).refused ≡ is_some (fault_of (protections_for options item.name) (kind_of item.number) item.name)
   item_refused item = refused_by tree (record { front = named item.mode item.name item.number; id = item.id }) _
-      (fault_of options.protections (kind_of item.number) item.name)
+      (fault_of (protections_for options item.name) (kind_of item.number) item.name)
 
   some_fault : (fault : Option ComponentError) → is_some fault ≡ false → fault ≡ None
   some_fault None e = refl
@@ -58,7 +58,7 @@ module _ (options : CheckOptions) (tree : ParsedObject) where
 with_none : (judged : Judged) → judged.1 ≡ None → judged ≡ (judged.0, None)
 with_none (said, fault) e = ap (λ fault. (said, fault)) e
 
-module _ (options : CheckOptions) where
+module _ (options : Options) where
   object_accepts : (whole : Bool) (object : Spelled) → IsSpelled (tree_rule options) whole object → (spelled_said (tree_rule options) object).refused ≡ false
       → IsAcceptedObject options object
   object_accepts whole (Present object digits content) (good, number, long, none, fits, right) clean = λ is.
@@ -117,13 +117,13 @@ module _ (options : CheckOptions) where
     text_is = good.text_is;
   }
 
-clean_if_accepted : (options : CheckOptions) (verdict : Verdict) (text : List ℕ)
-    → stream.IsCleanIfAccepted (tree_rule options) options.whole verdict text → IsCleanIfAccepted options verdict text
+clean_if_accepted : (options : Options) (verdict : Verdict) (text : List ℕ)
+    → stream.IsCleanIff (tree_rule options) options.whole verdict text → IsCleanIff options verdict text
 clean_if_accepted options verdict text both =
     (λ e. accepted_if_clean options text (both.0 e), λ good. both.1 (clean_if_each_accepted options text good))
 
-pub clean_run : {E : Type 0} (options : CheckOptions) (r : Result Verdict E) (a : Option (List ℕ))
-    → IfOk r (λ verdict. IfSome a (λ text. stream.IsCleanIfAccepted (tree_rule options) options.whole verdict text))
-    → IfOk r (λ verdict. IfSome a (IsCleanIfAccepted options verdict))
+pub clean_run : {E : Type 0} (options : Options) (r : Result Verdict E) (a : Option (List ℕ))
+    → IfOk r (λ verdict. IfSome a (λ text. stream.IsCleanIff (tree_rule options) options.whole verdict text))
+    → IfOk r (λ verdict. IfSome a (IsCleanIff options verdict))
 clean_run options (Ok verdict) a both = IfSome_then a both (λ text e. clean_if_accepted options verdict text e)
 clean_run options (Err stop) a both = tt

@@ -1,7 +1,7 @@
 -- No more of the input is read than an entry, or than what is left of its tree.
 use Rattle.std.proofs.Common.{ℕ, ◌+◌, ◌≤◌, Bool, true, false, List, ◌∷◌, [], ◌++◌, Option, length, arith, length-append}
 use Rattle.streams.specs.declared.input.Found.TheVariants.{Byte}
-use Rattle.streams.specs.Promises.{Fronts, ReadsUpTo, Skips}
+use Rattle.streams.specs.Promises.{ReadsBefore, ReadsUpTo, ReadsExactly}
 use Rattle.streams.proofs.LinesStop.{up_to_more}
 use Rattle.check_trees.specs.declared.engine.Finding.{Finding}
 use Rattle.check_trees.specs.declared.engine.Finding.TheVariants.{Accepted, Modules, Refused}
@@ -9,7 +9,7 @@ use Rattle.check_trees.specs.Entries.{nul}
 use Rattle.check_trees.specs.Private.{PassesId}
 
 module _ (a b : Option (List ℕ)) where
-  skip_within : (count : ℕ) (bytes : List ℕ) (whole : Bool) → Skips count a b bytes whole → ReadsUpTo count a b
+  skip_within : (count : ℕ) (bytes : List ℕ) (whole : Bool) → ReadsExactly count a b bytes whole → ReadsUpTo count a b
   skip_within count bytes true (skipped, long) = (bytes, skipped, omega arith)
   skip_within count bytes false (skipped, short, end) = (bytes, skipped, omega arith)
 
@@ -19,7 +19,7 @@ module _ (a b : Option (List ℕ)) where
   id_within count (Refused fault) id whole (bytes, skips) = skip_within count bytes whole skips
 
 pub entry_within : (limit : ℕ) (a b c : Option (List ℕ)) (front : List ℕ) (left count : ℕ) (finding : Finding) (id : List ℕ) (whole : Bool)
-    → Fronts nul limit a b front Byte → PassesId finding count b c id whole → length front + 1 + count ≤ left → ReadsUpTo left a c
+    → ReadsBefore nul limit a b front Byte → PassesId finding count b c id whole → length front + 1 + count ≤ left → ReadsUpTo left a c
 entry_within limit a b c front left count finding id whole read passes fits =
     up_to_more (length front + 1) count left a b c (front ++ nul ∷ [], read.bytes, grind (arith, length-append))
     (id_within b c count finding id whole passes) fits

@@ -8,18 +8,19 @@ use Rattle.std.specs.Prelude.{IfSome, IfOk, IsErr}
 use Rattle.std.specs.Io.KnownBytes.{Appends}
 use Rattle.streams.specs.declared.outcome.Fault.{Fault}
 use Rattle.streams.specs.declared.outcome.Fault.TheVariants.{Ended, TooLong, Entry}
-use Rattle.streams.specs.declared.outcome.RunError.{RunError}
+use Rattle.program.specs.declared.outcome.RunError.{RunError}
 use Rattle.streams.specs.declared.input.Found.TheVariants.{Byte, Limit, End}
 use Rattle.streams.specs.Texts.{split_once}
 use Rattle.streams.specs.Headers.{ParsedObject}
 use Rattle.streams.specs.Reports.{longest, Said}
-use Rattle.streams.specs.Promises.{Begins, Fronts, Skips}
+use Rattle.program.specs.Writes.{AppendsPrefixOf}
+use Rattle.streams.specs.Promises.{ReadsBefore, ReadsExactly}
 use Rattle.streams.proofs.SplitTexts.{take_after, take_past, drop_before, drop_both, split_within, split_short, split_long}
-use Rattle.check_trees.specs.declared.engine.CheckOptions.{CheckOptions}
+use Rattle.check_trees.specs.Options.{Options}
 use Rattle.check_trees.specs.declared.engine.Checked.{Checked}
 use Rattle.check_trees.specs.declared.engine.Finding.{Finding}
 use Rattle.check_trees.specs.declared.engine.Finding.TheVariants.{Accepted, Modules, Refused}
-use Rattle.check_trees.specs.Entries.{nul, ParsedFront, ParsedEntry, parsed_front, entry_at, entry_with, entry_of}
+use Rattle.check_trees.specs.Entries.{nul, ParsedModeAndName, ParsedEntry, parsed_front, entry_at, entry_with, entry_of}
 use Rattle.check_trees.specs.Report.{short_of, finding_of, finding_said, entry_said}
 use Rattle.check_trees.specs.Private.{first_entry, EntryGives, PassesId}
 
@@ -60,7 +61,8 @@ module _ (tree : ParsedObject) (front rest : List ℕ) (left : ℕ) (none : All 
   first_cut cut few = grind (arith, nat_tests, entry_cut, take_all)
 
   first_found : length front < left → length front < longest → first_entry tree left (front ++ nul ∷ rest)
-      ≡ entry_at (short_of (nat_lt (length (front ++ nul ∷ rest)) left)) (length tree.id / 2) (take left (front ++ nul ∷ rest)) (length front + 1) (parsed_front front)
+      ≡ entry_at (short_of (nat_lt (length (front ++ nul ∷ rest)) left)) (length tree.id / 2) (take left (front ++ nul ∷ rest)) (length front + 1)
+      (parsed_front front)
   first_found less few = grind (arith, entry_found, take_past)
 
 pub id_after : (front id rest : List ℕ) (start width : ℕ) → start ≡ length front + 1 → width ≡ length id
@@ -82,43 +84,43 @@ id_taken front id rest start width left at long room =
 -- ---- what the reads give
 
 -- up to the NUL
-module _ (options : CheckOptions) (tree : ParsedObject) (left : ℕ) (out : Option (List ℕ)) {old new : Option (List ℕ)} {limit : ℕ} {front : List ℕ}
+module _ (options : Options) (tree : ParsedObject) (left : ℕ) (out : Option (List ℕ)) {old new : Option (List ℕ)} {limit : ℕ} {front : List ℕ}
     (is : limit ≡ min left longest) where
-  pub gives_past : Fronts nul limit old new front Limit → left < longest → IfSome old (λ text. EntryGives options tree left text new out out (Ok (Err Entry)))
+  pub gives_past : ReadsBefore nul limit old new front Limit → left < longest → IfSome old (λ text. EntryGives options tree left text new out out (Ok (Err Entry)))
   gives_past read few = grind (arith, append-nil, length-append, first_past)
 
-  pub gives_long : Fronts nul limit old new front Limit → longest ≤ left → IfSome old (λ text. EntryGives options tree left text new out out (Ok (Err TooLong)))
+  pub gives_long : ReadsBefore nul limit old new front Limit → longest ≤ left → IfSome old (λ text. EntryGives options tree left text new out out (Ok (Err TooLong)))
   gives_long read many = grind (arith, append-nil, length-append, first_long)
 
-  pub gives_cut : Fronts nul limit old new front End → IfSome old (λ text. EntryGives options tree left text new out out (Ok (Err Ended)))
+  pub gives_cut : ReadsBefore nul limit old new front End → IfSome old (λ text. EntryGives options tree left text new out out (Ok (Err Ended)))
   gives_cut read = grind (arith, append-nil, first_cut)
 
-  pub gives_malformed : Fronts nul limit old new front Byte → None ≡ parsed_front front
+  pub gives_malformed : ReadsBefore nul limit old new front Byte → None ≡ parsed_front front
       → IfSome old (λ text. EntryGives options tree left text new out out (Ok (Err Entry)))
   gives_malformed read bad = grind (arith, append-nil, append_assoc, first_found)
 
 -- the id that was passed, which is said only where it was kept
 passed : (finding : Finding) (count : ℕ) (a b : Option (List ℕ)) (kept : List ℕ) (whole : Bool) → PassesId finding count a b kept whole
-    → (bytes : List ℕ) × Skips count a b bytes whole
-    × ((tree : ParsedObject) (front : ParsedFront)
+    → (bytes : List ℕ) × ReadsExactly count a b bytes whole
+    × ((tree : ParsedObject) (front : ParsedModeAndName)
     → finding_said tree (record { front = front; id = kept }) finding ≡ finding_said tree (record { front = front; id = bytes }) finding)
 passed Accepted count a b kept whole (bytes, skips) = (bytes, skips, λ tree front. refl)
 passed Modules count a b kept whole skips = (kept, skips, λ tree front. refl)
 passed (Refused fault) count a b kept whole (bytes, skips) = (bytes, skips, λ tree front. refl)
 
 -- and for the id after a mode and a name, of which so many bytes are in the tree
-module _ (options : CheckOptions) (tree : ParsedObject) (left : ℕ) (new out : Option (List ℕ)) {old mid : Option (List ℕ)} {limit count : ℕ}
-    {front : List ℕ} {named : ParsedFront} (is : limit ≡ min left longest) (read : Fronts nul limit old mid front Byte)
+module _ (options : Options) (tree : ParsedObject) (left : ℕ) (new out : Option (List ℕ)) {old mid : Option (List ℕ)} {limit count : ℕ}
+    {front : List ℕ} {named : ParsedModeAndName} (is : limit ≡ min left longest) (read : ReadsBefore nul limit old mid front Byte)
     (parsed : Some named ≡ parsed_front front)
     (least : count ≡ min (length tree.id / 2) (left - (length front + 1))) where
-  skipped_cut : (bytes : List ℕ) → Skips count mid new bytes false → IfSome old (λ text. EntryGives options tree left text new out out (Ok (Err Ended)))
+  skipped_cut : (bytes : List ℕ) → ReadsExactly count mid new bytes false → IfSome old (λ text. EntryGives options tree left text new out out (Ok (Err Ended)))
   skipped_cut bytes skips = grind (arith, append-nil, append_assoc, length-append, length-take, first_found)
 
-  skipped_past : (bytes : List ℕ) → Skips count mid new bytes true → count < length tree.id / 2
+  skipped_past : (bytes : List ℕ) → ReadsExactly count mid new bytes true → count < length tree.id / 2
       → IfSome old (λ text. EntryGives options tree left text new out out (Ok (Err Entry)))
   skipped_past bytes skips less = grind (arith, append-nil, append_assoc, length-append, length-take, first_found)
 
-  first_whole : (bytes : List ℕ) (len : ℕ) → Skips count mid new bytes true → length tree.id / 2 ≤ count → len ≡ length front + 1 + length tree.id / 2
+  first_whole : (bytes : List ℕ) (len : ℕ) → ReadsExactly count mid new bytes true → length tree.id / 2 ≤ count → len ≡ length front + 1 + length tree.id / 2
       → IfSome old (λ text.
       (first_entry tree left text ≡ Ok (record { front = named; id = bytes }, take (left - len) (drop len text))) × (new ≡ Some (drop len text))
       × (len ≤ length text))
@@ -134,7 +136,7 @@ module _ (options : CheckOptions) (tree : ParsedObject) (left : ℕ) (new out : 
 
     pub gives_stop : (after : Option (List ℕ)) (r : Result (Result Checked Fault) RunError) → finding ≡ finding_of options named
         → PassesId finding count mid new kept true → length tree.id / 2 ≤ count
-        → IsErr r → Begins out after (finding_said tree (record { front = named; id = kept }) finding).lines
+        → IsErr r → AppendsPrefixOf out after (finding_said tree (record { front = named; id = kept }) finding).lines
         → IfSome old (λ text. EntryGives options tree left text new out after r)
     gives_stop after r found passes more stop begins =
         let (bytes, skips, same) = passed finding count mid new kept true passes in

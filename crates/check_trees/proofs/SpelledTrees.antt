@@ -18,8 +18,8 @@ use Rattle.streams.specs.Objects.{Judged}
 use Rattle.streams.proofs.SplitTexts.{split_found, drop_both, IsCut, split_cuts, whole}
 use Rattle.streams.proofs.SpelledHeaders.{without, number_high}
 use Rattle.streams.proofs.WellFormedStreams.{each_after}
-use Rattle.check_trees.specs.declared.engine.CheckOptions.{CheckOptions}
-use Rattle.check_trees.specs.Entries.{nul, named, ParsedFront, ParsedEntry, parsed_front, entry_at, entry_with, entry_of}
+use Rattle.check_trees.specs.Options.{Options}
+use Rattle.check_trees.specs.Entries.{nul, named, ParsedModeAndName, ParsedEntry, parsed_front, entry_at, entry_with, entry_of}
 use Rattle.check_trees.specs.Report.{entries_then, entries_within, entries, judged_by_kind, tree_rule}
 use Rattle.check_trees.specs.Spelled.{Item, IsItem, item_bytes, item_said, IsTree, IsReadAsItems}
 use Rattle.check_trees.proofs.FirstEntry.{entry_found, id_after}
@@ -51,7 +51,7 @@ entry_spelled short width item more good =
       front_spelled item.mode item.name item.number good.0,
     )
 
-pub entries_spelled : (options : CheckOptions) (short : Fault) (tree : ParsedObject) (items : List Item) → AllByRecursion (IsItem (length tree.id / 2)) items
+pub entries_spelled : (options : Options) (short : Fault) (tree : ParsedObject) (items : List Item) → AllByRecursion (IsItem (length tree.id / 2)) items
     → entries options short tree (flat_map item_bytes items) ≡ (all_said (map (item_said options tree) items), None)
 entries_spelled options short tree [] each = grind (arith, entries_none)
 entries_spelled options short tree (item ∷ items) (first, each) =
@@ -59,7 +59,7 @@ entries_spelled options short tree (item ∷ items) (first, each) =
 
 -- ---- an entry that is well-formed
 
-abbrev IsFront : List ℕ → ParsedFront → Type 0
+abbrev IsFront : List ℕ → ParsedModeAndName → Type 0
 IsFront front parsed = (number : ℕ) × (number_of 8 parsed.mode ≡ Some number) × (front ≡ parsed.mode ++ byte " " ∷ parsed.name)
     × (parsed ≡ named parsed.mode parsed.name number)
 
@@ -67,7 +67,7 @@ front_is : (front : List ℕ) → IfSome (parsed_front front) (IsFront front)
 unfolding parsed_front
 front_is front = grind (arith, split_cuts (byte " ") front)
 
-abbrev IsFirst : ℕ → List ℕ → ParsedEntry × List ℕ → Type 0
+abbrev pub IsFirst : ℕ → List ℕ → ParsedEntry × List ℕ → Type 0
 IsFirst width bytes entry =
     (item : Item) × IsItem width item × (bytes ≡ item_bytes item ++ entry.1)
     × (entry.0 ≡ record { front = named item.mode item.name item.number; id = item.id })
@@ -78,7 +78,7 @@ if_ok true fault x P holds = tt
 if_ok false fault x P holds = holds refl
 
 module _ (short : Fault) (width : ℕ) where
-  item_at : (bytes front : List ℕ) (parsed : Option ParsedFront) → bytes ≡ front ++ nul ∷ drop (length front + 1) bytes → length front < longest
+  item_at : (bytes front : List ℕ) (parsed : Option ParsedModeAndName) → bytes ≡ front ++ nul ∷ drop (length front + 1) bytes → length front < longest
       → AllByRecursion (λ b. b ≢ nul) front → IfSome parsed (IsFront front) → IfOk (entry_at short width bytes (length front + 1) parsed) (IsFirst width bytes)
   item_at bytes front None cut few none is = tt
   item_at bytes front (Some parsed) cut few none (number, digits, spelled, same) = if_ok _ short _ (IsFirst width bytes) (λ room.
@@ -90,7 +90,7 @@ module _ (short : Fault) (width : ℕ) where
         record { mode = parsed.mode; number = number; name = parsed.name; id = id },
         (digits, All-from_recursion (λ b. b ≢ nul) parsed.name name_none, grind (arith, nat_tests, length-take, length-append), grind (arith, length-append)),
         grind (arith, append_assoc),
-        ap (λ (front : ParsedFront). record { front = front; id = id }) same,
+        ap (λ (front : ParsedModeAndName). record { front = front; id = id }) same,
       ))
 
   item_with : (bytes : List ℕ) (parts : Option (List ℕ × List ℕ)) → IfSome parts (IsCut nul (take longest bytes))
@@ -99,13 +99,13 @@ module _ (short : Fault) (width : ℕ) where
   item_with bytes (Some parts) cut =
       let all = whole nul bytes parts.0 parts.1 longest cut.0 in item_at bytes parts.0 (parsed_front parts.0) all.0 all.1 cut.1 (front_is parts.0)
 
-  item_first : (bytes : List ℕ) → IfOk (entry_of short width bytes) (IsFirst width bytes)
+  pub item_first : (bytes : List ℕ) → IfOk (entry_of short width bytes) (IsFirst width bytes)
   unfolding entry_of
   item_first bytes = item_with bytes (split_once nul (take longest bytes)) (split_cuts nul (take longest bytes))
 
 -- ---- a tree that is well-formed
 
-module _ (options : CheckOptions) (short : Fault) (tree : ParsedObject) where
+module _ (options : Options) (short : Fault) (tree : ParsedObject) where
   abbrev Goes : List ℕ → Judged → Type 0
   Goes bytes judged = judged.1 ≡ None → IsTree options tree bytes judged.0
 
@@ -137,11 +137,11 @@ module _ (options : CheckOptions) (short : Fault) (tree : ParsedObject) where
 
 -- ---- both ways
 
-by_kind : (options : CheckOptions) (tree : ParsedObject) (bytes : List ℕ) → tree.kind ≡ Tree
+by_kind : (options : Options) (tree : ParsedObject) (bytes : List ℕ) → tree.kind ≡ Tree
     → tree_rule options false tree bytes ≡ entries options Entry tree bytes
 by_kind options tree bytes is = ap (judged_by_kind options false tree bytes) is
 
-pub read_as_items : (options : CheckOptions) → IsReadAsItems options
+pub read_as_items : (options : Options) → IsReadAsItems options
 read_as_items options tree bytes said is = (
   λ e.
       let read = sym (by_kind options tree bytes is) ∙ e in

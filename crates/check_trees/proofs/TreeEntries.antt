@@ -8,12 +8,13 @@ use Rattle.std.proofs.lemmas.Bool.Decides.{nat_tests}
 use Rattle.std.proofs.lemmas.Grind.{common_steps}
 use Rattle.std.specs.Prelude.{IfSome, IsErr}
 use Rattle.streams.specs.declared.outcome.Fault.{Fault}
-use Rattle.streams.specs.declared.outcome.RunError.{RunError}
+use Rattle.program.specs.declared.outcome.RunError.{RunError}
 use Rattle.streams.specs.Headers.{ParsedObject}
 use Rattle.streams.specs.Reports.{nothing, then_said}
-use Rattle.streams.specs.Promises.{Begins, Gives}
+use Rattle.program.specs.Writes.{AppendsPrefixOf}
+use Rattle.streams.specs.Promises.{FollowsRule}
 use Rattle.streams.proofs.ReportSoFar.{SoFar, goes, ends, stops}
-use Rattle.check_trees.specs.declared.engine.CheckOptions.{CheckOptions}
+use Rattle.check_trees.specs.Options.{Options}
 use Rattle.check_trees.specs.declared.engine.Checked.{Checked}
 use Rattle.check_trees.specs.Entries.{nul, ParsedEntry, entry_of}
 use Rattle.check_trees.specs.Report.{entry_said, entries_then, entries_within, entries, short_of}
@@ -22,7 +23,7 @@ use Rattle.check_trees.proofs.FirstEntry.{entry_shorter, first_cut}
 
 -- ---- the fuel says nothing, where there is enough
 
-module _ (options : CheckOptions) (short : Fault) (tree : ParsedObject) where
+module _ (options : Options) (short : Fault) (tree : ParsedObject) where
   entries_enough : (f g : ℕ) (bytes : List ℕ) → length bytes ≤ f → length bytes ≤ g
       → entries_within f options short tree bytes ≡ entries_within g options short tree bytes
   entries_enough zero zero bytes p q = refl
@@ -43,29 +44,38 @@ module _ (options : CheckOptions) (short : Fault) (tree : ParsedObject) where
 
 -- ---- a tree from its first entry
 
-module _ (options : CheckOptions) (tree : ParsedObject) (left : ℕ) where
+module _ (options : Options) (tree : ParsedObject) (left : ℕ) where
   tree_ended : (text : List ℕ) → left ≡ 0 → tree_report options tree left text ≡ (nothing, Ok text)
   tree_ended text none = grind (arith, entries_none)
 
   tree_faulty : (text : List ℕ) (fault : Fault) → 0 < left → first_entry tree left text ≡ Err fault → tree_report options tree left text ≡ (nothing, Err fault)
   tree_faulty [] fault some e = grind (arith, common_steps, entries_none, first_cut tree [] [] left (All-nil (λ b. b ≢ nul)) some)
-  tree_faulty (b ∷ text) fault some e = grind (arith, length-take, entries_first options (short_of (nat_lt (length (b ∷ text)) left)) tree (take left (b ∷ text)))
+  tree_faulty (b ∷ text) fault some e = grind (
+    arith,
+    length-take,
+    entries_first options (short_of (nat_lt (length (b ∷ text)) left)) tree
+        (take left (b ∷ text)),
+  )
 
   tree_entry : (text : List ℕ) (len : ℕ) (entry : ParsedEntry) → 0 < len → len ≤ left → len ≤ length text
       → first_entry tree left text ≡ Ok (entry, take (left - len) (drop len text)) → tree_report options tree left text
-      ≡ (then_said (entry_said options tree entry) (tree_report options tree (left - len) (drop len text)).0, (tree_report options tree (left - len) (drop len text)).1)
+      ≡ (
+        then_said (entry_said options tree entry) (tree_report options tree (left - len) (drop len text)).0,
+        (tree_report options tree (left - len)
+            (drop len text)).1,
+      )
   tree_entry text len entry some room many e =
       grind (arith, nat_tests, length-take, length-drop, drop-drop, entries_first options (short_of (nat_lt (length text) left)) tree (take left text))
 
-  tree_begins : (text : List ℕ) (old new : Option (List ℕ)) → 0 < left → Begins old new (first_said options tree (first_entry tree left text)).lines
-      → Begins old new (tree_report options tree left text).0.lines
+  tree_begins : (text : List ℕ) (old new : Option (List ℕ)) → 0 < left → AppendsPrefixOf old new (first_said options tree (first_entry tree left text)).lines
+      → AppendsPrefixOf old new (tree_report options tree left text).0.lines
   tree_begins [] old new some begins = grind (arith, common_steps, entries_none, first_cut tree [] [] left (All-nil (λ b. b ≢ nul)) some)
   tree_begins (b ∷ text) old new some begins =
       grind (arith, length-take, take-append-le, entries_first options (short_of (nat_lt (length (b ∷ text)) left)) tree (take left (b ∷ text)))
 
 -- ---- a tree while it is read
 
-module _ (options : CheckOptions) (tree : ParsedObject) (size left : ℕ) {a b old mid : Option (List ℕ)} {refused : Bool}
+module _ (options : Options) (tree : ParsedObject) (size left : ℕ) {a b old mid : Option (List ℕ)} {refused : Bool}
     (sofar : SoFar (tree_report options tree size) (tree_report options tree left) a b old mid refused) where
   pub tree_goes : (c new : Option (List ℕ)) (entry : Checked) → (0 < entry.len) × (entry.len ≤ left)
       → IfSome b (λ rest. EntryGives options tree left rest c mid new (Ok (Ok entry)))
@@ -74,14 +84,15 @@ module _ (options : CheckOptions) (tree : ParsedObject) (size left : ℕ) {a b o
       (entry_said options tree named, _, after, tree_entry options tree left rest entry.len named bound.0 bound.1 many first, appends, found)))
 
   pub tree_faults : (new : Option (List ℕ)) (fault : Fault) → 0 < left → IfSome b (λ rest. EntryGives options tree left rest b mid new (Ok (Err fault)))
-      → IfSome a (λ text. Gives (tree_report options tree size text) b old new (Ok (Err fault)))
-  tree_faults new fault some gives = ends sofar new (Err fault) (IfSome_then b gives (λ rest e. (nothing, tree_faulty options tree left rest fault some e.0, e.1)))
+      → IfSome a (λ text. FollowsRule (tree_report options tree size text) b old new (Ok (Err fault)))
+  tree_faults new fault some gives = ends sofar new (Err fault) (IfSome_then b gives (λ rest e.
+      (nothing, tree_faulty options tree left rest fault some e.0, e.1)))
 
-  pub tree_ends : left ≡ 0 → IfSome a (λ text. Gives (tree_report options tree size text) b old mid (Ok (Ok refused)))
+  pub tree_ends : left ≡ 0 → IfSome a (λ text. FollowsRule (tree_report options tree size text) b old mid (Ok (Ok refused)))
   tree_ends none = IfSome_then a sofar.known (λ text so. grind (arith, append-nil, tree_ended))
 
   pub tree_stops : (c new : Option (List ℕ)) (r : Result (Result Bool Fault) RunError) → 0 < left → IsErr r
-      → IfSome b (λ rest. Begins mid new (first_said options tree (first_entry tree left rest)).lines)
-      → IfSome a (λ text. Gives (tree_report options tree size text) c old new r)
+      → IfSome b (λ rest. AppendsPrefixOf mid new (first_said options tree (first_entry tree left rest)).lines)
+      → IfSome a (λ text. FollowsRule (tree_report options tree size text) c old new r)
   tree_stops c new r some stop begun =
       IfSome_then a (stops sofar new (IfSome_then b begun (λ rest e. tree_begins options tree left rest mid new some e))) (λ text e. grind arith)

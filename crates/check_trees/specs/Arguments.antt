@@ -1,13 +1,12 @@
--- What the arguments of the command ask for.
-use Rattle.std.specs.Prelude.{ℕ, true, false, ◌==◌, if◌then◌else◌, List, [], ◌∷◌, codes, Option, Some, None, Result, Ok, Err, option_and_then}
+-- What the options of the command do.
+use Rattle.std.specs.Prelude.{ℕ, true, false, ◌==◌, if◌then◌else◌, List, [], ◌∷◌, codes, Option, Some, None, option_and_then}
 use Rattle.std.specs.Str.{byte, bytes_eq}
 use Rattle.gix_validate.specs.declared.path.ComponentOptions.{ComponentOptions}
 use Rattle.gix_validate.specs.Component.{all_protections}
-use Rattle.check_trees.specs.declared.engine.CheckOptions.{CheckOptions}
-use Rattle.check_trees.specs.declared.arguments.Request.{Request}
-use Rattle.check_trees.specs.declared.arguments.Request.TheVariants.{Check, Help, Version}
-use Rattle.check_trees.specs.declared.arguments.ArgumentError.{ArgumentError}
-use Rattle.check_trees.specs.declared.arguments.ArgumentError.TheVariants as error
+use Rattle.gix_validate.specs.ComponentLaws.{no_protections}
+use Rattle.check_trees.specs.Options.{Options}
+use Rattle.gix_validate.specs.Pieces.{pieces}
+use Rattle.program.specs.Arguments.{OptionRule, Effect, Unknown, Sets, NeedsValue, Invalid}
 
 -- a byte before the first of these texts
 abbrev pub onto : ℕ → List (List ℕ) → List (List ℕ)
@@ -18,9 +17,6 @@ onto b (part ∷ parts) = (b ∷ part) ∷ parts
 abbrev pub comma_parts : List ℕ → List (List ℕ)
 comma_parts [] = [] ∷ []
 comma_parts (b ∷ text) = if b == byte "," then [] ∷ comma_parts text else onto b (comma_parts text)
-
-abbrev pub no_protections : ComponentOptions
-no_protections = record { protect_windows = false; protect_hfs = false; protect_ntfs = false }
 
 -- the switch that a word turns on, beside those that are on
 abbrev pub switched_on : List ℕ → ComponentOptions → Option ComponentOptions
@@ -41,52 +37,29 @@ all_switched_on (word ∷ words) options = option_and_then (λ (on : ComponentOp
 unfoldable pub protections_of : List ℕ → Option ComponentOptions
 protections_of list = if bytes_eq list (codes "none") then Some no_protections else all_switched_on (comma_parts list) no_protections
 
--- ---- all arguments
+-- ---- all options
 
--- what is wrong with the arguments: an unknown word, or a text that is not a list of protections (an empty one where no list is given)
-pub data WrongArgument : Type 0 where
-  Unknown : (word : List ℕ) → WrongArgument
-  Protections : (list : List ℕ) → WrongArgument
+-- without options every switch is on, and nothing more
+abbrev pub no_options : Options
+no_options = record { protections = all_protections; modules = false; whole = false; accepted = pieces [] }
 
--- the same as the code has it
-abbrev pub wrong_argument : ArgumentError → WrongArgument
-wrong_argument (error.Unknown word) = Unknown word.now
-wrong_argument (error.Protections list) = Protections list.now
+-- the options with the switches that a list asks for
+abbrev pub protected_by : List ℕ → Options → Option ComponentOptions → Effect Options
+protected_by list options None = Invalid list
+protected_by list options (Some on) = Sets (record { protections = on; modules = options.modules; whole = options.whole; accepted = options.accepted })
 
--- the same options with others of the three
-abbrev pub with_protections : ComponentOptions → CheckOptions → CheckOptions
-with_protections protections options = record { protections = protections; modules = options.modules; whole = options.whole }
-
-abbrev pub with_modules : CheckOptions → CheckOptions
-with_modules options = record { protections = options.protections; modules = true; whole = options.whole }
-
-abbrev pub with_end : CheckOptions → CheckOptions
-with_end options = record { protections = options.protections; modules = options.modules; whole = true }
-
--- what is asked for from a word on: `modules`, `whole` or `listed` where the word is `--modules`, `--end` or `--protect`
-abbrev pub request_at_word : List ℕ → (modules whole listed : Result Request WrongArgument) → Result Request WrongArgument
-request_at_word word modules whole listed =
-    if bytes_eq word (codes "--help") then Ok Help else
-    if bytes_eq word (codes "--version") then Ok Version else
-    if bytes_eq word (codes "--modules") then modules else
-    if bytes_eq word (codes "--end") then whole else
-    if bytes_eq word (codes "--protect") then listed else
-    Err (Unknown word)
-
--- what is asked for after a list, by the switches that it asks for
-abbrev pub request_after : List ℕ → (ComponentOptions → Result Request WrongArgument) → Option ComponentOptions → Result Request WrongArgument
-request_after list more None = Err (Protections list)
-request_after list more (Some options) = more options
-
--- what words ask for, read from the first, where a check would have these options so far: a later list replaces an earlier one
-abbrev pub request_from : CheckOptions → List (List ℕ) → Result Request WrongArgument
-request_from options [] = Ok (Check options)
-request_from options (word ∷ []) =
-    request_at_word word (Ok (Check (with_modules options))) (Ok (Check (with_end options))) (Err (Protections []))
-request_from options (word ∷ list ∷ words) =
-    request_at_word word (request_from (with_modules options) (list ∷ words)) (request_from (with_end options) (list ∷ words))
-    (request_after list (λ on. request_from (with_protections on options) words) (protections_of list))
-
--- what all arguments ask for: a check has every switch where no list is given, and nothing more where no other word is
-abbrev pub request_of : List (List ℕ) → Result Request WrongArgument
-request_of words = request_from (record { protections = all_protections; modules = false; whole = false }) words
+-- What an option does. The names of `--accept` are between the slashes of its value.
+abbrev pub rule : OptionRule Options
+rule name None options =
+    if bytes_eq name (codes "--modules")
+    then Sets (record { protections = options.protections; modules = true; whole = options.whole; accepted = options.accepted }) else
+    if bytes_eq name (codes "--end")
+    then Sets (record { protections = options.protections; modules = options.modules; whole = true; accepted = options.accepted }) else
+    if bytes_eq name (codes "--protect") then NeedsValue else
+    if bytes_eq name (codes "--accept") then NeedsValue else
+    Unknown
+rule name (Some value) options =
+    if bytes_eq name (codes "--protect") then protected_by value options (protections_of value) else
+    if bytes_eq name (codes "--accept")
+    then Sets (record { protections = options.protections; modules = options.modules; whole = options.whole; accepted = pieces value }) else
+    Unknown

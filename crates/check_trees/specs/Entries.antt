@@ -23,7 +23,7 @@ abbrev pub is_file : ℕ → Bool
 is_file number = number / 4096 % 16 == 8
 
 -- the mode of an entry, what it means for the name, whether it is that of a file, and the name
-pub record ParsedFront : Type 0 where
+pub record ParsedModeAndName : Type 0 where
   pub mode : List ℕ
   pub kind : Option ComponentMode
   pub is_file : Bool
@@ -31,20 +31,20 @@ pub record ParsedFront : Type 0 where
 
 -- the same, and the bytes of the id of what the entry names
 pub record ParsedEntry : Type 0 where
-  pub front : ParsedFront
+  pub front : ParsedModeAndName
   pub id : List ℕ
 
-abbrev pub named : List ℕ → List ℕ → ℕ → ParsedFront
+abbrev pub named : List ℕ → List ℕ → ℕ → ParsedModeAndName
 named mode name number = record { mode = mode; kind = kind_of number; is_file = is_file number; name = name }
 
 -- what is before the NUL of an entry: a mode in octal digits, a space and a name
-unfoldable pub parsed_front : List ℕ → Option ParsedFront
+unfoldable pub parsed_front : List ℕ → Option ParsedModeAndName
 parsed_front front =
     option_and_then (λ (parts : List ℕ × List ℕ). option_map (named parts.0 parts.1) (number_of 8 parts.0))
     (split_once (byte " ") front)
 
 -- an entry of these bytes, whose id has `width` bytes and begins after so many; `short` is what it means that the bytes end before
-abbrev pub entry_at : Fault → ℕ → List ℕ → ℕ → Option ParsedFront → Result (ParsedEntry × List ℕ) Fault
+abbrev pub entry_at : Fault → ℕ → List ℕ → ℕ → Option ParsedModeAndName → Result (ParsedEntry × List ℕ) Fault
 entry_at short width bytes start None = Err Entry
 entry_at short width bytes start (Some front) =
     if nat_lt (length bytes) (start + width) then Err short

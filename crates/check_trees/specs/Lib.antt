@@ -1,4 +1,5 @@
 pub mod Entries
+pub mod Options
 pub mod Report
 pub mod Spelled
 pub mod Private

@@ -3,29 +3,30 @@ use Rattle.std.specs.Prelude.{◌≡◌, ℕ, ◌-◌, ◌/◌, ◌≤◌, nat_l
 use Rattle.std.specs.Prelude.{Some, Result, Ok, Err}
 use Rattle.std.specs.Io.KnownBytes.{Appends}
 use Rattle.streams.specs.declared.outcome.Fault.{Fault}
-use Rattle.streams.specs.declared.outcome.RunError.{RunError}
+use Rattle.program.specs.declared.outcome.RunError.{RunError}
 use Rattle.streams.specs.Headers.{ParsedObject}
 use Rattle.streams.specs.Reports.{Said, nothing, Step}
-use Rattle.streams.specs.Promises.{Begins, ReadsUpTo, Skips, or_cut, judged_with_rest}
-use Rattle.check_trees.specs.declared.engine.CheckOptions.{CheckOptions}
+use Rattle.program.specs.Writes.{AppendsPrefixOf}
+use Rattle.streams.specs.Promises.{ReadsUpTo, ReadsExactly, or_cut, judged_with_rest}
+use Rattle.check_trees.specs.Options.{Options}
 use Rattle.check_trees.specs.declared.engine.Checked.{Checked}
 use Rattle.check_trees.specs.declared.engine.Finding.{Finding}
 use Rattle.check_trees.specs.declared.engine.Finding.TheVariants.{Accepted, Modules, Refused}
-use Rattle.check_trees.specs.declared.entry.Front.{Front}
-use Rattle.check_trees.specs.Entries.{ParsedFront, ParsedEntry, entry_of}
+use Rattle.check_trees.specs.declared.entry.ModeAndName.{ModeAndName}
+use Rattle.check_trees.specs.Entries.{ParsedModeAndName, ParsedEntry, entry_of}
 use Rattle.check_trees.specs.Report.{entry_said, entries, short_of}
 
 -- what is before an entry's NUL, as the code has it
-abbrev pub as_front : Front → ParsedFront
+abbrev pub as_front : ModeAndName → ParsedModeAndName
 as_front front = record { mode = front.mode.now; kind = front.kind; is_file = front.is_file; name = front.name.now }
 
 -- this was said, or its lines were begun
 abbrev pub Says : Said → Option (List ℕ) → Option (List ℕ) → Result Bool RunError → Type 0
 Says said old new (Ok refused) = Appends old new said.lines × (refused ≡ said.refused)
-Says said old new (Err stop) = Begins old new said.lines
+Says said old new (Err stop) = AppendsPrefixOf old new said.lines
 
 -- a tree of this size in the text after its header
-abbrev pub tree_report : CheckOptions → ParsedObject → ℕ → List ℕ → Step
+abbrev pub tree_report : Options → ParsedObject → ℕ → List ℕ → Step
 tree_report options tree size text =
     let cut = nat_lt (length text) size in judged_with_rest (or_cut cut (entries options (short_of cut) tree (take size text))) (drop size text)
 
@@ -33,18 +34,18 @@ tree_report options tree size text =
 abbrev pub first_entry : ParsedObject → ℕ → List ℕ → Result (ParsedEntry × List ℕ) Fault
 first_entry tree left text = entry_of (short_of (nat_lt (length text) left)) (length tree.id / 2) (take left text)
 
-abbrev pub first_said : CheckOptions → ParsedObject → Result (ParsedEntry × List ℕ) Fault → Said
+abbrev pub first_said : Options → ParsedObject → Result (ParsedEntry × List ℕ) Fault → Said
 first_said options tree (Ok entry) = entry_said options tree entry.0
 first_said options tree (Err fault) = nothing
 
-abbrev pub EntryGives : CheckOptions → ParsedObject → ℕ → List ℕ → Option (List ℕ) → Option (List ℕ) → Option (List ℕ)
+abbrev pub EntryGives : Options → ParsedObject → ℕ → List ℕ → Option (List ℕ) → Option (List ℕ) → Option (List ℕ)
     → Result (Result Checked Fault) RunError → Type 0
 EntryGives options tree left text new before after (Ok (Ok checked)) =
     (entry : ParsedEntry) × (first_entry tree left text ≡ Ok (entry, take (left - checked.len) (drop checked.len text)))
     × (new ≡ Some (drop checked.len text)) × (checked.len ≤ length text)
     × Appends before after (entry_said options tree entry).lines × (checked.refused ≡ (entry_said options tree entry).refused)
 EntryGives options tree left text new before after (Ok (Err fault)) = (first_entry tree left text ≡ Err fault) × Appends before after []
-EntryGives options tree left text new before after (Err stop) = Begins before after (first_said options tree (first_entry tree left text)).lines
+EntryGives options tree left text new before after (Err stop) = AppendsPrefixOf before after (first_said options tree (first_entry tree left text)).lines
 
 -- no more was read than the entry, or than was left of the tree
 abbrev pub EntryReads : ℕ → Option (List ℕ) → Option (List ℕ) → Result Checked Fault → Type 0
@@ -53,6 +54,6 @@ EntryReads left old new (Err fault) = ReadsUpTo left old new
 
 -- the bytes of an id were passed, and kept where the entry is listed
 abbrev pub PassesId : Finding → ℕ → Option (List ℕ) → Option (List ℕ) → List ℕ → Bool → Type 0
-PassesId Modules count old new id whole = Skips count old new id whole
-PassesId Accepted count old new id whole = (bytes : List ℕ) × Skips count old new bytes whole
-PassesId (Refused fault) count old new id whole = (bytes : List ℕ) × Skips count old new bytes whole
+PassesId Modules count old new id whole = ReadsExactly count old new id whole
+PassesId Accepted count old new id whole = (bytes : List ℕ) × ReadsExactly count old new bytes whole
+PassesId (Refused fault) count old new id whole = (bytes : List ℕ) × ReadsExactly count old new bytes whole

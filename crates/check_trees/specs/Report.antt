@@ -1,6 +1,6 @@
 -- What is said of a stream of objects: a line for each entry of a tree whose name is refused, and, if these are asked for, for each file
 -- that a checkout reads as `.gitmodules`.
-use Rattle.std.specs.Prelude.{ℕ, zero, suc, ◌/◌, Bool, true, false, ◌&&◌, flat_map, if◌then◌else◌, List, [], ◌∷◌, ◌++◌, length, codes}
+use Rattle.std.specs.Prelude.{ℕ, zero, suc, ◌/◌, Bool, true, false, ◌&&◌, nat_lt, flat_map, if◌then◌else◌, List, [], ◌∷◌, ◌++◌, length, take, codes}
 use Rattle.std.specs.Prelude.{Option, Some, None, Result, Ok, Err}
 use Rattle.gix_validate.specs.declared.path.ComponentOptions.{ComponentOptions}
 use Rattle.gix_validate.specs.declared.path.ComponentError.{ComponentError}
@@ -18,29 +18,37 @@ use Rattle.streams.specs.Headers.{ParsedObject}
 use Rattle.streams.specs.Reports as stream
 use Rattle.streams.specs.Reports.{Said, nothing, then_said}
 use Rattle.streams.specs.Objects.{Judged, ObjectRule, object_report}
-use Rattle.check_trees.specs.declared.engine.CheckOptions.{CheckOptions}
+use Rattle.check_trees.specs.Options.{Options, protections_for}
 use Rattle.check_trees.specs.declared.engine.Finding.{Finding}
 use Rattle.check_trees.specs.declared.engine.Finding.TheVariants.{Accepted, Modules, Refused}
-use Rattle.check_trees.specs.Entries.{ParsedFront, ParsedEntry, entry_of}
+use Rattle.check_trees.specs.Entries.{ParsedModeAndName, ParsedEntry, entry_of}
 
 -- ---- one entry
+
+-- the most bytes of a path that are shown
+abbrev pub longest_path : ℕ
+longest_path = 128
+
+-- a quoted path; of a longer one its first bytes, and dots after the quotes
+abbrev pub shown_path : List ℕ → List ℕ
+shown_path path = if nat_lt longest_path (length path) then quoted (take longest_path path) ++ codes "..." else quoted path
 
 -- where a tree is, if that is known: its path as Git gives it
 abbrev pub in_path : Option (List ℕ) → List ℕ
 in_path None = []
 in_path (Some []) = []
-in_path (Some (b ∷ path)) = codes " (in " ++ quoted (b ∷ path) ++ codes ")"
+in_path (Some (b ∷ path)) = codes " (in " ++ shown_path (b ∷ path) ++ codes ")"
 
 -- the tree's id, the mode and the quoted name
-abbrev pub place : ParsedObject → ParsedFront → List ℕ
+abbrev pub place : ParsedObject → ParsedModeAndName → List ℕ
 place tree front = tree.id ++ codes " " ++ front.mode ++ codes " " ++ quoted front.name
 
 -- the line of an entry with this fault
-abbrev pub refused_line : ParsedObject → ParsedFront → ComponentError → List ℕ
+abbrev pub refused_line : ParsedObject → ParsedModeAndName → ComponentError → List ℕ
 refused_line tree front fault = place tree front ++ codes " " ++ text_of fault ++ in_path tree.rest ++ line_end ∷ []
 
 -- the line of a file that is read as `.gitmodules`, with its id in bytes
-abbrev pub modules_line : ParsedObject → ParsedFront → List ℕ → List ℕ
+abbrev pub modules_line : ParsedObject → ParsedModeAndName → List ℕ → List ℕ
 modules_line tree front id = codes "modules " ++ flat_map hex_pair id ++ codes " " ++ place tree front ++ in_path tree.rest ++ line_end ∷ []
 
 abbrev pub is_gitmodules_fault : Option ComponentError → Bool
@@ -63,9 +71,10 @@ finding_by modules (Some fault) = Refused fault
 finding_by modules None = if modules then Modules else Accepted
 
 -- what an entry is: refused, a file that is read as `.gitmodules`, if these are asked for, or neither
-abbrev pub finding_of : CheckOptions → ParsedFront → Finding
+abbrev pub finding_of : Options → ParsedModeAndName → Finding
 finding_of options front =
-    finding_by (options.modules && front.is_file && is_gitmodules options.protections front.name) (fault_of options.protections front.kind front.name)
+    let protections = protections_for options front.name in
+    finding_by (options.modules && front.is_file && is_gitmodules protections front.name) (fault_of protections front.kind front.name)
 
 abbrev pub finding_said : ParsedObject → ParsedEntry → Finding → Said
 finding_said tree entry Accepted = nothing
@@ -73,24 +82,24 @@ finding_said tree entry Modules = record { lines = modules_line tree entry.front
 finding_said tree entry (Refused fault) = record { lines = refused_line tree entry.front fault; refused = true }
 
 -- what is said of an entry
-abbrev pub entry_said : CheckOptions → ParsedObject → ParsedEntry → Said
+abbrev pub entry_said : Options → ParsedObject → ParsedEntry → Said
 entry_said options tree entry = finding_said tree entry (finding_of options entry.front)
 
 -- ---- a tree
 
 -- The entries of a tree, one after the other until its bytes are used up. (`fuel` is at least their number.)
-abbrev pub entries_then : (List ℕ → Judged) → CheckOptions → ParsedObject → Result (ParsedEntry × List ℕ) Fault → Judged
+abbrev pub entries_then : (List ℕ → Judged) → Options → ParsedObject → Result (ParsedEntry × List ℕ) Fault → Judged
 entries_then more options tree (Err fault) = (nothing, Some fault)
 entries_then more options tree (Ok entry) = let others = more entry.1 in (then_said (entry_said options tree entry.0) others.0, others.1)
 
-abbrev pub entries_within : ℕ → CheckOptions → Fault → ParsedObject → List ℕ → Judged
+abbrev pub entries_within : ℕ → Options → Fault → ParsedObject → List ℕ → Judged
 entries_within zero options short tree bytes = (nothing, None)
 entries_within (suc fuel) options short tree [] = (nothing, None)
 entries_within (suc fuel) options short tree (b ∷ bytes) =
     entries_then (entries_within fuel options short tree) options tree (entry_of short (length tree.id / 2) (b ∷ bytes))
 
 -- a tree of these bytes; `short` is what it means that they end within an entry
-unfoldable pub entries : CheckOptions → Fault → ParsedObject → List ℕ → Judged
+unfoldable pub entries : Options → Fault → ParsedObject → List ℕ → Judged
 entries options short tree bytes = entries_within (length bytes) options short tree bytes
 
 -- ---- a stream
@@ -99,16 +108,16 @@ entries options short tree bytes = entries_within (length bytes) options short t
 abbrev pub short_of : Bool → Fault
 short_of cut = if cut then Ended else Entry
 
-abbrev pub judged_by_kind : CheckOptions → Bool → ParsedObject → List ℕ → Kind → Judged
+abbrev pub judged_by_kind : Options → Bool → ParsedObject → List ℕ → Kind → Judged
 judged_by_kind options cut object bytes Tree = entries options (short_of cut) object bytes
 judged_by_kind options cut object bytes Blob = (nothing, None)
 judged_by_kind options cut object bytes Commit = (nothing, None)
 judged_by_kind options cut object bytes Tag = (nothing, None)
 
 -- Trees are checked, and other objects are passed over.
-abbrev pub tree_rule : CheckOptions → ObjectRule
+abbrev pub tree_rule : Options → ObjectRule
 tree_rule options cut object bytes = judged_by_kind options cut object bytes object.kind
 
 -- the report of a text
-abbrev pub report : CheckOptions → List ℕ → stream.Report
+abbrev pub report : Options → List ℕ → stream.Report
 report options text = object_report (tree_rule options) options.whole text

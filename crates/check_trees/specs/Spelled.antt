@@ -10,7 +10,7 @@ use Rattle.streams.specs.Headers.{ParsedObject}
 use Rattle.streams.specs.Reports.{longest, Said, all_said}
 use Rattle.streams.specs.declared.header.Kind.TheVariants.{Tree}
 use Rattle.streams.specs.Spelled.{Spelled, Present, Absent, IsSpelled, spelling, end_of}
-use Rattle.check_trees.specs.declared.engine.CheckOptions.{CheckOptions}
+use Rattle.check_trees.specs.Options.{Options, protections_for}
 use Rattle.check_trees.specs.Entries.{nul, kind_of, named}
 use Rattle.check_trees.specs.Report.{entry_said, tree_rule}
 
@@ -30,42 +30,42 @@ abbrev pub item_bytes : Item → List ℕ
 item_bytes item = item.mode ++ byte " " ∷ item.name ++ nul ∷ item.id
 
 -- what is said of an entry of this tree
-abbrev pub item_said : CheckOptions → ParsedObject → Item → Said
+abbrev pub item_said : Options → ParsedObject → Item → Said
 item_said options tree item = entry_said options tree (record { front = named item.mode item.name item.number; id = item.id })
 
 -- a tree of these bytes: its entries, whose ids are as long as its own, and what is said of them
-pub record IsTree (options : CheckOptions) (tree : ParsedObject) (bytes : List ℕ) (said : Said) : Type 0 where
+pub record IsTree (options : Options) (tree : ParsedObject) (bytes : List ℕ) (said : Said) : Type 0 where
   pub items : List Item
   pub each : AllByRecursion (IsItem (length tree.id / 2)) items
   pub bytes_are : bytes ≡ flat_map item_bytes items
   pub said_is : said ≡ all_said (map (item_said options tree) items)
 
 -- The bytes of a tree are well-formed if and only if they are such entries one after the other, and then just that is said.
-abbrev pub IsReadAsItems : CheckOptions → Type 0
+abbrev pub IsReadAsItems : Options → Type 0
 IsReadAsItems options =
     (tree : ParsedObject) (bytes : List ℕ) (said : Said) → tree.kind ≡ Tree
     → (tree_rule options false tree bytes ≡ (said, None)) ↔ IsTree options tree bytes said
 
 -- ---- nothing refused
 
--- a tree of these bytes: its entries, each of whose names is accepted under the protections
-pub record IsAcceptedTree (options : CheckOptions) (tree : ParsedObject) (bytes : List ℕ) : Type 0 where
+-- a tree of these bytes: its entries, each of whose names is valid under the switches for it
+pub record IsAcceptedTree (options : Options) (tree : ParsedObject) (bytes : List ℕ) : Type 0 where
   pub items : List Item
   pub each : AllByRecursion (IsItem (length tree.id / 2)) items
-  pub accepted : AllByRecursion (λ item. fault_of options.protections (kind_of item.number) item.name ≡ None) items
+  pub accepted : AllByRecursion (λ item. fault_of (protections_for options item.name) (kind_of item.number) item.name ≡ None) items
   pub bytes_are : bytes ≡ flat_map item_bytes items
 
-abbrev pub IsAcceptedObject : CheckOptions → Spelled → Type 0
+abbrev pub IsAcceptedObject : Options → Spelled → Type 0
 IsAcceptedObject options (Present object digits content) = object.kind ≡ Tree → IsAcceptedTree options object content
 IsAcceptedObject options (Absent id) = ⊤
 
 -- a stream each of whose trees is accepted
-pub record IsAcceptedStream (options : CheckOptions) (text : List ℕ) : Type 0 where
+pub record IsAcceptedStream (options : Options) (text : List ℕ) : Type 0 where
   pub stream : List Spelled
   pub each : AllByRecursion (IsSpelled (tree_rule options) options.whole) stream
   pub accepted : AllByRecursion (IsAcceptedObject options) stream
   pub text_is : text ≡ flat_map spelling stream ++ end_of options.whole
 
 -- A run finds a text clean if and only if it is such a stream.
-abbrev pub IsCleanIfAccepted : CheckOptions → Verdict → List ℕ → Type 0
-IsCleanIfAccepted options verdict text = (verdict ≡ Clean) ↔ IsAcceptedStream options text
+abbrev pub IsCleanIff : Options → Verdict → List ℕ → Type 0
+IsCleanIff options verdict text = (verdict ≡ Clean) ↔ IsAcceptedStream options text

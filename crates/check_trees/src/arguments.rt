@@ -1,97 +1,84 @@
-//! The program's arguments (docs/RULES.md, "The report of trees").
+//! The program's options (docs/RULES.md, "The report of trees").
 
-ghost use Rattle.std.specs.Prelude.{◌≡◌, map};
-ghost use Rattle.std.specs.Result.{result_map_both};
-ghost use Rattle.std.specs.String.{string_bytes};
-ghost use Rattle.check_trees.specs.Arguments.{protections_of, request_of, switched_on, wrong_argument};
+ghost use Rattle.std.specs.Prelude.{◌≡◌, Some, None};
+ghost use Rattle.program.specs.Arguments.{effect_of};
+ghost use Rattle.check_trees.specs.Arguments.{no_options, protections_of, rule, switched_on};
+ghost use Rattle.check_trees.specs.Options.{Options, as_options};
 
 use crate::engine::CheckOptions;
 use gix_validate::path::ComponentOptions;
 use memchr::memchr;
-use std::error::Error;
-use std::fmt;
+use program::arguments::{Options, Setting};
 
-/// What the program has to do.
-#[derive(Debug, Clone, Copy)]
-pub enum Request {
-    /// To check standard input with these options.
-    Check(CheckOptions),
-    /// To print the help.
-    Help,
-    /// To print the version.
-    Version,
-}
+/// If there are several lists of protections or of names, the last one counts.
+impl<'a> Options<'a> for CheckOptions<'a> {
+    const NAME: &'static str = "check_trees";
 
-/// Why the arguments are wrong.
-#[derive(Debug, Clone, Copy)]
-pub enum ArgumentError<'a> {
-    /// This argument is unknown.
-    Unknown(&'a str),
-    /// This argument of `--protect` is not a list of protections, or `--protect` has no argument.
-    Protections(&'a str),
-}
+    ghost View = { Options };
 
-impl fmt::Display for ArgumentError<'_> {
-    fn fmt<W: fmt::Write>(&self, f: &mut fmt::Formatter<W>) -> fmt::Result {
-        match self {
-            ArgumentError::Unknown(word) => {
-                write!(f, "unknown argument {word:?}, see check_trees --help")
-            }
-            ArgumentError::Protections(list) => write!(
-                f,
-                "invalid --protect {list:?}: give windows, hfs or ntfs, separated by commas, or none"
-            ),
+    ghost view = { λ options. as_options options };
+
+    ghost start = { no_options };
+
+    ghost rule = { rule };
+
+    fn start() -> Self {
+        CheckOptions {
+            protections: ComponentOptions::default(),
+            modules: false,
+            whole: false,
+            accepted: "",
+        }
+    }
+
+    fn set(self, name: &str, value: Option<&'a str>) -> Setting<'a, Self> {
+        match value {
+            None => set_alone(self, name),
+            Some(value) => set_to(self, name, value),
         }
     }
 }
 
-impl Error for ArgumentError<'_> {}
-
-/// Reads the arguments. If there are several lists of protections, the last one counts.
-///
-/// ```
-/// request_of(["--end"]); // Request::Check, with `whole`
-/// request_of(["--protect", "mac"]); // ArgumentError::Protections
-/// ```
-///
-/// # Errors
-///
-/// [`ArgumentError`] with the first argument that is wrong, unless `--help` or `--version` comes
-/// before it.
-pub fn request_of(words: &[String]) -> Result<Request, ArgumentError<'_>>
-    ensures { result_map_both (λ request. request) wrong_argument result ≡ request_of (map string_bytes words.now) }
+/// What an option does without a value.
+fn set_alone<'a>(options: CheckOptions<'a>, name: &str) -> Setting<'a, CheckOptions<'a>>
+    ensures { effect_of as_options result ≡ rule name.now None (as_options options.entry) }
 {
-    let mut options = CheckOptions {
-        protections: ComponentOptions::default(),
-        modules: false,
-        whole: false,
-    };
-    let mut rest = words;
-    while let [word, after @ ..] = rest {
-        match word.as_str() {
-            "--help" => return Ok(Request::Help),
-            "--version" => return Ok(Request::Version),
-            "--modules" => {
-                options.modules = true;
-                rest = after;
-            }
-            "--end" => {
-                options.whole = true;
-                rest = after;
-            }
-            "--protect" => match after {
-                [] => return Err(ArgumentError::Protections("")),
-                [list, others @ ..] => {
-                    options.protections = protections_of(list.as_bytes()).ok_or(
-                        ArgumentError::Protections(list.as_str()),
-                    )?;
-                    rest = others;
-                }
-            },
-            other => return Err(ArgumentError::Unknown(other)),
-        }
+    match name {
+        "--modules" => Setting::Set(CheckOptions {
+            modules: true,
+            ..options
+        }),
+        "--end" => Setting::Set(CheckOptions {
+            whole: true,
+            ..options
+        }),
+        "--protect" | "--accept" => Setting::NeedsValue,
+        _ => Setting::Unknown,
     }
-    Ok(Request::Check(options))
+}
+
+/// What an option does with this value.
+fn set_to<'a>(
+    options: CheckOptions<'a>,
+    name: &str,
+    value: &'a str,
+) -> Setting<'a, CheckOptions<'a>>
+    ensures { effect_of as_options result ≡ rule name.now (Some value.now) (as_options options.entry) }
+{
+    match name {
+        "--protect" => match protections_of(value.as_bytes()) {
+            Some(protections) => Setting::Set(CheckOptions {
+                protections,
+                ..options
+            }),
+            None => Setting::Invalid(value, "windows, hfs or ntfs, separated by commas, or none"),
+        },
+        "--accept" => Setting::Set(CheckOptions {
+            accepted: value,
+            ..options
+        }),
+        _ => Setting::Unknown,
+    }
 }
 
 /// The switches that a list of words turns on; `None` if a word is unknown.

@@ -1,21 +1,28 @@
 //! The report of a stream of objects.
 
-ghost use Rattle.std.specs.Prelude.{◌≡◌, ◌<◌, ◌≤◌, [], Some, false, true, IfOk, OnErr, IfSome, OnSome};
-ghost use Rattle.std.specs.Io.KnownBytes.{Appends, IsAtEnd};
-ghost use Rattle.streams.specs.Reports.{is_malformed, verdict_of};
-ghost use Rattle.streams.specs.Objects.{IsWholeStream, object_reach, object_rule};
-ghost use Rattle.streams.specs.Promises.{Begins, Gives, ReadsUpTo, StopsWithin, as_object};
+ghost use Rattle.std.specs.Prelude.{◌≡◌, ◌<◌, ◌≤◌, Some, false, true, IfOk, IfSome};
+ghost use Rattle.std.proofs.Common.{ap, subst};
+ghost use Rattle.std.specs.List.{list_any};
+ghost use Rattle.std.specs.Str.{bytes_eq};
+ghost use Rattle.streams.specs.Reports.{PrintsAtMost};
+ghost use Rattle.streams.specs.Objects.{IsWholeStream, object_reach};
+ghost use Rattle.streams.specs.Promises.{Runs, FollowsRule, ReadsUpTo, as_object};
 ghost use Rattle.streams.specs.Spelled.{IsReportedInOrder, IsWellFormedOnlyIfSpelled};
 ghost use Rattle.gix_validate.specs.Component.{fault_of};
+ghost use Rattle.gix_validate.specs.Pieces.{pieces};
+ghost use Rattle.check_trees.specs.Options.{as_options, protections_for};
 ghost use Rattle.check_trees.specs.Report.{finding_by, finding_of, finding_said, is_gitmodules_fault, report, tree_rule};
-ghost use Rattle.check_trees.specs.Spelled.{IsCleanIfAccepted, IsReadAsItems};
+ghost use Rattle.check_trees.specs.Spelled.{IsAcceptedStream, IsCleanIff, IsReadAsItems};
 ghost use Rattle.check_trees.specs.Private.{EntryGives, EntryReads, PassesId, Says, as_front, tree_report};
 
-use crate::entry::{Front, front_of};
+use crate::HELP;
+use crate::entry::{ModeAndName, front_of};
 use crate::output::{set_modules_line, set_refused_line};
 use bstr::BStr;
 use gix_validate::path;
 use gix_validate::path::{ComponentError, ComponentMode, ComponentOptions};
+use program::outcome::RunError;
+use program::output::write_all;
 use std::alloc::Global;
 use std::io::{BufRead, Write};
 use streams::header::{Kind, Object};
@@ -23,13 +30,12 @@ use streams::input::{Found, read_before, read_bytes, skip};
 use streams::lines::{Buffers, LONGEST};
 use streams::objects;
 use streams::objects::ObjectCheck;
-use streams::outcome::{Fault, RunError, Verdict};
-use streams::output::write_whole;
-use streams::program::Check;
+use streams::outcome::{Fault, Verdict};
+use streams::runs::Check;
 
 /// How the input is checked.
 #[derive(Debug, Clone, Copy)]
-pub struct CheckOptions {
+pub struct CheckOptions<'a> {
     /// The file systems to protect.
     pub protections: ComponentOptions,
     /// Whether files that a checkout reads as `.gitmodules` are listed too (`--modules`).
@@ -37,6 +43,8 @@ pub struct CheckOptions {
     /// Whether the input has to be whole (`--end`): no object is missing, and the line `..end
     /// missing` ends it.
     pub whole: bool,
+    /// The names to which the rules of Windows do not apply, separated by slashes (`--accept`).
+    pub accepted: &'a str,
 }
 
 /// Reads all of `input`, objects as `git cat-file --batch` prints them, and writes a line to
@@ -62,32 +70,32 @@ pub struct CheckOptions {
 /// 65,536 bytes.
 pub fn run<R: BufRead, W: Write>(
     alloc: Global,
-    options: CheckOptions,
+    options: CheckOptions<'_>,
     input: &mut R,
     output: &mut W,
 ) -> Result<Verdict, RunError>
-    ensures verdict { IfOk result (λ verdict. IfSome (R.remaining input.old) (λ text.
-        Appends (W.contents output.old) (W.contents output.new) (report options text).said.lines
-        × (verdict ≡ verdict_of (report options text)))) }
-    ensures clean { IfOk result (λ verdict. IfSome (R.remaining input.old) (IsCleanIfAccepted options verdict)) }
-    ensures end { IfOk result (λ verdict. is_malformed verdict ≡ false
-        → OnSome (R.remaining input.old) (IsAtEnd (R.remaining input.new))) }
-    ensures spent { IfOk result (λ verdict. is_malformed verdict ≡ false
-        → IfSome (R.remaining input.old) (λ _. R.remaining input.new ≡ Some [])) }
-    ensures within { IfOk result (λ verdict. is_malformed verdict ≡ true
-        → IfSome (R.remaining input.old) (StopsWithin (object_rule (tree_rule options) options.whole) object_reach (R.remaining input.new))) }
-    ensures stopped { OnErr result (IfSome (R.remaining input.old) (λ text.
-        Begins (W.contents output.old) (W.contents output.new) (report options text).said.lines)) }
-    ensures spelled { IsReportedInOrder (tree_rule options) options.whole }
-    ensures well_formed { IsWellFormedOnlyIfSpelled (tree_rule options) options.whole }
-    ensures whole { IsWholeStream (tree_rule options) options.whole }
-    ensures items { IsReadAsItems options }
+    ensures runs { Runs (report (as_options options.entry)) object_reach (R.remaining input.old) (R.remaining input.new)
+        (W.contents output.old) (W.contents output.new) result }
+    ensures clean { IfOk result (λ verdict. IfSome (R.remaining input.old) (IsCleanIff (as_options options.entry) verdict)) }
+    ensures spelled { IsReportedInOrder (tree_rule (as_options options.entry)) options.entry.whole }
+    ensures well_formed { IsWellFormedOnlyIfSpelled (tree_rule (as_options options.entry)) options.entry.whole }
+    ensures whole { IsWholeStream (tree_rule (as_options options.entry)) options.entry.whole }
+    ensures items { IsReadAsItems (as_options options.entry) }
+    ensures linear { PrintsAtMost 32 (report (as_options options.entry)) }
 {
     objects::run(alloc, options, options.whole, input, output)
 }
 
-impl Check for CheckOptions {
-    ghost report = { report };
+impl<'a> Check<'a> for CheckOptions<'a> {
+    const HELP: &'static str = HELP;
+
+    const UNIT: &'static str = "object";
+
+    const HINT: &'static str = "";
+
+    ghost report = { λ options. report (as_options options) };
+
+    ghost accepts = { λ options. IsAcceptedStream (as_options options) };
 
     fn run<R: BufRead, W: Write>(
         self,
@@ -97,11 +105,15 @@ impl Check for CheckOptions {
     ) -> Result<Verdict, RunError> {
         run(alloc, self, input, output)
     }
+
+    ghost by_view = { λ a b same. ap report same };
+
+    ghost accepts_by_view = { λ a b text same. subst (λ options. IsAcceptedStream options text) same };
 }
 
 /// Trees are checked, and other objects are skipped.
-impl ObjectCheck for CheckOptions {
-    ghost object_rule = { tree_rule };
+impl ObjectCheck for CheckOptions<'_> {
+    ghost object_rule = { λ options. tree_rule (as_options options) };
 
     fn check_object<R: BufRead, W: Write>(
         self,
@@ -123,13 +135,13 @@ impl ObjectCheck for CheckOptions {
 
 /// Checks a tree, and returns whether an entry was refused.
 fn check_tree<R: BufRead, W: Write>(
-    options: CheckOptions,
+    options: CheckOptions<'_>,
     tree: Object<'_>,
     input: &mut R,
     output: &mut W,
     buffers: &mut Buffers,
 ) -> Result<Result<bool, Fault>, RunError>
-    ensures gives { IfSome (R.remaining input.old) (λ text. Gives (tree_report options (as_object tree.entry) tree.entry.size text)
+    ensures gives { IfSome (R.remaining input.old) (λ text. FollowsRule (tree_report (as_options options.entry) (as_object tree.entry) tree.entry.size text)
         (R.remaining input.new) (W.contents output.old) (W.contents output.new) result) }
     ensures within { IfOk result (λ _. ReadsUpTo tree.entry.size (R.remaining input.old) (R.remaining input.new)) }
 {
@@ -155,7 +167,7 @@ struct Checked {
 
 /// Checks the first entry of the last `left` bytes of a tree.
 fn check_entry<R: BufRead, W: Write>(
-    options: CheckOptions,
+    options: CheckOptions<'_>,
     tree: Object<'_>,
     left: u64,
     input: &mut R,
@@ -165,7 +177,7 @@ fn check_entry<R: BufRead, W: Write>(
     requires { 0 < left }
     ensures bound { IfOk result (λ checked. IfOk checked (λ entry. (0 < entry.len) × (entry.len ≤ left))) }
     ensures gives { IfSome (R.remaining input.old) (λ text.
-        EntryGives options (as_object tree.entry) left text (R.remaining input.new)
+        EntryGives (as_options options.entry) (as_object tree.entry) left text (R.remaining input.new)
         (W.contents output.old) (W.contents output.new) result) }
     ensures within { IfOk result (EntryReads left (R.remaining input.old) (R.remaining input.new)) }
 {
@@ -213,9 +225,10 @@ enum Finding {
 }
 
 /// The result for an entry with these options.
-fn finding_of(options: CheckOptions, front: Front<'_>) -> Finding
-    ensures { result ≡ finding_of options (as_front front.entry) }
+fn finding_of(options: CheckOptions<'_>, front: ModeAndName<'_>) -> Finding
+    ensures { result ≡ finding_of (as_options options.entry) (as_front front.entry) }
 {
+    let protections = protections_for(options, front.name);
     let may_be_listed = options.modules && front.is_file;
     // A name that is valid for a symbolic link is valid for any entry.
     let kind = if may_be_listed {
@@ -223,11 +236,33 @@ fn finding_of(options: CheckOptions, front: Front<'_>) -> Finding
     } else {
         front.kind
     };
-    match path::component(BStr::new(front.name), kind, options.protections) {
+    match path::component(BStr::new(front.name), kind, protections) {
         Ok(_) => Finding::Accepted,
-        Err(fault) if may_be_listed => finding_of_file(options.protections, front, fault),
+        Err(fault) if may_be_listed => finding_of_file(protections, front, fault),
         Err(fault) => Finding::Refused(fault),
     }
+}
+
+/// The switches for a name.
+fn protections_for(options: CheckOptions<'_>, name: &[u8]) -> ComponentOptions
+    ensures { result ≡ protections_for (as_options options.entry) name.now }
+{
+    if is_piece(name, options.accepted) {
+        ComponentOptions {
+            protect_windows: false,
+            ..options.protections
+        }
+    } else {
+        options.protections
+    }
+}
+
+/// Whether a name is one of the texts between the slashes of `names`.
+fn is_piece(name: &[u8], names: &str) -> bool
+    ensures { result ≡ list_any (λ piece. bytes_eq piece name.now) (pieces names.now) }
+{
+    let mut pieces = names.as_bytes().split(|byte| *byte == b'/');
+    pieces.any(|piece| piece == name)
 }
 
 /// The result for a file whose name is invalid as that of a symbolic link, for the reason
@@ -236,7 +271,7 @@ fn finding_of(options: CheckOptions, front: Front<'_>) -> Finding
 #[inline(never)]
 fn finding_of_file(
     protections: ComponentOptions,
-    front: Front<'_>,
+    front: ModeAndName<'_>,
     as_symlink: ComponentError,
 ) -> Finding
     ensures { result ≡ finding_by (is_gitmodules_fault (Some as_symlink)) (fault_of protections front.entry.kind front.entry.name.now) }
@@ -268,7 +303,7 @@ fn pass_id<R: BufRead>(
 fn say<W: Write>(
     finding: Finding,
     tree: Object<'_>,
-    front: Front<'_>,
+    front: ModeAndName<'_>,
     id: &[u8],
     line: &mut Vec<u8>,
     output: &mut W,
@@ -280,12 +315,12 @@ fn say<W: Write>(
         Finding::Accepted => Ok(false),
         Finding::Modules => {
             set_modules_line(line, tree, front, id).map_err(|_| RunError::Memory)?;
-            write_whole(line, output)?;
+            write_all(line, output)?;
             Ok(false)
         }
         Finding::Refused(fault) => {
             set_refused_line(line, tree, front, fault).map_err(|_| RunError::Memory)?;
-            write_whole(line, output)?;
+            write_all(line, output)?;
             Ok(true)
         }
     }

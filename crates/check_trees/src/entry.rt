@@ -12,7 +12,7 @@ use streams::text::{number_of, split_once};
 /// The part of an entry that is before the NUL: the mode, what it means for the name, whether it is
 /// that of a file, and the name.
 #[derive(Debug, Clone, Copy)]
-pub(crate) struct Front<'a> {
+pub(crate) struct ModeAndName<'a> {
     pub(crate) mode: &'a [u8],
     pub(crate) kind: Option<ComponentMode>,
     pub(crate) is_file: bool,
@@ -21,12 +21,12 @@ pub(crate) struct Front<'a> {
 
 /// Reads the part of an entry that is before the NUL.
 #[tactic(auto, unfolding(crate::specs::Entries::parsed_front))]
-pub(crate) fn front_of(front: &[u8]) -> Option<Front<'_>>
+pub(crate) fn front_of(front: &[u8]) -> Option<ModeAndName<'_>>
     ensures { option_map as_front result ≡ parsed_front front.now }
 {
     // Most entries are files that are not executable, or directories.
     if front.len() >= 7 && is_word(&front[..7], b"100644 ") {
-        return Some(Front {
+        return Some(ModeAndName {
             mode: &front[..6],
             kind: None,
             is_file: true,
@@ -34,7 +34,7 @@ pub(crate) fn front_of(front: &[u8]) -> Option<Front<'_>>
         });
     }
     if front.len() >= 6 && is_word(&front[..6], b"40000 ") {
-        return Some(Front {
+        return Some(ModeAndName {
             mode: &front[..5],
             kind: None,
             is_file: false,
@@ -43,7 +43,7 @@ pub(crate) fn front_of(front: &[u8]) -> Option<Front<'_>>
     }
     let (mode, name) = split_once(b' ', front)?;
     let number = number_of(8, mode)?;
-    Some(Front {
+    Some(ModeAndName {
         mode,
         kind: kind_of(number),
         is_file: is_file(number),

@@ -2,7 +2,9 @@
 //!
 //! The rest of a header line, the path at which Git found the tree, is only displayed. Git prints
 //! one path of many, none for the tree of a commit, and cuts a path at a newline. So nothing
-//! depends on it.
+//! depends on it. Each line of a tree repeats it, and a push decides how long it is and how many
+//! lines there are. So only its first bytes are displayed: what is printed stays linear in what is
+//! read.
 //!
 //! A `modules` line refuses nothing: the file is as it should be, and `check_submodules` checks its
 //! contents. So the status alone says whether a name is refused. No other line begins with that
@@ -11,15 +13,18 @@
 ghost use Rattle.std.specs.Prelude.{◌≡◌, ◌++◌, OnOk};
 ghost use Rattle.std.specs.Option.{option_map};
 ghost use Rattle.streams.specs.Promises.{as_object};
-ghost use Rattle.check_trees.specs.Report.{in_path, modules_line, place, refused_line};
+ghost use Rattle.check_trees.specs.Report.{in_path, modules_line, place, refused_line, shown_path};
 ghost use Rattle.check_trees.specs.Private.{as_front};
 
-use crate::entry::Front;
+use crate::entry::ModeAndName;
 use gix_validate::path::ComponentError;
 use std::alloc::AllocError;
 use std::io::Write;
 use streams::header::Object;
 use streams::output::{push_hex, push_quoted};
+
+/// How many bytes of a path are displayed at most.
+const LONGEST_PATH: usize = 128;
 
 /// Replaces the last line with that of a refused entry. Most entries have none.
 #[cold]
@@ -27,7 +32,7 @@ use streams::output::{push_hex, push_quoted};
 pub(crate) fn set_refused_line(
     line: &mut Vec<u8>,
     tree: Object<'_>,
-    front: Front<'_>,
+    front: ModeAndName<'_>,
     fault: ComponentError,
 ) -> Result<(), AllocError>
     ensures { OnOk result (line.new.items ≡ refused_line (as_object tree.entry) (as_front front.entry) fault) }
@@ -40,7 +45,7 @@ pub(crate) fn set_refused_line(
 fn push_refused(
     line: &mut Vec<u8>,
     tree: Object<'_>,
-    front: Front<'_>,
+    front: ModeAndName<'_>,
     fault: ComponentError,
 ) -> Result<(), AllocError>
     ensures { OnOk result (line.new.items ≡ line.old.items ++ refused_line (as_object tree.entry) (as_front front.entry) fault) }
@@ -59,7 +64,7 @@ fn push_refused(
 pub(crate) fn set_modules_line(
     line: &mut Vec<u8>,
     tree: Object<'_>,
-    front: Front<'_>,
+    front: ModeAndName<'_>,
     id: &[u8],
 ) -> Result<(), AllocError>
     ensures { OnOk result (line.new.items ≡ modules_line (as_object tree.entry) (as_front front.entry) id.now) }
@@ -72,7 +77,7 @@ pub(crate) fn set_modules_line(
 fn push_modules(
     line: &mut Vec<u8>,
     tree: Object<'_>,
-    front: Front<'_>,
+    front: ModeAndName<'_>,
     id: &[u8],
 ) -> Result<(), AllocError>
     ensures { OnOk result (line.new.items ≡ line.old.items ++ modules_line (as_object tree.entry) (as_front front.entry) id.now) }
@@ -87,7 +92,11 @@ fn push_modules(
 }
 
 /// Appends the tree's id, the mode and the quoted name of an entry.
-fn push_place(line: &mut Vec<u8>, tree: Object<'_>, front: Front<'_>) -> Result<(), AllocError>
+fn push_place(
+    line: &mut Vec<u8>,
+    tree: Object<'_>,
+    front: ModeAndName<'_>,
+) -> Result<(), AllocError>
     ensures { OnOk result (line.new.items ≡ line.old.items ++ place (as_object tree.entry) (as_front front.entry)) }
 {
     line.extend_from_slice(tree.id)?;
@@ -97,17 +106,31 @@ fn push_place(line: &mut Vec<u8>, tree: Object<'_>, front: Front<'_>) -> Result<
     push_quoted(line, front.name)
 }
 
-/// Appends the path of the tree, if it is known.
+/// Appends the path of the tree, if it is known, or its first bytes.
 fn push_path(line: &mut Vec<u8>, rest: Option<&[u8]>) -> Result<(), AllocError>
     ensures { OnOk result (line.new.items ≡ line.old.items ++ in_path (option_map (λ rest. rest.now) rest.entry)) }
 {
     match rest {
         Some(path) if !path.is_empty() => {
             line.extend_from_slice(b" (in ")?;
-            push_quoted(line, path)?;
+            push_shown(line, path)?;
             line.push(b')')?;
             Ok(())
         }
         _ => Ok(()),
     }
+}
+
+/// Appends a quoted path, or the first [`LONGEST_PATH`] bytes of it and dots.
+#[tactic(auto, using(std::proofs::lemmas::Bool::Decides::nat_tests))]
+fn push_shown(line: &mut Vec<u8>, path: &[u8]) -> Result<(), AllocError>
+    ensures { OnOk result (line.new.items ≡ line.old.items ++ shown_path path.now) }
+{
+    if path.len() <= LONGEST_PATH {
+        return push_quoted(line, path);
+    }
+    let front = &path[..LONGEST_PATH];
+    push_quoted(line, front)?;
+    line.extend_from_slice(b"...")?;
+    Ok(())
 }

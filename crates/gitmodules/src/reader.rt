@@ -1,12 +1,13 @@
 //! The sections of submodules, in the order of the file.
 
-ghost use Rattle.std.specs.Prelude.{◌≡◌, ◌+◌, ◌<◌, ◌≤◌, ◌++◌, [], ◌∷◌, MatchOption, drop, length};
+ghost use Rattle.std.specs.Prelude.{◌≡◌, ◌+◌, ◌<◌, ◌≤◌, ◌++◌, [], ◌∷◌, MatchOption, drop, length, ⊤};
 ghost use Rattle.gitmodules.specs.Sections.{begun, header_after_bracket, header_after_word, sections, without_blanks};
 ghost use Rattle.gitmodules.specs.Headers.{header_of};
 ghost use Rattle.gitmodules.specs.Spelled.{IsEachHeaderGiven, IsEachNameSpelled, IsEachSectionFound, IsInOrder};
 
 use crate::escaped::EscapedName;
 use memchr::memchr;
+use std::alloc::AllocError;
 use std::iter::FusedIterator;
 use std::marker::Model;
 
@@ -24,7 +25,7 @@ pub struct Section<'a> {
 ///
 /// In contracts it is the list of the sections that are left: the offset of each, and its name or
 /// `None`.
-#[derive(Clone, Debug, Drop)]
+#[derive(Debug, Drop)]
 pub struct Sections<'a> {
     file: &'a [u8],
     /// The offset from which on the next section is searched for.
@@ -56,6 +57,19 @@ impl<'a> Sections<'a> {
         ensures ordered { IsInOrder }
     {
         Sections { file, start: 0 }
+    }
+}
+
+impl<'a> Clone for Sections<'a> {
+    ghost is_clone = { λ it copy. copy ≡ it };
+
+    ghost is_infallible = { λ _. ⊤ };
+
+    fn clone(&self) -> Result<Sections<'a>, AllocError> {
+        Ok(Sections {
+            file: self.file,
+            start: self.start,
+        })
     }
 }
 

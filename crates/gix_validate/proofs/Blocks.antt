@@ -1,7 +1,6 @@
 -- Blocks of sixteen bytes, and what their lanes say of a text.
 pub mod Lanes
 pub mod Parts
-pub mod Bits
 pub mod ByteClasses
 pub mod AdjacentBytes
-pub mod FourBytes
+pub mod Scan

@@ -1,12 +1,13 @@
 -- A part that is `..` stands between two places, each the text's end or a separator's.
-use Rattle.std.proofs.Common.{◌≡◌, ℕ, zero, suc, ◌+◌, ◌-◌, ◌<◌, ◌≤◌, ◌↔◌, Bool, true, false, ◌||◌, List, [], ◌∷◌, length, get_or, drop, refl, sym}
+use Rattle.std.proofs.Common.{◌≡◌, ℕ, zero, suc, ◌+◌, ◌-◌, ◌<◌, ◌↔◌, Bool, true, false, ◌&&◌, ◌||◌, eqb, List, [], ◌∷◌, length, get_or, drop, refl, sym}
 use Rattle.std.proofs.Common.{ap, ap₂, ◌∙◌, inl, inr, ◌⊎◌, arith}
-use Rattle.std.proofs.lemmas.Bool.{cases_Bool, cases_eq, or_parts, false_from_ne_true, true≢false, cases_lt}
+use Rattle.std.proofs.lemmas.Bool.{cases_eq, false_from_ne_true, true≢false, cases_lt}
 use Rattle.std.specs.Prelude.{codes}
 use Rattle.std.specs.List.{list_any}
 use Rattle.std.specs.Str.{byte, bytes_eq}
 use Rattle.gix_validate.specs.Submodule.{is_separator, parts, has_parent_part}
-use Rattle.gix_validate.specs.Private.Parents.{is_parent_at, NoParentWithin}
+use Rattle.gix_validate.specs.Private.Parents.{is_parent_at, NoParentBelow}
+use Rattle.gix_validate.specs.Private.Scan.{at_pair}
 use Rattle.std.proofs.lemmas.Grind.{common_steps}
 
 abbrev is_parent : List ℕ → Bool
@@ -76,7 +77,7 @@ some_parent x i h =
     ]
 
 -- No part is `..` where none begins.
-pub no_parent : (x : List ℕ) → NoParentWithin x 0 (length x - 1) → has_parent_part x ≡ false
+pub no_parent : (x : List ℕ) → NoParentBelow x (length x - 1) → has_parent_part x ≡ false
 no_parent x none =
     first_or_later_parent (parts x)
     ∙ ap₂ (λ s t. s || t) (false_from_ne_true _ (λ t. nowhere 0 (inl refl) (first_is_parent x t)))
@@ -87,86 +88,32 @@ no_parent x none =
     nowhere : (i : ℕ) → (i ≡ 0) ⊎ (is_separator (get_or x (i - 1) 0) ≡ true) → ParentBegins x i → ⊥
     nowhere i alone b =
         let inside = dot_inside x (i + 1) b.second in
-        true≢false (sym (parent_at x i b alone) ∙ none i (omega arith) (omega arith))
+        true≢false (sym (parent_at x i b alone) ∙ none i (omega arith))
 
--- ---- what the looks say
+-- Without two dots no part `..` begins.
+pub without_two_dots : (x : List ℕ) (k : ℕ) → at_pair (λ a b. eqb a (byte ".") && eqb b (byte ".")) x k ≡ false → is_parent_at x k ≡ false
+without_two_dots x k none = grind (arith, none)
 
--- Where none begins at the start, and none between, the last place for one is left.
-pub parent_at_end : (x : List ℕ) → 2 ≤ length x → is_parent_at x 0 ≡ false → NoParentWithin x 1 (length x - 2)
-    → is_parent_at x (length x - 2) ≡ has_parent_part x
-parent_at_end x long start none = elim (cases_Bool (is_parent_at x (length x - 2))) [
-  | inl end ↦ end ∙ sym (some_parent x (length x - 2) end)
-  | inr end ↦
-      end ∙ sym (no_parent x (λ k from to. elim (cases_eq k 0) [
-        | inl first ↦ ap (is_parent_at x) first ∙ start
-        | inr later ↦ elim (cases_eq k (length x - 2)) [
-          | inl last ↦ ap (is_parent_at x) last ∙ end
-          | inr inner ↦ none k (omega arith) (omega arith)
-        ]
-      ]))
+pub none_and_next : (x : List ℕ) (n : ℕ) → NoParentBelow x n → is_parent_at x n ≡ false → NoParentBelow x (n + 1)
+none_and_next x n none next k small = elim (cases_lt k n) [
+  | inl early ↦ none k early
+  | inr late ↦ let here : k ≡ n = omega arith in ap (is_parent_at x) here ∙ next
 ]
 
--- A look at a range that finds something finds a part `..` of the text.
-pub parent_within : (x : List ℕ) (i j : ℕ) (r : Bool) → (r ≡ true) ↔ NoParentWithin x i j → r ≡ false → has_parent_part x ≡ true
-parent_within x i j r law other = elim (cases_Bool (has_parent_part x)) [
-  | inl some ↦ some
-  | inr none ↦
-      absurd (true≢false (sym (law.1 (λ k from to. false_from_ne_true _ (λ t. true≢false (sym (some_parent x k t) ∙ none)))) ∙ other))
-]
+-- None begins at a place behind a dot.
+none_behind_dot : (x : List ℕ) (k : ℕ) → get_or x k 0 ≡ byte "." → is_parent_at x (k + 1) ≡ false
+none_behind_dot x k dot = grind (arith, common_steps, dot)
 
--- Two ranges in which no part `..` begins, and which meet or overlap, are one.
-pub none_across : (x : List ℕ) (h i j k m : ℕ) → (j ≤ i) × (m ≤ k) → NoParentWithin x h i → NoParentWithin x j k → NoParentWithin x h m
-none_across x h i j k m near front back p from to = elim (cases_lt p i) [
-  | inl early ↦ front p from early
-  | inr late ↦ back p (omega arith) (omega arith)
-]
+-- Where no dot stands behind a place, none begins there or at the next.
+pub none_and_two : (x : List ℕ) (n : ℕ) → NoParentBelow x n → (get_or x (n + 1) 0 ≡ byte "." → ⊥) → NoParentBelow x (n + 2)
+none_and_two x n none other =
+    let here = false_from_ne_true _ (λ t. other ((parent_begins x n t).0.second)) in
+    let next = false_from_ne_true _ (λ t. other ((parent_begins x (n + 1) t).0.first)) in
+    λ k small. none_and_next x (n + 1) (none_and_next x n none here) next k (omega arith)
 
--- some part that is `..` begins at one of n places, of which this is the first
-abbrev pub any_parent : List ℕ → ℕ → ℕ → Bool
-any_parent x i zero = false
-any_parent x i (suc n) = is_parent_at x i || any_parent x (i + 1) n
-
-any_parent_false : (x : List ℕ) (n i : ℕ) → any_parent x i n ≡ false → NoParentWithin x i (i + n)
-any_parent_false x zero i none k from to = absurd (omega arith)
-any_parent_false x (suc n) i none k from to =
-    let p = or_parts (is_parent_at x i) _ none in
-    elim (cases_eq k i) [
-      | inl same ↦ ap (is_parent_at x) same ∙ p.0
-      | inr other ↦ any_parent_false x n (i + 1) p.1 k (omega arith) (omega arith)
-    ]
-
-any_parent_true : (x : List ℕ) (n i : ℕ) → any_parent x i n ≡ true → has_parent_part x ≡ true
-any_parent_true x zero i some = absurd (true≢false (sym some))
-any_parent_true x (suc n) i some = elim (cases_Bool (is_parent_at x i)) [
-  | inl here ↦ some_parent x i here
-  | inr none ↦ any_parent_true x n (i + 1) (sym (ap (λ t. t || any_parent x (i + 1) n) none) ∙ some)
-]
-
--- A text has a part `..` if one begins at some place before its last byte.
-pub parent_by_places : (x : List ℕ) (n : ℕ) → length x ≡ n + 1 → any_parent x 0 n ≡ has_parent_part x
-parent_by_places x n long = elim (cases_Bool (any_parent x 0 n)) [
-  | inl some ↦ some ∙ sym (any_parent_true x n 0 some)
-  | inr none ↦ none ∙ sym (no_parent x (λ k from to. any_parent_false x n 0 none k from (omega arith)))
-]
-
--- A text of fewer than two bytes has none.
-pub no_parent_in_one : (x : List ℕ) → length x < 2 → has_parent_part x ≡ false
-no_parent_in_one x short = no_parent x (λ k from to. absurd (omega arith))
-
--- Without a separator at a place, no part `..` ends before it, and none begins behind it.
-pub separator_behind : (x : List ℕ) (k : ℕ) → 2 ≤ k → k < length x → is_separator (get_or x k 0) ≡ false → is_parent_at x (k - 2) ≡ false
-separator_behind x k front back none = false_from_ne_true _ (λ t. let b = (parent_begins x (k - 2) t).0 in
-    let here : k - 2 + 2 ≡ k = omega arith in
-    elim b.ends [
-      | inl end ↦ absurd (omega (arith, end))
-      | inr s ↦ true≢false (sym s ∙ ap (λ j. is_separator (get_or x j 0)) here ∙ none)
-    ])
-
-pub separator_before : (x : List ℕ) (k : ℕ) → is_separator (get_or x k 0) ≡ false → is_parent_at x (k + 1) ≡ false
-separator_before x k none = false_from_ne_true _ (λ t. nowhere (parent_begins x (k + 1) t).1)
-  where
-    nowhere : (k + 1 ≡ 0) ⊎ (is_separator (get_or x (k + 1 - 1) 0) ≡ true) → ⊥
-    nowhere (inl start) = omega (arith, start)
-    nowhere (inr s) =
-        let here : k + 1 - 1 ≡ k = omega arith in
-        true≢false (sym s ∙ ap (λ j. is_separator (get_or x j 0)) here ∙ none)
+-- Where two dots are no part, no part begins up to the place behind them.
+pub none_and_three : (x : List ℕ) (n : ℕ) → NoParentBelow x n → is_parent_at x n ≡ false
+    → get_or x n 0 ≡ byte "." → get_or x (n + 1) 0 ≡ byte "." → NoParentBelow x (n + 3)
+none_and_three x n none here first second =
+    let two = none_and_next x (n + 1) (none_and_next x n none here) (none_behind_dot x n first) in
+    λ k small. none_and_next x (n + 1 + 1) two (none_behind_dot x (n + 1) second) k (omega arith)

@@ -4,4 +4,3 @@ pub mod FaultsOfBytes
 pub mod Places
 pub mod Grammar
 pub mod ClearTexts
-pub mod Laws

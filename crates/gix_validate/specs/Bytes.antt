@@ -32,7 +32,7 @@ begins x front = starts_with nat_eq x front
 abbrev pub ends : List ℕ → List ℕ → Bool
 ends x back = ends_with nat_eq x back
 
--- the part stands somewhere in the text
+-- the part is somewhere in the text
 abbrev pub holds : List ℕ → List ℕ → Bool
 holds [] part = is_empty part
 holds (b ∷ x) part = begins (b ∷ x) part || holds x part

@@ -21,8 +21,8 @@ pub record HasOnlySwitchesOf (fewer options : ComponentOptions) : Type 0 where
   pub ntfs : IsTrue fewer.protect_ntfs → IsTrue options.protect_ntfs
 
 -- the name has no fault under any part of the switches, with the mode and without it
-abbrev pub PassesFewer : ComponentOptions → Option ComponentMode → List ℕ → Type 0
-PassesFewer options mode x =
+abbrev pub IsValidUnderFewerSwitches : ComponentOptions → Option ComponentMode → List ℕ → Type 0
+IsValidUnderFewerSwitches options mode x =
     (fewer : ComponentOptions) → HasOnlySwitchesOf fewer options
     → (fault_of fewer mode x ≡ None) × (fault_of fewer None x ≡ None)
 

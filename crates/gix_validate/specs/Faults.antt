@@ -18,7 +18,7 @@ abbrev pub first_of : {A : Type 0} → List (Option A) → Option A
 first_of [] = None
 first_of (line ∷ lines) = line orelse first_of lines
 
--- what f gives at the first place at which it gives something, if there is one before place n
+-- what f gives at the first offset at which it gives something, if there is one before offset n
 unfoldable pub at_first_place : {A : Type 0} → (ℕ → Option A) → ℕ → Option A
 at_first_place f zero = None
 at_first_place f (suc n) = at_first_place f n orelse f n

@@ -6,3 +6,4 @@ pub mod Parents
 pub mod Forms
 pub mod Ordinary
 pub mod Classes
+pub mod Scan

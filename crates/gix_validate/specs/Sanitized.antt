@@ -6,7 +6,7 @@ use Rattle.std.specs.Str.{byte, bytes_eq}
 use Rattle.gix_validate.specs.Bytes.{is_bad, is_empty, ends}
 use Rattle.gix_validate.specs.Pieces.{pieces, joined}
 
--- A run of a piece: all the dots that stand in a row at one place, or one other byte.
+-- A run of a piece: all the dots in a row at one offset, or one other byte.
 pub data Run : Type 0 where
   Dots : Run
   Other : ℕ → Run
@@ -26,11 +26,11 @@ abbrev pub last_of : Run → ℕ
 last_of Dots = byte "."
 last_of (Other b) = b
 
--- the byte itself, or a dash for a byte that may not stand in a name
+-- the byte itself, or a dash for a byte that may not be in a name
 abbrev pub allowed : ℕ → ℕ
 allowed b = if is_bad b || b == byte "*" then byte "-" else b
 
--- the one byte that a run gives, by the byte that stands before it in the piece, if there is one
+-- the one byte that a run gives, by the byte before it in the piece, if there is one
 abbrev pub byte_of : Option ℕ → Run → ℕ
 byte_of None Dots = byte "-"
 byte_of (Some before) Dots = byte "."

@@ -1,6 +1,5 @@
 -- Tag names: which texts are one, and the fault of those that aren't.
-use Rattle.std.specs.Prelude.{ℕ, ◌+◌, ◌≤◌, ◌<◌, Bool, ◌==◌, ◌&&◌, ◌||◌, not, is_some, List, [], ◌∷◌, ◌++◌, length, take, drop, slice_index, codes}
-use Rattle.std.specs.Prelude.{Option, count_by}
+use Rattle.std.specs.Prelude.{ℕ, ◌+◌, Bool, ◌==◌, ◌&&◌, ◌||◌, not, List, [], ◌∷◌, ◌++◌, length, take, drop, slice_index, codes, Option}
 use Rattle.std.specs.List.{list_all, list_any}
 use Rattle.std.specs.Str.{byte, bytes_eq}
 use Rattle.gix_validate.specs.declared.tag.NameError.{NameError}
@@ -11,7 +10,7 @@ use Rattle.gix_validate.specs.Pieces.{pieces}
 use Rattle.gix_validate.specs.Faults.{when, first_of, at_first_place}
 use Rattle.gix_validate.specs.Quoted.{quoted}
 
--- The piece may stand in a tag name.
+-- The piece may be in a tag name.
 unfoldable pub is_good_piece : List ℕ → Bool
 is_good_piece p =
     not (is_empty p)
@@ -21,12 +20,12 @@ is_good_piece p =
     && not (holds p (codes "@{"))
     && not (ends p (codes ".lock"))
 
--- The text is a tag name: each of its pieces may stand in one, and it doesn't end in a dot.
+-- The text is a tag name: each of its pieces may be in one, and it doesn't end in a dot.
 unfoldable pub is_tag_name : List ℕ → Bool
 is_tag_name x = list_all is_good_piece (pieces x) && not (ends x (codes "."))
 
--- The table of the faults at one place of a text, a line each. The text is cut at the place into all that stands
--- before it, the byte at it, and all that stands after it.
+-- The table of the faults at one offset of a text, a line each. The text is cut at the offset into all
+-- before it, the byte at it, and all after it.
 unfoldable pub fault_table : List ℕ → ℕ → List ℕ → List (Option NameError)
 fault_table before b after =
     when (is_bad b) (InvalidByte b)
@@ -39,13 +38,9 @@ fault_table before b after =
     ∷ when (is_empty after && ends (before ++ b ∷ []) (codes ".lock") && not (bytes_eq (before ++ b ∷ []) (codes ".lock"))) LockFileSuffix
     ∷ []
 
--- the lines of the table at place i of x, where x has that place
+-- the lines of the table at offset i of x, where x has that offset
 unfoldable pub faults_at : List ℕ → ℕ → List (Option NameError)
 faults_at x i = fault_table (take i x) (slice_index x i) (drop (i + 1) x)
-
--- At each place of the text at most one line of the table applies, so their order doesn't matter.
-abbrev pub HasAtMostOneFaultAPlace : List ℕ → Type 0
-HasAtMostOneFaultAPlace x = (i : ℕ) → i < length x → count_by is_some (faults_at x i) ≤ 1
 
 -- The fault of a text: the first of these that applies.
 unfoldable pub fault_of : List ℕ → Option NameError

@@ -28,7 +28,7 @@ is_device_form form = list_any (λ name. bytes_eq (lower form) (lower name)) dev
 unfoldable pub is_device : List ℕ → Bool
 is_device x = is_device_form (device_form x)
 
--- a byte that makes a name illegal on Windows at any place
+-- a byte that makes a name illegal on Windows at any offset
 unfoldable pub is_illegal_byte : ℕ → Bool
 is_illegal_byte b = nat_lt b 0x20 || is_among (codes "<>:\"|?*") b
 

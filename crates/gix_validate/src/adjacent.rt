@@ -11,14 +11,16 @@
 //! but slow. Only contracts of private functions cite that definition, so a reader of the public
 //! ones need not trust it.
 
-ghost use Rattle.std.specs.Prelude.{◌≡◌, ◌↔◌, ◌<◌, ◌≤◌, ◌+◌, ◌^◌, ◌==◌, ◌||◌, ◌&&◌, ℕ, false, if◌then◌else◌, IsTrue, map, length, slice_index, codes};
+ghost use Rattle.std.specs.Prelude.{◌≡◌, ◌↔◌, ◌<◌, ◌≤◌, ◌+◌, ◌-◌, ◌^◌, ◌==◌, ◌||◌, ◌&&◌, ℕ, false, if◌then◌else◌, IsTrue, map, length, slice_index, codes};
 ghost use Rattle.std.specs.Int.{bit_at};
 ghost use Rattle.std.specs.Str.{byte};
 ghost use Rattle.gix_validate.specs.Bytes.{is_among, ends};
-ghost use Rattle.gix_validate.specs.Private.Adjacent.{is_plain_brace, is_suspect, IsClear, MarksSuspects, NoneBetween};
+ghost use Rattle.gix_validate.specs.Private.Adjacent.{is_suspect, IsClear};
+ghost use Rattle.gix_validate.specs.Private.Scan.{Finds, at_pair};
 
 use crate::bytes::may_be_faulty;
-use crate::lanes::{LANES, classify, halves, nonzero_lanes, quarters};
+use crate::lanes::{classify, nonzero_lanes};
+use crate::scan::{self, Pattern};
 use std::simd::prelude::*;
 
 // The classes of bytes that may be suspect, a bit for each. The bytes of a class have one high
@@ -96,7 +98,7 @@ pub(crate) fn is_clear(text: &[u8]) -> bool
     if text.is_empty() || may_be_faulty(text[0]) || ends_in_break(text) {
         return false;
     }
-    has_none(text)
+    first_suspect(text).is_none()
 }
 
 /// Whether the name ends with a dot or a slash.
@@ -107,142 +109,27 @@ fn ends_in_break(text: &[u8]) -> bool
     matches!(text.last(), Some(b'.' | b'/'))
 }
 
-/// Whether no byte is suspect after the one before it.
+/// The first place before a suspect byte.
 #[inline(always)]
-fn has_none(text: &[u8]) -> bool
-    ensures { IsTrue result ↔ NoneBetween text.now 0 (length text.now) }
+pub(crate) fn first_suspect(text: &[u8]) -> Option<usize>
+    requires { 1 ≤ length text.now }
+    ensures { Finds (at_pair is_suspect text.now) (length text.now - 1) (length text.now - 1) result }
 {
-    if text.len() > LANES {
-        blocks_have_none(text)
-    } else {
-        pairs_have_none(text)
+    scan::first_pair::<Suspect>(text)
+}
+
+/// A byte that is suspect after the one before it.
+enum Suspect {}
+
+impl Pattern for Suspect {
+    ghost hit = { is_suspect };
+
+    #[inline(always)]
+    fn hits(front: u8x16, back: u8x16) -> u64 {
+        nonzero_lanes(
+            classify(CLASSES_BY_LOW_NIBBLE, CLASSES_BY_HIGH_NIBBLE, back) & suspect_behind(front),
+        )
     }
-}
-
-/// The same for a name that is longer than a block. The last block overlaps the one before it.
-#[inline(always)]
-fn blocks_have_none(text: &[u8]) -> bool
-    requires { LANES < length text.now }
-    ensures { IsTrue result ↔ NoneBetween text.now 0 (length text.now) }
-{
-    let last = text.len() - LANES - 1;
-    if last <= LANES {
-        return block_has_none(text, 0) && block_has_none(text, last);
-    }
-    for at in (0..last).step_by(LANES) {
-        if !block_has_none(text, at) {
-            return false;
-        }
-    }
-    block_has_none(text, last)
-}
-
-/// Whether none of the sixteen bytes after the one at this offset is suspect.
-#[inline(always)]
-fn block_has_none(text: &[u8], at: usize) -> bool
-    requires { at + (LANES + 1) ≤ length text.now }
-    ensures { IsTrue result ↔ NoneBetween text.now at (at + (LANES + 1)) }
-{
-    lanes_have_none(
-        u8x16::from_slice(&text[at..]),
-        u8x16::from_slice(&text[at + 1..]),
-    )
-}
-
-/// Which of the sixteen bytes after the one at this offset may be an error or lead to one: a bit
-/// for each, the lowest for the first byte. These are the suspect bytes except each plain brace.
-#[inline(always)]
-pub(crate) fn suspects_of_block(text: &[u8], at: usize) -> u64
-    requires { at + (LANES + 1) ≤ length text.now }
-    ensures few { result < 2 ^ LANES }
-    ensures marked { MarksSuspects text.now at result }
-{
-    let before = u8x16::from_slice(&text[at..]);
-    let bytes = u8x16::from_slice(&text[at + 1..]);
-    let all = suspects(before, bytes);
-    if all == 0 {
-        return 0;
-    }
-    all ^ plain_braces(before, bytes)
-}
-
-/// The same for a name of at most one block.
-#[inline(always)]
-fn pairs_have_none(text: &[u8]) -> bool
-    requires { length text.now ≤ LANES }
-    ensures { IsTrue result ↔ NoneBetween text.now 0 (length text.now) }
-{
-    if text.len() > 8 {
-        let back = text.len() - 8;
-        return lanes_have_none(halves(text, 0, back - 1), halves(text, 1, back));
-    }
-    if text.len() > 4 {
-        let back = text.len() - 4;
-        return lanes_have_none(quarters(text, 0, back - 1), quarters(text, 1, back));
-    }
-    few_have_none(text)
-}
-
-/// The same for a name of at most four bytes.
-#[inline(always)]
-fn few_have_none(text: &[u8]) -> bool
-    requires { length text.now ≤ 4 }
-    ensures { IsTrue result ↔ NoneBetween text.now 0 (length text.now) }
-{
-    match text {
-        [a, b] => !is_suspect(*a, *b),
-        [a, b, c] => !is_suspect(*a, *b) && !is_suspect(*b, *c),
-        [a, b, c, d] => { !is_suspect(*a, *b) && !is_suspect(*b, *c) && !is_suspect(*c, *d) }
-        _ => true,
-    }
-}
-
-/// Whether the byte is suspect after the one before it.
-#[inline(always)]
-#[tactic(auto, using(crate::proofs::Blocks::AdjacentBytes::suspect_letter))]
-fn is_suspect(before: u8, byte: u8) -> bool
-    ensures { result ≡ is_suspect before byte }
-{
-    if byte == b'l' {
-        return before == b'.';
-    }
-    may_be_faulty(byte) && (!is_break(byte) || is_break(before))
-}
-
-/// Whether the byte is a dot or a slash.
-#[inline(always)]
-fn is_break(byte: u8) -> bool
-    ensures { result ≡ is_among (codes "./") byte }
-{
-    matches!(byte, b'.' | b'/')
-}
-
-/// Whether no byte is suspect after the byte in the same lane of `before`.
-#[inline(always)]
-fn lanes_have_none(before: u8x16, bytes: u8x16) -> bool
-    ensures { IsTrue result ↔ ((k : ℕ) → k < LANES → is_suspect (slice_index before k) (slice_index bytes k) ≡ false) }
-{
-    suspects(before, bytes) == 0
-}
-
-/// A bit for each lane whose byte is suspect after the byte in the same lane of `before`.
-#[inline(always)]
-fn suspects(before: u8x16, bytes: u8x16) -> u64
-    ensures few { result < 2 ^ LANES }
-    ensures lanes { (k : ℕ) → k < LANES → bit_at result k ≡ (if is_suspect (slice_index before k) (slice_index bytes k) then 1 else 0) }
-{
-    nonzero_lanes(
-        classify(CLASSES_BY_LOW_NIBBLE, CLASSES_BY_HIGH_NIBBLE, bytes) & suspect_behind(before),
-    )
-}
-
-/// A bit for each lane that has a `{`, and in `before` a byte other than `@`.
-#[inline(always)]
-fn plain_braces(before: u8x16, bytes: u8x16) -> u64
-    ensures few { result < 2 ^ LANES }
-    ensures lanes { (k : ℕ) → k < LANES → bit_at result k ≡ (if is_plain_brace (slice_index before k) (slice_index bytes k) then 1 else 0) }
-{
-    (bytes.simd_eq(u8x16::splat(b'{')) & before.simd_ne(u8x16::splat(b'@'))).to_bitmask()
 }
 
 /// The classes that are suspect after each byte.

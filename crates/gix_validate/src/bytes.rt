@@ -3,8 +3,9 @@
 //! One table says which bytes may be an error, since more than one loop reads it. Its 256 entries
 //! are proved against the rule.
 
-ghost use Rattle.std.specs.Prelude.{◌≡◌, ◌||◌, codes};
-ghost use Rattle.gix_validate.specs.Bytes.{is_bad, is_among};
+ghost use Rattle.std.specs.Prelude.{◌≡◌};
+ghost use Rattle.gix_validate.specs.Bytes.{is_bad};
+ghost use Rattle.gix_validate.specs.Private.TagWalk.{may_be_faulty};
 
 /// Whether the byte is a bad byte of reference names.
 #[tactic(auto, unfolding(crate::specs::Bytes::is_bad))]
@@ -21,7 +22,7 @@ pub(crate) fn is_bad_byte(byte: u8) -> bool
 #[inline]
 #[tactic(auto, using(crate::proofs::TagNames::FaultTable::faulty_tabled))]
 pub(crate) fn may_be_faulty(byte: u8) -> bool
-    ensures { result ≡ (is_bad byte || is_among (codes "*./{") byte) }
+    ensures { result ≡ may_be_faulty byte }
 {
     MAY_BE_FAULTY[usize::from(byte)]
 }

@@ -88,18 +88,6 @@ pub(crate) fn first_lane(lanes: u64) -> usize
     lanes.trailing_zeros() as usize
 }
 
-/// The lanes without `first`, which is the first of them.
-#[inline(always)]
-pub(crate) fn without_first(lanes: u64, first: usize) -> u64
-    requires set { bit_at lanes first ≡ 1 }
-    requires below { (k : ℕ) → k < first → bit_at lanes k ≡ 0 }
-    ensures fewer { result < lanes }
-    ensures others { (k : ℕ) → k ≢ first → bit_at result k ≡ bit_at lanes k }
-    ensures cleared { bit_at result first ≡ 0 }
-{
-    lanes & (lanes - 1)
-}
-
 /// Whether the byte occurs in the bytes.
 #[inline(always)]
 pub(crate) fn contains_byte(text: &[u8], byte: u8) -> bool

@@ -18,5 +18,6 @@ mod lanes;
 pub mod path;
 mod quoted;
 pub mod reference;
+mod scan;
 pub mod submodule;
 pub mod tag;

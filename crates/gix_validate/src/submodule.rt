@@ -2,25 +2,21 @@
 //!
 //! Nothing else is refused: `/etc` is a submodule name.
 //!
-//! A name is never split. Most names have no two adjacent dots. A part that is `..` is at the start
-//! or the end of the name, or between two separators. So in other names the start is checked, then
-//! all four adjacent bytes from each of sixteen offsets at a time, and then the end.
+//! A name is never split. Most names have no two adjacent dots; in the others each offset from the
+//! first two dots on is checked.
 
 ghost use Rattle.std.specs.Prelude.{◌≡◌, ◌↔◌, ◌||◌, ◌&&◌, ◌==◌, ℕ, ◌+◌, ◌-◌, ◌≤◌, ◌<◌, false, length, slice_index, IsOk, IfOk, IsTrue};
 ghost use Rattle.std.specs.Str.{byte};
 ghost use Rattle.bstr.specs.BStr.{bstr_bytes};
-ghost use Rattle.gix_validate.specs.Private.Parents.{is_parent_at, is_parent_between, NoParentWithin};
+ghost use Rattle.gix_validate.specs.Private.Parents.{is_parent_at, NoParentBelow};
 ghost use Rattle.gix_validate.specs.Faults.{Validates};
 ghost use Rattle.gix_validate.specs.Submodule.{fault_of, has_parent_part, is_separator, is_submodule_name};
 
-use crate::lanes::{LANES, halves, quarters};
+use crate::scan::{self, Pattern};
 use bstr::BStr;
 use std::error::Error;
 use std::fmt;
 use std::simd::prelude::*;
-
-/// Two dots, read as one number.
-const DOTS: u16 = 0x2e2e;
 
 /// Why a name is not a valid submodule name (docs/RULES.md, "Submodule names").
 #[derive(Debug, Drop)]
@@ -80,110 +76,54 @@ pub fn name<'a>(name: BStr<'a>) -> Result<BStr<'a>, NameError>
     Ok(name)
 }
 
-/// Whether some part is `..`.
+/// Two dots in a row.
+enum TwoDots {}
+
+impl Pattern for TwoDots {
+    ghost hit = { λ a b. a == byte "." && b == byte "." };
+
+    #[inline(always)]
+    fn hits(front: u8x16, back: u8x16) -> u64 {
+        let dot = u8x16::splat(b'.');
+        (front.simd_eq(dot) & back.simd_eq(dot)).to_bitmask()
+    }
+}
+
+/// Whether some part is `..`. Most names have no two dots in a row.
 #[inline(always)]
+#[tactic(auto, using(crate::proofs::Submodules::without_two_dots, crate::proofs::Submodules::no_parent))]
 fn has_parent_part(bytes: &[u8]) -> bool
+    requires { 1 ≤ length bytes.now }
     ensures { result ≡ has_parent_part bytes.now }
 {
-    if bytes.len() < 9 {
-        return few_have_parent(bytes);
+    match scan::first_pair::<TwoDots>(bytes) {
+        Some(place) => has_parent_from(bytes, place),
+        None => false,
     }
-    if is_plain(bytes) {
-        return false;
-    }
-    if is_parent_at(bytes, 0) || !has_none_between(bytes) {
-        return true;
-    }
-    is_parent_at(bytes, bytes.len() - 2)
 }
 
-/// Whether the name has 11 to 33 bytes, and no two dots in a row. Most names are like that.
-#[inline(always)]
-fn is_plain(bytes: &[u8]) -> bool
-    ensures { IsTrue result → has_parent_part bytes.now ≡ false }
-{
-    let len = bytes.len();
-    if len < 11 || len > 2 * LANES + 1 {
-        return false;
-    }
-    if len > LANES {
-        return block_is_plain(bytes, 0) && block_is_plain(bytes, len - LANES - 1);
-    }
-    have_no_two_dots(halves(bytes, 0, len - 9), halves(bytes, 1, len - 8))
-}
-
-/// Whether no two dots in a row begin at one of the sixteen offsets from this one on.
-#[inline(always)]
-fn block_is_plain(bytes: &[u8], at: usize) -> bool
-    requires { at + (LANES + 1) ≤ length bytes.now }
-    ensures { IsTrue result → NoParentWithin bytes.now at (at + LANES) }
-{
-    have_no_two_dots(
-        u8x16::from_slice(&bytes[at..]),
-        u8x16::from_slice(&bytes[at + 1..]),
-    )
-}
-
-/// Whether no lane has two dots.
-#[inline(always)]
-fn have_no_two_dots(first: u8x16, second: u8x16) -> bool
-    ensures { IsTrue result → ((k : ℕ) → k < LANES → (slice_index first k == byte "." && slice_index second k == byte ".") ≡ false) }
-{
-    let dot = u8x16::splat(b'.');
-    (first.simd_eq(dot) & second.simd_eq(dot)).to_bitmask() == 0
-}
-
-/// Whether some part of a name of at most eight bytes is `..`.
-#[inline(always)]
-#[tactic(auto, using(crate::proofs::Submodules::parent_by_places, crate::proofs::Submodules::separator_before, crate::proofs::Submodules::separator_behind))]
-fn few_have_parent(bytes: &[u8]) -> bool
-    requires { length bytes.now < 9 }
+/// The same for a name in which no part before this offset is `..`. After a dot none begins, so two
+/// dots that aren't a part are skipped with the byte after them.
+#[inline(never)]
+#[tactic(auto, using(crate::proofs::Submodules::some_parent, crate::proofs::Submodules::no_parent))]
+fn has_parent_from(bytes: &[u8], place: usize) -> bool
+    requires within { place + 1 < length bytes.now }
+    requires none { NoParentBelow bytes.now place }
     ensures { result ≡ has_parent_part bytes.now }
 {
-    match bytes.len() {
-        0 | 1 => false,
-        2 => is_parent_at(bytes, 0),
-        3 => {
-            is_separator(bytes[2]) && is_parent_at(bytes, 0)
-                || is_separator(bytes[0]) && is_parent_at(bytes, 1)
+    let mut at = place;
+    while at < bytes.len() - 1 {
+        if bytes[at + 1] != b'.' {
+            at += 2;
+        } else if bytes[at] != b'.' {
+            at += 1;
+        } else if is_parent_at(bytes, at) {
+            return true;
+        } else {
+            at += 3;
         }
-        4 => is_parent_at_either(bytes, 0) || is_parent_at(bytes, 2),
-        5 => is_parent_beside(bytes, 2) || is_parent_at_either(bytes, 1),
-        6 => is_parent_beside_either(bytes, 2) || is_parent_at(bytes, 2),
-        len => is_parent_beside_either(bytes, 2) || is_parent_beside_either(bytes, len - 4),
     }
-}
-
-/// Whether there is a separator at this offset, and the part right before or right after it is
-/// `..`.
-#[inline(always)]
-#[tactic(auto, using(crate::proofs::Submodules::separator_before, crate::proofs::Submodules::separator_behind))]
-fn is_parent_beside(bytes: &[u8], place: usize) -> bool
-    requires front { 2 ≤ place }
-    requires back { place + 3 ≤ length bytes.now }
-    ensures { result ≡ (is_parent_at bytes.now (place - 2) || is_parent_at bytes.now (place + 1)) }
-{
-    is_separator(bytes[place]) && (is_parent_at(bytes, place - 2) || is_parent_at(bytes, place + 1))
-}
-
-/// The same for this offset and the next.
-#[inline(always)]
-fn is_parent_beside_either(bytes: &[u8], place: usize) -> bool
-    requires front { 2 ≤ place }
-    requires back { place + 4 ≤ length bytes.now }
-    ensures { result ≡ (is_parent_at bytes.now (place - 2) || is_parent_at bytes.now (place - 1)
-        || is_parent_at bytes.now (place + 1) || is_parent_at bytes.now (place + 2)) }
-{
-    is_parent_beside(bytes, place) || is_parent_beside(bytes, place + 1)
-}
-
-/// Whether a part that is `..` begins at this offset or the next.
-#[inline(always)]
-fn is_parent_at_either(bytes: &[u8], at: usize) -> bool
-    requires { at + 3 ≤ length bytes.now }
-    ensures { result ≡ (is_parent_at bytes.now at || is_parent_at bytes.now (at + 1)) }
-{
-    is_parent_at(bytes, at) || is_parent_at(bytes, at + 1)
+    false
 }
 
 /// Whether a part that is `..` begins at this offset.
@@ -192,80 +132,10 @@ fn is_parent_at(bytes: &[u8], at: usize) -> bool
     requires { at + 2 ≤ length bytes.now }
     ensures { result ≡ is_parent_at bytes.now at }
 {
-    u16::from_le_bytes([bytes[at], bytes[at + 1]]) == DOTS
+    bytes[at] == b'.'
+        && bytes[at + 1] == b'.'
         && (at == 0 || is_separator(bytes[at - 1]))
         && (at + 2 == bytes.len() || is_separator(bytes[at + 2]))
-}
-
-/// Whether no part between two separators is `..`.
-#[inline(always)]
-fn has_none_between(bytes: &[u8]) -> bool
-    requires { 9 ≤ length bytes.now }
-    ensures { IsTrue result ↔ NoParentWithin bytes.now 1 (length bytes.now - 2) }
-{
-    let len = bytes.len();
-    if len >= LANES + 3 {
-        return blocks_have_none(bytes);
-    }
-    if len > 10 {
-        return lanes_have_none(
-            halves(bytes, 0, len - 11),
-            halves(bytes, 1, len - 10),
-            halves(bytes, 2, len - 9),
-            halves(bytes, 3, len - 8),
-        );
-    }
-    lanes_have_none(
-        quarters(bytes, 0, len - 7),
-        quarters(bytes, 1, len - 6),
-        quarters(bytes, 2, len - 5),
-        quarters(bytes, 3, len - 4),
-    )
-}
-
-/// The same for a name that has a block. The last block overlaps the one before it.
-#[inline(always)]
-fn blocks_have_none(bytes: &[u8]) -> bool
-    requires { LANES + 3 ≤ length bytes.now }
-    ensures { IsTrue result ↔ NoParentWithin bytes.now 1 (length bytes.now - 2) }
-{
-    let last = bytes.len() - LANES - 3;
-    for at in (0..last).step_by(LANES) {
-        if !block_has_none(bytes, at) {
-            return false;
-        }
-    }
-    block_has_none(bytes, last)
-}
-
-/// Whether no part that is `..` begins at one of the sixteen bytes after this offset.
-#[inline(always)]
-fn block_has_none(bytes: &[u8], at: usize) -> bool
-    requires { at + (LANES + 3) ≤ length bytes.now }
-    ensures { IsTrue result ↔ NoParentWithin bytes.now (at + 1) (at + (LANES + 1)) }
-{
-    lanes_have_none(
-        u8x16::from_slice(&bytes[at..]),
-        u8x16::from_slice(&bytes[at + 1..]),
-        u8x16::from_slice(&bytes[at + 2..]),
-        u8x16::from_slice(&bytes[at + 3..]),
-    )
-}
-
-/// Whether no lane has two dots between two separators. Most names have no two dots.
-#[inline(always)]
-fn lanes_have_none(before: u8x16, first: u8x16, second: u8x16, behind: u8x16) -> bool
-    ensures { IsTrue result ↔ ((k : ℕ) → k < LANES
-        → is_parent_between (slice_index before k) (slice_index first k) (slice_index second k) (slice_index behind k) ≡ false) }
-{
-    if have_no_two_dots(first, second) {
-        return true;
-    }
-    let (dot, slash, backslash) = (u8x16::splat(b'.'), u8x16::splat(b'/'), u8x16::splat(b'\\'));
-    let dots = first.simd_eq(dot) & second.simd_eq(dot);
-    let before = before.simd_eq(slash) | before.simd_eq(backslash);
-    let behind = behind.simd_eq(slash) | behind.simd_eq(backslash);
-    (dots & before & behind).to_bitmask() == 0
 }
 
 /// Whether the byte ends a part.

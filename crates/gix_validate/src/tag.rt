@@ -4,20 +4,17 @@ ghost use Rattle.std.specs.Prelude.{◌≡◌, ◌↔◌, ◌<◌, ◌≤◌, �
 ghost use Rattle.bstr.specs.BStr.{bstr_bytes};
 ghost use Rattle.gix_validate.specs.Bytes.{ends};
 ghost use Rattle.gix_validate.specs.Faults.{Validates, first_of, at_first_place};
-ghost use Rattle.gix_validate.specs.Pieces.{PiecesAreTheOnlySplit};
-ghost use Rattle.gix_validate.specs.Private.Adjacent.{is_suspect};
-ghost use Rattle.gix_validate.specs.Private.TagWalk.{fault_of_byte, fault_of_byte_at, fault_of_suspect, first_fault_between, IsFirstFault, IsSettled};
-ghost use Rattle.gix_validate.specs.Tag.{fault_of, faults_at, is_tag_name, HasAtMostOneFaultAPlace};
+ghost use Rattle.gix_validate.specs.Private.TagWalk.{fault_of_byte, fault_of_byte_at, first_fault_between};
+ghost use Rattle.gix_validate.specs.Tag.{fault_of, faults_at, is_tag_name};
 
-use crate::adjacent::{is_clear, suspects_of_block};
+use crate::adjacent::{first_suspect, is_clear};
 use crate::bytes::{is_bad_byte, may_be_faulty};
-use crate::lanes::{LANES, first_lane, without_first};
 use crate::quoted::Quoted;
 use bstr::BStr;
 use std::error::Error;
 use std::fmt;
 
-/// How many bytes at the front of a long name are checked one by one.
+/// How many bytes at the front are checked one by one.
 const FRONT: usize = 3;
 
 /// Why a name is not a valid tag name. docs/RULES.md, "Printed texts", has what each prints.
@@ -102,13 +99,11 @@ impl Error for NameError {}
 ///
 /// It doesn't allocate. On `Ok` it returns the value that it was passed.
 #[inline(always)]
-#[tactic(auto, using(crate::proofs::TagNames::Laws::tag_name_laws))]
+#[tactic(auto, using(crate::proofs::TagNames::ClearTexts::clear_has_no_fault, crate::proofs::TagNames::Grammar::tag_grammar_law))]
 pub fn name<'a>(input: BStr<'a>) -> Result<BStr<'a>, NameError>
     ensures answer { Validates fault_of (bstr_bytes input.entry) result }
     ensures grammar { IsOk result ↔ IsTrue (is_tag_name (bstr_bytes input.entry)) }
     ensures same { IfOk result (λ name. name ≡ input.entry) }
-    ensures one_fault { HasAtMostOneFaultAPlace (bstr_bytes input.entry) }
-    ensures pieces { PiecesAreTheOnlySplit (bstr_bytes input.entry) }
 {
     if is_clear(input.as_bytes()) {
         Ok(input)
@@ -165,7 +160,7 @@ fn fault_at_first_place(bytes: &[u8]) -> Option<NameError>
     requires { 0 < length bytes.now }
     ensures { result ≡ at_first_place (λ i. first_of (faults_at bytes.now i)) (length bytes.now) }
 {
-    if let Some(fault) = fault_by_blocks(bytes) {
+    if let Some(fault) = fault_by_suspects(bytes) {
         return Some(fault);
     }
     if bytes.ends_with(b".lock") && bytes.len() != 5 {
@@ -174,70 +169,19 @@ fn fault_at_first_place(bytes: &[u8]) -> Option<NameError>
     None
 }
 
-/// The fault at the least offset where the bytes before it make one. The bytes of a short name are
-/// checked one by one. So are the first bytes of a longer one, since a fault there then needs no
-/// block. After that come the suspect bytes of each block of sixteen. The first block starts after
-/// the first byte, and the last overlaps the one before.
-fn fault_by_blocks(bytes: &[u8]) -> Option<NameError>
+/// The fault at the least offset where the bytes before it make one. After the first byte, none is
+/// before the first suspect byte. The front is checked first, since a fault there then needs no scan.
+#[tactic(auto, using(crate::proofs::TagNames::Places::from_suspect, crate::proofs::TagNames::Places::without_suspect, crate::proofs::TagNames::Places::found_first))]
+fn fault_by_suspects(bytes: &[u8]) -> Option<NameError>
     requires { 0 < length bytes.now }
     ensures { result ≡ at_first_place (fault_of_byte_at bytes.now) (length bytes.now) }
 {
-    if bytes.len() <= LANES {
-        return first_fault_between(bytes, 0, bytes.len());
-    }
-    if let Some(fault) = first_fault_between(bytes, 0, FRONT) {
+    if let Some(fault) = first_fault_between(bytes, 0, bytes.len().min(FRONT)) {
         return Some(fault);
     }
-    let last = bytes.len() - LANES - 1;
-    for at in (0..last).step_by(LANES) {
-        if let Some(fault) = fault_in_block(bytes, at) {
-            return Some(fault);
-        }
-    }
-    fault_in_block(bytes, last)
-}
-
-/// The first fault, if one of the sixteen bytes after this offset has it, or is the `l` of a
-/// `.lock` that has it. Only suspect bytes are checked.
-#[inline]
-fn fault_in_block(bytes: &[u8], at: usize) -> Option<NameError>
-    requires room { at + (LANES + 1) ≤ length bytes.now }
-    requires settled { IsSettled bytes.now (at + 1) }
-    ensures { MatchOption result (IsSettled bytes.now (at + (LANES + 1))) (λ fault. IsFirstFault bytes.now fault) }
-{
-    let mut suspects = suspects_of_block(bytes, at);
-    while suspects != 0 {
-        let lane = first_lane(suspects);
-        if let Some(fault) = fault_of_suspect(bytes, at + 1 + lane) {
-            return Some(fault);
-        }
-        suspects = without_first(suspects, lane);
-    }
-    None
-}
-
-/// The fault that a suspect byte has after the bytes before it, or that of the `.lock` whose `l` it
-/// is, if a slash follows that.
-#[inline(always)]
-#[tactic(auto, using(crate::proofs::TagNames::Places::suspect_bytes))]
-fn fault_of_suspect(bytes: &[u8], place: usize) -> Option<NameError>
-    requires within { place < length bytes.now }
-    requires behind { 1 ≤ place }
-    requires suspect { IsTrue (is_suspect (slice_index bytes.now (place - 1)) (slice_index bytes.now place)) }
-    ensures { result ≡ fault_of_suspect bytes.now place }
-{
-    let before = bytes[place - 1];
-    match bytes[place] {
-        b'{' if before == b'@' => Some(NameError::ReflogPortion),
-        b'{' => None,
-        b'l' if bytes[place..].starts_with(b"lock/") => Some(NameError::LockFileSuffix),
-        b'l' => None,
-        b'/' if before == b'/' => Some(NameError::RepeatedSlash),
-        b'/' => None,
-        b'.' if before == b'.' => Some(NameError::RepeatedDot),
-        b'.' => Some(NameError::StartsWithDot),
-        b'*' => Some(NameError::Asterisk),
-        byte => Some(NameError::InvalidByte { byte }),
+    match first_suspect(bytes) {
+        Some(place) => first_fault_between(bytes, place + 1, bytes.len()),
+        None => None,
     }
 }
 

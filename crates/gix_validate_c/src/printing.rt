@@ -75,7 +75,7 @@ fn hex_digit(number: u8) -> u8
 }
 
 /// Writes the text to the start of the buffer if all of it fits, and returns its length.
-pub(crate) fn write_whole(text: &[u8], buffer: &mut [u8]) -> usize
+pub(crate) fn write_all(text: &[u8], buffer: &mut [u8]) -> usize
     ensures length { result ≡ length text.now }
     ensures bytes { buffer.new ≡ with_text text.now buffer.old }
 {

@@ -19,7 +19,7 @@ ghost use Rattle.gix_validate_c.specs.Texts.{text_by, with_text};
 use crate::fault::Fault;
 use crate::flags;
 pub use crate::printing::LONGEST_TEXT;
-use crate::printing::write_whole;
+use crate::printing::write_all;
 use bstr::BStr;
 use gix_validate::{path, reference, submodule, tag};
 
@@ -131,6 +131,6 @@ fn write_text<E: Fault + Drop>(answer: Result<BStr<'_>, E>, buffer: &mut [u8]) -
 {
     match answer {
         Ok(_) => 0,
-        Err(fault) => write_whole(fault.text().as_slice(), buffer),
+        Err(fault) => write_all(fault.text().as_slice(), buffer),
     }
 }

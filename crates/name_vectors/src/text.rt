@@ -1,47 +1,96 @@
-//! Functions on bytes and byte strings that the rules use (docs/RULES.md, "Bytes").
+//! Functions on byte strings that the rules and the tests use (docs/RULES.md, "Bytes").
 
-/// Whether the byte is a slash, which separates two pieces.
-pub(crate) fn is_slash(byte: &u8) -> bool {
-    *byte == b'/'
-}
+use std::alloc::{AllocError, Global};
 
 /// Whether the byte is a bad byte. `*` is not: it has an error of its own.
 pub(crate) fn is_bad(byte: u8) -> bool {
     byte < 0x20 || b"\\^:[? ~\x7f".contains(&byte)
 }
 
-/// The byte, or the lowercase letter if it is an ASCII uppercase letter.
-pub(crate) fn lower(byte: u8) -> u8 {
-    match byte {
-        b'A'..=b'Z' => byte | 0x20,
-        _ => byte,
-    }
-}
-
-/// Whether two byte strings are equal without ASCII case.
-pub(crate) fn is_same_word(a: &[u8], b: &[u8]) -> bool {
-    a.len() == b.len() && a.iter().zip(b).all(|(a, b)| lower(*a) == lower(*b))
-}
-
-/// Whether the word is in the byte string at this offset.
-pub(crate) fn stands_at(text: &[u8], place: usize, word: &[u8]) -> bool {
-    text.split_at_checked(place)
-        .is_some_and(|(_, rest)| rest.starts_with(word))
-}
-
 /// Whether the word is anywhere in the byte string.
 pub(crate) fn contains(text: &[u8], word: &[u8]) -> bool {
-    (0..text.len()).any(|place| stands_at(text, place, word))
+    for offset in 0..text.len() {
+        if text[offset..].starts_with(word) {
+            return true;
+        }
+    }
+    false
 }
 
-/// The shortest prefix of the byte string that is followed only by the given bytes.
-pub(crate) fn trimmed<'a>(text: &'a [u8], bytes: &[u8]) -> &'a [u8] {
-    for end in 0..text.len() {
-        if let Some((front, rest)) = text.split_at_checked(end)
-            && rest.iter().all(|byte| bytes.contains(byte))
-        {
-            return front;
+/// Whether one of the words is anywhere in the byte string.
+pub(crate) fn contains_one(text: &[u8], words: &[&[u8]]) -> bool {
+    for word in words {
+        if contains(text, word) {
+            return true;
+        }
+    }
+    false
+}
+
+/// What is before the first of the given bytes, or the whole byte string if there is none.
+pub(crate) fn before_first<'a>(text: &'a [u8], bytes: &[u8]) -> &'a [u8] {
+    for offset in 0..text.len() {
+        if bytes.contains(&text[offset]) {
+            return &text[..offset];
         }
     }
     text
+}
+
+/// The byte string without the given bytes at its end.
+pub(crate) fn trimmed<'a>(text: &'a [u8], bytes: &[u8]) -> &'a [u8] {
+    let mut front: &[u8] = b"";
+    for offset in 0..text.len() {
+        if !bytes.contains(&text[offset]) {
+            front = &text[..offset + 1];
+        }
+    }
+    front
+}
+
+/// Whether each byte is between those of the two words at its offset. The words may be longer.
+pub(crate) fn is_between(text: &[u8], least: &[u8], greatest: &[u8]) -> bool {
+    for offset in 0..text.len() {
+        if offset >= least.len() || offset >= greatest.len() {
+            return false;
+        }
+        if text[offset] < least[offset] || text[offset] > greatest[offset] {
+            return false;
+        }
+    }
+    true
+}
+
+/// The three byte strings, one after the other.
+pub(crate) fn joined(
+    alloc: Global,
+    front: &[u8],
+    middle: &[u8],
+    back: &[u8],
+) -> Result<Vec<u8>, AllocError> {
+    let mut text = Vec::new(alloc);
+    text.extend_from_slice(front)?;
+    text.extend_from_slice(middle)?;
+    text.extend_from_slice(back)?;
+    Ok(text)
+}
+
+/// The word with uppercase letters at even or odd offsets if that is wanted, and lowercase ones otherwise.
+pub(crate) fn spelled(
+    alloc: Global,
+    word: &[u8],
+    even: bool,
+    odd: bool,
+) -> Result<Vec<u8>, AllocError> {
+    let mut text = Vec::new(alloc);
+    let (mut is_upper, mut is_next_upper) = (even, odd);
+    for byte in word {
+        text.push(if is_upper {
+            byte.to_ascii_uppercase()
+        } else {
+            byte.to_ascii_lowercase()
+        })?;
+        (is_upper, is_next_upper) = (is_next_upper, is_upper);
+    }
+    Ok(text)
 }

@@ -2,36 +2,24 @@
 //! callers that depend on the contracts of the types' traits. The names of five rules are one type,
 //! so a caller of them is generic over the rule, and a test calls it once for each rule.
 
-ghost use Rattle.std.specs.Prelude.{◌≡◌, [], ◌∷◌, map, IfOk, MatchOption};
+ghost use Rattle.std.specs.Prelude.{◌≡◌, ◌↔◌, [], ◌∷◌, map, IfOk, IsTrue, MatchOption, string_bytes, encode_utf8_all};
 ghost use Rattle.bstr.specs.BStr.{bstr_bytes};
-ghost use Rattle.gix_validate.specs.Pieces.{pieces as pieces_of};
-ghost use Rattle.typed_names.specs.Names.{name_bytes, name_text};
+ghost use Rattle.bstr.specs.Owned.{bstring_bytes};
+ghost use Rattle.bstr.specs.Utf8.{lossy_chars};
+ghost use Rattle.gix_validate.specs.Pieces.{joined, pieces as pieces_of};
+ghost use Rattle.typed_names.specs.Names.{name_bytes, name_text, component_bytes, component_text};
 
-mod joining;
-mod traits;
-
-use bstr::BStr;
-use gix_validate::path::{ComponentError, ComponentMode, ComponentOptions};
-use gix_validate::{reference, tag};
+use crate::expect::{expect, holds};
+use bstr::{BStr, BString};
+use gix_validate::path::{self, ComponentMode, ComponentOptions};
 use std::alloc::{AllocError, Global};
-use std::fmt::Display;
+use std::convert::AsSlice;
+use std::fmt::{Debug, Display};
 use std::test::Fail;
 use typed_names::{
     Branch, BranchName, Component, Full, FullName, Name, Partial, PartialName, Pieces, Rule,
     Submodule, Tag, TagName,
 };
-
-/// Whether there is an error, and it prints this text.
-fn prints(
-    alloc: Global,
-    fault: Option<impl Display + Drop>,
-    text: &str,
-) -> Result<bool, AllocError> {
-    match fault {
-        Some(fault) => Ok(fault.to_string(alloc)?.as_str() == text),
-        None => Ok(false),
-    }
-}
 
 /// The name as a tag name, by the contract of `From`.
 fn tag_of<'a>(partial: PartialName<'a>) -> TagName<'a>
@@ -99,108 +87,229 @@ fn listed<'a>(alloc: Global, name: TagName<'a>) -> Result<Vec<BStr<'a>>, AllocEr
     name.pieces().collect(alloc)
 }
 
-/// Whether the name has these pieces and no more, and clones of `Pieces` yield the same.
-fn has_pieces(name: &str, wanted: &[&str]) -> Result<bool, tag::NameError> {
-    let mut pieces = TagName::new(BStr::from(name))?.pieces();
-    for piece in wanted {
-        let wanted = Some(BStr::from(*piece));
-        if pieces_twin(&pieces).next() != wanted || next_of(&mut pieces) != wanted {
-            return Ok(false);
-        }
-    }
-    Ok(next_of(&mut pieces).is_none() && next_of(&mut pieces).is_none())
-}
-
-/// How many pieces the name has, and the second of them.
-fn second_piece(alloc: Global, name: &str) -> Result<(usize, Option<BStr<'_>>), Fail> {
-    let list = listed(alloc, TagName::new(BStr::from(name))?)?;
-    Ok((list.len(), list.get(1).copied()))
-}
-
-#[test]
-fn gives_pieces(rt: HostRuntime) -> Result<(), Fail> {
-    assert!(rt; has_pieces("refs/heads/main", &["refs", "heads", "main"])?);
-    assert!(rt; has_pieces("a./b", &["a.", "b"])?);
-    assert!(rt; has_pieces("v1.2.3", &["v1.2.3"])?);
-    let second = second_piece(rt.alloc(), "refs/heads/main")?;
-    assert_eq!(rt; second, (3, Some(BStr::from("heads"))));
-    Ok(())
-}
-
-/// Whether these are what follows each slash of the name, in order.
-fn has_rests(name: &str, wanted: &[&str]) -> Result<bool, tag::NameError> {
-    let mut rest = TagName::new(BStr::from(name))?.after_first_slash();
-    for text in wanted {
-        if text_of(rest) != Some(BStr::from(*text)) {
-            return Ok(false);
-        }
-        rest = rest_of(rest);
-    }
-    Ok(rest.is_none())
-}
-
-/// The bytes of the name, if there is one.
-fn text_of(name: Option<TagName<'_>>) -> Option<BStr<'_>> {
-    Some(name?.as_bstr())
-}
-
-/// What follows the first slash of the name, if there is one.
-fn rest_of(name: Option<TagName<'_>>) -> Option<TagName<'_>> {
-    name?.after_first_slash()
-}
-
-#[test]
-fn goes_past_slashes(rt: HostRuntime) -> Result<(), Fail> {
-    assert!(rt; has_rests("refs/heads/main", &["heads/main", "main"])?);
-    assert!(rt; has_rests("a./b", &["b"])?);
-    assert!(rt; has_rests("main", &[])?);
-    Ok(())
-}
-
-/// Whether the rule refuses the name, and the error prints this text.
-fn is_refused<R: Rule>(alloc: Global, name: &str, text: &str) -> Result<bool, AllocError>
-where
-    R::Fault: Display + Drop,
+/// The bytes of a name, by its type's contract for `AsSlice`.
+fn slice_of<T: AsSlice<u8>>(name: &T) -> &[u8]
+    ensures { result.now ≡ T.items name.now }
 {
-    prints(alloc, Name::<R>::new(BStr::from(name)).err(), text)
+    name.as_slice()
 }
 
-#[test]
-fn tells_faults(rt: HostRuntime) -> Result<(), Fail> {
-    let text = "A ref must not contain invalid bytes or ascii control characters: \" \"";
-    assert!(rt; is_refused::<Tag>(rt.alloc(), "a b", text)?);
-    let text = "Reference name is reserved and cannot be used: \"@\"";
-    assert!(rt; is_refused::<Partial>(rt.alloc(), "@", text)?);
-    let text = "Standalone references must be all uppercased, like 'HEAD'";
-    assert!(rt; is_refused::<Full>(rt.alloc(), "V1", text)?);
-    let text = "Reference name is reserved and cannot be used: \"refs/heads/HEAD\"";
-    assert!(rt; is_refused::<Branch>(rt.alloc(), "refs/heads/HEAD", text)?);
-    let text = "Submodules names must not contains '..'";
-    assert!(rt; is_refused::<Submodule>(rt.alloc(), "a\\..", text)?);
-    Ok(())
+/// `==` of two names.
+fn same_name<R: Rule>(a: &Name<'_, R>, b: &Name<'_, R>) -> bool
+    ensures { IsTrue result ↔ (name_bytes a.now ≡ name_bytes b.now) }
+{
+    a == b
 }
 
-/// Whether the rule accepts the name, and a clone of the typed name has the same bytes.
-fn is_kept_by<R: Rule>(text: &str) -> bool
+/// What a name prints.
+fn printed_name<R: Rule>(alloc: Global, name: &Name<'_, R>) -> Result<String, AllocError>
+    ensures { IfOk result (λ text. string_bytes text ≡ encode_utf8_all (lossy_chars (name_bytes name.now))) }
+{
+    format!(in alloc; "{name}")
+}
+
+/// A name as a slice.
+fn slice_of_name<'b, R: Rule>(name: &'b Name<'_, R>) -> &'b [u8]
+    ensures { result.now ≡ name_bytes name.now }
+{
+    slice_of(name)
+}
+
+/// `==` of two components.
+fn same_component(a: &Component<'_>, b: &Component<'_>) -> bool
+    ensures { IsTrue result ↔ (component_bytes a.now ≡ component_bytes b.now) }
+{
+    a == b
+}
+
+/// What a component prints.
+fn printed_component(alloc: Global, name: &Component<'_>) -> Result<String, AllocError>
+    ensures { IfOk result (λ text. string_bytes text ≡ encode_utf8_all (lossy_chars (component_bytes name.now))) }
+{
+    format!(in alloc; "{name}")
+}
+
+/// A component as a slice.
+fn slice_of_component<'b>(name: &'b Component<'_>) -> &'b [u8]
+    ensures { result.now ≡ component_bytes name.now }
+{
+    slice_of(name)
+}
+
+/// Joins two components. What a `Component` keeps is all that the join requires of its parts.
+fn path_of(alloc: Global, folder: Component<'_>, name: Component<'_>) -> Result<BString, AllocError>
+    ensures { IfOk result (λ path. bstring_bytes path ≡ joined
+        (bstr_bytes (component_text folder.entry) ∷ bstr_bytes (component_text name.entry) ∷ [])) }
+{
+    path::join(alloc, &[folder.as_bstr(), name.as_bstr()])
+}
+
+/// A name that isn't UTF-8, and what it prints.
+const ODD: (&[u8], &[u8]) = (b"refs/caf\xC3\xA9/\xFF", b"refs/caf\xC3\xA9/\xEF\xBF\xBD");
+
+/// Whether the rule accepts the name, and the typed name has the same bytes, is equal to itself and
+/// prints this text.
+fn is_kept<R: Rule>(alloc: Global, (name, text): (&[u8], &[u8])) -> Result<bool, AllocError>
 where
     R::Fault: Drop,
 {
-    let text = BStr::from(text);
-    Name::<R>::new(text).is_ok_and(|name| name_twin(name).as_bstr() == text)
+    let Ok(kept) = Name::<R>::new(BStr::new(name)) else {
+        return Ok(false);
+    };
+    Ok(
+        name_twin(kept).as_bstr().as_bytes() == name
+            && same_name(&kept, &kept)
+            && slice_of_name(&kept) == name
+            && printed_name(alloc, &kept)?.as_bytes() == text,
+    )
+}
+
+/// Whether `Debug` prints `refs/heads/main` as the rule's typed name like this.
+fn is_debugged_as<R: Rule>(alloc: Global, text: &[u8]) -> Result<bool, AllocError>
+where
+    R::Fault: Drop,
+{
+    let Ok(name) = Name::<R>::new(BStr::new(b"refs/heads/main")) else {
+        return Ok(false);
+    };
+    Ok(format!(in alloc; "{name:?}")?.as_bytes() == text)
+}
+
+/// Whether there is an error, and it prints this text.
+fn prints(
+    alloc: Global,
+    error: Option<impl Display + Drop>,
+    text: &[u8],
+) -> Result<bool, AllocError> {
+    match error {
+        Some(error) => Ok(error.to_string(alloc)?.as_bytes() == text),
+        None => Ok(false),
+    }
+}
+
+/// Whether the rule keeps this name and an odd one, prints such a name for programmers, and refuses
+/// another name with an error that prints this text.
+fn is_rule<R: Rule>(
+    alloc: Global,
+    kept: &[u8],
+    debugged: &[u8],
+    (refused, error): (&[u8], &[u8]),
+) -> Result<bool, AllocError>
+where
+    R::Fault: Display + Drop,
+{
+    Ok(
+        is_kept::<R>(alloc, (kept, kept))?
+            && is_kept::<R>(alloc, ODD)?
+            && is_debugged_as::<R>(alloc, debugged)?
+            && prints(alloc, Name::<R>::new(BStr::new(refused)).err(), error)?,
+    )
 }
 
 #[test]
-fn keeps_names(rt: HostRuntime) {
-    assert!(rt; is_kept_by::<Tag>("v1.2.3"));
-    assert!(rt; is_kept_by::<Partial>("main"));
-    assert!(rt; is_kept_by::<Full>("HEAD"));
-    assert!(rt; is_kept_by::<Branch>("refs/heads/main"));
-    assert!(rt; is_kept_by::<Submodule>("vendor/package"));
+fn keeps_and_refuses_names(rt: HostRuntime) -> Result<(), AllocError> {
+    let debugged = b"TagName { name: \"refs/heads/main\" }";
+    let refused = (
+        b"a b".as_slice(),
+        b"A ref must not contain invalid bytes or ascii control characters: \" \"".as_slice(),
+    );
+    holds(
+        &rt,
+        is_rule::<Tag>(rt.alloc(), b"v1.2.3", debugged, refused)?,
+    );
+    let debugged = b"PartialName { name: \"refs/heads/main\" }";
+    let refused = (
+        b"@".as_slice(),
+        b"Reference name is reserved and cannot be used: \"@\"".as_slice(),
+    );
+    holds(
+        &rt,
+        is_rule::<Partial>(rt.alloc(), b"main", debugged, refused)?,
+    );
+    let debugged = b"FullName { name: \"refs/heads/main\" }";
+    let refused = (
+        b"V1".as_slice(),
+        b"Standalone references must be all uppercased, like 'HEAD'".as_slice(),
+    );
+    holds(
+        &rt,
+        is_rule::<Full>(rt.alloc(), b"HEAD", debugged, refused)?,
+    );
+    let debugged = b"BranchName { name: \"refs/heads/main\" }";
+    let refused = (
+        b"refs/heads/HEAD".as_slice(),
+        b"Reference name is reserved and cannot be used: \"refs/heads/HEAD\"".as_slice(),
+    );
+    holds(
+        &rt,
+        is_rule::<Branch>(rt.alloc(), b"refs/heads/main", debugged, refused)?,
+    );
+    let debugged = b"SubmoduleName { name: \"refs/heads/main\" }";
+    let refused = (
+        b"a\\..".as_slice(),
+        b"Submodules names must not contains '..'".as_slice(),
+    );
+    holds(
+        &rt,
+        is_rule::<Submodule>(rt.alloc(), b"vendor/package", debugged, refused)?,
+    );
+    Ok(())
+}
+
+/// Whether these are the pieces that are left, and clones yield the same.
+fn are_left(mut pieces: Pieces<'_>, wanted: &[&[u8]]) -> bool {
+    for piece in wanted {
+        let wanted = Some(BStr::new(piece));
+        if pieces_twin(&pieces).next() != wanted || next_of(&mut pieces) != wanted {
+            return false;
+        }
+    }
+    next_of(&mut pieces).is_none() && next_of(&mut pieces).is_none()
+}
+
+/// Whether this is what is left after a slash, and what follows each of its slashes, in order.
+fn is_rest(mut rest: Option<TagName<'_>>, wanted: &[&[u8]]) -> bool {
+    for text in wanted {
+        match rest {
+            Some(name) if name.as_bstr().as_bytes() == *text => rest = name.after_first_slash(),
+            _ => return false,
+        }
+    }
+    rest.is_none()
+}
+
+/// The pieces of the name, and what follows its first slash. The `TagName` itself lives only here.
+fn parts_of(text: &[u8]) -> Result<(Pieces<'_>, Option<TagName<'_>>), Fail> {
+    let name = TagName::new(BStr::new(text))?;
+    Ok((name.pieces(), name.after_first_slash()))
+}
+
+/// Names, their pieces, and what follows each slash.
+const NAMES_OF_PIECES: &[(&[u8], &[&[u8]], &[&[u8]])] = &[
+    (
+        b"refs/heads/main",
+        &[b"refs", b"heads", b"main"],
+        &[b"heads/main", b"main"],
+    ),
+    (b"a./b", &[b"a.", b"b"], &[b"b"]),
+    (b"v1.2.3", &[b"v1.2.3"], &[]),
+    (b"main", &[b"main"], &[]),
+];
+
+#[test]
+fn parts_outlive_the_name_that_gave_them(rt: HostRuntime) -> Result<(), Fail> {
+    for (text, pieces, rests) in NAMES_OF_PIECES {
+        let (left, rest) = parts_of(text)?;
+        holds(&rt, are_left(left, pieces) && is_rest(rest, rests));
+    }
+    let list = listed(rt.alloc(), TagName::new(BStr::new(b"refs/heads/main"))?)?;
+    assert!(rt; list.len() == 3 && list.get(1) == Some(&BStr::new(b"heads")));
+    Ok(())
 }
 
 /// Whether the name of a branch keeps its bytes as a full name, a partial name and a tag name.
-fn keeps_its_text(text: &str) -> Result<bool, reference::NameError> {
-    let text = BStr::from(text);
+fn keeps_its_text(text: &[u8]) -> Result<bool, Fail> {
+    let text = BStr::new(text);
     let branch = BranchName::new(text)?;
     let full = full_of(branch);
     let partial = partial_of(full);
@@ -215,8 +324,10 @@ fn keeps_its_text(text: &str) -> Result<bool, reference::NameError> {
 
 #[test]
 fn turns_names_into_others(rt: HostRuntime) -> Result<(), Fail> {
-    assert!(rt; keeps_its_text("refs/heads/main")?);
-    assert!(rt; keeps_its_text("HEAD")?);
+    holds(
+        &rt,
+        keeps_its_text(b"refs/heads/main")? && keeps_its_text(b"HEAD")?,
+    );
     Ok(())
 }
 
@@ -229,56 +340,72 @@ const WINDOWS_ALONE: ComponentOptions = ComponentOptions {
 /// Whether all protections and this mode refuse the component, and the error prints this text.
 fn is_refused_as_component(
     alloc: Global,
-    name: &str,
+    name: &[u8],
     mode: Option<ComponentMode>,
-    text: &str,
+    text: &[u8],
 ) -> Result<bool, AllocError> {
-    let answer = Component::new(BStr::from(name), mode, ComponentOptions::default());
+    let answer = Component::new(BStr::new(name), mode, ComponentOptions::default());
     prints(alloc, answer.err(), text)
 }
 
-/// Whether the component is kept as it is, under these options and without a mode.
-fn is_kept(name: &str, options: ComponentOptions) -> Result<bool, ComponentError> {
-    let name = BStr::from(name);
-    let component = component_twin(Component::new(name, None, options)?);
-    Ok(component.as_bstr() == name)
+/// Whether the component is kept under these options and without a mode: it has the same bytes, is
+/// equal to itself and prints this text.
+fn is_kept_as_component(
+    alloc: Global,
+    (name, text): (&[u8], &[u8]),
+    options: ComponentOptions,
+) -> Result<bool, AllocError> {
+    let Ok(kept) = Component::new(BStr::new(name), None, options) else {
+        return Ok(false);
+    };
+    Ok(
+        component_twin(kept).as_bstr().as_bytes() == name
+            && same_component(&kept, &kept)
+            && slice_of_component(&kept) == name
+            && printed_component(alloc, &kept)?.as_bytes() == text,
+    )
 }
 
 #[test]
-fn judges_components_by_what_it_is_handed(rt: HostRuntime) -> Result<(), Fail> {
-    let text = "Windows device-names may have side-effects and are not allowed";
-    assert!(rt; is_refused_as_component(rt.alloc(), "CON", None, text)?);
-    assert!(rt; is_kept("CON", WINDOWS_ALONE)?);
-    let (mode, text) = (
-        Some(ComponentMode::Symlink),
-        "The .gitmodules file must not be a symlink",
+fn judges_components_by_what_it_is_handed(rt: HostRuntime) -> Result<(), AllocError> {
+    let alloc = rt.alloc();
+    let text = b"Windows device-names may have side-effects and are not allowed";
+    holds(&rt, is_refused_as_component(alloc, b"CON", None, text)?);
+    holds(
+        &rt,
+        is_kept_as_component(alloc, (b"CON", b"CON"), WINDOWS_ALONE)?,
     );
-    assert!(rt; is_refused_as_component(rt.alloc(), "~1234567", mode, text)?);
-    assert!(rt; is_kept("~1234567", ComponentOptions::default())?);
+    let text = b"The .gitmodules file must not be a symlink";
+    let mode = Some(ComponentMode::Symlink);
+    holds(
+        &rt,
+        is_refused_as_component(alloc, b"~1234567", mode, text)?,
+    );
+    let all = ComponentOptions::default();
+    holds(
+        &rt,
+        is_kept_as_component(alloc, (b"~1234567", b"~1234567"), all)?,
+    );
+    let odd = (
+        b"caf\xC3\xA9 \xFF".as_slice(),
+        b"caf\xC3\xA9 \xEF\xBF\xBD".as_slice(),
+    );
+    holds(
+        &rt,
+        is_kept_as_component(alloc, odd, ComponentOptions::default())?,
+    );
     Ok(())
 }
 
-/// The pieces of the name, and what follows its first slash. The `TagName` itself lives only here.
-fn parts_of(text: &str) -> Result<(Pieces<'_>, Option<TagName<'_>>), tag::NameError> {
-    let name = TagName::new(BStr::from(text))?;
-    Ok((name.pieces(), name.after_first_slash()))
-}
-
-/// Whether the pieces that are left are the expected ones.
-fn are_left(mut pieces: Pieces<'_>, wanted: &[&str]) -> bool {
-    for piece in wanted {
-        if pieces.next() != Some(BStr::from(*piece)) {
-            return false;
-        }
-    }
-    pieces.next().is_none()
-}
-
 #[test]
-fn parts_outlive_the_name_that_gave_them(rt: HostRuntime) -> Result<(), Fail> {
-    let text = String::from_str(rt.alloc(), "refs/heads/main")?;
-    let (pieces, rest) = parts_of(text.as_str())?;
-    assert!(rt; are_left(pieces, &["refs", "heads", "main"]));
-    assert!(rt; rest.is_some_and(|rest| rest.as_bstr() == BStr::from("heads/main")));
+fn joins_pieces(rt: HostRuntime) -> Result<(), Fail> {
+    let options = ComponentOptions::default();
+    let mut pieces = TagName::new(BStr::from("refs/heads/main"))?.pieces();
+    assert_eq!(rt; pieces.next(), Some(BStr::from("refs")));
+    let folder = Component::new(pieces.next().expect(&rt, "a piece"), None, options)?;
+    let name = Component::new(pieces.next().expect(&rt, "a piece"), None, options)?;
+    assert!(rt; pieces.next().is_none());
+    let path = path_of(rt.alloc(), folder, name)?;
+    expect(&rt, path.as_bytes(), b"heads/main");
     Ok(())
 }

@@ -1,79 +1,96 @@
-//! The units of a name, by the table of whole sequences (docs/RULES.md, "Path components").
+//! The units of a name, by Unicode's table of whole UTF-8 sequences, and what HFS+ ignores of them
+//! (docs/RULES.md, "Path components").
 
+use crate::text::is_between;
 use std::alloc::{AllocError, Global};
 
-/// The rows of Unicode's table of whole UTF-8 sequences: the least and the greatest of each byte.
-pub(crate) fn rows() -> [&'static [(u8, u8)]; 9] {
-    [
-        &[(0x00, 0x7F)],
-        &[(0xC2, 0xDF), (0x80, 0xBF)],
-        &[(0xE0, 0xE0), (0xA0, 0xBF), (0x80, 0xBF)],
-        &[(0xE1, 0xEC), (0x80, 0xBF), (0x80, 0xBF)],
-        &[(0xED, 0xED), (0x80, 0x9F), (0x80, 0xBF)],
-        &[(0xEE, 0xEF), (0x80, 0xBF), (0x80, 0xBF)],
-        &[(0xF0, 0xF0), (0x90, 0xBF), (0x80, 0xBF), (0x80, 0xBF)],
-        &[(0xF1, 0xF3), (0x80, 0xBF), (0x80, 0xBF), (0x80, 0xBF)],
-        &[(0xF4, 0xF4), (0x80, 0x8F), (0x80, 0xBF), (0x80, 0xBF)],
-    ]
+/// The table of whole sequences. Each row has a least and a greatest sequence, and means all whose
+/// byte at each index is between theirs.
+pub(crate) const ROWS: &[(&[u8], &[u8])] = &[
+    (b"\x00", b"\x7F"),
+    (b"\xC2\x80", b"\xDF\xBF"),
+    (b"\xE0\xA0\x80", b"\xE0\xBF\xBF"),
+    (b"\xE1\x80\x80", b"\xEC\xBF\xBF"),
+    (b"\xED\x80\x80", b"\xED\x9F\xBF"),
+    (b"\xEE\x80\x80", b"\xEF\xBF\xBF"),
+    (b"\xF0\x90\x80\x80", b"\xF0\xBF\xBF\xBF"),
+    (b"\xF1\x80\x80\x80", b"\xF3\xBF\xBF\xBF"),
+    (b"\xF4\x80\x80\x80", b"\xF4\x8F\xBF\xBF"),
+];
+
+/// The characters that HFS+ ignores: U+200C to U+200F, U+202A to U+202E, U+206A to U+206F, and
+/// U+FEFF.
+#[rattlefmt::skip]
+pub(crate) const IGNORED_CHARACTERS: &[&[u8]] = &[
+    b"\xE2\x80\x8C", b"\xE2\x80\x8D", b"\xE2\x80\x8E", b"\xE2\x80\x8F",
+    b"\xE2\x80\xAA", b"\xE2\x80\xAB", b"\xE2\x80\xAC", b"\xE2\x80\xAD", b"\xE2\x80\xAE",
+    b"\xE2\x81\xAA", b"\xE2\x81\xAB", b"\xE2\x81\xAC", b"\xE2\x81\xAD", b"\xE2\x81\xAE",
+    b"\xE2\x81\xAF", b"\xEF\xBB\xBF",
+];
+
+/// Whether a sequence of the table starts with these bytes.
+fn begins_sequence(front: &[u8]) -> bool {
+    for (least, greatest) in ROWS {
+        if is_between(front, least, greatest) {
+            return true;
+        }
+    }
+    false
 }
 
-/// The units of a name, in order.
-pub(crate) fn units(alloc: Global, text: &[u8]) -> Result<Vec<&[u8]>, AllocError> {
+/// The first unit: the longest prefix with which a whole sequence starts (so the sequence, if it is
+/// whole), or else one byte.
+pub(crate) fn first_unit(text: &[u8]) -> &[u8] {
+    let mut unit = text.get(..1).unwrap_or(text);
+    for len in 2..5 {
+        if let Some(front) = text.get(..len)
+            && begins_sequence(front)
+        {
+            unit = front;
+        }
+    }
+    unit
+}
+
+/// The units of a name, without the ignored characters if they are to be left out. A mark follows
+/// each.
+pub(crate) fn units(
+    alloc: Global,
+    text: &[u8],
+    mark: &[u8],
+    all: bool,
+) -> Result<Vec<u8>, AllocError> {
     let mut units = Vec::new(alloc);
     let mut rest = text;
     for _ in 0..text.len() {
         let unit = first_unit(rest);
-        if unit.is_empty() {
-            break;
+        if !unit.is_empty() && (all || !is_ignored(unit)) {
+            units.extend_from_slice(unit)?;
+            units.extend_from_slice(mark)?;
         }
-        units.push(unit)?;
         rest = rest.get(unit.len()..).unwrap_or(b"");
     }
     Ok(units)
 }
 
-/// The first unit: the prefix that is a whole sequence, or else the longest prefix that begins one,
-/// or else one byte.
-pub(crate) fn first_unit(text: &[u8]) -> &[u8] {
-    let rows = rows();
-    if let Some(front) = whole_front(text, &rows) {
-        return front;
-    }
-    if let Some(front) = begun_front(text, &rows) {
-        return front;
-    }
-    text.get(..1).unwrap_or(text)
+/// Whether the unit is an ignored character.
+fn is_ignored(unit: &[u8]) -> bool {
+    IGNORED_CHARACTERS.contains(&unit)
 }
 
-/// The prefix that is a whole sequence.
-fn whole_front<'a>(text: &'a [u8], rows: &[&[(u8, u8)]]) -> Option<&'a [u8]> {
-    for len in (1..=4).rev() {
-        if let Some(front) = text.get(..len)
-            && rows
-                .iter()
-                .any(|row| row.len() == len && begins(front, row))
-        {
-            return Some(front);
+/// The HFS form: the name without the ignored characters, all deleted at once. (No two overlap.)
+pub(crate) fn hfs_form(alloc: Global, text: &[u8]) -> Result<Vec<u8>, AllocError> {
+    let mut form = Vec::new(alloc);
+    let mut ignored: usize = 0;
+    for offset in 0..text.len() {
+        if is_ignored(text[offset..].get(..3).unwrap_or(b"")) {
+            ignored = 3;
+        }
+        if ignored == 0 {
+            form.push(text[offset])?;
+        } else {
+            ignored -= 1;
         }
     }
-    None
-}
-
-/// The longest prefix that begins a sequence.
-fn begun_front<'a>(text: &'a [u8], rows: &[&[(u8, u8)]]) -> Option<&'a [u8]> {
-    for len in (1..=4).rev() {
-        if let Some(front) = text.get(..len)
-            && rows.iter().any(|row| begins(front, row))
-        {
-            return Some(front);
-        }
-    }
-    None
-}
-
-/// Whether the prefix begins a sequence of the row.
-fn begins(front: &[u8], row: &[(u8, u8)]) -> bool {
-    front.len() <= row.len()
-        && front.iter().zip(row).all(|(byte, (least, greatest))| *least <= *byte
-            && *byte <= *greatest)
+    Ok(form)
 }

@@ -4,11 +4,11 @@ use Rattle.std.specs.List.{AllByRecursion}
 use Rattle.streams.specs.declared.outcome.Verdict.{Verdict}
 use Rattle.streams.specs.declared.outcome.Verdict.TheVariants.{Clean}
 use Rattle.streams.specs.declared.lines.Ending.TheVariants.{Anywhere}
-use Rattle.streams.specs.Reports.{Said, all_said, before_report, at_end_line, Report, lines_from, verdict_of}
+use Rattle.streams.specs.Reports.{Said, all_said, before_report, at_end_line, Report, lines_from, report, verdict_of}
 use Rattle.streams.specs.Objects.{ObjectRule, object_rule, ending_of, object_report}
-use Rattle.streams.specs.Spelled.{Spelled, spelled_said, end_of, IsCleanStream, IsCleanIfAccepted}
+use Rattle.streams.specs.Spelled.{Spelled, spelled_said, end_of, IsCleanStream, IsCleanIff}
 use Rattle.streams.proofs.LinesRead.{lines_none, lines_end}
-use Rattle.streams.proofs.SpelledStreams.{reported_in_order}
+use Rattle.streams.proofs.SpelledStreams.{reported_in_order, stream_reported}
 use Rattle.streams.proofs.WellFormedStreams.{well_formed_only_if_spelled}
 use Rattle.streams.proofs.WholeStreams.{whole_stream}
 
@@ -56,14 +56,15 @@ clean_said : (said : Said) → said.refused ≡ false → verdict_of (before_rep
 clean_said said e = grind arith
 
 if_clean : (rule : ObjectRule) (whole : Bool) (text : List ℕ) → IsCleanStream rule whole text → verdict_of (object_report rule whole text) ≡ Clean
+unfolding report
 if_clean rule whole text good =
     let said = all_said (map (spelled_said rule) good.stream) in
-    ap verdict_of (ap (object_report rule whole) good.text_is ∙ reported_in_order rule whole good.stream (end_of whole) good.each
+    ap verdict_of (ap (object_report rule whole) good.text_is ∙ stream_reported rule whole 1 good.stream (end_of whole) good.each
     ∙ ap (before_report said) (end_report rule whole (1 + length good.stream)))
     ∙ clean_said said (clean_all rule good.stream good.clean)
 
 pub clean_if_accepted : (rule : ObjectRule) (whole : Bool) (verdict : Verdict) (text : List ℕ) → verdict ≡ verdict_of (object_report rule whole text)
-    → IsCleanIfAccepted rule whole verdict text
+    → IsCleanIff rule whole verdict text
 clean_if_accepted rule whole verdict text is = (λ e. only_clean rule whole text (sym is ∙ e), λ good. is ∙ if_clean rule whole text good)
 
 -- what the promises of `objects::run` need

@@ -9,3 +9,4 @@ pub mod SpelledHeaders
 pub mod SpelledStreams
 pub mod WellFormedStreams
 pub mod CleanStreams
+pub mod LinearReports

@@ -1,20 +1,19 @@
 -- A run reads no further than the first malformed line and what can belong to it.
-use Rattle.std.proofs.Common.{◌≡◌, ◌≢◌, ℕ, zero, suc, ◌+◌, ◌<◌, ◌≤◌, Bool, List, [], ◌∷◌, ◌++◌, All, Option, None, Some, Result, Ok, Err, length}
-use Rattle.std.proofs.Common.{refl, arith, append-nil, append_assoc, length-append}
+use Rattle.std.proofs.Common.{◌≡◌, ◌≢◌, ℕ, ◌+◌, ◌<◌, ◌≤◌, Bool, List, [], ◌∷◌, ◌++◌, All, Option, None, Some, Result, Ok, Err, length}
+use Rattle.std.proofs.Common.{arith, append-nil, append_assoc, length-append}
 use Rattle.std.proofs.lemmas.Option.{IfSome_then, MatchOption-at_some}
 use Rattle.std.specs.Prelude.{IfOk, IfSome, ⊤}
 use Rattle.std.specs.Io.KnownBytes.{Consumes}
 use Rattle.std.proofs.KnownBytes.{Consumes-nil, Consumes-trans}
 use Rattle.streams.specs.declared.outcome.Fault.{Fault}
 use Rattle.streams.specs.declared.lines.Ending.{Ending}
-use Rattle.streams.specs.declared.lines.Ending.TheVariants.{Anywhere}
 use Rattle.streams.specs.declared.input.Found.TheVariants.{Byte, Limit, End}
 use Rattle.streams.specs.Texts.{line_end}
-use Rattle.streams.specs.Reports.{longest, LineRule, Reach, line_of, malformed_then, malformed_within, malformed_part, extent}
-use Rattle.streams.specs.Promises.{Fronts, Nexts, ReadsUpTo, StopsWithin}
+use Rattle.streams.specs.Reports.{longest, LineRule, LeavesTheEnd, Reach, report, extent}
+use Rattle.streams.specs.Promises.{ReadsBefore, ReadsNext, ReadsUpTo, StopsWithin}
 use Rattle.streams.proofs.SplitTexts.{split_within, split_short, split_long}
-use Rattle.streams.proofs.ReportSoFar.{when_known}
-use Rattle.streams.proofs.LinesRead.{LineGives, line_shorter}
+use Rattle.streams.proofs.ReportSoFar.{SoFar}
+use Rattle.streams.proofs.LinesRead.{LineGives, lines_report, lines_first, lines_none}
 
 -- ---- reads
 
@@ -31,30 +30,11 @@ pub up_to_next : {T E : Type 0} (n m : ℕ) (a b c : Option (List ℕ)) (r : Res
 up_to_next n m a b c (Ok x) first next = up_to_more n m (n + m) a b c first next (omega arith)
 up_to_next n m a b c (Err stop) first next = tt
 
-pub next_within : (a b : Option (List ℕ)) (byte : Option ℕ) → Nexts a b byte → ReadsUpTo 1 a b
+pub next_within : (a b : Option (List ℕ)) (byte : Option ℕ) → ReadsNext a b byte → ReadsUpTo 1 a b
 next_within a b (Some byte) next = (byte ∷ [], next, omega arith)
 next_within a b None next = ([], next.0, omega arith)
 
--- ---- the first malformed line of a text
-
-module _ (rule : LineRule) where
-  malformed_enough : (f g : ℕ) (text : List ℕ) → length text ≤ f → length text ≤ g → malformed_within f rule text ≡ malformed_within g rule text
-  malformed_enough zero zero text p q = refl
-  malformed_enough zero (suc g) [] p q = refl
-  malformed_enough zero (suc g) (b ∷ text) p q = grind arith
-  malformed_enough (suc f) zero [] p q = refl
-  malformed_enough (suc f) zero (b ∷ text) p q = grind arith
-  malformed_enough (suc f) (suc g) [] p q = refl
-  malformed_enough (suc f) (suc g) (b ∷ text) p q = grind (arith, line_shorter rule Anywhere (b ∷ text), malformed_enough f g)
-
-  malformed_first : (text : List ℕ) → 0 < length text → malformed_part rule text ≡ malformed_then (malformed_part rule) text (line_of rule text)
-  unfolding malformed_part
-  malformed_first [] some = grind arith
-  malformed_first (b ∷ text) some = grind (arith, line_shorter rule Anywhere (b ∷ text), malformed_enough)
-
-  malformed_none : malformed_part rule [] ≡ []
-  unfolding malformed_part
-  malformed_none = refl
+-- ---- a line and what is read for it
 
 module _ (reach : Reach) where
   extent_found : (front rest : List ℕ) → All (λ b. b ≢ line_end) front → length front < longest
@@ -71,7 +51,7 @@ module _ (reach : Reach) where
   extent_cut text none few = grind (arith, split_short line_end text longest none)
 
   -- a line that is found, and what is read for it
-  pub line_within : (front : List ℕ) (a b mid c : Option (List ℕ)) → Fronts line_end longest a b front Byte → Consumes b mid [] → ReadsUpTo (reach front) mid c
+  pub line_within : (front : List ℕ) (a b mid c : Option (List ℕ)) → ReadsBefore line_end longest a b front Byte → Consumes b mid [] → ReadsUpTo (reach front) mid c
       → IfSome a (λ text. ReadsUpTo (extent reach text) (Some text) c)
   line_within front None b mid c read kept more = tt
   line_within front (Some x) None mid c read kept more = absurd read.bytes
@@ -81,13 +61,13 @@ module _ (reach : Reach) where
     grind (arith, append_assoc, length-append, extent_found front y read.none read.reach),
   )
 
-  pub long_within : (front : List ℕ) (a b : Option (List ℕ)) → Fronts line_end longest a b front Limit
+  pub long_within : (front : List ℕ) (a b : Option (List ℕ)) → ReadsBefore line_end longest a b front Limit
       → IfSome a (λ text. ReadsUpTo (extent reach text) (Some text) b)
   long_within front None b read = tt
   long_within front (Some x) None read = absurd read.bytes
   long_within front (Some x) (Some y) read = (front, read.bytes, grind (arith, extent_long front y read.none read.reach))
 
-  pub cut_within : (front : List ℕ) (a b : Option (List ℕ)) → Fronts line_end longest a b front End
+  pub cut_within : (front : List ℕ) (a b : Option (List ℕ)) → ReadsBefore line_end longest a b front End
       → IfSome a (λ text. ReadsUpTo (extent reach text) (Some text) b)
   cut_within front None b read = tt
   cut_within front (Some x) None read = absurd read.bytes
@@ -95,31 +75,23 @@ module _ (reach : Reach) where
 
 -- ---- an input while it is read
 
--- what is left has the first malformed line
-pub record Left (rule : LineRule) (a b : Option (List ℕ)) : Type 0 where
-  pub known : IfSome a (λ text. (rest : List ℕ) × (b ≡ Some rest) × (malformed_part rule text ≡ malformed_part rule rest))
-
-pub left_starts : (rule : LineRule) (a : Option (List ℕ)) → Left rule a a
-left_starts rule a = record { known = when_known a _ (λ text e. (text, e, refl)) }
-
-module _ (rule : LineRule) {a b : Option (List ℕ)} (left : Left rule a b) where
-  pub left_goes : {ending : Ending} {c old new : Option (List ℕ)} {more : Bool} → LineGives rule ending b c old new (Ok (Ok more)) → Left rule a c
-  left_goes gives = record {
-    known = IfSome_then a left.known (λ text (rest, there, same).
-        let (some, other, (appends, found, (after, is_left, is))) = MatchOption-at_some ⊤ _ rest there gives.known in
-        (after, is_left, grind (arith, malformed_first rule rest some)));
-  }
-
-  pub left_faults : {ending : Ending} {old new : Option (List ℕ)} {fault : Fault} (reach : Reach) (c : Option (List ℕ)) → LineGives rule ending b None old new (Ok (Err fault))
-      → IfSome b (λ rest. ReadsUpTo (extent reach rest) (Some rest) c) → IfSome a (StopsWithin rule reach c)
-  left_faults reach c gives within = IfSome_then a left.known (λ text (rest, there, same).
+module _ (rule : LineRule) (leaves : LeavesTheEnd rule) (ending : Ending) (number : ℕ) (reach : Reach) {a b old mid : Option (List ℕ)} {refused : Bool}
+    (sofar : SoFar (lines_report rule ending 1) (lines_report rule ending number) a b old mid refused) where
+  pub faults_within : {new : Option (List ℕ)} {fault : Fault} (c : Option (List ℕ)) → LineGives rule ending b None mid new (Ok (Err fault))
+      → IfSome b (λ rest. ReadsUpTo (extent reach rest) (Some rest) c) → IfSome a (λ text. StopsWithin reach (report rule ending text) c)
+  unfolding report
+  faults_within c gives within = IfSome_then a sofar.known (λ text (rest, said, there, done, found, all).
       let (some, other, (appends, is)) = MatchOption-at_some ⊤ _ rest there gives.known in
       let here = MatchOption-at_some ⊤ _ rest there within in
-      grind (arith, malformed_first rule rest some))
+      let left : (report rule ending text).rest ≡ rest = grind (arith, lines_first rule leaves ending number rest) in
+      rw left here)
 
   -- nothing is left
-  pub left_ends : (reach : Reach) (front : List ℕ) (c : Option (List ℕ)) → Fronts line_end longest b c front End → front ≡ [] → IfSome a (StopsWithin rule reach c)
-  left_ends reach front c read none = IfSome_then a left.known (λ text (rest, there, same).
+  pub ends_within : (front : List ℕ) (c : Option (List ℕ)) → ReadsBefore line_end longest b c front End → front ≡ []
+      → IfSome a (λ text. StopsWithin reach (report rule ending text) c)
+  unfolding report
+  ends_within front c read none = IfSome_then a sofar.known (λ text (rest, said, there, done, found, all).
       let here = MatchOption-at_some ⊤ _ rest there (cut_within reach front b c read) in
       let is : rest ≡ [] = grind (arith, append-nil) in
-      grind (arith, malformed_none rule))
+      let left : (report rule ending text).rest ≡ rest = grind (arith, lines_none) in
+      rw left here)

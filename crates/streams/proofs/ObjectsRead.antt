@@ -1,65 +1,58 @@
 -- An object's bytes, and then the LF behind them.
-use Rattle.std.proofs.Common.{◌≡◌, ℕ, ◌+◌, Bool, nat_lt, List, [], ◌∷◌, Option, None, Some, Result, Ok, Err, length, take, drop}
-use Rattle.std.proofs.Common.{refl, ◌∙◌, arith, drop-drop, drop_of_length-le}
+use Rattle.std.proofs.Common.{◌≡◌, ℕ, Bool, nat_lt, List, Option, None, Some, Result, Ok, Err, length, take, drop}
+use Rattle.std.proofs.Common.{refl, ◌∙◌, arith, drop_of_length-le}
 use Rattle.std.proofs.lemmas.Bool.Decides.{nat_tests}
 use Rattle.std.proofs.Common.{take_all}
 use Rattle.std.proofs.lemmas.Option.{IfSome_then, MatchOption-at_some}
 use Rattle.std.specs.Prelude.{IfSome, ⊤}
 use Rattle.std.specs.Io.KnownBytes.{Appends}
-use Rattle.streams.specs.declared.outcome.RunError.{RunError}
+use Rattle.program.specs.declared.outcome.RunError.{RunError}
 use Rattle.streams.specs.declared.outcome.Fault.{Fault}
 use Rattle.streams.specs.Headers.{ParsedObject}
-use Rattle.streams.specs.Reports.{Said, Step, with_rest}
-use Rattle.streams.specs.Objects.{ObjectRule, size_with_end, closed, object_step}
-use Rattle.streams.specs.Promises.{Begins, Gives, Closes, or_cut, judged_with_rest, body_step, closed_by}
+use Rattle.streams.specs.Reports.{Said, Step}
+use Rattle.streams.specs.Objects.{ObjectRule, after_end, closed, object_step}
+use Rattle.program.specs.Writes.{AppendsPrefixOf}
+use Rattle.streams.specs.Promises.{FollowsRule, Closes, or_cut, judged_with_rest, body_step}
 
 abbrev pub then_closed : Step → Step
 then_closed (said, Err fault) = (said, Err fault)
-then_closed (said, Ok text) = (said, closed_by text)
-
-pub next_drop : (size : ℕ) (text rest : List ℕ) (b : ℕ) → drop size text ≡ b ∷ rest → drop (size + 1) text ≡ rest
-next_drop size text rest b e = grind (arith, drop-drop 1 size text)
-
-end_dropped : (said : Said) (size : ℕ) (text after : List ℕ) → drop size text ≡ after
-    → with_rest (said, size_with_end size after) text ≡ (said, closed_by after)
-end_dropped said size text [] e = refl
-end_dropped said size text (b ∷ rest) e = grind (arith, nat_tests, next_drop)
+then_closed (said, Ok text) = (said, after_end text)
 
 bytes_closed : (size : ℕ) (text : List ℕ) (said : Said) (fault : Option Fault)
-    → with_rest (closed size (said, fault) text) text ≡ then_closed (judged_with_rest (or_cut (nat_lt (length text) size) (said, fault)) (drop size text))
+    → closed (said, fault) (drop size text) ≡ then_closed (judged_with_rest (or_cut (nat_lt (length text) size) (said, fault)) (drop size text))
 bytes_closed size text said (Some fault) = refl
-bytes_closed size text said None = grind (arith, nat_tests, drop_of_length-le, end_dropped said size text (drop size text) refl)
+bytes_closed size text said None = grind (arith, nat_tests, drop_of_length-le)
 
 step_closed : (rule : ObjectRule) (object : ParsedObject) (text : List ℕ)
-    → with_rest (object_step rule object text) text ≡ then_closed (body_step rule object text)
+    → object_step rule object text ≡ then_closed (body_step rule object text)
 step_closed rule object text =
     let cut = nat_lt (length text) object.size in
     let judged = rule cut object (take object.size text) in
     bytes_closed object.size text judged.0 judged.1
 
-then_is : (step : Step) (rest : List ℕ) → step.1 ≡ Ok rest → then_closed step ≡ (step.0, closed_by rest)
+then_is : (step : Step) (rest : List ℕ) → step.1 ≡ Ok rest → then_closed step ≡ (step.0, after_end rest)
 then_is (said, Ok text) rest e = grind arith
 then_is (said, Err fault) rest e = grind arith
 
-begins_all : (a b : Option (List ℕ)) (lines : List ℕ) → Appends a b lines → Begins a b lines
+begins_all : (a b : Option (List ℕ)) (lines : List ℕ) → Appends a b lines → AppendsPrefixOf a b lines
 begins_all a b lines appends = (lines, appends, grind (arith, take_all))
 
 closes_gives : (said : Said) (rest : List ℕ) (refused : Bool) (c old new : Option (List ℕ)) (r : Result (Result Bool Fault) RunError)
-    → Appends old new said.lines → refused ≡ said.refused → Closes refused rest c r → Gives (said, closed_by rest) c old new r
+    → Appends old new said.lines → refused ≡ said.refused → Closes refused rest c r → FollowsRule (said, after_end rest) c old new r
 closes_gives said rest refused c old new (Ok (Ok found)) appends is closes = (appends, closes.0 ∙ is, closes.1)
 closes_gives said rest refused c old new (Ok (Err fault)) appends is closes = (appends, closes)
 closes_gives said rest refused c old new (Err stop) appends is closes = begins_all old new said.lines appends
 
 -- what the object's bytes gave, and then its end
 pub closed_gives : (rule : ObjectRule) (object : ParsedObject) (a b c old new : Option (List ℕ)) (refused : Bool) (r : Result (Result Bool Fault) RunError)
-    → IfSome a (λ text. Gives (body_step rule object text) b old new (Ok (Ok refused))) → IfSome b (λ text. Closes refused text c r)
-    → IfSome a (λ text. Gives (with_rest (object_step rule object text) text) c old new r)
+    → IfSome a (λ text. FollowsRule (body_step rule object text) b old new (Ok (Ok refused))) → IfSome b (λ text. Closes refused text c r)
+    → IfSome a (λ text. FollowsRule (object_step rule object text) c old new r)
 closed_gives rule object a b c old new refused r body end = IfSome_then a body (λ text (appends, found, (rest, left, is)).
     rw (step_closed rule object text, then_is (body_step rule object text) rest is)
     (closes_gives (body_step rule object text).0 rest refused c old new r appends found (MatchOption-at_some ⊤ _ rest left end)))
 
 -- what they gave is wrong
 pub faulty_gives : (rule : ObjectRule) (object : ParsedObject) (a b c old new : Option (List ℕ)) (fault : Fault)
-    → IfSome a (λ text. Gives (body_step rule object text) b old new (Ok (Err fault)))
-    → IfSome a (λ text. Gives (with_rest (object_step rule object text) text) c old new (Ok (Err fault)))
+    → IfSome a (λ text. FollowsRule (body_step rule object text) b old new (Ok (Err fault)))
+    → IfSome a (λ text. FollowsRule (object_step rule object text) c old new (Ok (Err fault)))
 faulty_gives rule object a b c old new fault body = IfSome_then a body (λ text e. grind (arith, step_closed rule object text))

@@ -7,7 +7,7 @@ use Rattle.std.specs.Prelude.{IfSome, OnErr, ⊤}
 use Rattle.std.specs.Io.KnownBytes.{Appends}
 use Rattle.std.proofs.KnownBytes.{Appends-nil, Appends-trans}
 use Rattle.streams.specs.Reports.{Said, nothing, then_said}
-use Rattle.streams.specs.Promises.{Begins}
+use Rattle.program.specs.Writes.{AppendsPrefixOf}
 
 pub when_known : (a : Option (List ℕ)) (P : List ℕ → Type 0) → ((text : List ℕ) → a ≡ Some text → P text) → IfSome a P
 when_known a P known = grind arith
@@ -16,7 +16,7 @@ pub on_err : {T E : Type 0} (r : Result T E) (P : Type 0) → P → OnErr r P
 on_err r P p = grind arith
 
 -- a front of what is to be appended, after what was appended before
-Begins_more : (a b c : Option (List ℕ)) (done lines : List ℕ) → Appends a b done → Begins b c lines → Begins a c (done ++ lines)
+Begins_more : (a b c : Option (List ℕ)) (done lines : List ℕ) → Appends a b done → AppendsPrefixOf b c lines → AppendsPrefixOf a c (done ++ lines)
 Begins_more a b c done lines first (front, next, starts) =
     (done ++ front, Appends-trans a b c done front first next, grind (arith, length-append, take-append-add done lines (length front)))
 
@@ -58,6 +58,6 @@ module _ {E : Type 0} {all now : List ℕ → Said × E} {a b old mid : Option (
       → IfSome a (λ text. Appends old new (all text).0.lines × ((all text).1 ≡ end))
   ends new end step = IfSome_then a sofar.known (λ text so. grind (arith, Appends-trans))
 
-  pub stops : (new : Option (List ℕ)) → IfSome b (λ rest. Begins mid new (now rest).0.lines) → IfSome a (λ text. Begins old new (all text).0.lines)
+  pub stops : (new : Option (List ℕ)) → IfSome b (λ rest. AppendsPrefixOf mid new (now rest).0.lines) → IfSome a (λ text. AppendsPrefixOf old new (all text).0.lines)
   stops new begun = IfSome_then a sofar.known (λ text (rest, said, there, done, was, is).
       rw is (Begins_more old mid new said.lines (now rest).0.lines done (MatchOption-at_some ⊤ _ rest there begun)))

@@ -95,7 +95,8 @@ header_none object digits good number rest =
     let P : ℕ → Type 0 = λ b. b ≢ line_end in
     let space : byte " " ≢ line_end = λ e. omega arith in
     let last =
-    All-append P digits (rest_bytes object.rest) (without (byte "0") (byte "\n") digits (omega arith) (number_high 10 digits object.size number)) (rest_none object.rest rest) in
+    All-append P digits (rest_bytes object.rest) (without (byte "0") (byte "\n") digits (omega arith) (number_high 10 digits object.size number))
+    (rest_none object.rest rest) in
     let sized = All-cons P (byte " ") (digits ++ rest_bytes object.rest) space last in
     let named = All-append P (kind_word object.kind) (byte " " ∷ (digits ++ rest_bytes object.rest))
     (without (byte "0") (byte "\n") (kind_word object.kind) (omega arith) (word_high object.kind)) sized in

@@ -9,13 +9,14 @@ use Rattle.std.proofs.lemmas.Bool.Decides.{nat_tests}
 use Rattle.streams.specs.declared.lines.Ending.{Ending}
 use Rattle.streams.specs.declared.lines.Ending.TheVariants.{Anywhere, EndLine, AfterALine}
 use Rattle.streams.specs.Texts.{is_id}
-use Rattle.streams.specs.Reports.{all_said, with_rest, line_of, is_end, before_report, lines_from, report}
+use Rattle.streams.specs.Reports.{all_said, line_of, is_end, before_report, lines_from}
 use Rattle.streams.specs.Objects.{ObjectRule, header_rule, object_rule, ending_of}
 use Rattle.streams.specs.Headers.{ParsedObject, Object, kind_word}
 use Rattle.streams.specs.Spelled.{Spelled, Present, Absent, rest_bytes, header_line, IsSpelled, spelling, spelled_said, IsReportedInOrder}
 use Rattle.streams.proofs.SpelledHeaders.{id_high, header_spelled, header_none, missing_spelled, missing_none}
 use Rattle.streams.proofs.ReportSoFar.{then_said_assoc}
 use Rattle.streams.proofs.LinesRead.{line_found, lines_first}
+use Rattle.streams.specs.Private.{object_rule_leaves}
 
 take_content : (content rest : List ℕ) (n : ℕ) → length content ≡ n → take n ((content ++ byte "\n" ∷ []) ++ rest) ≡ content
 take_content content rest n e = grind (arith, append_assoc content (byte "\n" ∷ []) rest, take_at content (byte "\n" ∷ rest))
@@ -23,12 +24,9 @@ take_content content rest n e = grind (arith, append_assoc content (byte "\n" �
 drop_content : (content rest : List ℕ) (n : ℕ) → length content ≡ n → drop n ((content ++ byte "\n" ∷ []) ++ rest) ≡ byte "\n" ∷ rest
 drop_content content rest n e = grind (arith, append_assoc content (byte "\n" ∷ []) rest, drop_at content (byte "\n" ∷ rest))
 
-drop_object : (content rest : List ℕ) (n : ℕ) → length content ≡ n → drop (n + 1) ((content ++ byte "\n" ∷ []) ++ rest) ≡ rest
-drop_object content rest n e = grind (arith, drop_at (content ++ byte "\n" ∷ []) rest (n + 1), length-append)
-
 module _ (rule : ObjectRule) (whole : Bool) where
   body_spelled : (object : ParsedObject) (content rest : List ℕ) → length content ≡ object.size → (rule false object content).1 ≡ None
-      → with_rest (header_rule rule whole (Some (Object object)) ((content ++ byte "\n" ∷ []) ++ rest)) ((content ++ byte "\n" ∷ []) ++ rest)
+      → header_rule rule whole (Some (Object object)) ((content ++ byte "\n" ∷ []) ++ rest)
       ≡ ((rule false object content).0, Ok rest)
   body_spelled object content rest long good =
       let text = (content ++ byte "\n" ∷ []) ++ rest in
@@ -38,7 +36,6 @@ module _ (rule : ObjectRule) (whole : Bool) where
         uncut,
         take_content content rest object.size long,
         drop_content content rest object.size long,
-        drop_object content rest object.size long,
       )
 
   line_spelled : (object : Spelled) (rest : List ℕ) → IsSpelled rule whole object
@@ -48,13 +45,13 @@ module _ (rule : ObjectRule) (whole : Bool) where
       let after = (content ++ byte "\n" ∷ []) ++ rest in
       ap (line_of (object_rule rule whole)) (append_assoc line (byte "\n" ∷ (content ++ byte "\n" ∷ [])) rest)
       ∙ line_found (object_rule rule whole) line after (header_none object digits good number none) fits
-      ∙ ap (λ header. with_rest (header_rule rule whole header after) after) (header_spelled object digits good number)
+      ∙ ap (λ header. header_rule rule whole header after) (header_spelled object digits good number)
       ∙ body_spelled object content rest long right
   line_spelled (Absent id) rest (good, some) =
       let line = id ++ codes " missing" in
       ap (line_of (object_rule rule whole)) (append_assoc line (byte "\n" ∷ []) rest)
       ∙ line_found (object_rule rule whole) line rest (missing_none id good) (grind (arith, length-append, id_high id good))
-      ∙ ap (λ header. with_rest (header_rule rule whole header rest) rest) (missing_spelled id good)
+      ∙ ap (λ header. header_rule rule whole header rest) (missing_spelled id good)
       ∙ grind arith
 
 some_bytes : (object : Spelled) (rest : List ℕ) → 0 < length (spelling object ++ rest)
@@ -80,23 +77,26 @@ not_end rule whole how (Present object digits content) rest good =
     (id_before how object.id _ good.0)
 not_end rule whole how (Absent id) rest good = rw (all_assoc id (codes " missing") (byte "\n" ∷ []) rest) (id_before how id _ good.0)
 
-module _ (rule : ObjectRule) (whole : Bool) (how : Ending) where
-  objects_spelled : (number : ℕ) (stream : List Spelled) (rest : List ℕ) → AllByRecursion (IsSpelled rule whole) stream
-      → lines_from (object_rule rule whole) how number (flat_map spelling stream ++ rest)
-      ≡ before_report (all_said (map (spelled_said rule) stream)) (lines_from (object_rule rule whole) how (number + length stream) rest)
-  objects_spelled number [] rest each = grind arith
-  objects_spelled number (object ∷ stream) rest (first, each) =
+module _ (rule : ObjectRule) (whole : Bool) where
+  pub reported_in_order : IsReportedInOrder rule whole
+  reported_in_order number object rest good = grind (
+    arith,
+    lines_first (object_rule rule whole) (object_rule_leaves rule whole) (ending_of whole) number (spelling object ++ rest) (some_bytes object rest)
+        (not_end rule whole (ending_of whole) object rest good),
+    line_spelled rule whole object rest good,
+  )
+
+  -- the same of many objects
+  pub stream_reported : (number : ℕ) (stream : List Spelled) (rest : List ℕ) → AllByRecursion (IsSpelled rule whole) stream
+      → lines_from (object_rule rule whole) (ending_of whole) number (flat_map spelling stream ++ rest)
+      ≡ before_report (all_said (map (spelled_said rule) stream)) (lines_from (object_rule rule whole) (ending_of whole) (number + length stream) rest)
+  stream_reported number [] rest each = grind arith
+  stream_reported number (object ∷ stream) rest (first, each) =
       let more = flat_map spelling stream ++ rest in
-      let next = objects_spelled (number + 1) stream rest each in
       grind (
         arith,
         append_assoc (spelling object) (flat_map spelling stream) rest,
-        lines_first (object_rule rule whole) how number (spelling object ++ more) (some_bytes object more) (not_end rule whole how object more first),
-        line_spelled rule whole object more first,
-        next,
+        reported_in_order number object more first,
+        stream_reported (number + 1) stream rest each,
         then_said_assoc,
       )
-
-pub reported_in_order : (rule : ObjectRule) (whole : Bool) → IsReportedInOrder rule whole
-unfolding report
-reported_in_order rule whole stream rest each = objects_spelled rule whole (ending_of whole) 1 stream rest each

@@ -1,6 +1,6 @@
 -- A text that is reported as well-formed is a stream that is written out, object by object.
 use Rattle.std.proofs.Common.{◌≡◌, ◌≢◌, ℕ, zero, suc, ◌+◌, ◌<◌, ◌≤◌, Bool, true, false, cond, nat_lt, List, [], ◌∷◌, ◌++◌, Option, None, Some, All}
-use Rattle.std.proofs.Common.{Result, Ok, Err, length, take, drop, codes}
+use Rattle.std.proofs.Common.{Ok, Err, length, take, drop, codes}
 use Rattle.std.proofs.Common.{refl, ap, sym, ◌∙◌, arith, append_assoc, append-nil, length-append, length-take, length-drop, take-append-drop}
 use Rattle.std.specs.Prelude.{IfSome, IfOk, flat_map}
 use Rattle.std.specs.List.{AllByRecursion}
@@ -10,16 +10,16 @@ use Rattle.std.proofs.lemmas.Slice.Eq.{bytes_eq-Decides}
 use Rattle.std.proofs.lemmas.List.Elements.{All-from_recursion}
 use Rattle.std.proofs.lemmas.Option.{IfSome_then}
 use Rattle.std.proofs.lemmas.Bool.Decides.{nat_tests}
-use Rattle.streams.specs.declared.outcome.Fault.{Fault}
 use Rattle.streams.specs.declared.header.Kind.{Kind}
 use Rattle.streams.specs.declared.lines.Ending.TheVariants.{Anywhere, EndLine}
 use Rattle.streams.specs.Texts.{line_end, split_once, number_of, is_id}
 use Rattle.streams.specs.Headers.{ParsedObject, ParsedHeader, Missing, Object, kind_word, kind_of_word, sized_parts, sized, parsed_header}
-use Rattle.streams.specs.Reports.{longest, Said, nothing, Step, with_rest, line_with, line_of, end_line, at_end_line, Report, lines_then, lines_within, lines_from, report}
-use Rattle.streams.specs.Objects.{ObjectRule, Judged, size_with_end, closed, header_rule, object_rule}
-use Rattle.streams.specs.Spelled.{Spelled, Present, Absent, rest_bytes, header_line, IsSpelled, spelling, spelled_said, end_of, IsStream, IsWellFormedOnlyIfSpelled}
+use Rattle.streams.specs.Reports.{longest, Said, nothing, Step, line_with, line_of, end_line, at_end_line, Report, lines_then, lines_within, lines_from, report}
+use Rattle.streams.specs.Objects.{ObjectRule, Judged, closed, header_rule, object_rule}
+use Rattle.streams.specs.Spelled.{Spelled, Present, Absent, rest_bytes, header_line, IsSpelled, spelling, spelled_said, end_of, IsStream}
+use Rattle.streams.specs.Spelled.{IsWellFormedOnlyIfSpelled}
 use Rattle.streams.proofs.SplitTexts.{IsCut, split_cuts, whole}
-use Rattle.streams.proofs.ObjectsRead.{next_drop}
+use Rattle.streams.specs.Private.{ok_then, closed_is}
 
 -- ---- a header line
 
@@ -96,22 +96,9 @@ content_is size text rest e =
     let long : length (drop size text) ≡ length (line_end ∷ rest) = ap length e in
     (grind (arith, length-take, length-drop), sym (take-append-drop size text) ∙ ap (λ t. take size text ++ t) e, grind (arith, nat_tests, length-drop))
 
-end_is : (size : ℕ) (text after : List ℕ) → drop size text ≡ after → IfOk (size_with_end size after) (λ count. drop size text ≡ line_end ∷ drop count text)
-end_is size text [] e = tt
-end_is size text (b ∷ rest) e = grind (arith, nat_tests, next_drop size text rest b e)
-
-ok_then : {T E : Type 0} (r : Result T E) (P Q : T → Type 0) → IfOk r P → ((x : T) → P x → Q x) → IfOk r Q
-ok_then (Ok x) P Q p more = more x p
-ok_then (Err e) P Q p more = tt
-
-closed_is : (size : ℕ) (said : Said) (fault : Option Fault) (text : List ℕ)
-    → IfOk (closed size (said, fault) text).1 (λ count. (fault ≡ None) × (drop size text ≡ line_end ∷ drop count text))
-closed_is size said (Some fault) text = tt
-closed_is size said None text = ok_then (size_with_end size (drop size text)) _ _ (end_is size text (drop size text) refl) (λ count e. (refl, e))
-
-closed_said : (size : ℕ) (judged : Judged) (text : List ℕ) → (closed size judged text).0 ≡ judged.0
-closed_said size (said, None) text = refl
-closed_said size (said, Some fault) text = refl
+closed_said : (judged : Judged) (text : List ℕ) → (closed judged text).0 ≡ judged.0
+closed_said (said, None) text = refl
+closed_said (said, Some fault) text = refl
 
 object_cut : (line head content text rest : List ℕ) → line ≡ head → text ≡ content ++ line_end ∷ rest
     → line ++ line_end ∷ text ≡ (head ++ line_end ∷ (content ++ line_end ∷ [])) ++ rest
@@ -121,29 +108,25 @@ object_cut line head content text rest is cut = grind (arith, append_assoc)
 abbrev IsStep : ObjectRule → Bool → List ℕ → Step → Type 0
 IsStep rule all text step = IfOk step.1 (λ rest. IsNext rule all text step.0 rest)
 
-count_then : (given : Said × Result ℕ Fault) (text : List ℕ) (P : Said → List ℕ → Type 0) → IfOk given.1 (λ count. P given.0 (drop count text))
-    → IfOk (with_rest given text).1 (λ rest. P (with_rest given text).0 rest)
-count_then (said, Ok count) text P p = p
-count_then (said, Err fault) text P p = tt
-
 module _ (rule : ObjectRule) where
   present_is : (all : Bool) (line text : List ℕ) (object : ParsedObject) (digits : List ℕ) → length line < longest → AllByRecursion (λ b. b ≢ line_end) line
       → is_id object.id ≡ true → number_of 10 digits ≡ Some object.size → line ≡ header_line object digits
       → (judged : Judged) → judged ≡ rule (nat_lt (length text) object.size) object (take object.size text)
-      → IfOk (closed object.size judged text).1 (λ count. IsNext rule all (line ++ line_end ∷ text) (closed object.size judged text).0 (drop count text))
-  present_is all line text object digits few none good number spelled (said, fault) is =
-      ok_then (closed object.size (said, fault) text).1 _ _ (closed_is object.size said fault text) (λ count (right, e).
-      let cut = content_is object.size text (drop count text) e in
-      let whole : rule false object (take object.size text) ≡ (said, fault) = rw cut.2 at (sym is) in (
+      → let after = drop object.size text in IfOk (closed judged after).1 (IsNext rule all (line ++ line_end ∷ text) (closed judged after).0)
+  present_is all line text object digits few none good number spelled judged is =
+      let after = drop object.size text in
+      ok_then (closed judged after).1 _ _ (closed_is judged after) (λ rest (right, e).
+      let cut = content_is object.size text rest e in
+      let whole : rule false object (take object.size text) ≡ judged = rw cut.2 at (sym is) in (
         Present object digits (take object.size text),
         (good, number, cut.0, rest_is object digits (rw spelled at none), rw spelled at few, ap (λ (judged : Judged). judged.1) whole ∙ right),
-        object_cut line (header_line object digits) (take object.size text) text (drop count text) spelled cut.1,
-        closed_said object.size (said, fault) text ∙ ap (λ (judged : Judged). judged.0) (sym whole),
+        object_cut line (header_line object digits) (take object.size text) text rest spelled cut.1,
+        closed_said judged after ∙ ap (λ (judged : Judged). judged.0) (sym whole),
       ))
 
   header_next : (all : Bool) (line : List ℕ) (header : Option ParsedHeader) (text : List ℕ) → length line < longest
       → AllByRecursion (λ b. b ≢ line_end) line → IfSome header (IsHeader line)
-      → IfOk (header_rule rule all header text).1 (λ count. IsNext rule all (line ++ line_end ∷ text) (header_rule rule all header text).0 (drop count text))
+      → IfOk (header_rule rule all header text).1 (IsNext rule all (line ++ line_end ∷ text) (header_rule rule all header text).0)
   header_next all line None text few none is = tt
   header_next true line (Some Missing) text few none is = tt
   header_next false line (Some Missing) text few none (id, good, spelled) = (Absent id, (good, refl), grind (arith, append_assoc), refl)
@@ -156,8 +139,7 @@ module _ (rule : ObjectRule) where
   line_next all text (Some parts) cut =
       let cuts = whole line_end text parts.0 parts.1 longest cut.0 in
       let rest = drop (length parts.0 + 1) text in
-      count_then (object_rule rule all parts.0 rest) rest (IsNext rule all text)
-      (rw (← cuts.0) at (header_next all parts.0 (parsed_header parts.0) rest cuts.1 cut.1 (header_is parts.0)))
+      rw (← cuts.0) at (header_next all parts.0 (parsed_header parts.0) rest cuts.1 cut.1 (header_is parts.0))
 
   first_next : (all : Bool) (text : List ℕ) → IsStep rule all text (line_of (object_rule rule all) text)
   unfolding line_of
@@ -174,7 +156,7 @@ Goes rule all text report = report.malformed ≡ None → IsStream rule all text
 
 stream_then : (rule : ObjectRule) (all : Bool) (more : List ℕ → Report) (number : ℕ) (step : Step) (text : List ℕ) (fuel : ℕ) → length text ≤ suc fuel
     → ((rest : List ℕ) → length rest ≤ fuel → Goes rule all rest (more rest))
-    → IsStep rule all text step → Goes rule all text (lines_then more number step)
+    → IsStep rule all text step → Goes rule all text (lines_then more number text step)
 stream_then rule all more number (said, Err fault) text fuel many go next none = grind arith
 stream_then rule all more number (said, Ok rest) text fuel many go (object, good, cut, is) none =
     let long : length text ≡ length (spelling object ++ rest) = ap length cut in
@@ -200,16 +182,19 @@ module _ (rule : ObjectRule) where
   open_within zero number (b ∷ text) many none = grind arith
   open_within (suc fuel) number [] many none = nothing_left rule false refl
   open_within (suc fuel) number (b ∷ text) many none =
-      stream_then rule false (lines_within fuel (object_rule rule false) Anywhere (number + 1)) number (line_of (object_rule rule false) (b ∷ text)) (b ∷ text) fuel many
+      stream_then rule false (lines_within fuel (object_rule rule false) Anywhere (number + 1)) number (line_of (object_rule rule false) (b ∷ text))
+      (b ∷ text) fuel many
       (λ rest less. open_within fuel (number + 1) rest less) (first_next rule false (b ∷ text)) none
 
   whole_within : (fuel number : ℕ) (text : List ℕ) → length text ≤ fuel → Goes rule true text (lines_within fuel (object_rule rule true) EndLine number text)
   whole_within zero number text many none = grind arith
   whole_within (suc fuel) number [] many none = grind arith
   whole_within (suc fuel) number (b ∷ text) many none =
-      marked_left rule (b ∷ text) (lines_then (lines_within fuel (object_rule rule true) EndLine (number + 1)) number (line_of (object_rule rule true) (b ∷ text)))
+      marked_left rule (b ∷ text) (lines_then (lines_within fuel (object_rule rule true) EndLine (number + 1)) number (b ∷ text)
+      (line_of (object_rule rule true) (b ∷ text)))
       (bytes_eq (b ∷ text) end_line) refl
-      (stream_then rule true (lines_within fuel (object_rule rule true) EndLine (number + 1)) number (line_of (object_rule rule true) (b ∷ text)) (b ∷ text) fuel many
+      (stream_then rule true (lines_within fuel (object_rule rule true) EndLine (number + 1)) number (line_of (object_rule rule true) (b ∷ text))
+      (b ∷ text) fuel many
       (λ rest less. whole_within fuel (number + 1) rest less) (first_next rule true (b ∷ text))) none
 
 pub well_formed_only_if_spelled : (rule : ObjectRule) (all : Bool) → IsWellFormedOnlyIfSpelled rule all

@@ -5,3 +5,4 @@ pub mod Objects
 pub mod Spelled
 pub mod Promises
 pub mod Messages
+pub mod Private

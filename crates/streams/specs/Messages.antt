@@ -1,9 +1,7 @@
--- What is printed of an input that is malformed, and of a run that stopped before its end.
+-- What is printed of an input that is malformed.
 use Rattle.std.specs.Prelude.{ℕ, List, codes}
 use Rattle.streams.specs.declared.outcome.Fault.{Fault}
 use Rattle.streams.specs.declared.outcome.Fault.TheVariants.{Header, TooLong, Ended, Entry, LineEnd, Absent, NoEnd, Line, Empty}
-use Rattle.streams.specs.declared.outcome.RunError.{RunError}
-use Rattle.streams.specs.declared.outcome.RunError.TheVariants.{Read, Memory, Write}
 
 -- what a fault prints
 abbrev pub fault_text_of : Fault → List ℕ
@@ -16,9 +14,3 @@ fault_text_of Absent = codes "the object is missing"
 fault_text_of NoEnd = codes "the input ends without the line '..end missing'"
 fault_text_of Line = codes "the line is not 'OLD NEW REF'"
 fault_text_of Empty = codes "the input is empty"
-
--- what a stopped run prints
-abbrev pub stop_text_of : RunError → List ℕ
-stop_text_of Read = codes "read failed"
-stop_text_of Memory = codes "out of memory"
-stop_text_of Write = codes "write failed"

@@ -1,5 +1,5 @@
 -- A stream of objects as `git cat-file --batch` prints them: a header line, as many bytes as it says, and LF.
-use Rattle.std.specs.Prelude.{◌≡◌, ℕ, ◌+◌, ◌++◌, Bool, true, false, ◌==◌, nat_lt, if◌then◌else◌, List, [], ◌∷◌, length, take, drop}
+use Rattle.std.specs.Prelude.{◌≡◌, ℕ, ◌+◌, Bool, true, false, ◌==◌, nat_lt, if◌then◌else◌, List, [], ◌∷◌, length, take, drop}
 use Rattle.std.specs.Prelude.{Option, Some, None, Result, Ok, Err}
 use Rattle.streams.specs.declared.outcome.Fault.{Fault}
 use Rattle.streams.specs.declared.outcome.Fault.TheVariants.{Header, Ended, LineEnd, Absent}
@@ -7,7 +7,7 @@ use Rattle.streams.specs.declared.lines.Ending.{Ending}
 use Rattle.streams.specs.declared.lines.Ending.TheVariants.{Anywhere, EndLine}
 use Rattle.streams.specs.Texts.{line_end}
 use Rattle.streams.specs.Headers.{ParsedObject, ParsedHeader, Missing, Object, parsed_header}
-use Rattle.streams.specs.Reports.{Said, nothing, LineRule, Reach, end_line, Report, report}
+use Rattle.streams.specs.Reports.{Said, nothing, Step, LineRule, EndsIn, Reach, end_line, Report, report}
 
 -- what is said of a part of an object, and what is wrong with it, if something is
 abbrev pub Judged : Type 0
@@ -17,23 +17,24 @@ Judged = Said × Option Fault
 abbrev pub ObjectRule : Type 0
 ObjectRule = (cut : Bool) → ParsedObject → List ℕ → Judged
 
--- how many bytes an object of this size has with the LF behind it
-abbrev pub size_with_end : ℕ → List ℕ → Result ℕ Fault
-size_with_end size [] = Err Ended
-size_with_end size (b ∷ text) = if b == line_end then Ok (size + 1) else Err LineEnd
+-- what follows the LF behind an object
+abbrev pub after_end : List ℕ → Result (List ℕ) Fault
+after_end [] = Err Ended
+after_end (b ∷ text) = if b == line_end then Ok text else Err LineEnd
 
-abbrev pub closed : ℕ → Judged → List ℕ → Said × Result ℕ Fault
-closed size (said, Some fault) text = (said, Err fault)
-closed size (said, None) text = (said, size_with_end size (drop size text))
+-- an object that is judged so, and the text behind it
+abbrev pub closed : Judged → List ℕ → Step
+closed (said, Some fault) text = (said, Err fault)
+closed (said, None) text = (said, after_end text)
 
 -- an object at the front of what follows its header line
-abbrev pub object_step : ObjectRule → ParsedObject → List ℕ → Said × Result ℕ Fault
-object_step rule object text = closed object.size (rule (nat_lt (length text) object.size) object (take object.size text)) text
+abbrev pub object_step : ObjectRule → ParsedObject → List ℕ → Step
+object_step rule object text = closed (rule (nat_lt (length text) object.size) object (take object.size text)) (drop object.size text)
 
 -- what follows a header line; no object may be missing where the stream has to be whole
-abbrev pub header_rule : ObjectRule → Bool → Option ParsedHeader → List ℕ → Said × Result ℕ Fault
+abbrev pub header_rule : ObjectRule → Bool → Option ParsedHeader → List ℕ → Step
 header_rule rule whole None text = (nothing, Err Header)
-header_rule rule whole (Some Missing) text = (nothing, if whole then Err Absent else Ok 0)
+header_rule rule whole (Some Missing) text = (nothing, if whole then Err Absent else Ok text)
 header_rule rule whole (Some (Object object)) text = object_step rule object text
 
 abbrev pub object_rule : ObjectRule → Bool → LineRule
@@ -60,4 +61,4 @@ object_report rule whole text = report (object_rule rule whole) (ending_of whole
 -- A stream that has to be whole is well-formed only if the line for that ends it.
 abbrev pub IsWholeStream : ObjectRule → Bool → Type 0
 IsWholeStream rule whole =
-    whole ≡ true → (text : List ℕ) → (object_report rule whole text).malformed ≡ None → (front : List ℕ) × (text ≡ front ++ end_line)
+    whole ≡ true → (text : List ℕ) → (object_report rule whole text).malformed ≡ None → EndsIn text end_line

@@ -1,22 +1,25 @@
 -- What the functions promise of one step, where the reader's and the writer's bytes are known.
-use Rattle.std.specs.Prelude.{◌≡◌, ◌≢◌, ℕ, ◌<◌, ◌≤◌, nat_lt, Bool, true, false, List, [], ◌∷◌, ◌++◌, All, length, take, drop, Option, if◌then◌else◌, ◌==◌}
-use Rattle.std.specs.Prelude.{Some, None, Result, Ok, Err, OnSome, ⊤, option_map}
-use Rattle.std.specs.Io.{StartsWith}
+use Rattle.std.specs.Prelude.{◌≡◌, ◌≢◌, ℕ, ◌<◌, ◌≤◌, nat_lt, Bool, true, false, List, [], ◌∷◌, ◌++◌, All, length, take, drop, Option}
+use Rattle.std.specs.Prelude.{Some, None, Result, Ok, Err, IfOk, IfSome, OnErr, OnSome, ⊤, option_map}
+use Rattle.std.specs.Str.{bytes_eq}
+use Rattle.streams.specs.declared.lines.Ending.{Ending}
+use Rattle.streams.specs.declared.lines.Ending.TheVariants.{Anywhere, EndLine, AfterALine}
 use Rattle.std.specs.Io.KnownBytes.{Appends, Consumes, IsAtEnd}
+use Rattle.program.specs.declared.outcome.RunError.{RunError}
+use Rattle.program.specs.Writes.{AppendsPrefixOf}
 use Rattle.gix_validate.specs.Faults.{when}
 use Rattle.streams.specs.declared.outcome.Fault.{Fault}
-use Rattle.streams.specs.declared.outcome.Fault.TheVariants.{Ended, LineEnd}
-use Rattle.streams.specs.declared.outcome.RunError.{RunError}
+use Rattle.streams.specs.declared.outcome.Fault.TheVariants.{Ended}
+use Rattle.streams.specs.declared.outcome.Verdict.{Verdict}
 use Rattle.streams.specs.declared.input.Found.{Found}
 use Rattle.streams.specs.declared.input.Found.TheVariants.{Byte, Limit, End}
 use Rattle.streams.specs.declared.header.Header.{Header}
 use Rattle.streams.specs.declared.header.Header.TheVariants as header
 use Rattle.streams.specs.declared.header.Object.{Object}
-use Rattle.streams.specs.Texts.{line_end}
 use Rattle.streams.specs.Headers.{ParsedObject, ParsedHeader}
 use Rattle.streams.specs.Headers as parsed
-use Rattle.streams.specs.Reports.{Step, LineRule, Reach, extent, malformed_part}
-use Rattle.streams.specs.Objects.{Judged, ObjectRule}
+use Rattle.streams.specs.Reports.{Step, Reach, Report, extent, end_word, is_malformed, verdict_of}
+use Rattle.streams.specs.Objects.{Judged, ObjectRule, after_end}
 
 -- ---- headers as the code has them
 
@@ -42,51 +45,65 @@ Reaches limit old new front Limit = length front ≡ limit
 Reaches limit old new front End = (length front < limit) × OnSome old (IsAtEnd new)
 
 -- the front of what was left went to `front`, up to the byte, the limit or the end
-pub record Fronts (byte limit : ℕ) (old new : Option (List ℕ)) (front : List ℕ) (found : Found) : Type 0 where
+pub record ReadsBefore (byte limit : ℕ) (old new : Option (List ℕ)) (front : List ℕ) (found : Found) : Type 0 where
   pub bytes : Consumes old new (taken byte found front)
   pub none : All (λ b. b ≢ byte) front
   pub reach : Reaches limit old new front found
 
 -- the same of a part of it, or where there is more to come
 abbrev pub Part : ℕ → ℕ → Option (List ℕ) → Option (List ℕ) → List ℕ → Option Found → Type 0
-Part byte limit old new front (Some found) = Fronts byte limit old new front found
+Part byte limit old new front (Some found) = ReadsBefore byte limit old new front found
 Part byte limit old new front None = Consumes old new front × All (λ b. b ≢ byte) front × (length front ≤ limit)
 
 -- bytes that are shown, cut at the first such byte: the part before it, which takes `used` bytes with it
-abbrev pub Cuts : ℕ → List ℕ → List ℕ → ℕ → Option Found → Type 0
-Cuts byte shown part used (Some found) = (found ≡ Byte) × All (λ b. b ≢ byte) part × (take used shown ≡ part ++ byte ∷ []) × (used ≤ length shown)
-Cuts byte shown part used None = All (λ b. b ≢ byte) part × (part ≡ shown) × (used ≡ length shown)
+abbrev pub IsCutAt : ℕ → List ℕ → List ℕ → ℕ → Option Found → Type 0
+IsCutAt byte shown part used (Some found) = (found ≡ Byte) × All (λ b. b ≢ byte) part × (take used shown ≡ part ++ byte ∷ []) × (used ≤ length shown)
+IsCutAt byte shown part used None = All (λ b. b ≢ byte) part × (part ≡ shown) × (used ≡ length shown)
 
 -- these bytes were skipped or read: as many as were asked for, or else all that were left
-abbrev pub Skips : ℕ → Option (List ℕ) → Option (List ℕ) → List ℕ → Bool → Type 0
-Skips count old new bytes true = Consumes old new bytes × (length bytes ≡ count)
-Skips count old new bytes false = Consumes old new bytes × (length bytes < count) × OnSome old (IsAtEnd new)
+abbrev pub ReadsExactly : ℕ → Option (List ℕ) → Option (List ℕ) → List ℕ → Bool → Type 0
+ReadsExactly count old new bytes true = Consumes old new bytes × (length bytes ≡ count)
+ReadsExactly count old new bytes false = Consumes old new bytes × (length bytes < count) × OnSome old (IsAtEnd new)
 
 -- the next byte was read, if one was left
-abbrev pub Nexts : Option (List ℕ) → Option (List ℕ) → Option ℕ → Type 0
-Nexts old new (Some byte) = Consumes old new (byte ∷ [])
-Nexts old new None = Consumes old new [] × OnSome old (IsAtEnd new)
+abbrev pub ReadsNext : Option (List ℕ) → Option (List ℕ) → Option ℕ → Type 0
+ReadsNext old new (Some byte) = Consumes old new (byte ∷ [])
+ReadsNext old new None = Consumes old new [] × OnSome old (IsAtEnd new)
 
 -- no more than so many bytes were read
 abbrev pub ReadsUpTo : ℕ → Option (List ℕ) → Option (List ℕ) → Type 0
 ReadsUpTo most old new = (bytes : List ℕ) × Consumes old new bytes × (length bytes ≤ most)
 
--- of a text, no more was read than what is before its first malformed line, and that line with what can belong to it
-abbrev pub StopsWithin : LineRule → Reach → Option (List ℕ) → List ℕ → Type 0
-StopsWithin rule reach new text = let rest = malformed_part rule text in ReadsUpTo (extent reach rest) (Some rest) new
+-- of a text with this report, no more was read than what is before its first malformed line, and that line with what can belong to it
+abbrev pub StopsWithin : Reach → Report → Option (List ℕ) → Type 0
+StopsWithin reach report new = ReadsUpTo (extent reach report.rest) (Some report.rest) new
 
--- a front of these bytes was appended
-abbrev pub Begins : Option (List ℕ) → Option (List ℕ) → List ℕ → Type 0
-Begins old new bytes = (front : List ℕ) × Appends old new front × StartsWith bytes front
+-- What a run does by the report of a text, where the bytes that it reads and writes are known. `reach` says what can belong to a line.
+pub record Runs (report : List ℕ → Report) (reach : Reach) (old new before after : Option (List ℕ)) (result : Result Verdict RunError) : Type 0 where
+  -- just the report is written, and decides the verdict
+  pub verdict : IfOk result (λ verdict. IfSome old (λ text. Appends before after (report text).said.lines × (verdict ≡ verdict_of (report text))))
+  -- a text that is well-formed is read to its end
+  pub end : IfOk result (λ verdict. is_malformed verdict ≡ false → OnSome old (IsAtEnd new))
+  pub spent : IfOk result (λ verdict. is_malformed verdict ≡ false → IfSome old (λ _. new ≡ Some []))
+  -- of any other nothing is read after the malformed line and what can belong to it
+  pub within : IfOk result (λ verdict. is_malformed verdict ≡ true → IfSome old (λ text. StopsWithin reach (report text) new))
+  -- where reading, memory or writing fails, a front of the report was written
+  pub stopped : OnErr result (IfSome old (λ text. AppendsPrefixOf before after (report text).said.lines))
 
 -- ---- steps
 
+-- the line has to end the text
+abbrev pub is_end_word : Ending → List ℕ → Bool
+is_end_word Anywhere line = false
+is_end_word AfterALine line = false
+is_end_word EndLine line = bytes_eq line end_word
+
 -- what a step found, and left, is what the rule says of it
-abbrev pub Gives : Step → Option (List ℕ) → Option (List ℕ) → Option (List ℕ) → Result (Result Bool Fault) RunError → Type 0
-Gives wanted left old new (Ok (Ok refused)) =
+abbrev pub FollowsRule : Step → Option (List ℕ) → Option (List ℕ) → Option (List ℕ) → Result (Result Bool Fault) RunError → Type 0
+FollowsRule wanted left old new (Ok (Ok refused)) =
     Appends old new wanted.0.lines × (refused ≡ wanted.0.refused) × ((text : List ℕ) × (left ≡ Some text) × (wanted.1 ≡ Ok text))
-Gives wanted left old new (Ok (Err fault)) = Appends old new wanted.0.lines × (wanted.1 ≡ Err fault)
-Gives wanted left old new (Err stop) = Begins old new wanted.0.lines
+FollowsRule wanted left old new (Ok (Err fault)) = Appends old new wanted.0.lines × (wanted.1 ≡ Err fault)
+FollowsRule wanted left old new (Err stop) = AppendsPrefixOf old new wanted.0.lines
 
 -- what a rule judges of an object, where the text behind its header may have fewer bytes than it: then the input ended within it
 abbrev pub or_cut : Bool → Judged → Judged
@@ -102,12 +119,8 @@ abbrev pub body_step : ObjectRule → ParsedObject → List ℕ → Step
 body_step rule object text =
     let cut = nat_lt (length text) object.size in judged_with_rest (or_cut cut (rule cut object (take object.size text))) (drop object.size text)
 
--- the LF behind an object
-abbrev pub closed_by : List ℕ → Result (List ℕ) Fault
-closed_by [] = Err Ended
-closed_by (b ∷ text) = if b == line_end then Ok text else Err LineEnd
-
+-- the LF behind an object was read
 abbrev pub Closes : Bool → List ℕ → Option (List ℕ) → Result (Result Bool Fault) RunError → Type 0
-Closes refused text new (Ok (Ok found)) = (found ≡ refused) × ((rest : List ℕ) × (new ≡ Some rest) × (closed_by text ≡ Ok rest))
-Closes refused text new (Ok (Err fault)) = closed_by text ≡ Err fault
+Closes refused text new (Ok (Ok found)) = (found ≡ refused) × ((rest : List ℕ) × (new ≡ Some rest) × (after_end text ≡ Ok rest))
+Closes refused text new (Ok (Err fault)) = after_end text ≡ Err fault
 Closes refused text new (Err stop) = ⊤

@@ -1,7 +1,8 @@
 -- The report of a text that is read line by line: what each line and what belongs to it give, in order, up to the first
--- that is malformed.
-use Rattle.std.specs.Prelude.{◌≡◌, ℕ, zero, suc, ◌+◌, Bool, true, false, ◌==◌, ◌||◌, nat_lt, if◌then◌else◌, List, [], ◌∷◌, ◌++◌, length, take, drop, codes}
-use Rattle.std.specs.Prelude.{Option, Some, None, Result, Ok, Err}
+-- that is malformed. `Spelled` says the same from the other side, with no steps: what is reported of a stream that is written out,
+-- object by object, and that no other text is well-formed.
+use Rattle.std.specs.Prelude.{◌≡◌, ℕ, zero, suc, ◌+◌, ◌*◌, ◌≤◌, Bool, true, false, ◌==◌, ◌||◌, nat_lt, if◌then◌else◌, List, [], ◌∷◌, ◌++◌, length, take, drop, codes}
+use Rattle.std.specs.Prelude.{Option, Some, None, Result, Ok, Err, IfOk, option_map}
 use Rattle.std.specs.Str.{bytes_eq}
 use Rattle.gix_validate.specs.Faults.{when}
 use Rattle.streams.specs.declared.outcome.Fault.{Fault}
@@ -40,19 +41,22 @@ all_said (first ∷ more) = then_said first (all_said more)
 abbrev pub Step : Type 0
 Step = Said × Result (List ℕ) Fault
 
--- A rule of lines: what is said of a line without its end, before this text, and how many bytes of the text belong to it, or what is wrong.
+-- A rule of lines: what it gives for a line without its end, and the text behind it, of which a front may belong to the line.
 abbrev pub LineRule : Type 0
-LineRule = (line text : List ℕ) → Said × Result ℕ Fault
+LineRule = (line text : List ℕ) → Step
 
--- the same with what follows
-abbrev pub with_rest : Said × Result ℕ Fault → List ℕ → Step
-with_rest (said, Ok count) text = (said, Ok (drop count text))
-with_rest (said, Err fault) text = (said, Err fault)
+-- a text ends in this one
+abbrev pub EndsIn : List ℕ → List ℕ → Type 0
+EndsIn text rest = (front : List ℕ) × (text ≡ front ++ rest)
+
+-- What a rule leaves of a text is its end.
+abbrev pub LeavesTheEnd : LineRule → Type 0
+LeavesTheEnd rule = (line text : List ℕ) → IfOk (rule line text).1 (EndsIn text)
 
 -- the first line of a text, where it is known what is before its end, if there is one within the limit
 abbrev pub line_with : LineRule → List ℕ → Option (List ℕ × List ℕ) → Step
 line_with rule text None = (nothing, Err (if nat_lt (length text) longest then Ended else TooLong))
-line_with rule text (Some parts) = let rest = drop (length parts.0 + 1) text in with_rest (rule parts.0 rest) rest
+line_with rule text (Some parts) = rule parts.0 (drop (length parts.0 + 1) text)
 
 -- the first line of a text
 unfoldable pub line_of : LineRule → List ℕ → Step
@@ -60,18 +64,19 @@ line_of rule text = line_with rule text (split_once line_end (take longest text)
 
 -- ---- a text
 
--- what is said, and the first line that is malformed, counted from 1, if one is
+-- what is said, the first line that is malformed, counted from 1, if one is, and the text from that line on
 pub record Report : Type 0 where
   pub said : Said
   pub malformed : Option (ℕ × Fault)
+  pub rest : List ℕ
 
 abbrev pub before_report : Said → Report → Report
-before_report said report = record { said = then_said said report.said; malformed = report.malformed }
+before_report said report = record { said = then_said said report.said; malformed = report.malformed; rest = report.rest }
 
--- the first line, which has this number, and what follows it
-abbrev pub lines_then : (List ℕ → Report) → ℕ → Step → Report
-lines_then more number (said, Err fault) = record { said = said; malformed = Some (number, fault) }
-lines_then more number (said, Ok text) = before_report said (more text)
+-- the first line of a text, which has this number, and what follows it
+abbrev pub lines_then : (List ℕ → Report) → ℕ → List ℕ → Step → Report
+lines_then more number text (said, Err fault) = record { said = said; malformed = Some (number, fault); rest = text }
+lines_then more number text (said, Ok rest) = before_report said (more rest)
 
 -- The line that ends a whole stream, without its end and with it. Git prints it for the word `..end`, which no object, reference or path
 -- can have as its name.
@@ -80,12 +85,6 @@ end_word = codes "..end missing"
 
 abbrev pub end_line : List ℕ
 end_line = end_word ++ line_end ∷ []
-
--- the line has to end the text
-abbrev pub is_end_word : Ending → List ℕ → Bool
-is_end_word Anywhere line = false
-is_end_word AfterALine line = false
-is_end_word EndLine line = bytes_eq line end_word
 
 -- nothing is left but that line
 abbrev pub is_end : Ending → List ℕ → Bool
@@ -99,17 +98,13 @@ fault_at_end Anywhere number = None
 fault_at_end EndLine number = Some NoEnd
 fault_at_end AfterALine number = when (number == 1) Empty
 
-abbrev pub numbered : ℕ → Option Fault → Option (ℕ × Fault)
-numbered number None = None
-numbered number (Some fault) = Some (number, fault)
-
 -- nothing is left
 abbrev pub at_end : Ending → ℕ → Report
-at_end ending number = record { said = nothing; malformed = numbered number (fault_at_end ending number) }
+at_end ending number = record { said = nothing; malformed = option_map (λ fault. (number, fault)) (fault_at_end ending number); rest = [] }
 
 -- nothing more is said
 abbrev pub at_end_line : Report
-at_end_line = record { said = nothing; malformed = None }
+at_end_line = record { said = nothing; malformed = None; rest = [] }
 
 -- The lines of a text, the first of which has this number. (`fuel` is at least their number.)
 abbrev pub lines_within : ℕ → LineRule → Ending → ℕ → List ℕ → Report
@@ -117,7 +112,7 @@ lines_within zero rule ending number text = at_end ending number
 lines_within (suc fuel) rule ending number [] = at_end ending number
 lines_within (suc fuel) rule ending number (b ∷ text) =
     if is_end ending (b ∷ text) then at_end_line
-    else lines_then (lines_within fuel rule ending (number + 1)) number (line_of rule (b ∷ text))
+    else lines_then (lines_within fuel rule ending (number + 1)) number (b ∷ text) (line_of rule (b ∷ text))
 
 unfoldable pub lines_from : LineRule → Ending → ℕ → List ℕ → Report
 lines_from rule ending number text = lines_within (length text) rule ending number text
@@ -142,20 +137,6 @@ is_malformed (Malformed number fault) = true
 
 -- ---- what is read where a line is malformed
 
--- all of a text, if its first line is malformed, or else so much of what follows that line
-abbrev pub malformed_then : (List ℕ → List ℕ) → List ℕ → Step → List ℕ
-malformed_then more text (said, Err fault) = text
-malformed_then more text (said, Ok rest) = more rest
-
--- A text from its first malformed line on. (`fuel` is at least the number of its lines.)
-abbrev pub malformed_within : ℕ → LineRule → List ℕ → List ℕ
-malformed_within zero rule text = []
-malformed_within (suc fuel) rule [] = []
-malformed_within (suc fuel) rule (b ∷ text) = malformed_then (malformed_within fuel rule) (b ∷ text) (line_of rule (b ∷ text))
-
-unfoldable pub malformed_part : LineRule → List ℕ → List ℕ
-malformed_part rule text = malformed_within (length text) rule text
-
 -- how many bytes of the text behind a line, which is given without its end, can belong to it
 abbrev pub Reach : Type 0
 Reach = List ℕ → ℕ
@@ -171,4 +152,10 @@ extent reach text = extent_with reach (split_once line_end (take longest text))
 
 -- A text that has to end in the line for that is well-formed only if it does.
 abbrev pub IsWhole : LineRule → Type 0
-IsWhole rule = (text : List ℕ) → (report rule EndLine text).malformed ≡ None → (front : List ℕ) × (text ≡ front ++ end_line)
+IsWhole rule = (text : List ℕ) → (report rule EndLine text).malformed ≡ None → EndsIn text end_line
+
+-- ---- how much is printed
+
+-- For each byte of a text no more than so many are printed.
+abbrev pub PrintsAtMost : ℕ → (List ℕ → Report) → Type 0
+PrintsAtMost most report = (text : List ℕ) → length (report text).said.lines ≤ most * length text

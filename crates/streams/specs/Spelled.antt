@@ -42,12 +42,12 @@ abbrev pub spelled_said : ObjectRule → Spelled → Said
 spelled_said rule (Present object digits content) = (rule false object content).0
 spelled_said rule (Absent id) = nothing
 
--- Of a stream that is written out just this is said, and then what follows it gives its own.
+-- From any number on, an object that is written out is reported first, and then what follows it, whatever that is.
 abbrev pub IsReportedInOrder : ObjectRule → Bool → Type 0
 IsReportedInOrder rule whole =
-    (stream : List Spelled) (rest : List ℕ) → AllByRecursion (IsSpelled rule whole) stream
-    → object_report rule whole (flat_map spelling stream ++ rest)
-    ≡ before_report (all_said (map (spelled_said rule) stream)) (lines_from (object_rule rule whole) (ending_of whole) (1 + length stream) rest)
+    let report_from = lines_from (object_rule rule whole) (ending_of whole) in
+    (number : ℕ) (object : Spelled) (rest : List ℕ) → IsSpelled rule whole object
+    → report_from number (spelling object ++ rest) ≡ before_report (spelled_said rule object) (report_from (number + 1) rest)
 
 -- a stream that is written out, and the line that ends it where it has to be whole
 abbrev pub end_of : Bool → List ℕ
@@ -74,5 +74,5 @@ pub record IsCleanStream (rule : ObjectRule) (whole : Bool) (text : List ℕ) : 
   pub text_is : text ≡ flat_map spelling stream ++ end_of whole
 
 -- A run finds a text clean if and only if it is such a stream.
-abbrev pub IsCleanIfAccepted : ObjectRule → Bool → Verdict → List ℕ → Type 0
-IsCleanIfAccepted rule whole verdict text = (verdict ≡ Clean) ↔ IsCleanStream rule whole text
+abbrev pub IsCleanIff : ObjectRule → Bool → Verdict → List ℕ → Type 0
+IsCleanIff rule whole verdict text = (verdict ≡ Clean) ↔ IsCleanStream rule whole text

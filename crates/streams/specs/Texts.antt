@@ -1,22 +1,12 @@
 -- Texts as lists of bytes: a text cut at a byte, numbers in digits, and the ids of objects in hexadecimal.
-use Rattle.std.specs.Prelude.{ℕ, ◌+◌, ◌-◌, ◌*◌, ◌/◌, ◌%◌, ◌^◌, Bool, ◌==◌, ◌&&◌, ◌||◌, not, nat_lt, nat_le, if◌then◌else◌, List, [], ◌∷◌, length}
-use Rattle.std.specs.Prelude.{Option, Some, None, option_map}
+use Rattle.std.specs.Prelude.{ℕ, ◌+◌, ◌-◌, ◌*◌, ◌/◌, ◌%◌, ◌^◌, Bool, ◌==◌, ◌&&◌, ◌||◌, not, nat_lt, nat_le, List, [], ◌∷◌, length}
+use Rattle.std.specs.Prelude.{Option}
 use Rattle.std.specs.List.{list_all}
 use Rattle.std.specs.Str.{byte}
 use Rattle.gix_validate.specs.Bytes.{is_empty}
 use Rattle.gix_validate.specs.Faults.{when}
 use Rattle.gix_validate.specs.Quoted.{hex_digit}
-
--- the byte LF, which ends a line
-abbrev pub line_end : ℕ
-line_end = 0x0A
-
--- what is before the first such byte of a text, and all that follows it, if the text has one
-abbrev pub split_once : ℕ → List ℕ → Option (List ℕ × List ℕ)
-split_once separator [] = None
-split_once separator (b ∷ text) =
-    if b == separator then Some ([], text)
-    else option_map (λ (parts : List ℕ × List ℕ). (b ∷ parts.0, parts.1)) (split_once separator text)
+pub use Rattle.program.specs.Lines.{line_end, split_once}
 
 -- a digit of a base of at most ten
 abbrev pub is_digit : ℕ → ℕ → Bool

@@ -3,10 +3,10 @@
 ghost use Rattle.std.specs.Prelude.{◌≡◌, ◌<◌, ◌≤◌, ℕ, true, List, [], ◌++◌, length, IfOk, IfSome, MatchOption, OnSome, Some};
 ghost use Rattle.std.specs.Io.KnownBytes.{Consumes, IsAtEnd};
 ghost use Rattle.gix_validate.specs.Bytes.{is_empty};
-ghost use Rattle.streams.specs.Promises.{Cuts, Fronts, Nexts, Part, Skips};
+ghost use Rattle.streams.specs.Promises.{IsCutAt, ReadsBefore, ReadsNext, Part, ReadsExactly};
 
-use crate::outcome::RunError;
 use memchr::memchr;
+use program::outcome::RunError;
 use std::io::{BufRead, ErrorKind};
 
 /// Why [`read_before`] stopped.
@@ -32,7 +32,7 @@ pub fn read_before<R: BufRead>(
     limit: usize,
     front: &mut Vec<u8>,
 ) -> Result<Found, RunError>
-    ensures { IfOk result (Fronts byte limit (R.remaining input.old) (R.remaining input.new) front.new.items) }
+    ensures { IfOk result (ReadsBefore byte limit (R.remaining input.old) (R.remaining input.new) front.new.items) }
 {
     front.clear();
     for _ in 0..u64::MAX {
@@ -77,7 +77,7 @@ fn append_part<R: BufRead>(
 /// The bytes before the first such byte, how many bytes these are together with the byte itself,
 /// and whether there is one.
 fn cut_at(byte: u8, shown: &[u8]) -> (&[u8], usize, Option<Found>)
-    ensures { Cuts byte shown.now result.0.now result.1 result.2 }
+    ensures { IsCutAt byte shown.now result.0.now result.1 result.2 }
 {
     match memchr(byte, shown) {
         Some(at) => (&shown[..at], at + 1, Some(Found::Byte)),
@@ -96,7 +96,7 @@ pub fn read_bytes<R: BufRead>(
     count: usize,
     bytes: &mut Vec<u8>,
 ) -> Result<bool, RunError>
-    ensures { IfOk result (Skips count (R.remaining input.old) (R.remaining input.new) bytes.new.items) }
+    ensures { IfOk result (ReadsExactly count (R.remaining input.old) (R.remaining input.new) bytes.new.items) }
 {
     bytes.clear();
     for _ in 0..u64::MAX {
@@ -141,7 +141,7 @@ fn read_part<R: BufRead>(input: &mut R, count: usize, bytes: &mut Vec<u8>) -> Re
 /// [`RunError::Read`] if reading failed.
 pub fn skip<R: BufRead>(input: &mut R, count: u64) -> Result<bool, RunError>
     ensures { IfOk result (λ whole. (bytes : List ℕ)
-        × Skips count (R.remaining input.old) (R.remaining input.new) bytes whole) }
+        × ReadsExactly count (R.remaining input.old) (R.remaining input.new) bytes whole) }
 {
     let mut left = count;
     for _ in 0..u64::MAX {
@@ -184,7 +184,7 @@ fn skip_part<R: BufRead>(input: &mut R, count: u64) -> Result<Option<u64>, RunEr
 ///
 /// [`RunError::Read`] if reading failed.
 pub fn read_byte<R: BufRead>(input: &mut R) -> Result<Option<u8>, RunError>
-    ensures byte { IfOk result (λ byte. Nexts (R.remaining input.old) (R.remaining input.new) byte) }
+    ensures byte { IfOk result (λ byte. ReadsNext (R.remaining input.old) (R.remaining input.new) byte) }
 {
     for _ in 0..u64::MAX {
         if let Some(byte) = next_part(input)? {
@@ -199,7 +199,7 @@ pub fn read_byte<R: BufRead>(input: &mut R) -> Result<Option<u8>, RunError>
 fn next_part<R: BufRead>(input: &mut R) -> Result<Option<Option<u8>>, RunError>
     ensures { IfOk result (λ found. MatchOption found
         (Consumes (R.remaining input.old) (R.remaining input.new) [])
-        (Nexts (R.remaining input.old) (R.remaining input.new))) }
+        (ReadsNext (R.remaining input.old) (R.remaining input.new))) }
 {
     let byte = match input.fill_buf() {
         Ok([]) => return Ok(Some(None)),

@@ -1,6 +1,5 @@
-//! What the programs share: arguments, writing, and exit statuses; and, for those that check a
-//! stream, bounded reads, the header lines of `git cat-file --batch`, the loop over the lines of an
-//! input, and quoted output.
+//! What the programs share that check a stream: bounded reads, the header lines of
+//! `git cat-file --batch`, the loop over the lines of an input, quoted output, and exit statuses.
 //!
 //! Three programs read lines, count them, check for the end and keep a verdict. They differ in what
 //! a line means, which is the trait [`lines::LineCheck`]: a rule as a definition, and the function
@@ -15,5 +14,5 @@ pub mod lines;
 pub mod objects;
 pub mod outcome;
 pub mod output;
-pub mod program;
+pub mod runs;
 pub mod text;

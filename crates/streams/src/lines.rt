@@ -4,14 +4,16 @@
 //! `check_trees` and `check_refs` hold a bounded number of bytes, whatever their input is. No size
 //! that the input claims is trusted: bytes are read or skipped as they come.
 
-ghost use Rattle.std.specs.Prelude.{◌≡◌, ◌<◌, ◌≤◌, [], Some, true, false, ◌&&◌, if◌then◌else◌, IfOk, OnErr, IfSome, OnSome};
+ghost use Rattle.std.specs.Prelude.{◌≡◌, ◌<◌, [], Some, true, false, ◌&&◌, if◌then◌else◌, IfOk, OnErr, IfSome, OnSome};
 ghost use Rattle.std.specs.Io.KnownBytes.{Appends, Consumes, IsAtEnd};
+ghost use Rattle.program.specs.Writes.{AppendsPrefixOf};
 ghost use Rattle.gix_validate.specs.Bytes.{is_empty};
-ghost use Rattle.streams.specs.Reports.{IsWhole, LineRule, Reach, end_word, fault_at_end, is_end_word, is_malformed, report, verdict_of, with_rest};
-ghost use Rattle.streams.specs.Promises.{Begins, Gives, ReadsUpTo, StopsWithin};
+ghost use Rattle.streams.specs.Reports.{IsWhole, LeavesTheEnd, LineRule, Reach, fault_at_end, is_malformed, report, verdict_of};
+ghost use Rattle.streams.specs.Promises.{FollowsRule, ReadsUpTo, StopsWithin, is_end_word};
 
 use crate::input::{Found, is_at_end, read_before};
-use crate::outcome::{Fault, RunError, Verdict};
+use crate::outcome::{Fault, Verdict};
+use program::outcome::RunError;
 use std::alloc::Global;
 use std::io::{BufRead, Write};
 
@@ -59,9 +61,11 @@ pub trait LineCheck: Copy {
         output: &mut W,
         buffers: &mut Buffers,
     ) -> Result<Result<bool, Fault>, RunError>
-        ensures gives { IfSome (R.remaining input.old) (λ text. Gives (with_rest (line_rule self line.now text) text)
+        ensures gives { IfSome (R.remaining input.old) (λ text. FollowsRule (line_rule self line.now text)
             (R.remaining input.new) (W.contents output.old) (W.contents output.new) result) }
         ensures within { IfOk result (λ _. ReadsUpTo (line_reach self line.now) (R.remaining input.old) (R.remaining input.new)) };
+
+    ghost leaves: { (check : Self) → LeavesTheEnd (line_rule check) };
 }
 
 /// Reads all of `input`, and writes what `check` reports for each line and the bytes that belong to
@@ -79,7 +83,6 @@ pub trait LineCheck: Copy {
 ///
 /// It allocates memory for the longest line, of at most 65,536 bytes, and what `check` allocates,
 /// from `alloc`.
-#[tactic(auto, using(crate::proofs::WholeStreams::ended_whole))]
 pub fn run<C: LineCheck, R: BufRead, W: Write>(
     alloc: Global,
     check: C,
@@ -95,9 +98,10 @@ pub fn run<C: LineCheck, R: BufRead, W: Write>(
     ensures spent { IfOk result (λ verdict. is_malformed verdict ≡ false
         → IfSome (R.remaining input.old) (λ _. R.remaining input.new ≡ Some [])) }
     ensures within { IfOk result (λ verdict. is_malformed verdict ≡ true
-        → IfSome (R.remaining input.old) (StopsWithin (C.line_rule check) (C.line_reach check) (R.remaining input.new))) }
+        → IfSome (R.remaining input.old) (λ text.
+        StopsWithin (C.line_reach check) (report (C.line_rule check) ending text) (R.remaining input.new))) }
     ensures stopped { OnErr result (IfSome (R.remaining input.old) (λ text.
-        Begins (W.contents output.old) (W.contents output.new) (report (C.line_rule check) ending text).said.lines)) }
+        AppendsPrefixOf (W.contents output.old) (W.contents output.new) (report (C.line_rule check) ending text).said.lines)) }
     ensures whole { IsWhole (C.line_rule check) }
 {
     let mut line = Vec::new(alloc);

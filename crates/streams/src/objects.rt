@@ -1,17 +1,17 @@
 //! A stream of objects, as `git cat-file --batch` prints them.
 
-ghost use Rattle.std.specs.Prelude.{◌≡◌, ◌+◌, [], Some, false, true, IfOk, OnErr, IfSome, OnSome};
-ghost use Rattle.std.specs.Io.KnownBytes.{Appends, IsAtEnd};
+ghost use Rattle.std.specs.Prelude.{◌≡◌, ◌+◌, Some, false, IfOk, IfSome};
 ghost use Rattle.streams.specs.Objects.{IsWholeStream, ObjectRule, ending_of, object_reach, object_report, object_rule, object_step};
-ghost use Rattle.streams.specs.Reports.{end_line, is_malformed, verdict_of, with_rest};
-ghost use Rattle.streams.specs.Promises.{Begins, Closes, Gives, ReadsUpTo, StopsWithin, as_object, body_step};
-ghost use Rattle.streams.specs.Spelled.{IsCleanIfAccepted, IsReportedInOrder, IsWellFormedOnlyIfSpelled};
+ghost use Rattle.streams.specs.Promises.{Runs, Closes, FollowsRule, ReadsUpTo, as_object, body_step};
+ghost use Rattle.streams.specs.Spelled.{IsCleanIff, IsReportedInOrder, IsWellFormedOnlyIfSpelled};
+ghost use Rattle.streams.specs.Private.{object_rule_leaves};
 
 use crate::header::{Header, Object, header_of};
 use crate::input::read_byte;
 use crate::lines;
 use crate::lines::{Buffers, Ending, LineCheck};
-use crate::outcome::{Fault, RunError, Verdict};
+use crate::outcome::{Fault, Verdict};
+use program::outcome::RunError;
 use std::alloc::Global;
 use std::io::{BufRead, Write};
 
@@ -28,7 +28,7 @@ pub trait ObjectCheck: Copy {
         output: &mut W,
         buffers: &mut Buffers,
     ) -> Result<Result<bool, Fault>, RunError>
-        ensures gives { IfSome (R.remaining input.old) (λ text. Gives (body_step (object_rule self) (as_object object.entry) text)
+        ensures gives { IfSome (R.remaining input.old) (λ text. FollowsRule (body_step (object_rule self) (as_object object.entry) text)
             (R.remaining input.new) (W.contents output.old) (W.contents output.new) result) }
         ensures within { IfOk result (λ _. ReadsUpTo object.entry.size (R.remaining input.old) (R.remaining input.new)) };
 }
@@ -44,6 +44,8 @@ impl<C: ObjectCheck> LineCheck for Objects<C> {
     ghost line_rule = { λ objects. object_rule (C.object_rule objects.check) objects.whole };
 
     ghost line_reach = { λ objects. object_reach };
+
+    ghost leaves = { λ objects. object_rule_leaves (C.object_rule objects.check) objects.whole };
 
     fn check_line<R: BufRead, W: Write>(
         self,
@@ -72,7 +74,7 @@ fn check_and_close<C: ObjectCheck, R: BufRead, W: Write>(
     buffers: &mut Buffers,
 ) -> Result<Result<bool, Fault>, RunError>
     ensures gives { IfSome (R.remaining input.old) (λ text.
-        Gives (with_rest (object_step (C.object_rule check) (as_object object.entry) text) text)
+        FollowsRule (object_step (C.object_rule check) (as_object object.entry) text)
         (R.remaining input.new) (W.contents output.old) (W.contents output.new) result) }
     ensures within { IfOk result (λ _. ReadsUpTo (object.entry.size + 1) (R.remaining input.old) (R.remaining input.new)) }
 {
@@ -119,19 +121,10 @@ pub fn run<C: ObjectCheck, R: BufRead, W: Write>(
     input: &mut R,
     output: &mut W,
 ) -> Result<Verdict, RunError>
-    ensures verdict { IfOk result (λ verdict. IfSome (R.remaining input.old) (λ text.
-        Appends (W.contents output.old) (W.contents output.new) (object_report (C.object_rule check) whole text).said.lines
-        × (verdict ≡ verdict_of (object_report (C.object_rule check) whole text)))) }
+    ensures runs { Runs (object_report (C.object_rule check) whole) object_reach (R.remaining input.old) (R.remaining input.new)
+        (W.contents output.old) (W.contents output.new) result }
     ensures clean { IfOk result (λ verdict. IfSome (R.remaining input.old) (λ text.
-        IsCleanIfAccepted (C.object_rule check) whole verdict text)) }
-    ensures end { IfOk result (λ verdict. is_malformed verdict ≡ false
-        → OnSome (R.remaining input.old) (IsAtEnd (R.remaining input.new))) }
-    ensures spent { IfOk result (λ verdict. is_malformed verdict ≡ false
-        → IfSome (R.remaining input.old) (λ _. R.remaining input.new ≡ Some [])) }
-    ensures within { IfOk result (λ verdict. is_malformed verdict ≡ true
-        → IfSome (R.remaining input.old) (StopsWithin (object_rule (C.object_rule check) whole) object_reach (R.remaining input.new))) }
-    ensures stopped { OnErr result (IfSome (R.remaining input.old) (λ text.
-        Begins (W.contents output.old) (W.contents output.new) (object_report (C.object_rule check) whole text).said.lines)) }
+        IsCleanIff (C.object_rule check) whole verdict text)) }
     ensures spelled { IsReportedInOrder (C.object_rule check) whole }
     ensures well_formed { IsWellFormedOnlyIfSpelled (C.object_rule check) whole }
     ensures whole { IsWholeStream (C.object_rule check) whole }

@@ -1,18 +1,14 @@
-//! Output: quoted names, ids in hexadecimal digits, and whole lines.
+//! Output: quoted names, and ids in hexadecimal digits.
 //!
 //! The library quotes names in its errors with a private type. [`push_quoted`] is proved against
 //! the same definition, `quoted`. The Rust crate has no public type for this, so the library has
 //! none.
 
-ghost use Rattle.std.specs.Prelude.{◌≡◌, ◌++◌, flat_map, IfErr, OnOk, OnErr};
-ghost use Rattle.std.specs.Io.KnownBytes.{Appends};
+ghost use Rattle.std.specs.Prelude.{◌≡◌, ◌++◌, flat_map, OnOk};
 ghost use Rattle.gix_validate.specs.Quoted.{escape_of, quoted};
 ghost use Rattle.streams.specs.Texts.{hex_pair};
-ghost use Rattle.streams.specs.Promises.{Begins};
 
-use crate::outcome::RunError;
 use std::alloc::AllocError;
-use std::io::{ErrorKind, Write};
 
 const HEX_DIGITS: &[u8; 16] = b"0123456789abcdef";
 
@@ -74,30 +70,4 @@ fn push_escape(line: &mut Vec<u8>, byte: u8) -> Result<(), AllocError>
             HEX_DIGITS[usize::from(byte % 16)],
         ]),
     }
-}
-
-/// Writes all of the bytes. It does not allocate.
-///
-/// # Errors
-///
-/// [`RunError::Write`] if writing failed. What was written then is the beginning of the bytes.
-#[inline(never)]
-pub fn write_whole<W: Write>(bytes: &[u8], output: &mut W) -> Result<(), RunError>
-    ensures ok { OnOk result (Appends (W.contents output.old) (W.contents output.new) bytes.now) }
-    ensures err { OnErr result (Begins (W.contents output.old) (W.contents output.new) bytes.now) }
-    ensures stop { IfErr result (λ stop. stop ≡ RunError.Write) }
-{
-    let mut written = 0;
-    for _ in 0..u64::MAX {
-        if written >= bytes.len() {
-            return Ok(());
-        }
-        match output.write(&bytes[written..]) {
-            Ok(0) => return Err(RunError::Write),
-            Ok(count) => written += count,
-            Err(e) if e.kind() == ErrorKind::Interrupted => {}
-            Err(_) => return Err(RunError::Write),
-        }
-    }
-    Err(RunError::Write)
 }

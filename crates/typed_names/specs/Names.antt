@@ -22,8 +22,8 @@ component_bytes component = bstr_bytes (component_text component)
 
 -- A validator's answer, by its rule of faults, as a typed name: where the text has no fault, the name keeps
 -- that very text; otherwise the fault is given.
-abbrev pub Keeps : {Name E : Type 0} → (Name → BStr) → (List ℕ → Option E) → BStr → Result Name E → Type 0
-Keeps kept fault text result =
+abbrev pub NewChecks : {Name E : Type 0} → (Name → BStr) → (List ℕ → Option E) → BStr → Result Name E → Type 0
+NewChecks kept fault text result =
     MatchResult result
     (λ name. (fault (bstr_bytes text) ≡ None) × (kept name ≡ text))
     (λ e. fault (bstr_bytes text) ≡ Some e)

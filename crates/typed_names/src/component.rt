@@ -26,7 +26,7 @@ pub struct Component<'a> {
 }
 
 impl<'a> Component<'a> {
-    ghost use Rattle.typed_names.specs.Names.{component_text, Keeps};
+    ghost use Rattle.typed_names.specs.Names.{component_text, NewChecks};
 
     /// Keeps `name` if [`path::component`] accepts it under this mode and these options.
     ///
@@ -44,7 +44,7 @@ impl<'a> Component<'a> {
         mode: Option<ComponentMode>,
         options: ComponentOptions,
     ) -> Result<Component<'a>, ComponentError>
-        ensures answer { Keeps component_text (fault_of options mode) name.entry result }
+        ensures answer { NewChecks component_text (fault_of options mode) name.entry result }
         ensures grammar { IsOk result ↔ IsTrue (is_component options mode (bstr_bytes name.entry)) }
     {
         Ok(Component {

@@ -75,7 +75,7 @@ pub type BranchName<'a> = Name<'a, Branch>;
 pub type SubmoduleName<'a> = Name<'a, Submodule>;
 
 impl<'a, R: Rule> Name<'a, R> {
-    ghost use Rattle.typed_names.specs.Names.{name_text, Keeps};
+    ghost use Rattle.typed_names.specs.Names.{name_text, NewChecks};
 
     /// Returns `name` as a typed name if the rule accepts it. It does not allocate.
     ///
@@ -88,7 +88,7 @@ impl<'a, R: Rule> Name<'a, R> {
     ///
     /// The error that [`Rule::check`] returns.
     pub fn new(name: BStr<'a>) -> Result<Name<'a, R>, R::Fault>
-        ensures answer { Keeps name_text R.fault_of name.entry result }
+        ensures answer { NewChecks name_text R.fault_of name.entry result }
         ensures grammar { IsOk result ↔ IsTrue (R.is_name (bstr_bytes name.entry)) }
     {
         Ok(Name {

@@ -1,18 +1,19 @@
 -- Lanes of suspect bytes: what one look at sixteen pairs says, and what looks at all pairs of a text say together.
-use Rattle.std.proofs.Common.{◌≡◌, ℕ, ◌+◌, ◌-◌, ◌/◌, ◌%◌, ◌<◌, ◌≤◌, ◌↔◌, Bool, true, false, not, ◌&&◌, ◌||◌, cond, List, [], ◌∷◌, map, length}
-use Rattle.std.proofs.Common.{get_or, replicate, bit_and, bit_xor, ltb, w8, refl, sym, ap, ap₂, ◌∙◌, arith}
+use Rattle.std.proofs.Common.{◌≡◌, ℕ, ◌-◌, ◌/◌, ◌%◌, ◌<◌, ◌↔◌, Bool, true, false, ◌&&◌, ◌||◌, cond, List, [], ◌∷◌, map, length}
+use Rattle.std.proofs.Common.{get_or, replicate, bit_and, bit_xor, ltb, w8, refl, ap, ap₂, ◌∙◌, arith}
 use Rattle.std.proofs.lemmas.Bool.{agree_below_at, ltb-true}
-use Rattle.std.proofs.lemmas.Simd.{zip2_splat, splat_is_map, zip2_of_maps, map-map, get_or-chunk, swz_l, SwzOk}
+use Rattle.std.proofs.lemmas.Simd.{zip2_splat, splat_is_map, zip2_of_maps, map-map, swz_l, SwzOk}
 use Rattle.std.specs.Prelude.{codes, ◌==◌, if◌then◌else◌}
 use Rattle.std.specs.Str.{byte}
-use lib.Lanes.{zip2, sel_l, chunk, top}
+use lib.Lanes.{zip2, sel_l, top}
 use Rattle.gix_validate.specs.declared.adjacent.TheConstants.{CLASSES_BY_LOW_NIBBLE, CLASSES_BY_HIGH_NIBBLE, SUSPECT_BEHIND, BEHIND_DOT, BEHIND_SLASH}
 use Rattle.gix_validate.specs.declared.adjacent.TheConstants.{ANYWHERE}
 use Rattle.gix_validate.specs.Bytes.{is_bad, is_among, ends}
-use Rattle.gix_validate.specs.Private.Lanes.{HasParts, place_of, is_nonzero}
-use Rattle.gix_validate.specs.Private.Adjacent.{is_suspect, NoneBetween, IsClear}
+use Rattle.gix_validate.specs.Private.TagWalk.{may_be_faulty}
+use Rattle.gix_validate.specs.Private.Lanes.{is_nonzero}
+use Rattle.gix_validate.specs.Private.Adjacent.{is_suspect, IsClear}
+use Rattle.gix_validate.specs.Private.Scan.{NoneBelow, at_pair}
 use Rattle.gix_validate.proofs.Blocks.Lanes.{IsBlock, lane_fits, same_bytes, may_look, looked_up, lane_of}
-use Rattle.gix_validate.proofs.Blocks.Parts.{AreAll, all_places}
 use Rattle.std.proofs.lemmas.Bool.Decides.{nat_tests}
 
 -- ---- one look
@@ -88,58 +89,13 @@ suspect_lane before bytes classes behind ba bb ek eb =
     lane_of is_nonzero class classes_behind bytes before classes behind (bb.0, ba.0) ek eb (λ b a. is_suspect a b) (λ k.
     suspect_tabled (get_or before k 0 == byte ".") (get_or before k 0 == byte "/") (get_or bytes k 0) (lane_fits bytes k bb.1))
 
--- ---- from lanes to places
-
--- whether the byte behind this place is suspect
-abbrev pair : List ℕ → ℕ → Bool
-pair x j = is_suspect (get_or x j 0) (get_or x (j + 1) 0)
-
--- a lane and its place
-pub block_lane : (x : List ℕ) (at : ℕ) → at + 17 ≤ length x → (k : ℕ) → k < 16
-    → is_suspect (get_or (chunk at 16 x) k 0) (get_or (chunk (at + 1) 16 x) k 0) ≡ pair x (at + k)
-block_lane x at room k h = ap₂ is_suspect (get_or-chunk at 16 x k 0 h) (get_or-chunk (at + 1) 16 x k 0 h ∙ ap (λ j. get_or x j 0) (omega arith))
-
--- Sixteen lanes without a suspect byte are as many places of the text, from this one on, without one.
-pub block_places : (x : List ℕ) (at : ℕ) → at + 17 ≤ length x
-    → ((k : ℕ) → k < 16 → is_suspect (get_or (chunk at 16 x) k 0) (get_or (chunk (at + 1) 16 x) k 0) ≡ false) ↔ NoneBetween x at (at + 17)
-block_places x at room =
-    let lane = block_lane x at room in (
-      λ z k from to. ap (pair x) (omega arith) ∙ sym (lane (k - at) (omega arith)) ∙ z (k - at) (omega arith),
-      λ s k h. lane k h ∙ s (at + k) (omega arith) (omega arith),
-    )
-
--- The first n bytes and the last n, each with the byte before it, are all of them.
-pub all_pairs : (n : ℕ) (x before bytes : List ℕ) → AreAll n (length x - n - 1) (length x - 1)
-    → HasParts n 0 (length x - n - 1) x before → HasParts n 1 (length x - n) x bytes
-    → ((k : ℕ) → k < 16 → is_suspect (get_or before k 0) (get_or bytes k 0) ≡ false) ↔ NoneBetween x 0 (length x)
-all_pairs n x before bytes all ps qs =
-    let back = length x - n - 1 in
-    let law = all_places n (length x - 1) back (pair x) all in
-    let next : (k : ℕ) → place_of n 1 (length x - n) k ≡ place_of n 0 back k + 1 = λ k. grind (arith, nat_tests) in
-    let lane : (k : ℕ) → k < 16 → is_suspect (get_or before k 0) (get_or bytes k 0) ≡ pair x (place_of n 0 back k) =
-    λ k h. ap₂ is_suspect (ps k h) (qs k h ∙ ap (λ j. get_or x j 0) (next k)) in (
-      λ z k from to. law.0 (λ k h. sym (lane k h) ∙ z k h) k (omega arith),
-      λ s k h. lane k h ∙ law.1 (λ j within. s j (omega arith) (omega arith)) k h,
-    )
-
 suspect_regrouped : (w s d l c : Bool) → (w || (s || (d || (l || (c || false))))) ≡ ((w || (s || (c || false)) || (true && (d || (l || false)))) || false)
 suspect_regrouped w s d l c = grind arith
-
--- An `l` is suspect exactly behind a dot.
-pub suspect_letter : (a b : ℕ) → b ≡ byte "l" → (a == byte ".") ≡ is_suspect a b
-unfolding is_suspect is_bad
-suspect_letter a b e = grind arith
-
--- Any other byte is suspect where it may be faulty, and a dot or a slash only behind a dot or a slash.
-pub suspect_other : (a b : ℕ) → (b ≡ byte "l" → ⊥)
-    → ((is_bad b || is_among (codes "*./{") b) && (not (is_among (codes "./") b) || is_among (codes "./") a)) ≡ is_suspect a b
-unfolding is_suspect is_bad
-suspect_other a b letter = grind (arith, nat_tests)
 
 -- A text that has a byte is clear just where these three looks find nothing.
 pub clear_by_looks : (x : List ℕ) → 0 < length x
     → IsClear x
-    ↔ (((is_bad (get_or x 0 0) || is_among (codes "*./{") (get_or x 0 0)) ≡ false)
-    × ((ends x (codes ".") || ends x (codes "/")) ≡ false) × NoneBetween x 0 (length x))
+    ↔ ((may_be_faulty (get_or x 0 0) ≡ false)
+    × ((ends x (codes ".") || ends x (codes "/")) ≡ false) × NoneBelow (at_pair is_suspect x) (length x - 1))
 unfolding is_suspect
 clear_by_looks x some = grind (arith, nat_tests, suspect_regrouped)

@@ -1,22 +1,20 @@
 -- The classes of the bytes of a name: by two tables, by blocks that overlap, and what they say under each mask.
-use Rattle.std.proofs.Common.{◌≡◌, ℕ, suc, ◌/◌, ◌%◌, ◌<◌, Bool, true, not, ◌||◌, eqb, List, [], ◌∷◌, map, length}
+use Rattle.std.proofs.Common.{◌≡◌, ℕ, suc, ◌/◌, ◌%◌, ◌<◌, ◌≤◌, Bool, true, not, ◌||◌, eqb, List, [], ◌∷◌, map, length}
 use Rattle.std.proofs.Common.{get_or, replicate, bit_and, bit_or, refl, sym, ap, ap₂, ◌∙◌, arith, w8, Fits}
 use Rattle.std.specs.List.{list_any}
-use Rattle.std.specs.Prelude.{codes}
-use Rattle.gix_validate.specs.Bytes.{is_among}
-use Rattle.std.proofs.lemmas.Bool.{agree_below, agree_below_at}
+use Rattle.std.proofs.lemmas.Bool.{agree_below, agree_below_at, true≢false}
 use Rattle.std.proofs.lemmas.Nat.Bits.{bit_at_and, bit_at_or, same_from_bits}
 use Rattle.std.proofs.lemmas.Nat.{le_or_l}
 use Rattle.std.proofs.lemmas.Simd.{zip2_splat}
 use Rattle.std.proofs.lemmas.List.{length-map}
-use lib.Lanes.{zip2, Each1, fold_l}
+use lib.Lanes.{zip2, Each1}
 use Rattle.gix_validate.proofs.Blocks.Parts.{AreAll, parts_cover, AreShort, both_cover}
 use Rattle.gix_validate.specs.Private.Lanes.{HasParts, is_nonzero}
 use Rattle.gix_validate.proofs.Blocks.Lanes.{same_bytes}
 use Rattle.gix_validate.specs.declared.path.classes.TheConstants.{BY_LOW_NIBBLE, BY_HIGH_NIBBLE}
 use Rattle.gix_validate.specs.Windows.{is_illegal_byte}
-use Rattle.gix_validate.specs.Private.Ordinary.{is_classed, is_lead}
-use Rattle.gix_validate.specs.Private.Classes.{class_of, any_class, has_class, HaveClassesOf, Describes, MayHave}
+use Rattle.gix_validate.specs.Private.Ordinary.{is_classed}
+use Rattle.gix_validate.specs.Private.Classes.{class_of, any_class, has_class, HaveClassesOf, Sees}
 use Rattle.gix_validate.specs.declared.path.classes.TheConstants.{SLASH, BACKSLASH, ILLEGAL, LEAD, ANY}
 use Rattle.std.proofs.lemmas.Bool.Decides.{nat_tests}
 
@@ -88,50 +86,29 @@ tells : (mask : ℕ) (q : ℕ → Bool) (classes x : List ℕ) → ((i : ℕ) �
 tells mask q classes x fit have same =
     have mask ∙ any_is mask x ∙ bytes_alike (has_class mask) q x fit (λ b h. agree_below_at (has_class mask) q 256 b same h)
 
-pub classes_describe : (classes x : List ℕ) → ((i : ℕ) → Fits w8 (get_or x i 0)) → HaveClassesOf classes x → Describes classes x
+pub classes_seen : (classes x : List ℕ) → 1 ≤ length x → ((i : ℕ) → Fits w8 (get_or x i 0)) → HaveClassesOf classes x → Sees classes x
 unfolding class_of is_illegal_byte is_classed
-classes_describe classes x fit have = record {
-  slash = tells SLASH _ classes x fit have refl;
-  backslash = tells BACKSLASH _ classes x fit have refl;
-  illegal = tells ILLEGAL _ classes x fit have refl;
-  lead = tells LEAD _ classes x fit have refl;
-  classed = tells ANY _ classes x fit have refl;
+classes_seen classes x some fit have = record {
+  some = λ _. some;
+  classed = λ none. sym (tells ANY _ classes x fit have refl) ∙ none;
+  illegal = λ none. sym (tells ILLEGAL _ classes x fit have refl) ∙ none;
+  lead = λ none. sym (tells LEAD _ classes x fit have refl) ∙ none;
+  slash = λ _ _. tells SLASH _ classes x fit have refl;
+  backslash = λ _ _. tells BACKSLASH _ classes x fit have refl;
 }
 
-pub classed_is : (x : List ℕ) → ((i : ℕ) → Fits w8 (get_or x i 0)) → list_any (has_class ANY) x ≡ list_any is_classed x
-unfolding class_of is_illegal_byte is_classed
-classed_is x fit = bytes_alike (has_class ANY) is_classed x fit (λ b h. agree_below_at (has_class ANY) is_classed 256 b refl h)
-
--- An illegal byte in front is one for which a condition asks.
-pub illegal_in_front : (x : List ℕ) → 0 < length x → is_illegal_byte (get_or x 0 0) ≡ true → list_any is_classed x ≡ true
-unfolding is_classed
-illegal_in_front [] some illegal = absurd (omega arith)
-illegal_in_front (b ∷ x) some illegal = ap (λ t. (t || (is_among (codes "/\\~") b || is_lead b)) || list_any is_classed x) illegal
+-- what is seen of a name that isn't short
+pub nothing_seen : (x : List ℕ) → (1 ≤ length x → length x ≤ 64 → ⊥) → Sees (replicate 16 ANY) x
+unfolding any_class
+nothing_seen x other = record {
+  some = λ none. absurd (true≢false none);
+  classed = λ none. absurd (true≢false none);
+  illegal = λ none. absurd (true≢false none);
+  lead = λ none. absurd (true≢false none);
+  slash = λ some short. absurd (other some short);
+  backslash = λ some short. absurd (other some short);
+}
 
 pub illegal_is : (x : List ℕ) → ((i : ℕ) → Fits w8 (get_or x i 0)) → list_any (has_class ILLEGAL) x ≡ list_any is_illegal_byte x
 unfolding class_of is_illegal_byte
 illegal_is x fit = bytes_alike (has_class ILLEGAL) is_illegal_byte x fit (λ b h. agree_below_at (has_class ILLEGAL) is_illegal_byte 256 b refl h)
-
--- ---- all classes as one
-
-has_or : (mask a b : ℕ) → not (eqb (bit_and (bit_or a b) mask) 0) ≡ (not (eqb (bit_and a mask) 0) || not (eqb (bit_and b mask) 0))
-has_or mask a b = grind (arith, nat_tests, and_or, le_or_l)
-
-any_folded : (mask a : ℕ) (v : List ℕ) → not (eqb (bit_and (fold_l bit_or a v) mask) 0) ≡ (not (eqb (bit_and a mask) 0) || any_class mask v)
-unfolding any_class
-any_folded mask a [] = grind arith
-any_folded mask a (b ∷ v) = grind (arith, has_or, any_folded mask (bit_or a b) v)
-
-any_one : (mask : ℕ) (v : List ℕ) → any_class mask (fold_l bit_or 0 v ∷ []) ≡ any_class mask v
-unfolding any_class
-any_one mask v = grind (arith, any_folded mask 0 v)
-
-pub suspects_are : (v x : List ℕ) → Describes v x → MayHave (fold_l bit_or 0 v) x
-suspects_are v x says = record {
-  illegal = λ h. sym says.illegal ∙ sym (any_one ILLEGAL v) ∙ h;
-  lead = λ h. sym says.lead ∙ sym (any_one LEAD v) ∙ h;
-}
-
-pub any_may : (x : List ℕ) → MayHave ANY x
-unfolding any_class
-any_may x = record { illegal = λ h. absurd (grind arith); lead = λ h. absurd (grind arith) }

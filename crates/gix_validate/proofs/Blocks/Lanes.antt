@@ -11,7 +11,6 @@ use Rattle.std.proofs.lemmas.Simd.{swz_l, SwzOk, SwzOk-from_below, length-swz_l,
 use Rattle.std.specs.List.{list_any}
 use lib.Lanes.{zip2, chunk, mask_l, top, Each1}
 use Rattle.gix_validate.specs.Private.Lanes.{is_nonzero}
-use Rattle.gix_validate.proofs.Blocks.Parts.{none_at}
 
 -- sixteen lanes of bytes
 abbrev pub IsBlock : List ℕ → Type 0
@@ -126,7 +125,8 @@ lane_of p f g v w left right long el er r is k h =
 
 -- The mask of the lanes that pass a test of each of two vectors.
 pub both_mask : (s t : ℕ → ℕ → Bool) (v w : List ℕ) (b c : ℕ) → length v ≡ 16 → length w ≡ 16
-    → let mask = mask_l (map (top 7) (zip2 bit_and (zip2 (λ x y. cond (s x y) 255 0) v (replicate 16 b)) (zip2 (λ x y. cond (t x y) 255 0) w (replicate 16 c)))) % 2 ^ 64 in
+    → let mask = mask_l (map (top 7) (zip2 bit_and (zip2 (λ x y. cond (s x y) 255 0) v (replicate 16 b))
+    (zip2 (λ x y. cond (t x y) 255 0) w (replicate 16 c)))) % 2 ^ 64 in
     (mask < 2 ^ 16) × ((k : ℕ) → k < 16 → bit_at mask k ≡ cond (s (get_or v k 0) b && t (get_or w k 0) c) 1 0)
 both_mask s t v w b c lv lw =
     let left = zip2 (λ x y. cond (s x y) 255 0) v (replicate 16 b) in
@@ -173,24 +173,6 @@ only_two x i b c room =
 
     none_of : (a d b c : ℕ) → a ≡ d → (eqb d b || eqb d c) ≡ true → (not (eqb a b) && not (eqb a c)) ≡ false
     none_of a d b c e h = grind arith
-
--- the same where no lane passes
-pub no_lane : (p : ℕ → Bool) (f g : ℕ → ℕ) (v w left right : List ℕ) → (length v ≡ 16) × (length w ≡ 16) → left ≡ map f v → right ≡ map g w
-    → (r : ℕ → ℕ → Bool) → ((k : ℕ) → p (bit_and (f (get_or v k 0)) (g (get_or w k 0))) ≡ r (get_or v k 0) (get_or w k 0))
-    → (list_any p (zip2 bit_and left right) ≡ false) ↔ ((k : ℕ) → k < 16 → r (get_or v k 0) (get_or w k 0) ≡ false)
-no_lane p f g v w left right long el er r is =
-    let ll : length left ≡ 16 = ap length el ∙ length-map v f ∙ long.0 in
-    let lr : length right ≡ 16 = ap length er ∙ length-map w g ∙ long.1 in
-    let both : length (zip2 bit_and left right) ≡ 16 = length-zip2 bit_and left right (ll ∙ sym lr) ∙ ll in
-    let lane = lane_of p f g v w left right long el er r is in
-    let law = none_at p (zip2 bit_and left right) in (
-      λ e k h. sym (lane k h) ∙ law.0 e k (omega arith),
-      λ none. law.1 (λ k h. lane k (omega arith) ∙ none k (omega arith)),
-    )
-
--- whether the mask of top bits is empty, in place of whether some lane has one
-pub mask_of : (v : List ℕ) → length v ≡ 16 → not (eqb (mask_l (map (top 7) v) % 2 ^ 64) 0) ≡ list_any (top 7) v
-mask_of v long = ap (λ n. not (eqb n 0)) (mask_l-mod (map (top 7) v) 64 (omega (arith, length-map v (top 7)))) ∙ any_bit (top 7) v
 
 -- whether a lane passes one of two tests
 pub any_of_two : (p q : ℕ → Bool) (v : List ℕ) → list_any (λ b. p b || q b) v ≡ (list_any p v || list_any q v)

@@ -1,13 +1,11 @@
 -- Device forms: which text ends one, and which names have the form of a device's name.
 use Rattle.std.proofs.Common.{◌≡◌, ℕ, ◌+◌, ◌-◌, ◌%◌, ◌<◌, ◌≤◌, bit_and, Bool, true, false, ◌&&◌, ◌||◌, cond, eqb, List, [], ◌∷◌, ◌++◌, length, drop, get_or}
 use Rattle.std.proofs.Common.{refl, sym, ap, ◌∙◌, arith, codes}
-use Rattle.std.specs.Prelude.{IsTrue, ◌==◌, map, nat_le, nat_lt}
+use Rattle.std.specs.Prelude.{IsTrue, ◌==◌, map, nat_le}
 use Rattle.std.specs.List.{list_all, list_any}
 use Rattle.std.specs.Str.{byte, bytes_eq}
 use Rattle.std.proofs.lemmas.Bool.Decides.{nat_tests}
-use Rattle.std.proofs.lemmas.Bool.{agree_below_at}
 use Rattle.std.proofs.lemmas.Slice.Eq.{bytes_eq-Decides}
-use Rattle.std.proofs.lemmas.Nat.{and_assoc}
 use Rattle.std.proofs.Math.Bool.{or-false}
 use Rattle.std.proofs.lemmas.Grind.{common_steps}
 use Rattle.std.proofs.lemmas.List.{get_or-drop, drop-drop, take_all, length-drop, length-map}
@@ -15,7 +13,7 @@ use Rattle.gix_validate.specs.Bytes.{is_empty, is_among, lower, lower_byte, begi
 use Rattle.gix_validate.specs.Ntfs.{is_digit}
 use Rattle.gix_validate.specs.Windows.{device_form, devices, is_device, is_device_form}
 use Rattle.gix_validate.specs.Private.Forms.{stays_in_form}
-use Rattle.gix_validate.specs.declared.path.windows.TheConstants.{BY_FIRST, BY_SECOND, BY_THIRD, BY_LENGTH, DEVICES, DOT_GIT}
+use Rattle.gix_validate.specs.declared.path.windows.TheConstants.{BY_FIRST, BY_SECOND, BY_THIRD, DEVICES, DOT_GIT}
 use Rattle.gix_validate.proofs.Texts.Words.{device_keeps, word_head, none_left, form_left, form_all_left, form_word}
 
 abbrev pub is_device_cut : ℕ → Bool
@@ -135,17 +133,13 @@ no_word : (x : List ℕ) (l m n : ℕ) → is_word (l ∷ m ∷ n ∷ []) ≡ tr
 unfolding are_letters is_small
 no_word x l m n is none some = grind (arith, nat_tests)
 
-no_stem : (x : List ℕ) → bit_and (bits_of x) DEVICES ≡ 0 → is_device x ≡ false
+pub no_stem : (x : List ℕ) → bit_and (bits_of x) DEVICES ≡ 0 → is_device x ≡ false
 unfolding bits is_small
 no_stem x none =
     grind (arith, device_by_letters, no_word)
 
 pub device_no_word : (x : List ℕ) → bits_of x ≡ 0 → is_device x ≡ false
 device_no_word x none = no_stem x (ap (λ n. bit_and n DEVICES) none)
-
-no_stem_masked : (x : List ℕ) (mask : ℕ) → bit_and (bits_of x) mask ≡ 0 → bit_and mask DEVICES ≡ DEVICES → is_device x ≡ false
-no_stem_masked x mask none all =
-    no_stem x (ap (bit_and (bits_of x)) (sym all) ∙ sym (and_assoc DEVICES (bits_of x) mask) ∙ ap (λ n. bit_and n DEVICES) none)
 
 -- the front of `.git` has its bit
 low_bits : (b l : ℕ) → lower_byte b ≡ l → b % 32 ≡ l % 32
@@ -170,24 +164,20 @@ front_bits (a ∷ b ∷ c ∷ x) rest e = let same = three_letters a b c x rest 
 same_length : (x word : List ℕ) → bytes_eq (lower x) word ≡ true → length x ≡ length word
 same_length x word e = grind (arith, bytes_eq-Decides, length-map)
 
-not_front : (x rest : List ℕ) → bit_and (bits_of x) (get_or BY_LENGTH (length x) 0) ≡ 0
-    → bit_and DOT_GIT (get_or BY_LENGTH (length (byte "." ∷ byte "g" ∷ byte "i" ∷ rest)) 0) ≡ DOT_GIT
-    → bytes_eq (lower x) (byte "." ∷ byte "g" ∷ byte "i" ∷ rest) ≡ false
-not_front x rest none some = grind (arith, front_bits, same_length)
+pub git_bits : (x : List ℕ) → bits_of x ≡ 0 → bytes_eq (lower x) (codes ".git") ≡ false
+git_bits x none = grind (arith, nat_tests, front_bits x (codes "t"))
 
--- a short name for whose length and front the tables have no bit
-long_enough : ℕ → Bool
-long_enough n = nat_lt n 3 || eqb (bit_and (get_or BY_LENGTH n 0) DEVICES) DEVICES
+pub modules_bits : (x : List ℕ) → bits_of x ≡ 0 → bytes_eq (lower x) (codes ".gitmodules") ≡ false
+modules_bits x none = grind (arith, nat_tests, front_bits x (codes "tmodules"))
 
-pub no_special : (x : List ℕ) → length x ≤ 64 → bit_and (bits_of x) (get_or BY_LENGTH (length x) 0) ≡ 0
-    → (is_device x ≡ false) × (bytes_eq (lower x) (codes ".git") ≡ false) × (bytes_eq (lower x) (codes ".gitmodules") ≡ false)
-unfolding long_enough
-no_special x short none =
-    let enough = agree_below_at long_enough (λ _. true) 65 (length x) refl (omega arith) in
-    (device enough, not_front x (codes "t") none refl, not_front x (codes "tmodules") none refl)
-  where
-    device : long_enough (length x) ≡ true → is_device x ≡ false
-    device enough = grind (arith, nat_tests, device_short, no_stem_masked)
+pub no_tiny_git : (x : List ℕ) → length x < 3 → bytes_eq (lower x) (codes ".git") ≡ false
+no_tiny_git x tiny = grind (arith, nat_tests, same_length x (codes ".git"))
+
+pub no_tiny_modules : (x : List ℕ) → length x < 3 → bytes_eq (lower x) (codes ".gitmodules") ≡ false
+no_tiny_modules x tiny = grind (arith, nat_tests, same_length x (codes ".gitmodules"))
+
+-- what the tables say of a device, of `.git` and of `.gitmodules`
+pub ruleset special_bits = (nat_tests, device_short, no_stem, device_no_word, git_bits, modules_bits, no_tiny_git, no_tiny_modules)
 
 digit_first : (x set : List ℕ) → list_all is_digit set ≡ true
     → is_any (digits set) x ≡ (list_any (eqb (get_or x 0 0)) set && is_empty (device_form (drop 1 x)))

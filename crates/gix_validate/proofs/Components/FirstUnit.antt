@@ -54,27 +54,6 @@ pub unit_of_none : (x : List ℕ) → length x < 1 → first_unit_len x ≡ 1
 unfolding first_unit_len whole_sequences
 unit_of_none x none = grind arith
 
--- each row has a range, and none has this byte as its second
-abbrev is_never_second : List Row → ℕ → Bool
-is_never_second [] c = true
-is_never_second ([] ∷ rows) c = false
-is_never_second ((range ∷ []) ∷ rows) c = is_never_second rows c
-is_never_second ((range ∷ next ∷ row) ∷ rows) c = cond (is_within next c) false (is_never_second rows c)
-
-rows_before : (rows : List Row) (b c : ℕ) (x : List ℕ) → is_never_second rows c ≡ true
-    → unwrap_or (whole_len rows (b ∷ c ∷ x)) (max 1 (begun_len rows (b ∷ c ∷ x))) ≡ 1
-rows_before [] b c x never = grind arith
-rows_before ([] ∷ rows) b c x never = grind arith
-rows_before ((range ∷ []) ∷ rows) b c x never = grind (arith, rows_before rows b c x)
-rows_before ((range ∷ next ∷ row) ∷ rows) b c x never = grind (arith, rows_before rows b c x)
-
--- a colon is part of no longer sequence: the unit in front of it is one byte
-pub unit_before_colon : (x : List ℕ) → get_or x 1 0 ≡ byte ":" → first_unit_len x ≡ 1
-unfolding first_unit_len whole_sequences
-unit_before_colon [] colon = refl
-unit_before_colon (b ∷ []) colon = grind arith
-unit_before_colon (b ∷ c ∷ x) colon = rw colon (rows_before whole_sequences b (byte ":") x refl)
-
 pub ruleset by_row = (nat_tests, unit_by_row, unit_of_one, unit_of_none)
 
 -- nothing is left of a text past its end

@@ -17,7 +17,7 @@ use Rattle.gix_validate.specs.Hfs.{is_ignored, hfs_form}
 use Rattle.gix_validate.specs.Ntfs.{ntfs_form, is_git_form, is_modules_form}
 use Rattle.gix_validate.specs.Windows.{device_form, is_device_form, is_device, is_illegal_byte, is_illegal}
 use Rattle.gix_validate.specs.Component.{conditions, fault_of, is_component}
-use Rattle.gix_validate.specs.ComponentLaws.{HasOnlySwitchesOf, PassesFewer, FaultIgnoresCase, FormIsKeptUnits}
+use Rattle.gix_validate.specs.ComponentLaws.{HasOnlySwitchesOf, IsValidUnderFewerSwitches, FaultIgnoresCase, FormIsKeptUnits}
 use Rattle.gix_validate.specs.ComponentLaws.{IsBasicName, DeviceIgnoresCase, DeviceGoesByForm}
 use Rattle.gix_validate.proofs.Components.HfsForm.{hfs_form-units}
 use Rattle.gix_validate.proofs.Texts.LetterCase.{test-lower_byte, lower-lower, list_any-lower, bytes_eq-lower}
@@ -129,7 +129,7 @@ unfolding conditions fault_of
 none_under_fewer options fewer mode other part less x none = grind (arith, git_forms, modules_forms)
 
 -- What is accepted is accepted under fewer switches, and without the mode.
-pub fewer_law : (options : ComponentOptions) (mode : Option ComponentMode) (x : List ℕ) → fault_of options mode x ≡ None → PassesFewer options mode x
+pub fewer_law : (options : ComponentOptions) (mode : Option ComponentMode) (x : List ℕ) → fault_of options mode x ≡ None → IsValidUnderFewerSwitches options mode x
 unfolding fault_of
 fewer_law options mode x none =
     let lines = AllNone-from_first (conditions options mode x) none in

@@ -1,31 +1,27 @@
 -- Ordinary names: no condition but the one on devices refuses one.
-use Rattle.std.proofs.Common.{◌≡◌, ℕ, zero, suc, ◌-◌, ◌<◌, ◌≤◌, Bool, true, false, not, ◌&&◌, ◌||◌, eqb, Option, Some, None, List}
+use Rattle.std.proofs.Common.{◌≡◌, ℕ, zero, suc, ◌-◌, ◌<◌, ◌≤◌, Bool, true, false, not, ◌&&◌, ◌||◌, eqb, Option, None, List}
 use Rattle.std.proofs.Common.{[], ◌∷◌, ◌++◌, length, get_or, refl, ◌∙◌, arith, codes}
-use Rattle.std.specs.Prelude.{slice_index, is_some}
+use Rattle.std.specs.Prelude.{slice_index}
 use Rattle.std.specs.Bool.{◌==◌}
 use Rattle.std.specs.List.{list_any}
 use Rattle.std.specs.Str.{byte, bytes_eq}
 use Rattle.std.proofs.lemmas.Bool.{or_parts}
-use Rattle.std.proofs.lemmas.List.{length-map}
 use Rattle.std.proofs.lemmas.Slice.Eq.{bytes_eq-Decides}
-use Rattle.gix_validate.specs.declared.path.ComponentError.TheVariants.{Empty, Relative, PathSeparator, WindowsPathPrefix, WindowsReservedName, DotGitDir, SymlinkedGitModules}
+use Rattle.gix_validate.specs.declared.path.ComponentError.TheVariants.{WindowsReservedName}
 use Rattle.gix_validate.specs.declared.path.ComponentOptions.{ComponentOptions}
 use Rattle.gix_validate.specs.declared.path.ComponentMode.{ComponentMode}
-use Rattle.gix_validate.specs.Bytes.{is_among, is_empty, ends, lower}
+use Rattle.gix_validate.specs.Bytes.{is_among, ends, lower}
 use Rattle.gix_validate.specs.Faults.{when}
 use Rattle.gix_validate.specs.Units.{first_unit_len}
 use Rattle.gix_validate.specs.Ntfs.{ntfs_form, is_git_form, is_modules_form, is_short_name}
 use Rattle.gix_validate.specs.Windows.{is_device, is_illegal, is_illegal_byte}
 use Rattle.gix_validate.specs.Component.{conditions, fault_of}
 use Rattle.gix_validate.specs.Private.Ordinary.{is_lead, is_classed, has_ordinary_bytes}
-use Rattle.gix_validate.proofs.Components.Laws.{case_law}
-use Rattle.gix_validate.proofs.Texts.LetterCase.{list_any-lower, ends-lower}
+use Rattle.gix_validate.proofs.Texts.LetterCase.{list_any-lower}
 use Rattle.gix_validate.proofs.Texts.Endings.{ends_read}
-use Rattle.gix_validate.proofs.Components.FirstUnit.{unit_before_colon}
 use Rattle.gix_validate.proofs.Components.HfsForm.{hfs_form_same}
 use Rattle.std.proofs.lemmas.Bool.Decides.{nat_tests}
 use Rattle.gix_validate.proofs.Components.Forms.{form, form_at}
-use Rattle.gix_validate.proofs.OnLiterals.{components_on_literals}
 use Rattle.std.proofs.lemmas.List.Folds.{list_any_none}
 
 abbrev is_tilde : ℕ → Bool
@@ -115,105 +111,11 @@ pub ordinary_by_looks : (x : List ℕ)
 unfolding has_ordinary_bytes
 ordinary_by_looks x = grind arith
 
--- `.git` and `.gitmodules` have ordinary bytes
-empty-lower : (x : List ℕ) → is_empty (lower x) ≡ is_empty x
-empty-lower [] = refl
-empty-lower (b ∷ x) = refl
-
-ordinary-lower : (x : List ℕ) → has_ordinary_bytes (lower x) ≡ has_ordinary_bytes x
-unfolding has_ordinary_bytes is_classed is_illegal_byte
-ordinary-lower x = rw (empty-lower x, ends-lower (codes ".") refl x, ends-lower (codes " ") refl x, list_any-lower is_classed refl x) refl
-
-other_bytes : (x word : List ℕ) → has_ordinary_bytes x ≡ false → has_ordinary_bytes word ≡ true → bytes_eq (lower x) word ≡ false
-other_bytes x word other ordinary = grind (arith, bytes_eq-Decides, ordinary-lower)
-
-pub no_plain_git : (x : List ℕ) → has_ordinary_bytes x ≡ false → bytes_eq (lower x) (codes ".git") ≡ false
-unfolding has_ordinary_bytes is_classed is_illegal_byte
-no_plain_git x other = other_bytes x _ other refl
-
-pub no_plain_modules : (x : List ℕ) → has_ordinary_bytes x ≡ false → bytes_eq (lower x) (codes ".gitmodules") ≡ false
-unfolding has_ordinary_bytes is_classed is_illegal_byte
-no_plain_modules x other = other_bytes x _ other refl
-
--- nor is a name of another length one of them
-other_length : (x word : List ℕ) → eqb (length x) (length word) ≡ false → bytes_eq (lower x) word ≡ false
-other_length x word other = grind (arith, bytes_eq-Decides, length-map)
-
-pub no_long_git : (x : List ℕ) → 64 < length x → bytes_eq (lower x) (codes ".git") ≡ false
-no_long_git x long = other_length x _ (grind (arith, nat_tests))
-
-pub no_long_modules : (x : List ℕ) → 64 < length x → bytes_eq (lower x) (codes ".gitmodules") ≡ false
-no_long_modules x long = other_length x _ (grind (arith, nat_tests))
-
-pub no_tiny_git : (x : List ℕ) → length x < 3 → bytes_eq (lower x) (codes ".git") ≡ false
-no_tiny_git x tiny = other_length x _ (grind (arith, nat_tests))
-
-pub no_tiny_modules : (x : List ℕ) → length x < 3 → bytes_eq (lower x) (codes ".gitmodules") ≡ false
-no_tiny_modules x tiny = other_length x _ (grind (arith, nat_tests))
-
--- a name of three bytes is not `.` or `..`
-pub no_dots : (x : List ℕ) → 3 ≤ length x → (bytes_eq x (codes ".") || bytes_eq x (codes "..")) ≡ false
-no_dots x long = grind (arith, bytes_eq-Decides)
-
--- `.git` in any letter case
-pub git_fault : (options : ComponentOptions) (mode : Option ComponentMode) (x : List ℕ) → bytes_eq (lower x) (codes ".git") ≡ true
-    → fault_of options mode x ≡ Some DotGitDir
-unfolding components_on_literals
-git_fault options mode x git = grind (arith, case_law, bytes_eq-Decides)
-
--- `.gitmodules` in any letter case
-pub modules_fault : (options : ComponentOptions) (mode : Option ComponentMode) (x : List ℕ) → bytes_eq (lower x) (codes ".gitmodules") ≡ true
-    → fault_of options mode x ≡ when (is_some mode) SymlinkedGitModules
-unfolding components_on_literals
-modules_fault options mode x modules = grind (arith, case_law, bytes_eq-Decides)
-
-pub slash_fault : (options : ComponentOptions) (mode : Option ComponentMode) (x : List ℕ) → is_among x (byte "/") ≡ true
-    → fault_of options mode x ≡ Some PathSeparator
-unfolding conditions fault_of
-slash_fault options mode x slash = grind (arith, bytes_eq-Decides)
-
-pub empty_fault : (options : ComponentOptions) (mode : Option ComponentMode) (x : List ℕ) → length x ≡ 0 → fault_of options mode x ≡ Some Empty
-unfolding conditions fault_of
-empty_fault options mode [] none = refl
-empty_fault options mode (b ∷ x) none = absurd (omega arith)
-
-pub backslash_fault : (options : ComponentOptions) (mode : Option ComponentMode) (x : List ℕ) → options.protect_windows ≡ true
-    → is_among x (byte "\\") ≡ true → fault_of options mode x ≡ Some PathSeparator
-unfolding conditions fault_of
-backslash_fault options mode x windows slash = grind (arith, bytes_eq-Decides)
-
-pub relative_fault : (options : ComponentOptions) (mode : Option ComponentMode) (x : List ℕ) → (bytes_eq x (codes ".") || bytes_eq x (codes "..")) ≡ true
-    → fault_of options mode x ≡ Some Relative
-unfolding conditions fault_of
-relative_fault options mode x dots = grind (arith, bytes_eq-Decides)
-
--- a colon behind the first byte stands behind the first unit
-pub colon_fault : (options : ComponentOptions) (mode : Option ComponentMode) (x : List ℕ) → options.protect_windows ≡ true
-    → (bytes_eq x (codes ".") || bytes_eq x (codes "..")) ≡ false → (is_among x (byte "/") || is_among x (byte "\\")) ≡ false
-    → get_or x 1 0 ≡ byte ":" → fault_of options mode x ≡ Some WindowsPathPrefix
-unfolding conditions fault_of
-colon_fault options mode [] windows dots separator colon = absurd (omega (arith, colon))
-colon_fault options mode (b ∷ x) windows dots separator colon = grind (arith, unit_before_colon (b ∷ x) colon)
-
--- without protections only these conditions are left
-pub unprotected_fault : (options : ComponentOptions) (mode : Option ComponentMode) (x : List ℕ) → options.protect_windows ≡ false
-    → options.protect_hfs ≡ false → options.protect_ntfs ≡ false → 1 ≤ length x
-    → (bytes_eq x (codes ".") || bytes_eq x (codes "..")) ≡ false → is_among x (byte "/") ≡ false
-    → bytes_eq (lower x) (codes ".git") ≡ false → bytes_eq (lower x) (codes ".gitmodules") ≡ false → fault_of options mode x ≡ None
-unfolding conditions fault_of
-unprotected_fault options mode x windows hfs ntfs some dots slash git modules = grind arith
-
--- what the fast way to the fault of a component needs
-pub ruleset faults_by_looks = (empty_fault, relative_fault, ordinary_by_looks, ordinary_fault, git_fault, modules_fault, slash_fault, backslash_fault, no_plain_git, no_plain_modules, no_dots)
-
-pub ruleset other_lengths = (no_long_git, no_long_modules, no_tiny_git, no_tiny_modules)
-
--- The bytes of a name of one or two are its first and its last.
-pub among_two : (x : List ℕ) (b : ℕ) → 1 ≤ length x → length x < 3 → is_among x b ≡ (get_or x 0 0 == b || get_or x (length x - 1) 0 == b)
-among_two [] b some few = absurd (omega arith)
-among_two (p ∷ []) b some few = grind arith
-among_two (p ∷ q ∷ []) b some few = grind arith
-among_two (p ∷ q ∷ r ∷ x) b some few = absurd (omega arith)
+pub ordinary_passes : (options : ComponentOptions) (mode : Option ComponentMode) (x : List ℕ) → 1 ≤ length x → list_any is_classed x ≡ false
+    → (ends x (codes ".") || ends x (codes " ")) ≡ false
+    → (is_device x || (bytes_eq (lower x) (codes ".git") || bytes_eq (lower x) (codes ".gitmodules"))) ≡ false
+    → fault_of options mode x ≡ None
+ordinary_passes options mode x some classed end special = grind (arith, nat_tests, ordinary_by_looks, ordinary_fault)
 
 -- A name of one or two bytes is `.` or `..` if its first and its last are dots.
 pub relative_by_ends : (x : List ℕ) → 1 ≤ length x → length x < 3

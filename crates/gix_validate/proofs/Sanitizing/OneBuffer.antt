@@ -1,7 +1,7 @@
 -- The text is mended and repaired within one buffer: what is written stands before the place that is read next.
 use Rattle.std.proofs.Common.{◌≡◌, ◌≢◌, ◌⊎◌, inl, inr, ℕ, zero, suc, ◌+◌, ◌-◌, ◌≤◌, ◌<◌, Bool, true, false, List, [], ◌∷◌, ◌++◌, length, take, drop, set, get_or, refl}
 use Rattle.std.proofs.Common.{sym, ap, ◌∙◌, subst, arith, eqb, length-take, length-drop, length-append, length-set, append_assoc, max}
-use Rattle.std.specs.Prelude.{codes, ◌||◌, not, ◌==◌, slice_range, if◌then◌else◌}
+use Rattle.std.specs.Prelude.{codes, ◌==◌, slice_range, if◌then◌else◌}
 use Rattle.std.specs.List.{starts_with}
 use Rattle.std.specs.Str.{byte}
 use Rattle.std.proofs.lemmas.Bool.{cases_eq, eqb-true, eq-eqb, ne_eqb, false_from_ne_true}
@@ -11,7 +11,8 @@ use Rattle.std.proofs.lemmas.List.{drop-set-add, drop-set-lt, drop-take, drop-dr
 use Rattle.std.proofs.lemmas.Slice.Eq.{starts_is}
 use Rattle.std.proofs.lemmas.Slice.{drop-append-drop}
 use native.Mathlib.Numerals.{unary_clauses}
-use Rattle.gix_validate.specs.Bytes.{is_bad, is_empty, is_among, ends}
+use Rattle.gix_validate.specs.Bytes.{is_empty, ends}
+use Rattle.gix_validate.specs.Private.TagWalk.{may_be_faulty}
 use Rattle.gix_validate.proofs.Texts.Endings.{ends-no, lock_read}
 use Rattle.gix_validate.specs.Pieces.{is_slash, joined}
 use Rattle.gix_validate.specs.Sanitized.{cut, mended_pieces, repaired_dot, repaired_at, repaired_nothing, sanitized}
@@ -83,13 +84,13 @@ pub record MendedUpTo (whole text : List ℕ) (start end read stop : ℕ) : Type
   pub behind : end ≤ read
   pub within : read ≤ stop
   pub long : length text ≡ stop + 1
-  pub special : (is_bad (get_or text stop 0) || is_among (codes "*./{") (get_or text stop 0)) ≡ true
+  pub special : may_be_faulty (get_or text stop 0) ≡ true
   pub last_dot : (get_or text stop 0 == byte ".") ≡ (get_or whole stop 0 == byte ".")
   pub gives : GivesWhole whole (take start text) (slice_range text start end) (unread whole text read stop)
 
 -- It begins with a slash for a plain last byte.
 pub MendedUpTo-start : (text new : List ℕ) (stop : ℕ) → length text ≡ stop + 1
-    → new ≡ (if is_bad (get_or text stop 0) || is_among (codes "*./{") (get_or text stop 0) then text else set text stop (byte "/"))
+    → new ≡ (if may_be_faulty (get_or text stop 0) then text else set text stop (byte "/"))
     → MendedUpTo text new 0 0 0 stop
 MendedUpTo-start text new stop long guarded =
     grind (arith, take_more text stop 0, take_all, take-set-le stop text stop (byte "/"), get_or-set_same, length-set, GivesWhole-start)
@@ -124,25 +125,25 @@ MendedUpTo-byte whole text start end read stop w so_far room slash single e =
 
 -- A plain byte, which is not the last one, is written as it is.
 pub MendedUpTo-plain : (whole text : List ℕ) (start end read stop : ℕ) → MendedUpTo whole text start end read stop
-    → not (is_bad (get_or text read 0) || is_among (codes "*./{") (get_or text read 0)) ≡ true
+    → may_be_faulty (get_or text read 0) ≡ false
     → MendedUpTo whole (set text end (get_or text read 0)) start (end + 1) (read + 1) stop
 MendedUpTo-plain whole text start end read stop so_far plain =
     let room : read < stop = grind arith in
     MendedUpTo-byte whole text start end read stop (get_or text read 0) so_far room (grind arith) (λ dot. grind arith) (grind arith)
 
 MendedUpTo-more : (whole text : List ℕ) (start read n stop : ℕ) → MendedUpTo whole text start read read stop
-    → ((k : ℕ) → read ≤ k → k < read + n → (is_bad (get_or text k 0) || is_among (codes "*./{") (get_or text k 0)) ≡ false)
+    → ((k : ℕ) → read ≤ k → k < read + n → may_be_faulty (get_or text k 0) ≡ false)
     → MendedUpTo whole text start (read + n) (read + n) stop
 MendedUpTo-more whole text start read zero stop so_far plain = simp unary_clauses so_far
 MendedUpTo-more whole text start read (suc n) stop so_far plain =
     let before = MendedUpTo-more whole text start read n stop so_far (λ k from to. plain k from (omega arith)) in
-    let next = MendedUpTo-plain whole text start (read + n) (read + n) stop before (ap not (plain (read + n) (omega arith) (omega arith))) in
+    let next = MendedUpTo-plain whole text start (read + n) (read + n) stop before (plain (read + n) (omega arith) (omega arith)) in
     let at : read + suc n ≡ read + n + 1 = omega arith in
     rw at (subst (λ v. MendedUpTo whole v start (read + n + 1) (read + n + 1) stop) (set-get_or text (read + n) 0) next)
 
 -- A run of plain bytes that are written where they stand.
 pub MendedUpTo-run : (whole text : List ℕ) (start read next stop : ℕ) → MendedUpTo whole text start read read stop → read ≤ next
-    → ((k : ℕ) → read ≤ k → k < next → (is_bad (get_or text k 0) || is_among (codes "*./{") (get_or text k 0)) ≡ false)
+    → ((k : ℕ) → read ≤ k → k < next → may_be_faulty (get_or text k 0) ≡ false)
     → MendedUpTo whole text start next next stop
 MendedUpTo-run whole text start read next stop so_far further plain =
     let at : read + (next - read) ≡ next = omega arith in
@@ -184,7 +185,7 @@ GivesWhole-at_lock whole text start end read stop r so_far begun value lock =
 
 -- A part of plain bytes has no dot, so nothing of it is cut.
 take-plain : (text : List ℕ) (start end : ℕ) → start < end → end ≤ length text
-    → ((k : ℕ) → start ≤ k → k < end → (is_bad (get_or text k 0) || is_among (codes "*./{") (get_or text k 0)) ≡ false)
+    → ((k : ℕ) → start ≤ k → k < end → may_be_faulty (get_or text k 0) ≡ false)
     → take end text ≡ take start text ++ cut (slice_range text start end)
 take-plain text start end some within plain =
     let whole : start + (end - start) ≡ end = omega arith in
@@ -200,7 +201,7 @@ take-plain text start end some within plain =
 
 -- A slash behind it.
 take-kept : (text : List ℕ) (start read : ℕ) → start < read → read < length text → get_or text read 0 ≡ byte "/"
-    → ((k : ℕ) → start ≤ k → k < read → (is_bad (get_or text k 0) || is_among (codes "*./{") (get_or text k 0)) ≡ false)
+    → ((k : ℕ) → start ≤ k → k < read → may_be_faulty (get_or text k 0) ≡ false)
     → take (read + 1) text ≡ take start text ++ (cut (slice_range text start read) ++ codes "/")
 take-kept text start read some within slash plain =
     let uncut = take-plain text start read some (omega arith) plain in
@@ -210,7 +211,7 @@ take-kept text start read some within slash plain =
 -- A slash behind a piece of plain bytes that are written where they stand.
 pub MendedUpTo-kept : (whole text : List ℕ) (start read stop : ℕ) → MendedUpTo whole text start read read stop → start < read → read < stop
     → get_or text read 0 ≡ byte "/"
-    → ((k : ℕ) → start ≤ k → k < read → (is_bad (get_or text k 0) || is_among (codes "*./{") (get_or text k 0)) ≡ false)
+    → ((k : ℕ) → start ≤ k → k < read → may_be_faulty (get_or text k 0) ≡ false)
     → MendedUpTo whole text (read + 1) (read + 1) (read + 1) stop
 MendedUpTo-kept whole text start read stop so_far some room slash plain =
     let closes = GivesWhole-at_slash whole text start read read stop so_far room (grind arith) in

@@ -1,24 +1,19 @@
--- The table of the faults at a place: no two of its lines apply, and what each byte may have of them.
-use Rattle.std.proofs.Common.{◌≡◌, ℕ, ◌<◌, Bool, false, not, ◌&&◌, ◌||◌, eqb, List, take, get_or, true, refl, Option, None}
+-- The table of the faults at a place: what each byte may have of them.
+use Rattle.std.proofs.Common.{◌≡◌, ℕ, ◌<◌, Bool, false, not, ◌&&◌, eqb, List, take, get_or, true, refl, Option, None}
 use Rattle.std.proofs.lemmas.Bool.{agree_below_at}
 use Rattle.std.specs.Str.{byte}
 use Rattle.gix_validate.specs.declared.bytes.TheConstants.{MAY_BE_FAULTY}
-use Rattle.gix_validate.specs.Private.TagWalk.{fault_of_byte, fault_of_byte_at}
+use Rattle.gix_validate.specs.Private.TagWalk.{may_be_faulty, fault_of_byte, fault_of_byte_at}
 use Rattle.std.specs.Prelude.{codes, is_none}
-use Rattle.gix_validate.specs.Bytes.{is_bad, is_among, ends}
+use Rattle.gix_validate.specs.Bytes.{is_bad, ends}
 use Rattle.gix_validate.specs.Faults.{when, ◌orelse◌}
-use Rattle.gix_validate.specs.Tag.{fault_table, faults_at, HasAtMostOneFaultAPlace}
-use Rattle.gix_validate.proofs.Texts.Endings.{ends_read, lock_read, ends_push_one}
+use Rattle.gix_validate.specs.Tag.{fault_table}
+use Rattle.gix_validate.proofs.Texts.Endings.{ends_read, lock_read}
 use native.Mathlib.Omega.{arith}
-use Rattle.std.proofs.lemmas.Bool.Decides.{nat_tests}
 
 -- a text that doesn't end in `k` doesn't end in `.lock`
 pub lock_ends_in_k : (y : List ℕ) → ends y (codes "k") ≡ false → ends y (codes ".lock") ≡ false
 lock_ends_in_k y other = grind (arith, lock_read, ends_read)
-
-pub one_fault_a_place : (x : List ℕ) → HasAtMostOneFaultAPlace x
-unfolding faults_at fault_table is_bad
-one_fault_a_place x i inside = grind (arith, nat_tests, lock_ends_in_k, ends_push_one)
 
 pub is_none-when : {A : Type 0} (t : Bool) (e : A) (o : Option A) → is_none (when t e orelse o) ≡ (not t && is_none o)
 is_none-when t e o = grind arith
@@ -33,9 +28,9 @@ unfolding fault_of_byte fault_table
 is_none-fault_of_byte before b = simp is_none-when
 
 -- The table of bytes says no only of bytes that have no fault, whatever stands before them.
-pub faulty_tabled : (b : ℕ) → b < 256 → get_or MAY_BE_FAULTY b false ≡ (is_bad b || is_among (codes "*./{") b)
+pub faulty_tabled : (b : ℕ) → b < 256 → get_or MAY_BE_FAULTY b false ≡ may_be_faulty b
 unfolding is_bad
-faulty_tabled b small = agree_below_at (λ b. get_or MAY_BE_FAULTY b false) (λ b. is_bad b || is_among (codes "*./{") b) 256 b refl small
+faulty_tabled b small = agree_below_at (λ b. get_or MAY_BE_FAULTY b false) may_be_faulty 256 b refl small
 
-pub quiet : (x : List ℕ) (i : ℕ) → (is_bad (get_or x i 0) || is_among (codes "*./{") (get_or x i 0)) ≡ false → fault_of_byte_at x i ≡ None
+pub quiet : (x : List ℕ) (i : ℕ) → may_be_faulty (get_or x i 0) ≡ false → fault_of_byte_at x i ≡ None
 quiet x i h = grind (arith, is_none-fault_of_byte (take i x) (get_or x i 0))

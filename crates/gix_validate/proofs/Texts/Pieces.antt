@@ -1,9 +1,8 @@
--- The pieces of a text are the only nonempty list of texts without a slash that joins to it.
-use Rattle.std.proofs.Common.{◌≡◌, ◌≢◌, ℕ, true, List, [], ◌∷◌, ◌++◌, sym, ap, ◌∙◌, append_assoc}
-use Rattle.std.proofs.lemmas.List.Splits.{join_with_byte-slice_split}
+-- Texts without a slash are the pieces of what they join to.
+use Rattle.std.proofs.Common.{◌≡◌, ◌≢◌, ℕ, true, List, [], ◌∷◌, ◌++◌, append_assoc}
 use Rattle.std.specs.List.{list_all}
 use Rattle.std.specs.Str.{byte}
-use Rattle.gix_validate.specs.Pieces.{pieces, joined, has_no_slash, PiecesAreTheOnlySplit}
+use Rattle.gix_validate.specs.Pieces.{pieces, joined, has_no_slash}
 use native.Mathlib.Omega.{arith}
 
 -- a text has a piece
@@ -31,12 +30,6 @@ pub pieces-joined : (texts : List (List ℕ)) → texts ≢ [] → list_all has_
 pieces-joined [] some h = grind arith
 pieces-joined (t ∷ []) some h = grind (arith, pieces_alone)
 pieces-joined (t ∷ u ∷ texts) some h = grind (arith, pieces_front, pieces-joined (u ∷ texts))
-
-pub pieces_are_the_only_split : (x : List ℕ) → PiecesAreTheOnlySplit x
-pieces_are_the_only_split x = record {
-  these = record { some = pieces_some x; apart = pieces_apart x; whole = join_with_byte-slice_split (byte "/") x };
-  only = λ texts h. sym (pieces-joined texts h.some h.apart) ∙ ap pieces h.whole;
-}
 
 -- one text more behind the others
 pub joined-push : (text : List ℕ) (texts : List (List ℕ)) (last : List ℕ) → joined (text ∷ (texts ++ last ∷ [])) ≡ joined (text ∷ texts) ++ (byte "/" ∷ last)

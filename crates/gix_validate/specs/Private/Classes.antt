@@ -1,8 +1,8 @@
 -- The classes of the bytes of a name, a bit for each, and what they say about the name.
-use Rattle.std.specs.Prelude.{◌≡◌, ℕ, Bool, false, ◌==◌, ◌||◌, not, nat_lt, if◌then◌else◌, List, [], ◌∷◌, codes, map, bit_and}
+use Rattle.std.specs.Prelude.{◌≡◌, ℕ, Bool, false, ◌==◌, ◌||◌, not, nat_lt, ◌≤◌, if◌then◌else◌, List, length, codes, map, bit_and}
 use Rattle.std.specs.List.{list_any}
 use Rattle.std.specs.Str.{byte}
-use Rattle.gix_validate.specs.declared.path.classes.TheConstants.{CONTROL, QUOTE_OR_STAR, COLON_ANGLE_OR_MARK, BACKSLASH, PIPE, LEAD, SLASH, TILDE, ILLEGAL, ANY}
+use Rattle.gix_validate.specs.declared.path.classes.TheConstants.{CONTROL, QUOTE_OR_STAR, COLON_ANGLE_OR_MARK, BACKSLASH, PIPE, LEAD, SLASH, TILDE, ILLEGAL, ANY, SHORT}
 use Rattle.gix_validate.specs.declared.path.classes.Sought.{Sought}
 use Rattle.gix_validate.specs.declared.path.classes.Sought.TheVariants.{Class, Slash, Separator}
 use Rattle.gix_validate.specs.Bytes.{is_among}
@@ -40,15 +40,11 @@ any_class mask classes = list_any (λ class. not (bit_and class mask == 0)) clas
 abbrev pub HaveClassesOf : List ℕ → List ℕ → Type 0
 HaveClassesOf classes x = (mask : ℕ) → any_class mask classes ≡ any_class mask (map class_of x)
 
--- What the classes of the bytes of a name say about it, a mask for each question.
-pub record Describes (classes x : List ℕ) : Type 0 where
-  pub slash : any_class SLASH classes ≡ is_among x (byte "/")
-  pub backslash : any_class BACKSLASH classes ≡ is_among x (byte "\\")
-  pub illegal : any_class ILLEGAL classes ≡ list_any is_illegal_byte x
-  pub lead : any_class LEAD classes ≡ list_any is_lead x
-  pub classed : any_class ANY classes ≡ list_any is_classed x
-
--- The name has no bytes but those of the classes whose bits these are, and those of no class.
-pub record MayHave (classes : ℕ) (x : List ℕ) : Type 0 where
-  pub illegal : any_class ILLEGAL (classes ∷ []) ≡ false → list_any is_illegal_byte x ≡ false
-  pub lead : any_class LEAD (classes ∷ []) ≡ false → list_any is_lead x ≡ false
+-- What the classes say about a name: what it doesn't have, and of a short one which separators it has.
+pub record Sees (classes x : List ℕ) : Type 0 where
+  pub some : any_class ANY classes ≡ false → 1 ≤ length x
+  pub classed : any_class ANY classes ≡ false → list_any is_classed x ≡ false
+  pub illegal : any_class ILLEGAL classes ≡ false → list_any is_illegal_byte x ≡ false
+  pub lead : any_class LEAD classes ≡ false → list_any is_lead x ≡ false
+  pub slash : 1 ≤ length x → length x ≤ SHORT → any_class SLASH classes ≡ is_among x (byte "/")
+  pub backslash : 1 ≤ length x → length x ≤ SHORT → any_class BACKSLASH classes ≡ is_among x (byte "\\")

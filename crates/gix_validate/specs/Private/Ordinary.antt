@@ -1,19 +1,14 @@
 -- Ordinary bytes: those of names that are refused by no condition, but for devices, `.git` and `.gitmodules`.
 use Rattle.std.specs.Prelude.{ℕ, Bool, ◌==◌, ◌&&◌, ◌||◌, not, List, codes}
 use Rattle.std.specs.List.{list_any}
-use Rattle.gix_validate.specs.declared.path.ComponentOptions.{ComponentOptions}
 use Rattle.gix_validate.specs.Bytes.{is_among, is_empty, ends}
 use Rattle.gix_validate.specs.Windows.{is_illegal_byte}
-
--- the options with these switches
-abbrev pub switches : Bool → Bool → Bool → ComponentOptions
-switches windows hfs ntfs = record { protect_windows = windows; protect_hfs = hfs; protect_ntfs = ntfs }
 
 -- each of the characters that HFS+ ignores begins with one of these bytes
 abbrev pub is_lead : ℕ → Bool
 is_lead b = b == 0xE2 || b == 0xEF
 
--- A byte that a condition asks for at any place: one that Windows forbids or that separates a path, the tilde
+-- A byte that a condition asks for at any offset: one that Windows forbids or that separates a path, the tilde
 -- that each short name has on NTFS, or the first byte of what HFS+ may ignore.
 unfoldable pub is_classed : ℕ → Bool
 is_classed b = is_illegal_byte b || (is_among (codes "/\\~") b || is_lead b)

@@ -1,5 +1,5 @@
 -- Parts `..` of a submodule name, by the places where they begin.
-use Rattle.std.specs.Prelude.{◌≡◌, ℕ, ◌+◌, ◌-◌, ◌≤◌, ◌<◌, Bool, false, ◌==◌, ◌&&◌, ◌||◌, List, length, slice_index}
+use Rattle.std.specs.Prelude.{◌≡◌, ℕ, ◌+◌, ◌-◌, ◌<◌, Bool, false, ◌==◌, ◌&&◌, ◌||◌, List, length, slice_index}
 use Rattle.std.specs.Str.{byte}
 use Rattle.gix_validate.specs.Submodule.{is_separator}
 
@@ -10,10 +10,6 @@ is_parent_at x i =
     && (i == 0 || is_separator (slice_index x (i - 1)))
     && (i + 2 == length x || is_separator (slice_index x (i + 2)))
 
--- of four adjacent bytes, two dots stand between two separators
-abbrev pub is_parent_between : ℕ → ℕ → ℕ → ℕ → Bool
-is_parent_between a b c d = is_separator a && b == byte "." && c == byte "." && is_separator d
-
--- no part that is `..` begins at place i or behind it, and before place j
-abbrev pub NoParentWithin : List ℕ → ℕ → ℕ → Type 0
-NoParentWithin x i j = (k : ℕ) → i ≤ k → k < j → is_parent_at x k ≡ false
+-- no part that is `..` begins before offset n
+abbrev pub NoParentBelow : List ℕ → ℕ → Type 0
+NoParentBelow x n = (k : ℕ) → k < n → is_parent_at x k ≡ false

@@ -1,4 +1,7 @@
 //! Words in any ASCII case.
+//!
+//! Rust's own `eq_ignore_ascii_case` is right here, too, but isn't unrolled for a constant word: with
+//! it `component` takes up to an eighth more instructions (`bench/run`).
 
 ghost use Rattle.std.specs.Prelude.{◌≡◌, ◌==◌, true, false, drop, length, MatchOption};
 ghost use Rattle.std.specs.Str.{bytes_eq};

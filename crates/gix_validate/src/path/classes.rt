@@ -1,19 +1,21 @@
-//! One check of the bytes of a name.
+//! One look at the bytes of a name.
+//!
+//! This is no `scan`: of a short name it says which of several classes of bytes it has, all at once,
+//! and a long name is read four blocks a turn.
 
-ghost use Rattle.std.specs.Prelude.{◌≡◌, ◌≤◌, ◌<◌, ◌+◌, ◌==◌, ◌&&◌, ◌||◌, ◌∷◌, [], List, ℕ, not, length, map};
+ghost use Rattle.std.specs.Prelude.{◌≡◌, ◌≤◌, ◌<◌, ◌+◌, ◌==◌, ◌&&◌, ◌||◌, not, length, map};
 ghost use Rattle.std.specs.Str.{byte};
 ghost use Rattle.gix_validate.specs.Bytes.{is_among};
 ghost use Rattle.std.specs.List.{list_any};
 ghost use Rattle.std.specs.Simd.Lanes.{chunk};
 ghost use Rattle.gix_validate.specs.Windows.{is_illegal_byte};
-ghost use Rattle.gix_validate.specs.Private.Ordinary.{is_classed};
-ghost use Rattle.gix_validate.specs.Private.Classes.{has_class, any_class, class_of, is_sought, HaveClassesOf, Describes, MayHave};
+ghost use Rattle.gix_validate.specs.Private.Classes.{has_class, any_class, class_of, is_sought, HaveClassesOf, Sees};
 
 use crate::lanes::{LANES, block_contains_either, classify, halves, has_nonzero, pairs, quarters};
 use std::simd::prelude::*;
 
 /// The length of four blocks. A name of at most this length is checked in one go.
-pub(super) const SHORT: usize = 4 * LANES;
+const SHORT: usize = 4 * LANES;
 
 /// The length of two blocks.
 const TWO: usize = 2 * LANES;
@@ -29,17 +31,11 @@ enum Sought {
     Separator,
 }
 
-/// Which of the bytes that a condition looks for are in a short name: their classes, a bit for
-/// each, in any of sixteen lanes.
+/// Which of the bytes that a condition looks for a name may have: their classes, a bit for each, in
+/// any of sixteen lanes. Of a short name they are exact. Any other may have all.
 #[derive(Clone, Copy)]
-pub(super) struct Classes {
+pub(super) struct Seen {
     lanes: u8x16,
-}
-
-/// The classes of bytes that a name may have, a bit for each. It has no byte of the other classes.
-#[derive(Clone, Copy)]
-pub(super) struct Suspects {
-    classes: u8,
 }
 
 // The classes of bytes, a bit for each. The bytes of a class have one high nibble, except the
@@ -99,20 +95,23 @@ const BY_HIGH_NIBBLE: [u8; 16] = [
     0, 0, LEAD, 0, // C to F
 ];
 
-impl Classes {
-    /// The classes of the bytes of the name.
+impl Seen {
+    /// What one look at the name sees.
     #[inline(always)]
-    pub(super) fn of(name: &[u8]) -> Classes
-        requires some { 1 ≤ length name.now }
-        requires short { length name.now ≤ SHORT }
-        ensures { Describes result.lanes name.now }
+    pub(super) fn of(name: &[u8]) -> Seen
+        ensures { Sees result.lanes name.now }
     {
-        Classes {
+        if name.is_empty() || name.len() > SHORT {
+            return Seen {
+                lanes: u8x16::splat(ANY),
+            };
+        }
+        Seen {
             lanes: classes_of(name),
         }
     }
 
-    /// Whether no byte that a condition looks for was seen.
+    /// Whether the name has a byte, and none that a condition looks for.
     #[inline(always)]
     pub(super) fn is_nothing(&self) -> bool
         ensures { result ≡ not (any_class ANY self.now.lanes) }
@@ -120,91 +119,38 @@ impl Classes {
         !has_class(self.lanes, ANY)
     }
 
-    /// Whether a `/` was seen.
-    #[inline(always)]
-    pub(super) fn slash(&self) -> bool
-        ensures { result ≡ any_class SLASH self.now.lanes }
-    {
-        has_class(self.lanes, SLASH)
-    }
-
-    /// Whether a `\` was seen.
-    #[inline(always)]
-    pub(super) fn backslash(&self) -> bool
-        ensures { result ≡ any_class BACKSLASH self.now.lanes }
-    {
-        has_class(self.lanes, BACKSLASH)
-    }
-
-    /// What was seen, for the conditions that use it.
-    #[inline(always)]
-    pub(super) fn suspects(&self) -> Suspects
-        ensures { (x : List ℕ) → Describes self.now.lanes x → MayHave result.classes x }
-    {
-        Suspects {
-            classes: self.lanes.reduce_or(),
-        }
-    }
-}
-
-impl Suspects {
-    /// Any bytes at all, for a name that was not checked.
-    #[inline(always)]
-    pub(super) fn any() -> Suspects
-        ensures { (x : List ℕ) → MayHave result.classes x }
-    {
-        Suspects { classes: ANY }
-    }
-
     /// Whether the name may have a byte that is illegal on Windows.
     #[inline(always)]
-    #[tactic(auto, unfolding(crate::specs::Private::Classes::any_class))]
-    pub(super) fn illegal(self) -> bool
-        ensures { result ≡ any_class ILLEGAL (self.classes ∷ []) }
+    pub(super) fn may_be_illegal(&self) -> bool
+        ensures { result ≡ any_class ILLEGAL self.now.lanes }
     {
-        self.classes & ILLEGAL != 0
+        has_class(self.lanes, ILLEGAL)
     }
 
     /// Whether the name may have a byte that begins a character which HFS+ may ignore.
     #[inline(always)]
-    #[tactic(auto, unfolding(crate::specs::Private::Classes::any_class))]
-    pub(super) fn lead(self) -> bool
-        ensures { result ≡ any_class LEAD (self.classes ∷ []) }
+    pub(super) fn may_have_lead(&self) -> bool
+        ensures { result ≡ any_class LEAD self.now.lanes }
     {
-        self.classes & LEAD != 0
+        has_class(self.lanes, LEAD)
     }
-}
 
-/// Whether a name that isn't short has a slash, or, with Windows protection, a backslash.
-#[inline(always)]
-pub(super) fn has_separator(name: &[u8], windows: bool) -> bool
-    requires { SHORT < length name.now }
-    ensures { result ≡ (is_among name.now (byte "/") || (windows && is_among name.now (byte "\\"))) }
-{
-    if windows {
-        blocks_have(name, Sought::Separator)
-    } else {
-        blocks_have(name, Sought::Slash)
+    /// Whether the name has a slash, or, with Windows protection, a backslash.
+    #[inline(always)]
+    pub(super) fn has_separator(&self, name: &[u8], windows: bool) -> bool
+        requires some { 1 ≤ length name.now }
+        requires seen { Sees self.now.lanes name.now }
+        ensures { result ≡ (is_among name.now (byte "/") || (windows && is_among name.now (byte "\\"))) }
+    {
+        if name.len() > SHORT {
+            return if windows {
+                blocks_have(name, Sought::Separator)
+            } else {
+                blocks_have(name, Sought::Slash)
+            };
+        }
+        has_class(self.lanes, SLASH) || windows && has_class(self.lanes, BACKSLASH)
     }
-}
-
-/// Whether a name that isn't short has a byte that a condition looks for. A first byte that is
-/// illegal is found at once.
-#[tactic(auto, using(crate::proofs::Blocks::ByteClasses::classed_is, crate::proofs::Blocks::ByteClasses::illegal_in_front))]
-pub(super) fn has_classed_byte(name: &[u8]) -> bool
-    requires { SHORT < length name.now }
-    ensures { result ≡ list_any is_classed name.now }
-{
-    is_illegal(name[0]) || blocks_have(name, Sought::Class { mask: ANY })
-}
-
-/// Whether the byte is illegal on Windows.
-#[inline(always)]
-#[tactic(auto, unfolding(crate::specs::Windows::is_illegal_byte))]
-fn is_illegal(byte: u8) -> bool
-    ensures { result ≡ is_illegal_byte byte }
-{
-    byte < b' ' || matches!(byte, b'<' | b'>' | b':' | b'"' | b'|' | b'?' | b'*')
 }
 
 /// Whether the name has a byte that is illegal on Windows.

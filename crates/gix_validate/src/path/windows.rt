@@ -14,7 +14,7 @@ ghost use Rattle.gix_validate.specs.Ntfs.{is_digit};
 ghost use Rattle.gix_validate.specs.Windows.{device_form, is_device, is_illegal_byte};
 ghost use Rattle.gix_validate.specs.Private.Forms.{stays_in_form};
 
-use crate::path::ascii_case::strip_prefix_ignore_ascii_case;
+use crate::path::ascii_case::{eq_ignore_ascii_case, strip_prefix_ignore_ascii_case};
 use crate::path::units::first_unit_len;
 
 /// Whether a colon follows the first unit. A name without illegal bytes has no colon.
@@ -51,9 +51,6 @@ const DOT_GIT: u8 = 0x40;
 /// The words that names of devices begin with.
 const DEVICES: u8 = AUX | CON | COM | LPT | NUL | PRN;
 
-/// The same and the start of `.git`.
-const WORDS: u8 = DEVICES | DOT_GIT;
-
 /// The words that may have a byte as their first letter, by the low five bits of the byte, which
 /// are the same for an uppercase letter.
 #[rattlefmt::skip]
@@ -85,33 +82,21 @@ const BY_THIRD: [u8; 32] = [
 /// The words by letter, in one table.
 const BY_LETTER: [[u8; 32]; 3] = [BY_FIRST, BY_SECOND, BY_THIRD];
 
-/// The words that a name of this length may begin with: `.git` and `.gitmodules` have four bytes
-/// and eleven.
-#[rattlefmt::skip]
-const BY_LENGTH: [u8; 65] = [
-    0, 0, 0, DEVICES, WORDS, DEVICES, DEVICES, DEVICES,
-    DEVICES, DEVICES, DEVICES, WORDS, DEVICES, DEVICES, DEVICES, DEVICES,
-    DEVICES, DEVICES, DEVICES, DEVICES, DEVICES, DEVICES, DEVICES, DEVICES,
-    DEVICES, DEVICES, DEVICES, DEVICES, DEVICES, DEVICES, DEVICES, DEVICES,
-    DEVICES, DEVICES, DEVICES, DEVICES, DEVICES, DEVICES, DEVICES, DEVICES,
-    DEVICES, DEVICES, DEVICES, DEVICES, DEVICES, DEVICES, DEVICES, DEVICES,
-    DEVICES, DEVICES, DEVICES, DEVICES, DEVICES, DEVICES, DEVICES, DEVICES,
-    DEVICES, DEVICES, DEVICES, DEVICES, DEVICES, DEVICES, DEVICES, DEVICES,
-    DEVICES,
-];
-
-/// Whether a short name may be a device, or be `.git` or `.gitmodules` in any ASCII case. Hardly
-/// any other name passes this test, which has no branch for a letter.
+/// Whether a name is a device, or is `.git` or `.gitmodules` in any ASCII case. Hardly any other name
+/// passes the test of its first three letters, which has no branch for each letter.
 #[inline(always)]
-#[tactic(auto, using(crate::proofs::Components::Devices::device_short, crate::proofs::Components::Devices::no_special), unfolding(crate::proofs::Components::Devices::bits))]
-pub(super) fn may_be_special(name: &[u8]) -> bool
-    requires some { 3 ≤ length name.now }
-    requires short { length name.now ≤ 64 }
-    ensures device { result ≡ false → is_device name.now ≡ false }
-    ensures git { result ≡ false → bytes_eq (lower name.now) (codes ".git") ≡ false }
-    ensures modules { result ≡ false → bytes_eq (lower name.now) (codes ".gitmodules") ≡ false }
+#[tactic(auto, using(crate::proofs::Components::Devices::special_bits), unfolding(crate::proofs::Components::Devices::bits, crate::specs::Bytes::lower_byte))]
+pub(super) fn is_special(name: &[u8]) -> bool
+    ensures { result ≡ (is_device name.now || (bytes_eq (lower name.now) (codes ".git") || bytes_eq (lower name.now) (codes ".gitmodules"))) }
 {
-    words_with(name[0], name[1], name[2]) & BY_LENGTH[name.len()] != 0
+    if name.len() < 3 {
+        return false;
+    }
+    let words = words_with(name[0], name[1], name[2]);
+    words != 0
+        && (words & DEVICES != 0 && is_device_by_letters(name)
+            || eq_ignore_ascii_case(name, b".git")
+            || eq_ignore_ascii_case(name, b".gitmodules"))
 }
 
 /// Whether the name is a device. Hardly any other name passes the test of its first three letters,
@@ -141,7 +126,7 @@ fn words_with(first: u8, second: u8, third: u8) -> u8
 /// Whether the name is a device, by its first three letters and what follows them.
 #[inline(always)]
 #[tactic(auto, using(crate::proofs::Components::Devices::by_letters), unfolding(crate::proofs::Components::Devices::are_letters))]
-pub(super) fn is_device_by_letters(name: &[u8]) -> bool
+fn is_device_by_letters(name: &[u8]) -> bool
     ensures { result ≡ is_device name.now }
 {
     match name {

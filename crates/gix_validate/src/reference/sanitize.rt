@@ -11,13 +11,14 @@
 //! - The previous byte is read from the piece that is written so far, so a run of plain bytes has
 //!   nothing to carry.
 
-ghost use Rattle.std.specs.Prelude.{◌≡◌, ◌≢◌, ℕ, false, ◌↔◌, ◌+◌, ◌-◌, ◌≤◌, ◌<◌, ◌==◌, ◌||◌, ◌&&◌, ◌++◌, [], ◌∷◌, max, not, if◌then◌else◌, length, take, drop, get_or, set, codes, IsTrue, IsOk, IfOk, Some, None, slice_range, vec_capacity};
+ghost use Rattle.std.specs.Prelude.{◌≡◌, ◌≢◌, ℕ, false, ◌↔◌, ◌+◌, ◌-◌, ◌≤◌, ◌<◌, ◌==◌, ◌||◌, ◌&&◌, ◌++◌, [], ◌∷◌, max, if◌then◌else◌, length, take, drop, get_or, set, codes, IsTrue, IsOk, IfOk, Some, None, slice_range, vec_capacity};
 ghost use Rattle.bstr.specs.BStr.{bstr_bytes};
 ghost use Rattle.bstr.specs.Owned.{bstring_bytes};
 ghost use Rattle.std.specs.Str.{byte};
-ghost use Rattle.gix_validate.specs.Bytes.{is_bad, is_among, is_empty, ends};
+ghost use Rattle.gix_validate.specs.Bytes.{is_empty, ends};
 ghost use Rattle.gix_validate.specs.Pieces.{joined};
 ghost use Rattle.gix_validate.specs.Reference.{is_partial_name};
+ghost use Rattle.gix_validate.specs.Private.TagWalk.{may_be_faulty};
 ghost use Rattle.gix_validate.specs.Sanitized.{allowed, cut, mended_pieces, repaired_dot, repaired_at, repaired_nothing, sanitized, IsPiecewise};
 
 use crate::adjacent::is_clear;
@@ -141,7 +142,7 @@ fn mend_pieces(text: &mut [u8]) -> usize
     }
     let mut end = read;
     loop {
-        while is_plain(text[read]) {
+        while !may_be_faulty(text[read]) {
             text[end] = text[read];
             end += 1;
             read += 1;
@@ -175,10 +176,10 @@ fn guard_end(text: &mut [u8], stop: usize) -> u8
     requires { stop < length text.old }
     ensures last { result ≡ get_or text.old stop 0 }
     ensures text { let last = get_or text.old stop 0 in
-        text.new ≡ (if is_bad last || is_among (codes "*./{") last then text.old else set text.old stop (byte "/")) }
+        text.new ≡ (if may_be_faulty last then text.old else set text.old stop (byte "/")) }
 {
     let last = text[stop];
-    if is_plain(last) {
+    if !may_be_faulty(last) {
         text[stop] = b'/';
     }
     last
@@ -188,24 +189,17 @@ fn guard_end(text: &mut [u8], stop: usize) -> u8
 #[inline(always)]
 fn end_of_run(text: &[u8], from: usize) -> usize
     requires within { from < length text.now }
-    requires guarded { let last = get_or text.now (length text.now - 1) 0 in IsTrue (is_bad last || is_among (codes "*./{") last) }
+    requires guarded { let last = get_or text.now (length text.now - 1) 0 in IsTrue (may_be_faulty last) }
     ensures in_order { from ≤ result }
     ensures within { result < length text.now }
-    ensures run { (k : ℕ) → from ≤ k → k < result → (is_bad (get_or text.now k 0) || is_among (codes "*./{") (get_or text.now k 0)) ≡ false }
-    ensures stops { IsTrue (is_bad (get_or text.now result 0) || is_among (codes "*./{") (get_or text.now result 0)) }
+    ensures run { (k : ℕ) → from ≤ k → k < result → may_be_faulty (get_or text.now k 0) ≡ false }
+    ensures stops { IsTrue (may_be_faulty (get_or text.now result 0)) }
 {
     let mut read = from;
-    while is_plain(text[read]) {
+    while !may_be_faulty(text[read]) {
         read += 1;
     }
     read
-}
-
-/// Whether the repair keeps the byte wherever it is.
-fn is_plain(next: u8) -> bool
-    ensures { result ≡ not (is_bad next || is_among (codes "*./{") next) }
-{
-    !may_be_faulty(next)
 }
 
 /// The byte that is written for any byte other than a slash, after the piece that is written so
@@ -216,10 +210,10 @@ fn cleaned_byte(piece: &[u8], next: u8) -> u8
     ensures { result ≡ (if (next == byte "." && is_empty piece.now) || (next == byte "{" && ends piece.now (codes "@"))
         then byte "-" else allowed next) }
 {
-    if is_plain(next) {
-        next
-    } else {
+    if may_be_faulty(next) {
         mended_byte(piece, next)
+    } else {
+        next
     }
 }
 
@@ -227,7 +221,7 @@ fn cleaned_byte(piece: &[u8], next: u8) -> u8
 #[tactic(auto, unfolding(crate::specs::Bytes::is_bad))]
 fn mended_byte(piece: &[u8], next: u8) -> u8
     requires no_slash { next ≢ byte "/" }
-    requires faulty { IsTrue (is_bad next || is_among (codes "*./{") next) }
+    requires faulty { IsTrue (may_be_faulty next) }
     ensures { result ≡ (if (next == byte "." && is_empty piece.now) || (next == byte "{" && ends piece.now (codes "@"))
         then byte "-" else allowed next) }
 {

@@ -1,4 +1,5 @@
 use Rattle.check_submodules.proofs.AcceptedFiles.{clean_run}
+use Rattle.check_submodules.proofs.LinearReports.{linear_report}
 use Rattle.check_submodules.proofs.ReportedSections.{each_name_reported, each_header_reported}
 use Rattle.check_submodules.proofs.engine.run.Goals as goal
 
@@ -10,3 +11,6 @@ returns-clause-names g c = each_name_reported
 
 pub returns-clause-headers : goal.returns-clause-headers
 returns-clause-headers g c = each_header_reported
+
+pub returns-clause-linear : goal.returns-clause-linear
+returns-clause-linear g c = linear_report c.args.options.whole

@@ -1,6 +1,7 @@
 -- the words so far are on: with the others they give what all give
 use Rattle.std.proofs.Common.{◌≡◌, length}
-use Rattle.check_trees.specs.Arguments.{comma_parts, no_protections, all_switched_on}
+use Rattle.check_trees.specs.Arguments.{comma_parts, all_switched_on}
+use Rattle.gix_validate.specs.ComponentLaws.{no_protections}
 use Rattle.check_trees.proofs.arguments.protections_of.Given as goal
 
 abbrev pub invariant-loop-end : goal.invariant-loop-end

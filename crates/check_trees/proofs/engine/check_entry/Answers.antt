@@ -1,3 +1,4 @@
+use Rattle.check_trees.specs.Options.{as_options}
 use Rattle.std.proofs.Common.{◌∙◌, ap, arith}
 use Rattle.std.proofs.lemmas.Grind.{common_steps}
 use Rattle.streams.specs.Promises.{as_object}
@@ -8,37 +9,40 @@ use Rattle.check_trees.proofs.engine.check_entry.Goals as goal
 
 pub returns-in-Limit-clause-gives : goal.returns-in-Limit-clause-gives
 returns-in-Limit-clause-gives g c =
-    gives_past c.args.options (as_object c.args.tree) _ _ c.min-limit.ensures (rw c.in-Limit.is at c.in_ok-read_before.ensures) c.if-left-lt-LONGEST.true
+    gives_past (as_options c.args.options) (as_object c.args.tree) _ _ c.min-limit.ensures
+    (rw c.in-Limit.is at c.in_ok-read_before.ensures) c.if-left-lt-LONGEST.true
 
 pub returns-in-Limit-2-clause-gives : goal.returns-in-Limit-2-clause-gives
 returns-in-Limit-2-clause-gives g c =
-    gives_long c.args.options (as_object c.args.tree) _ _ c.min-limit.ensures (rw c.in-Limit-2.is at c.in_ok-read_before.ensures) c.if-left-lt-LONGEST.false
+    gives_long (as_options c.args.options) (as_object c.args.tree) _ _ c.min-limit.ensures
+    (rw c.in-Limit-2.is at c.in_ok-read_before.ensures) c.if-left-lt-LONGEST.false
 
 pub returns-in-End-clause-gives : goal.returns-in-End-clause-gives
 returns-in-End-clause-gives g c =
-    gives_cut c.args.options (as_object c.args.tree) _ _ c.min-limit.ensures (rw c.in-End.is at c.in_ok-read_before.ensures)
+    gives_cut (as_options c.args.options) (as_object c.args.tree) _ _ c.min-limit.ensures (rw c.in-End.is at c.in_ok-read_before.ensures)
 
 pub returns-in_default-clause-gives : goal.returns-in_default-clause-gives
 returns-in_default-clause-gives g c =
     let read = rw c.in-Byte.is at c.in_ok-read_before.ensures in
-    gives_malformed c.args.options (as_object c.args.tree) _ _ c.min-limit.ensures read (c.in_default.ensures ∙ ap parsed_front c.deref.ensures.value)
+    gives_malformed (as_options c.args.options) (as_object c.args.tree) _ _ c.min-limit.ensures read
+    (c.in_default.ensures ∙ ap parsed_front c.deref.ensures.value)
 
 pub returns-then-not-branch-clause-gives : goal.returns-then-not-branch-clause-gives
 returns-then-not-branch-clause-gives g c =
     let read = rw c.in-Byte.is at c.in_ok-read_before.ensures in
-    gives_id_cut c.args.options (as_object c.args.tree) _ _ _ c.min-limit.ensures read (c.in-Some.ensures ∙ ap parsed_front c.deref.ensures.value)
+    gives_id_cut (as_options c.args.options) (as_object c.args.tree) _ _ _ c.min-limit.ensures read (c.in-Some.ensures ∙ ap parsed_front c.deref.ensures.value)
     (grind (arith, common_steps)) _ _ (rw c.if-not-branch.true at c.in_ok-pass_id.ensures)
 
 pub returns-then-id_left-id_len-clause-gives : goal.returns-then-id_left-id_len-clause-gives
 returns-then-id_left-id_len-clause-gives g c =
     let read = rw c.in-Byte.is at c.in_ok-read_before.ensures in
-    gives_id_past c.args.options (as_object c.args.tree) _ _ _ c.min-limit.ensures read (c.in-Some.ensures ∙ ap parsed_front c.deref.ensures.value)
+    gives_id_past (as_options c.args.options) (as_object c.args.tree) _ _ _ c.min-limit.ensures read (c.in-Some.ensures ∙ ap parsed_front c.deref.ensures.value)
     (grind (arith, common_steps)) _ _ (rw c.if-not-branch.false at c.in_ok-pass_id.ensures) c.if-id_left-id_len.true
 
 pub returns-in_err-refused-clause-gives : goal.returns-in_err-refused-clause-gives
 returns-in_err-refused-clause-gives g c =
     let read = rw c.in-Byte.is at c.in_ok-read_before.ensures in
-    gives_stop c.args.options (as_object c.args.tree) _ _ _ c.min-limit.ensures read (c.in-Some.ensures ∙ ap parsed_front c.deref.ensures.value)
+    gives_stop (as_options c.args.options) (as_object c.args.tree) _ _ _ c.min-limit.ensures read (c.in-Some.ensures ∙ ap parsed_front c.deref.ensures.value)
     (grind (arith, common_steps)) _ _ _ _ c.finding_of-finding.ensures (rw c.if-not-branch.false at c.in_ok-pass_id.ensures) c.if-id_left-id_len.false
     c.from_residual-in_err-refused.ensures.0 (rw c.deref-2.ensures.value at c.in_err-refused.ensures)
 
@@ -46,7 +50,7 @@ pub returns-clause-gives : goal.returns-clause-gives
 returns-clause-gives g c =
     let read = rw c.in-Byte.is at c.in_ok-read_before.ensures in
     let said = rw c.deref-2.ensures.value at c.in_ok-refused.ensures in
-    gives_entry c.args.options (as_object c.args.tree) _ _ _ c.min-limit.ensures read (c.in-Some.ensures ∙ ap parsed_front c.deref.ensures.value)
+    gives_entry (as_options c.args.options) (as_object c.args.tree) _ _ _ c.min-limit.ensures read (c.in-Some.ensures ∙ ap parsed_front c.deref.ensures.value)
     (grind (arith, common_steps)) _ _ _ _ c.finding_of-finding.ensures (rw c.if-not-branch.false at c.in_ok-pass_id.ensures) c.if-id_left-id_len.false
     (grind (arith, common_steps)) said.0 said.1
 

@@ -2,12 +2,12 @@ use Rattle.std.proofs.Common.{◌≡◌, ◌≢◌, ℕ, ◌+◌, List, ◌++◌
 use Rattle.std.proofs.lemmas.Grind.{common_steps}
 use Rattle.std.specs.Io.KnownBytes.{Consumes}
 use Rattle.streams.specs.declared.input.Found.{Found}
-use Rattle.streams.specs.Promises.{Fronts, Part}
+use Rattle.streams.specs.Promises.{ReadsBefore, Part}
 use Rattle.streams.proofs.input.read_before.Goals as goal
 
 -- a part behind what was read before
 Fronts_more : (byte limit room : ℕ) (a b c : Option (List ℕ)) (done part new : List ℕ) (found : Found) → room + length done ≡ limit → new ≡ done ++ part
-    → Consumes a b done → All (λ x. x ≢ byte) done → Fronts byte room b c part found → Fronts byte limit a c new found
+    → Consumes a b done → All (λ x. x ≢ byte) done → ReadsBefore byte room b c part found → ReadsBefore byte limit a c new found
 Fronts_more byte limit room a b c done part new found whole is first none front = grind (arith, common_steps)
 
 pub returns-in-Some : goal.returns-in-Some

@@ -13,7 +13,8 @@ returns-in-Class c =
     let x = c.args.name.now in
     let at = c.args.at in
     c.has_class.ensures
-    ∙ classes_joined _ _ (chunk at 32 x) (chunk (at + 32) 32 x) (chunk at 64 x) (c.classes_of_two-first.ensures.lanes ∙ sym c.classes_of_two-second.ensures.lanes)
+    ∙ classes_joined _ _ (chunk at 32 x) (chunk (at + 32) 32 x) (chunk at 64 x)
+    (c.classes_of_two-first.ensures.lanes ∙ sym c.classes_of_two-second.ensures.lanes)
     c.classes_of_two-first.ensures.classes c.classes_of_two-second.ensures.classes (λ p. sym (any_two_chunks p x at 32)) c.in-Class.mask
     ∙ any_is c.in-Class.mask (chunk at 64 x)
     ∙ ap (λ sought. list_any (is_sought sought) (chunk at 64 x)) (sym c.in-Class.is)

@@ -23,7 +23,7 @@ loop-text-init c = c.loop-read.invariant.mended
 
 pub loop-text-2-preserved : goal.loop-text-2-preserved
 loop-text-2-preserved c =
-    let plain = sym c.is_plain.ensures ∙ c.loop-text-2-test.true in
+    let plain = sym c.may_be_faulty.ensures ∙ c.loop-text-2-test.true in
     record { mended = MendedUpTo-plain _ _ _ _ _ _ c.loop-text-2.invariant.mended plain; further = omega arith }
 
 pub loop-text-preserved : goal.loop-text-preserved

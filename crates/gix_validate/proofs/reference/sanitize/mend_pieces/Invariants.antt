@@ -1,12 +1,12 @@
-use Rattle.std.proofs.Common.{◌≡◌, ℕ, ◌-◌, ◌≤◌, ◌<◌, ◌||◌, false, get_or, codes}
-use Rattle.gix_validate.specs.Bytes.{is_bad, is_among}
+use Rattle.std.proofs.Common.{◌≡◌, ℕ, ◌-◌, ◌≤◌, ◌<◌, false, get_or}
+use Rattle.gix_validate.specs.Private.TagWalk.{may_be_faulty}
 use Rattle.gix_validate.proofs.Sanitizing.OneBuffer.{MendedUpTo}
 use Rattle.gix_validate.proofs.reference.sanitize.mend_pieces.Given as goal
 
 abbrev pub invariant-loop-read : goal.invariant-loop-read
 invariant-loop-read l = record {
   mended : MendedUpTo l.fn.text l.text l.start l.read l.read l.stop;
-  plain : (k : ℕ) → l.start ≤ k → k < l.read → (is_bad (get_or l.text k 0) || is_among (codes "*./{") (get_or l.text k 0)) ≡ false;
+  plain : (k : ℕ) → l.start ≤ k → k < l.read → may_be_faulty (get_or l.text k 0) ≡ false;
 }
 
 abbrev pub decreases-loop-read : goal.decreases-loop-read

@@ -1,0 +1,125 @@
+//! The proved functions, which are one block of machine code, each behind a safe function. All unsafe code of this crate
+//! is here.
+//!
+//! The declarations have to say what `bindings/c/gix_validate.h` says; the compiler compares them with nothing.
+
+use bstr::{BStr, BString};
+
+#[cfg(all(target_arch = "x86_64", target_pointer_width = "64"))]
+std::arch::global_asm!(include_str!("../native/x86_64.s"), options(att_syntax)); // in a clone, bindings/build makes this file
+
+#[cfg(all(target_arch = "aarch64", target_os = "linux", target_endian = "little"))]
+std::arch::global_asm!(include_str!("../native/aarch64.s")); // in a clone, release/aarch64 makes this file
+
+#[cfg(not(any(
+    all(target_arch = "x86_64", target_pointer_width = "64"),
+    all(target_arch = "aarch64", target_os = "linux", target_endian = "little")
+)))]
+compile_error!(
+    "the proved functions of gix-validate are there for x86-64, and for AArch64 on Linux, but not for this target; to \
+     build for it, take gix-validate out of [patch.crates-io]"
+);
+
+#[allow(non_camel_case_types)]
+type size_t = usize;
+
+macro_rules! declare {
+    ($abi:literal) => {
+        extern $abi {
+            fn gix_validate_tag(name: *const u8, name_len: size_t) -> u32;
+            fn gix_validate_partial(name: *const u8, name_len: size_t) -> u32;
+            fn gix_validate_full(name: *const u8, name_len: size_t) -> u32;
+            fn gix_validate_branch(name: *const u8, name_len: size_t) -> u32;
+            fn gix_validate_submodule(name: *const u8, name_len: size_t) -> u32;
+            fn gix_validate_component(name: *const u8, name_len: size_t, flags: u32) -> u32;
+            fn gix_validate_invalid_byte(name: *const u8, name_len: size_t) -> u32;
+            fn gix_validate_is_windows_device(name: *const u8, name_len: size_t) -> bool;
+            fn gix_validate_sanitize_in_place(
+                buffer: *mut u8,
+                buffer_len: size_t,
+                name_len: size_t,
+            ) -> size_t;
+            #[cfg(test)]
+            fn gix_validate_version() -> u32;
+        }
+    };
+}
+
+// The block is called as on Linux, whatever the system's own convention is.
+#[cfg(target_arch = "x86_64")]
+declare!("sysv64");
+#[cfg(not(target_arch = "x86_64"))]
+declare!("C");
+
+/// Whether a name is accepted, or the number of its fault.
+pub(crate) type Code = u32;
+
+/// The number that says that a name is accepted.
+pub(crate) const ACCEPTED: Code = 0;
+
+// SAFETY, of each call below: pointer and length are those of a slice that is borrowed until the call returns, so
+// its bytes are readable and nobody writes them. The calls read nothing else, keep no pointer and have no state.
+
+#[inline]
+pub(crate) fn tag(name: &BStr) -> Code {
+    unsafe { gix_validate_tag(name.as_ptr(), name.len()) }
+}
+
+#[inline]
+pub(crate) fn partial(name: &BStr) -> Code {
+    unsafe { gix_validate_partial(name.as_ptr(), name.len()) }
+}
+
+#[inline]
+pub(crate) fn full(name: &BStr) -> Code {
+    unsafe { gix_validate_full(name.as_ptr(), name.len()) }
+}
+
+#[inline]
+pub(crate) fn branch(name: &BStr) -> Code {
+    unsafe { gix_validate_branch(name.as_ptr(), name.len()) }
+}
+
+#[inline]
+pub(crate) fn submodule(name: &BStr) -> Code {
+    unsafe { gix_validate_submodule(name.as_ptr(), name.len()) }
+}
+
+#[inline]
+pub(crate) fn component(name: &BStr, flags: u32) -> Code {
+    unsafe { gix_validate_component(name.as_ptr(), name.len(), flags) }
+}
+
+#[inline]
+pub(crate) fn is_windows_device(name: &BStr) -> bool {
+    unsafe { gix_validate_is_windows_device(name.as_ptr(), name.len()) }
+}
+
+/// The byte that makes the name invalid as a tag or reference, where that is its fault.
+pub(crate) fn invalid_byte(name: &BStr) -> Option<u8> {
+    let answer = unsafe { gix_validate_invalid_byte(name.as_ptr(), name.len()) };
+    u8::try_from(answer).ok()
+}
+
+/// The name repaired to a partial reference name.
+pub(crate) fn sanitized(name: &BStr) -> BString {
+    let mut buffer = Vec::with_capacity(name.len().max(1));
+    buffer.extend_from_slice(name);
+    if buffer.is_empty() {
+        buffer.push(0); // room for the one byte that the empty name becomes
+    }
+    // SAFETY: pointer and length are those of a vector that is borrowed alone until the call returns.
+    let repaired =
+        unsafe { gix_validate_sanitize_in_place(buffer.as_mut_ptr(), buffer.len(), name.len()) };
+    buffer.truncate(repaired);
+    buffer.into()
+}
+
+#[test]
+fn the_block_has_the_version_of_the_crate() {
+    let version = env!("CARGO_PKG_VERSION").rsplit("dihareku.").next();
+    let number = version.unwrap().split('.').fold(0, |number, part| {
+        number * 1000 + part.parse::<u32>().unwrap()
+    });
+    assert_eq!(unsafe { gix_validate_version() }, number);
+}

@@ -1,0 +1,128 @@
+-- At most four bytes are printed for each byte of an input.
+use Rattle.std.proofs.Common.{◌≡◌, ℕ, ◌+◌, ◌*◌, ◌≤◌, Bool, true, false, ◌&&◌, not, cond, List, [], ◌∷◌, Option, None, Some, length, codes, refl, ap, arith}
+use Rattle.std.proofs.Common.{length-append}
+use Rattle.std.specs.Prelude.{IfSome}
+use Rattle.std.specs.Option.{option_map}
+use Rattle.std.specs.Str.{bytes_eq}
+use Rattle.gix_validate.specs.declared.tag.NameError.{NameError as TagError}
+use Rattle.gix_validate.specs.declared.tag.NameError.TheVariants as tag
+use Rattle.gix_validate.specs.declared.reference.NameError.{NameError}
+use Rattle.gix_validate.specs.declared.reference.NameError.TheVariants.{SomeLowercase}
+use Rattle.gix_validate.specs.Bytes.{begins}
+use Rattle.gix_validate.specs.Faults.{when, ◌orelse◌}
+use Rattle.gix_validate.specs.Quoted.{quoted}
+use Rattle.gix_validate.specs.Tag.{fault_of}
+use Rattle.gix_validate.specs.Reference.{reserved, carried, partial_fault_of, full_fault_of, branch_fault_of, text_of}
+use Rattle.streams.specs.declared.lines.Ending.TheVariants.{AfterALine}
+use Rattle.streams.specs.Reports.{PrintsAtMost}
+use Rattle.streams.proofs.LinearReports.{quoted_length, id_length, IsStepWithin, IsLineWithin, prints_at_most}
+use Rattle.check_refs.specs.declared.report.Options.{Options}
+use Rattle.check_refs.specs.declared.refusal.Refusal.{Refusal}
+use Rattle.check_refs.specs.declared.refusal.Refusal.TheVariants.{Name, Replacement}
+use Rattle.check_refs.specs.Refs.{ParsedUpdate, parsed_update, name_fault_of, refusal_of, is_deletion, update_refusal_of, refusal_text_of, refused_line}
+use Rattle.check_refs.specs.Refs.{id_line, lines_by}
+use Rattle.check_refs.specs.Report.{step_of, update_rule, refs_report}
+use Rattle.check_refs.specs.Spelled.{IsUpdate, update_line}
+use Rattle.check_refs.proofs.UpdateLines.{read_spelled}
+
+-- ---- the text of a refusal
+
+carried_length : (fault : TagError) → length (text_of (carried fault)) ≤ 64
+carried_length (tag.InvalidByte b) =
+    omega (arith, length-append (codes "Reference name contains invalid byte: ") (quoted (b ∷ [])), quoted_length (b ∷ []))
+carried_length tag.StartsWithSlash = omega arith
+carried_length tag.RepeatedSlash = omega arith
+carried_length tag.RepeatedDot = omega arith
+carried_length tag.LockFileSuffix = omega arith
+carried_length tag.ReflogPortion = omega arith
+carried_length tag.Asterisk = omega arith
+carried_length tag.StartsWithDot = omega arith
+carried_length tag.EndsWithDot = omega arith
+carried_length tag.EndsWithSlash = omega arith
+carried_length tag.Empty = omega arith
+
+abbrev IsShort : Option NameError → Type 0
+IsShort fault = IfSome fault (λ fault. length (text_of fault) ≤ 64)
+
+carried_short : (fault : Option TagError) → IsShort (option_map carried fault)
+carried_short None = tt
+carried_short (Some fault) = carried_length fault
+
+or_short : (first : Option NameError) (is : Bool) (other : NameError) → IsShort first → length (text_of other) ≤ 64 → IsShort (first orelse when is other)
+or_short (Some fault) is other short few = short
+or_short None true other short few = few
+or_short None false other short few = tt
+
+partial_short : (x : List ℕ) → IsShort (partial_fault_of x)
+unfolding partial_fault_of
+partial_short x = or_short (option_map carried (fault_of x)) (bytes_eq x (codes "@")) (reserved (codes "@")) (carried_short (fault_of x)) (omega arith)
+
+full_short : (x : List ℕ) → IsShort (full_fault_of x)
+unfolding full_fault_of
+full_short x = or_short (partial_fault_of x) _ SomeLowercase (partial_short x) (omega arith)
+
+branch_short : (x : List ℕ) → IsShort (branch_fault_of x)
+unfolding branch_fault_of
+branch_short x = or_short (full_fault_of x) (bytes_eq x (codes "refs/heads/HEAD")) (reserved (codes "refs/heads/HEAD")) (full_short x) (omega arith)
+
+either_short : (is : Bool) (one other : Option NameError) → IsShort one → IsShort other → IsShort (cond is one other)
+either_short true one other short more = short
+either_short false one other short more = more
+
+name_short : (x : List ℕ) → IsShort (name_fault_of x)
+name_short x = either_short (begins x (codes "refs/heads/")) (branch_fault_of x) (full_fault_of x) (branch_short x) (full_short x)
+
+abbrev IsShortly : Option Refusal → Type 0
+IsShortly refusal = IfSome refusal (λ refusal. length (refusal_text_of refusal) ≤ 64)
+
+named_shortly : (fault : Option NameError) (is : Bool) → IsShort fault → IsShortly (option_map Name fault orelse when is Replacement)
+named_shortly (Some fault) is short = short
+named_shortly None true short = omega arith
+named_shortly None false short = tt
+
+kept_shortly : (gone : Bool) (refusal : Option Refusal) → IsShortly refusal → IsShortly (cond gone None refusal)
+kept_shortly true refusal short = tt
+kept_shortly false refusal short = short
+
+update_shortly : (allows : Bool) (update : ParsedUpdate) → IsShortly (update_refusal_of allows update)
+update_shortly allows update =
+    kept_shortly (is_deletion update) (refusal_of allows update.name) (named_shortly (name_fault_of update.name) _ (name_short update.name))
+
+-- ---- a line
+
+refused_length : (name : List ℕ) (refusal : Refusal) → length (refusal_text_of refusal) ≤ 64 → length (refused_line name refusal) ≤ 4 * length name + 72
+refused_length name refusal short = grind (arith, length-append, quoted_length name)
+
+id_line_length : (is : Bool) (id : List ℕ) → length (cond is (id_line id) []) ≤ length id + 1
+id_line_length true id = omega (arith, length-append id (codes "\n"))
+id_line_length false id = omega arith
+
+lines_length : (options : Options) (update : ParsedUpdate) (refusal : Option Refusal) → IsShortly refusal
+    → length (lines_by options update refusal) ≤ 4 * length update.name + length update.new_id + 72
+lines_length options update (Some refusal) short = omega (arith, refused_length update.name refusal short)
+lines_length options update None short = omega (arith, id_line_length (options.lists_ids && not (is_deletion update)) update.new_id)
+
+update_length : (update : ParsedUpdate) → length (update_line update) ≡ length update.old_id + length update.new_id + length update.name + 2
+update_length update = grind (arith, length-append)
+
+-- an update and its line
+abbrev IsOf : List ℕ → ParsedUpdate → Type 0
+IsOf line update = IsUpdate update × (line ≡ update_line update)
+
+said_within : (options : Options) (line rest : List ℕ) (update : Option ParsedUpdate) → IfSome update (IsOf line)
+    → IsStepWithin 4 (length line + 1 + length rest) (step_of options update rest)
+said_within options line rest None is = omega arith
+said_within options line rest (Some update) (good, is) =
+    let long : length line ≡ length (update_line update) = ap length is in
+    let few = lines_length options update (update_refusal_of options.allows_replace update) (update_shortly options.allows_replace update) in
+    omega (arith, long, few, update_length update, id_length update.old_id good.old, id_length update.new_id good.new)
+
+parsed_of : (line : List ℕ) (update : Option ParsedUpdate) → parsed_update line ≡ update → IfSome update (IsOf line)
+parsed_of line None e = tt
+parsed_of line (Some update) e = read_spelled line update e
+
+line_within : (options : Options) → IsLineWithin 4 (update_rule options)
+line_within options line rest = said_within options line rest (parsed_update line) (parsed_of line (parsed_update line) refl)
+
+pub linear_report : (options : Options) → PrintsAtMost 4 (refs_report options)
+linear_report options = prints_at_most 4 (update_rule options) AfterALine (line_within options)

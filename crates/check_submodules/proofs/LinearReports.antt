@@ -1,0 +1,286 @@
+-- The lines of a file have at most 17 bytes for each of its own: a section has ten bytes at least, and two names never overlap.
+use Rattle.std.proofs.Common.{◌≡◌, ◌≢◌, ℕ, zero, suc, ◌+◌, ◌*◌, ◌<◌, ◌≤◌, nat_lt, Bool, true, false, cond, ◌==◌, ◌&&◌, not, List, [], ◌∷◌, ◌++◌, Option}
+use Rattle.std.proofs.Common.{None, Some}
+use Rattle.std.proofs.Common.{length, take, drop, map, codes, refl, ap, arith, length-append, take-append-drop, append_assoc, add-zero, sym, ◌∙◌, rules}
+use Rattle.std.proofs.lemmas.Bool.Decides.{nat_tests}
+use Rattle.std.proofs.lemmas.Fmt.{length-decimal-le}
+use Rattle.std.proofs.lemmas.Slice.Eq.{bytes_eq-Decides}
+use Rattle.std.specs.Prelude.{option_map, ⊤, ◌||◌}
+use Rattle.std.specs.Char.{to_ascii_lowercase}
+use Rattle.std.specs.List.{AllByRecursion}
+use Rattle.std.specs.Str.{byte, bytes_eq}
+use Rattle.gix_validate.specs.declared.submodule.NameError.{NameError}
+use Rattle.gix_validate.specs.declared.submodule.NameError.TheVariants.{Empty, ParentComponent}
+use Rattle.gix_validate.specs.Submodule.{fault_of, text_of}
+use Rattle.gitmodules.specs.Sections.{is_never_in_name, closed, escaped_name, unescaped, Header, Named, Unreadable, Other, is_blank, without_blanks}
+use Rattle.gitmodules.specs.Sections.{is_word_byte, named}
+use Rattle.gitmodules.proofs.SpelledSections.{nine}
+use Rattle.gitmodules.specs.Sections.{quoted_header, header_after_word, header_after_bracket, begun, sections}
+use Rattle.streams.specs.declared.header.Kind.{Kind}
+use Rattle.streams.specs.declared.header.Kind.TheVariants.{Blob, Tree, Commit, Tag}
+use Rattle.streams.specs.Reports.{PrintsAtMost}
+use Rattle.streams.proofs.LinearReports.{quoted_length, id_length, IsObjectWithin, stream_prints_at_most}
+use Rattle.check_submodules.specs.Lines.{place, line_if, line_of, lines_of, too_large_line}
+use Rattle.check_submodules.specs.Report.{largest, object_lines, submodules_rule, report}
+
+-- ---- a line
+
+text_length : (fault : NameError) → length (text_of fault) ≤ 39
+text_length Empty = omega arith
+text_length ParentComponent = omega arith
+
+place_length : (id : List ℕ) (offset : ℕ) → length id ≤ 64 → offset ≤ largest → length (place id offset) ≤ 74
+place_length id offset short within =
+    let digits = length-decimal-le 8 offset (omega arith) (omega (arith, within)) (omega (arith, within)) in
+    grind (arith, length-append, digits)
+
+if_length : (id : List ℕ) (offset : ℕ) (name : List ℕ) (fault : Option NameError) → length id ≤ 64 → offset ≤ largest
+    → length (line_if id offset name fault) ≤ 4 * length name + 117
+if_length id offset name None short within = omega arith
+if_length id offset name (Some fault) short within =
+    grind (arith, length-append, place_length id offset short within, quoted_length name, text_length fault)
+
+unreadable_length : (id : List ℕ) (offset : ℕ) → length id ≤ 64 → offset ≤ largest → length (line_of id (offset, None)) ≤ 98
+unreadable_length id offset short within = grind (arith, length-append, place_length id offset short within)
+
+-- ---- names
+
+abbrev option_length : Option (List ℕ) → ℕ
+option_length None = 0
+option_length (Some name) = length name
+
+-- how many bytes a name has that begins here, with its backslashes, if one does
+abbrev name_length : Bool → List ℕ → ℕ
+name_length escaped bytes = option_length (escaped_name escaped bytes)
+
+end_length : (is : Bool) → option_length (cond is (Some []) None) ≤ 0
+end_length true = omega arith
+end_length false = omega arith
+
+closed_length : (bytes : List ℕ) → option_length (closed bytes) ≤ 0
+closed_length [] = omega arith
+closed_length (b ∷ bytes) = end_length (b == byte "]")
+
+next_by : (never ends : Bool) (b : ℕ) (bytes : List ℕ) (rest : Option (List ℕ))
+    → option_length (cond never None (cond ends (closed bytes) (option_map (λ name. b ∷ name) rest))) ≤ 1 + option_length rest
+next_by true ends b bytes rest = omega arith
+next_by false true b bytes rest = omega (arith, closed_length bytes)
+next_by false false b bytes None = omega arith
+next_by false false b bytes (Some name) = omega arith
+
+next_length : (escaped : Bool) (b : ℕ) (bytes : List ℕ) → name_length escaped (b ∷ bytes) ≤ 1 + name_length (not escaped && b == byte "\\") bytes
+next_length escaped b bytes =
+    next_by (is_never_in_name b) (not escaped && b == byte "\"") b bytes (escaped_name (not escaped && b == byte "\\") bytes)
+
+-- a byte of a header before its double quote
+abbrev IsFront : ℕ → Type 0
+IsFront b = (b ≢ byte "[") × (b ≢ byte "\\")
+
+not_escaped : (escaped is : Bool) → is ≡ false → (not escaped && is) ≡ false
+not_escaped true is e = refl
+not_escaped false is e = e
+
+next_plain : (escaped : Bool) (b : ℕ) (bytes : List ℕ) → b ≢ byte "\\" → name_length escaped (b ∷ bytes) ≤ 1 + name_length false bytes
+next_plain escaped b bytes other =
+    let e : (not escaped && b == byte "\\") ≡ false = not_escaped escaped (b == byte "\\") (grind (arith, nat_tests)) in
+    let same : name_length (not escaped && b == byte "\\") bytes ≡ name_length false bytes = ap (λ is. name_length is bytes) e in
+    omega (arith, next_length escaped b bytes, same)
+
+front_length : (front rest : List ℕ) → AllByRecursion IsFront front → name_length false (front ++ rest) ≤ length front + name_length false rest
+front_length [] rest is = omega arith
+front_length (b ∷ front) rest (first, is) = omega (arith, next_plain false b (front ++ rest) first.1, front_length front rest is)
+
+unescaped_by : (is : Bool) (b : ℕ) (one other : List ℕ) (most : ℕ) → length one ≤ most → length other ≤ most
+    → length (cond is one (b ∷ other)) ≤ most + 1
+unescaped_by true b one other most few more = omega arith
+unescaped_by false b one other most few more = omega arith
+
+unescaped_length : (escaped : Bool) (bytes : List ℕ) → length (unescaped escaped bytes) ≤ length bytes
+unescaped_length escaped [] = omega arith
+unescaped_length escaped (b ∷ bytes) =
+    omega (
+      arith,
+      unescaped_by (not escaped && b == byte "\\") b (unescaped true bytes) (unescaped false bytes) (length bytes) (unescaped_length true bytes)
+          (unescaped_length false bytes),
+    )
+
+-- ---- headers
+
+-- what a header of this kind has after its `[`: nine bytes of a word, or these, blanks and a double quote before the name
+abbrev IsRead : List ℕ → Header → Type 0
+IsRead bytes (Named name) =
+    (front : List ℕ) × (tail : List ℕ) × (bytes ≡ front ++ byte "\"" ∷ tail) × AllByRecursion IsFront front × (10 ≤ length front)
+    × (length name ≤ name_length false tail)
+IsRead bytes Unreadable = (front : List ℕ) × (after : List ℕ) × (bytes ≡ front ++ after) × AllByRecursion IsFront front × (9 ≤ length front)
+IsRead bytes Other = ⊤
+
+word_fronts : (word text : List ℕ) → map to_ascii_lowercase word ≡ text → AllByRecursion IsFront text → AllByRecursion IsFront word
+word_fronts [] text e is = tt
+word_fronts (b ∷ word) [] e is = grind arith
+word_fronts (b ∷ word) (c ∷ text) e (first, is) =
+    let one : to_ascii_lowercase b ≡ c = grind arith in
+    let more : map to_ascii_lowercase word ≡ text = grind arith in
+    ((λ same. first.0 (sym one ∙ ap to_ascii_lowercase same), λ same. first.1 (sym one ∙ ap to_ascii_lowercase same)), word_fronts word text more is)
+
+submodule_fronts : AllByRecursion IsFront (codes "submodule")
+submodule_fronts = search rules
+
+blank_front : (b : ℕ) → is_blank b ≡ true → IsFront b
+blank_front b e = (grind (arith, nat_tests), grind (arith, nat_tests))
+
+abbrev IsAfterBlanks : List ℕ → List ℕ → Type 0
+IsAfterBlanks bytes after = (front : List ℕ) × AllByRecursion IsFront front × (bytes ≡ front ++ after)
+
+blanks_by : (is : Bool) (b : ℕ) (bytes : List ℕ) → is_blank b ≡ is → IsAfterBlanks bytes (without_blanks bytes)
+    → IsAfterBlanks (b ∷ bytes) (cond is (without_blanks bytes) (b ∷ bytes))
+blanks_by true b bytes e (front, is, whole) = (b ∷ front, (blank_front b e, is), ap (λ rest. b ∷ rest) whole)
+blanks_by false b bytes e others = ([], tt, refl)
+
+blanks_read : (bytes : List ℕ) → IsAfterBlanks bytes (without_blanks bytes)
+blanks_read [] = ([], tt, refl)
+blanks_read (b ∷ bytes) = blanks_by (is_blank b) b bytes refl (blanks_read bytes)
+
+fronts_append : (front more : List ℕ) → AllByRecursion IsFront front → AllByRecursion IsFront more → AllByRecursion IsFront (front ++ more)
+fronts_append [] more is others = others
+fronts_append (b ∷ front) more (first, is) others = (first, fronts_append front more is others)
+
+module _ (bytes : List ℕ) where
+  named_read : (front tail : List ℕ) (name : Option (List ℕ)) → bytes ≡ front ++ byte "\"" ∷ tail → AllByRecursion IsFront front → 10 ≤ length front
+      → escaped_name false tail ≡ name → IsRead bytes (named name)
+  named_read front tail None whole is long e = (front, byte "\"" ∷ tail, whole, is, omega arith)
+  named_read front tail (Some name) whole is long e =
+      let same : option_length (escaped_name false tail) ≡ length name = ap option_length e in
+      (front, tail, whole, is, long, omega (arith, same, unescaped_length false name))
+
+  quote_by : (is : Bool) (front : List ℕ) (q : ℕ) (tail : List ℕ) → (q == byte "\"") ≡ is → bytes ≡ front ++ q ∷ tail → AllByRecursion IsFront front
+      → 10 ≤ length front → IsRead bytes (cond is (named (escaped_name false tail)) Unreadable)
+  quote_by true front q tail e whole is long =
+      let quote : q ≡ byte "\"" = grind (arith, nat_tests) in
+      named_read front tail (escaped_name false tail) (whole ∙ ap (λ q. front ++ q ∷ tail) quote) is long refl
+  quote_by false front q tail e whole is long = (front, q ∷ tail, whole, is, omega arith)
+
+  quoted_read : (front after : List ℕ) → bytes ≡ front ++ after → AllByRecursion IsFront front → 10 ≤ length front → IsRead bytes (quoted_header after)
+  quoted_read front [] whole is long = (front, [], whole, is, omega arith)
+  quoted_read front (q ∷ tail) whole is long = quote_by (q == byte "\"") front q tail refl whole is long
+
+  after_by : (blank other : Bool) (front : List ℕ) (b : ℕ) (after : List ℕ) → is_blank b ≡ blank → bytes ≡ front ++ b ∷ after → AllByRecursion IsFront front
+      → length front ≡ 9 → IsRead bytes (cond blank (quoted_header (without_blanks after)) (cond other Other Unreadable))
+  after_by true other front b after e whole is long =
+      let (blanks, are, rest) = blanks_read after in
+      quoted_read (front ++ b ∷ blanks) (without_blanks after)
+      (whole ∙ ap (λ rest. front ++ b ∷ rest) rest ∙ sym (append_assoc front (b ∷ blanks) (without_blanks after)))
+      (fronts_append front (b ∷ blanks) is (blank_front b e, are)) (omega (arith, length-append front (b ∷ blanks)))
+  after_by false true front b after e whole is long = tt
+  after_by false false front b after e whole is long = (front, b ∷ after, whole, is, omega arith)
+
+  word_after : (front after : List ℕ) → bytes ≡ front ++ after → AllByRecursion IsFront front → length front ≡ 9 → IsRead bytes (header_after_word after)
+  word_after front [] whole is long = (front, [], whole, is, omega arith)
+  word_after front (b ∷ after) whole is long = after_by (is_blank b) (b == byte "]" || is_word_byte b) front b after refl whole is long
+
+  word_by : (is : Bool) → bytes_eq (map to_ascii_lowercase (take 9 bytes)) (codes "submodule") ≡ is
+      → IsRead bytes (cond is (header_after_word (drop 9 bytes)) Other)
+  word_by true e =
+      let word : map to_ascii_lowercase (take 9 bytes) ≡ codes "submodule" = (bytes_eq-Decides _ (codes "submodule")).0 e in
+      word_after (take 9 bytes) (drop 9 bytes) (sym (take-append-drop 9 bytes))
+      (word_fronts (take 9 bytes) (codes "submodule") word submodule_fronts) (nine (take 9 bytes) word)
+  word_by false e = tt
+
+  header_read : IsRead bytes (header_after_bracket bytes)
+  unfolding header_after_bracket
+  header_read = word_by (bytes_eq (map to_ascii_lowercase (take 9 bytes)) (codes "submodule")) refl
+
+-- ---- sections
+
+passed : (offset n : ℕ) (front rest : List ℕ) → n ≡ offset + length front → AllByRecursion IsFront front → sections offset (front ++ rest) ≡ sections n rest
+passed offset n [] rest e is = ap (λ n. sections n rest) (sym (e ∙ add-zero offset))
+passed offset n (b ∷ front) rest e (first, is) =
+    let other : (b == byte "[") ≡ false = let no = first.0 in grind (arith, nat_tests) in
+    rw other (passed (offset + 1) n front rest (omega arith) is)
+
+module _ (id : List ℕ) (short : length id ≤ 64) where
+  abbrev IsWithin : List ℕ → Type 0
+  IsWithin bytes =
+      (offset : ℕ) (escaped : Bool) → offset + length bytes ≤ largest
+      → length (lines_of id (sections offset bytes)) + 4 * name_length escaped bytes ≤ 17 * length bytes
+
+  bracket_within : (bytes : List ℕ) (header : Header) → IsRead bytes header → ((rest : List ℕ) → length rest ≤ length bytes → IsWithin rest)
+      → (offset : ℕ) (escaped : Bool) → offset + length bytes + 1 ≤ largest
+      → length (lines_of id (begun offset header ++ sections (offset + 1) bytes)) + 4 * name_length escaped (byte "[" ∷ bytes) ≤ 17 * (length bytes + 1)
+  bracket_within bytes Other read go offset escaped fits =
+      omega (arith, go bytes (omega arith) (offset + 1) false (omega arith), next_plain escaped (byte "[") bytes (λ e. omega arith))
+  bracket_within bytes Unreadable (front, after, whole, is, long) go offset escaped fits =
+      let count : length bytes ≡ length front + length after = ap length whole ∙ length-append front after in
+      let n = offset + 1 + length front in
+      let rest : sections (offset + 1) bytes ≡ sections n after = ap (sections (offset + 1)) whole ∙ passed (offset + 1) n front after refl is in
+      let name : name_length escaped (byte "[" ∷ bytes) ≤ 1 + name_length false (front ++ after) =
+      rw whole (next_plain escaped (byte "[") (front ++ after) (λ e. omega arith)) in
+      rw rest (omega (
+        arith,
+        count,
+        name,
+        front_length front after is,
+        go after (omega (arith, count)) n false (omega (arith, count)),
+        unreadable_length id offset short (omega arith),
+        length-append (line_of id (offset, None)) (lines_of id (sections n after)),
+      ))
+  bracket_within bytes (Named text) (front, tail, whole, is, long, few) go offset escaped fits =
+      let count : length bytes ≡ length front + 1 + length tail = ap length whole ∙ grind (arith, length-append) in
+      let n = offset + 1 + length front in
+      let rest : sections (offset + 1) bytes ≡ sections (n + 1) tail =
+      ap (sections (offset + 1)) whole ∙ passed (offset + 1) n front (byte "\"" ∷ tail) refl is in
+      let name : name_length escaped (byte "[" ∷ bytes) ≤ 1 + name_length false (front ++ byte "\"" ∷ tail) =
+      rw whole (next_plain escaped (byte "[") (front ++ byte "\"" ∷ tail) (λ e. omega arith)) in
+      let quote : name_length false (byte "\"" ∷ tail) ≤ 0 = closed_length tail in
+      rw rest (omega (
+        arith,
+        count,
+        name,
+        quote,
+        few,
+        front_length front (byte "\"" ∷ tail) is,
+        go tail (omega (arith, count)) (n + 1) false (omega (arith, count)),
+        if_length id offset text (fault_of text) short (omega arith),
+        length-append (line_of id (offset, Some text)) (lines_of id (sections (n + 1) tail)),
+      ))
+
+  first_within : (is : Bool) (b : ℕ) (bytes : List ℕ) → (b == byte "[") ≡ is → ((rest : List ℕ) → length rest ≤ length bytes → IsWithin rest)
+      → (offset : ℕ) (escaped : Bool) → offset + length bytes + 1 ≤ largest
+      → length (lines_of id (cond is (begun offset (header_after_bracket bytes) ++ sections (offset + 1) bytes) (sections (offset + 1) bytes)))
+      + 4 * name_length escaped (b ∷ bytes) ≤ 17 * (length bytes + 1)
+  first_within true b bytes e go offset escaped fits =
+      let is : b ≡ byte "[" = grind (arith, nat_tests) in
+      rw is (bracket_within bytes (header_after_bracket bytes) (header_read bytes) go offset escaped fits)
+  first_within false b bytes e go offset escaped fits =
+      omega (arith, next_length escaped b bytes, go bytes (omega arith) (offset + 1) (not escaped && b == byte "\\") (omega arith))
+
+  sections_within : (fuel : ℕ) (bytes : List ℕ) → length bytes ≤ fuel → IsWithin bytes
+  sections_within fuel [] few offset escaped fits = omega arith
+  sections_within zero (b ∷ bytes) few offset escaped fits = absurd (omega arith)
+  sections_within (suc fuel) (b ∷ bytes) few offset escaped fits =
+      omega (
+        arith,
+        first_within (b == byte "[") b bytes refl (λ rest less. sections_within fuel rest (omega (arith, less, few))) offset escaped (omega (arith, fits)),
+      )
+
+  -- ---- a file
+
+  file_by : (is : Bool) (size : ℕ) (bytes : List ℕ) → nat_lt largest size ≡ is → length bytes ≡ size
+      → length (cond is (too_large_line id) (lines_of id (sections 0 bytes))) ≤ 17 * length bytes
+  file_by true size bytes e whole =
+      let many : largest < size = grind (arith, nat_tests) in
+      omega (arith, length-append id (codes " the file is larger than 16777216 bytes\n"))
+  file_by false size bytes e whole =
+      let few : size ≤ largest = grind (arith, nat_tests) in omega (arith, sections_within (length bytes) bytes (omega arith) 0 false (omega (arith, few)))
+
+  object_length : (kind : Kind) (size : ℕ) (bytes : List ℕ) → length bytes ≡ size → length (object_lines kind id size bytes) ≤ 17 * length bytes
+  object_length Blob size bytes whole = file_by (nat_lt largest size) size bytes refl whole
+  object_length Tree size bytes whole = omega arith
+  object_length Commit size bytes whole = omega arith
+  object_length Tag size bytes whole = omega arith
+
+file_within : IsObjectWithin 17 submodules_rule
+file_within true object bytes good whole = omega arith
+file_within false object bytes good whole = object_length object.id (id_length object.id good).1 object.kind object.size bytes (whole refl)
+
+pub linear_report : (whole : Bool) → PrintsAtMost 17 (report whole)
+linear_report whole = stream_prints_at_most 17 submodules_rule whole file_within

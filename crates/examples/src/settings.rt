@@ -1,0 +1,68 @@
+//! The names of the submodules in a `.gitmodules` file.
+
+ghost use Rattle.std.specs.Prelude.{◌≡◌, Some, None, All, map, IfOk, IfErr};
+ghost use Rattle.bstr.specs.Owned.{bstring_bytes};
+ghost use Rattle.gitmodules.specs.Headers.{section_pair};
+ghost use Rattle.gitmodules.specs.Sections.{sections};
+ghost use Rattle.gix_validate.specs.Submodule.{fault_of};
+ghost use Rattle.examples.specs.Settings.{IsErrorOf, IsFirstError};
+
+use bstr::{BStr, BString};
+use gitmodules::{Section, Sections};
+use gix_validate::submodule::{self, NameError};
+use std::alloc::{AllocError, Global};
+use thiserror::Error;
+
+/// Why the names of a file were not read. Offsets are in bytes.
+#[derive(Debug, Drop, Error)]
+pub enum SettingsError {
+    /// The name of the section at this offset is invalid.
+    #[error("the section at offset {offset}: {fault}")]
+    Name { offset: usize, fault: NameError },
+    /// The section at this offset can't be read.
+    #[error("the section at offset {offset} can't be read")]
+    Unreadable { offset: usize },
+    /// Out of memory.
+    #[error("out of memory")]
+    Memory(AllocError),
+}
+
+/// The names of the submodules in a `.gitmodules` file: the name of each section, in order.
+///
+/// The first section whose name is invalid or that can't be read is the error. The sections are
+/// those of [`Sections`], which also finds some that Git doesn't see, as one in a comment.
+#[tactic(auto, using(crate::proofs::SettingsLemmas::read_one_more))]
+pub fn submodule_names(alloc: Global, file: &[u8]) -> Result<Vec<BString>, SettingsError>
+    ensures names { IfOk result (λ names. map (λ name. Some (bstring_bytes name)) names.items
+        ≡ map (λ section. section.1) (sections 0 file.now)) }
+    ensures accepted { IfOk result (λ names.
+        All (λ name. fault_of (bstring_bytes name) ≡ None) names.items) }
+    ensures refused { IfErr result (IsFirstError (sections 0 file.now)) }
+{
+    let mut names = Vec::new(alloc);
+    for section in Sections::new(file) {
+        let name = submodule_name(alloc, &section)?;
+        names
+            .push(name)
+            .map_err(|_| SettingsError::Memory(AllocError))?;
+    }
+    Ok(names)
+}
+
+/// The name of a section.
+fn submodule_name(alloc: Global, section: &Section<'_>) -> Result<BString, SettingsError>
+    ensures name { IfOk result (λ name. section.now.name ≡ Some (bstring_bytes name)) }
+    ensures accepted { IfOk result (λ name. fault_of (bstring_bytes name) ≡ None) }
+    ensures refused { IfErr result (IsErrorOf (section_pair section.now)) }
+{
+    let offset = section.offset;
+    let Some(escaped) = &section.name else {
+        return Err(SettingsError::Unreadable { offset });
+    };
+    let mut name = Vec::new(alloc);
+    escaped.push_to(&mut name).map_err(SettingsError::Memory)?;
+    match submodule::name(BStr::new(&name)) {
+        Ok(_) => Ok(BString::new(name)),
+        Err(fault) => Err(SettingsError::Name { offset, fault }),
+    }
+}

@@ -1,7 +1,0 @@
-use Rattle.gix_validate.proofs.Blocks.FourBytes.{block_of_fours}
-use Rattle.gix_validate.proofs.submodule.block_has_none.Goals as goal
-
-pub returns : goal.returns
-returns c =
-    let law = block_of_fours c.args.bytes.now c.args.at c.requires in
-    (λ t. law.0 (c.lanes_have_none.ensures.0 t), λ s. c.lanes_have_none.ensures.1 (law.1 s))

@@ -1,0 +1,10 @@
+-- No part that is `..` begins so far.
+use Rattle.std.proofs.Common.{◌-◌, length}
+use Rattle.gix_validate.specs.Private.Parents.{NoParentBelow}
+use Rattle.gix_validate.proofs.submodule.has_parent_from.Given as goal
+
+abbrev pub invariant-loop-at : goal.invariant-loop-at
+invariant-loop-at l = NoParentBelow l.bytes l.at
+
+abbrev pub decreases-loop-at : goal.decreases-loop-at
+decreases-loop-at l = length l.bytes - l.at

@@ -1,0 +1,149 @@
+//! Finds the first place in a name whose byte, or whose two adjacent bytes, a pattern marks.
+//! Sixteen places are checked at a time. The last block overlaps the one before it, and the places
+//! of a short name are one block.
+
+ghost use Rattle.std.specs.Prelude.{◌≡◌, ◌<◌, ◌≤◌, ◌+◌, ◌-◌, ◌^◌, ℕ, Bool, if◌then◌else◌, length, slice_index};
+ghost use Rattle.std.specs.Int.{bit_at};
+ghost use Rattle.gix_validate.specs.Private.Lanes.{HasParts};
+ghost use Rattle.gix_validate.specs.Private.Scan.{Finds, NoneBelow, at_both, at_pair};
+
+use crate::lanes::{LANES, first_lane, halves, pairs, quarters};
+use std::simd::prelude::*;
+
+/// What is searched for.
+pub(crate) trait Pattern {
+    /// Whether a byte and the one beside it are a hit.
+    ghost hit: { ℕ → ℕ → Bool };
+
+    /// A bit for each lane whose two bytes are a hit. The lowest bit is for the first lane.
+    fn hits(front: u8x16, back: u8x16) -> u64
+        ensures few { result < 2 ^ LANES }
+        ensures lanes { (k : ℕ) → k < LANES → bit_at result k ≡ (if hit (slice_index front k) (slice_index back k) then 1 else 0) };
+}
+
+/// The first place whose byte and the next are a hit.
+#[inline(always)]
+pub(crate) fn first_pair<P: Pattern>(text: &[u8]) -> Option<usize>
+    requires { 1 ≤ length text.now }
+    ensures { Finds (at_pair P.hit text.now) (length text.now - 1) (length text.now - 1) result }
+{
+    first::<P>(&text[..text.len() - 1], &text[1..])
+}
+
+/// The first place where the bytes of two texts of one length are a hit.
+#[inline(always)]
+fn first<P: Pattern>(front: &[u8], back: &[u8]) -> Option<usize>
+    requires { length back.now ≡ length front.now }
+    ensures { Finds (at_both P.hit front.now back.now) (length front.now) (length front.now) result }
+{
+    let len = front.len();
+    if len >= LANES {
+        return first_by_blocks::<P>(front, back);
+    }
+    if len >= 8 {
+        let last = len - 8;
+        return first_of_parts::<P>(
+            front,
+            back,
+            8,
+            halves(front, 0, last),
+            halves(back, 0, last),
+        );
+    }
+    if len >= 4 {
+        let last = len - 4;
+        return first_of_parts::<P>(
+            front,
+            back,
+            4,
+            quarters(front, 0, last),
+            quarters(back, 0, last),
+        );
+    }
+    if len >= 2 {
+        let last = len - 2;
+        return first_of_parts::<P>(front, back, 2, pairs(front, 0, last), pairs(back, 0, last));
+    }
+    if len == 0 {
+        return None;
+    }
+    first_of_parts::<P>(
+        front,
+        back,
+        1,
+        u8x16::splat(front[0]),
+        u8x16::splat(back[0]),
+    )
+}
+
+/// The same for texts that have a block. The last block overlaps the one before it. Most names have
+/// two blocks at most, which need no loop.
+#[inline(always)]
+fn first_by_blocks<P: Pattern>(front: &[u8], back: &[u8]) -> Option<usize>
+    requires same { length back.now ≡ length front.now }
+    requires long { LANES ≤ length front.now }
+    ensures { Finds (at_both P.hit front.now back.now) (length front.now) (length front.now) result }
+{
+    let last = front.len() - LANES;
+    let mut at = 0;
+    if last <= LANES {
+        return match first_of_block::<P>(front, back, at) {
+            Some(place) => Some(place),
+            None => first_of_block::<P>(front, back, last),
+        };
+    }
+    while at < last {
+        if let Some(place) = first_of_block::<P>(front, back, at) {
+            return Some(place);
+        }
+        at += LANES;
+    }
+    first_of_block::<P>(front, back, last)
+}
+
+/// The first hit, if it is one of the sixteen places from this one on.
+#[inline(always)]
+fn first_of_block<P: Pattern>(front: &[u8], back: &[u8], at: usize) -> Option<usize>
+    requires same { length back.now ≡ length front.now }
+    requires room { at + LANES ≤ length front.now }
+    requires none { NoneBelow (at_both P.hit front.now back.now) at }
+    ensures { Finds (at_both P.hit front.now back.now) (length front.now) (at + LANES) result }
+{
+    let hits = P::hits(
+        u8x16::from_slice(&front[at..]),
+        u8x16::from_slice(&back[at..]),
+    );
+    if hits == 0 {
+        return None;
+    }
+    Some(at + first_lane(hits))
+}
+
+/// The first hit of short texts, whose first bytes and last bytes the lanes have.
+#[inline(always)]
+fn first_of_parts<P: Pattern>(
+    front: &[u8],
+    back: &[u8],
+    size: usize,
+    lanes: u8x16,
+    others: u8x16,
+) -> Option<usize>
+    requires some { 0 < size }
+    requires few { size + size ≤ LANES }
+    requires enough { size ≤ length front.now }
+    requires all { length front.now ≤ size + size }
+    requires front { HasParts size 0 (length front.now - size) front.now lanes }
+    requires back { HasParts size 0 (length front.now - size) back.now others }
+    ensures { Finds (at_both P.hit front.now back.now) (length front.now) (length front.now) result }
+{
+    let hits = P::hits(lanes, others);
+    if hits == 0 {
+        return None;
+    }
+    let lane = first_lane(hits) % (size + size);
+    Some(if lane < size {
+        lane
+    } else {
+        front.len() - size + (lane - size)
+    })
+}

@@ -1,0 +1,10 @@
+-- a front is written
+use Rattle.std.proofs.Common.{◌≤◌, length, take}
+use Rattle.std.specs.Io.KnownBytes.{Appends}
+use Rattle.program.proofs.output.write_all.Given as goal
+
+abbrev pub invariant-loop : goal.invariant-loop
+invariant-loop g l = record {
+  within : l.written ≤ length l.bytes;
+  front : Appends (g.W.Write.contents l.fn.output) (g.W.Write.contents l.output) (take l.written l.bytes);
+}

@@ -1,0 +1,154 @@
+//! The arguments of a program.
+
+ghost use Rattle.std.specs.Prelude.{◌≡◌, map};
+ghost use Rattle.std.specs.Option.{option_map};
+ghost use Rattle.std.specs.Result.{result_map_both};
+ghost use Rattle.std.specs.Str.{byte};
+ghost use Rattle.std.specs.String.{string_bytes};
+ghost use Rattle.program.specs.Arguments.{OptionRule, effect_of, is_help, request_of, set_by, task_of, text_of, wrong_argument};
+ghost use Rattle.program.specs.Lines.{split_once};
+
+use std::error::Error;
+use std::fmt;
+
+/// What a program has to do.
+#[derive(Debug, Clone, Copy)]
+pub enum Request<O> {
+    /// To check standard input with these options.
+    Check(O),
+    /// To print the help.
+    Help,
+    /// To print the version.
+    Version,
+}
+
+/// What an option does.
+#[derive(Debug, Clone, Copy)]
+pub enum Setting<'a, O> {
+    /// There is no such option.
+    Unknown,
+    /// The options are these from now on.
+    Set(O),
+    /// The option needs a value.
+    NeedsValue,
+    /// The option has this value, and needs one as the second text says.
+    Invalid(&'a str, &'a str),
+}
+
+/// The options of a program.
+pub trait Options<'a>: Copy {
+    /// The name of the program.
+    const NAME: &'static str;
+
+    ghost View: { Type 0 };
+
+    ghost view: { Self → View };
+
+    ghost start: { View };
+
+    ghost rule: { OptionRule View };
+
+    /// The options of a program without arguments.
+    fn start() -> Self
+        ensures { view result ≡ start };
+
+    /// What the option `name` does, with this value or without one.
+    fn set(self, name: &str, value: Option<&'a str>) -> Setting<'a, Self>
+        ensures { effect_of view result ≡ rule name.now (option_map text_of value.entry) (view self) };
+}
+
+/// Why the arguments are wrong.
+#[derive(Debug, Clone, Copy)]
+pub enum ArgumentError<'a> {
+    /// The second argument is unknown to the first, the program.
+    Unknown(&'a str, &'a str),
+    /// The second, the last argument, is an option of the first, the program, that needs a value.
+    NoValue(&'a str, &'a str),
+    /// The first is an option whose value, the second, is not as the third says.
+    Invalid(&'a str, &'a str, &'a str),
+}
+
+impl fmt::Display for ArgumentError<'_> {
+    fn fmt<W: fmt::Write>(&self, f: &mut fmt::Formatter<W>) -> fmt::Result {
+        match self {
+            ArgumentError::Unknown(program, word) => {
+                write!(f, "unknown argument {word:?}, see {program} --help")
+            }
+            ArgumentError::NoValue(program, option) => {
+                write!(f, "{option} needs a value, see {program} --help")
+            }
+            ArgumentError::Invalid(option, value, valid) => {
+                write!(f, "invalid {option} {value:?}: give {valid}")
+            }
+        }
+    }
+}
+
+impl Error for ArgumentError<'_> {}
+
+/// Reads the arguments: options, or the help or the version, if that argument comes before any that
+/// is wrong. An option's value is the next argument, or follows the name and `=`. A later option
+/// replaces an earlier one. It does not allocate.
+///
+/// # Errors
+///
+/// [`ArgumentError`] with the first argument that is wrong.
+pub fn request_of<'a, O: Options<'a>>(words: &'a [String]) -> Result<Request<O>, ArgumentError<'a>>
+    ensures request { result_map_both (task_of O.view) wrong_argument result
+        ≡ request_of O.rule O.start (map string_bytes words.now) }
+{
+    let mut options = O::start();
+    let mut option = None;
+    let mut rest = words;
+    while let [word, after @ ..] = rest {
+        let word = word.as_str();
+        match option {
+            Some(name) => (options, option) = set_by(options, Some(name), word)?,
+            None if is_help(word) => return Ok(Request::Help),
+            None if word == "--version" => return Ok(Request::Version),
+            None => (options, option) = set_by(options, None, word)?,
+        }
+        rest = after;
+    }
+    match option {
+        Some(name) => Err(ArgumentError::NoValue(O::NAME, name)),
+        None => Ok(Request::Check(options)),
+    }
+}
+
+/// Whether the word asks for the help.
+fn is_help(word: &str) -> bool
+    ensures { result ≡ is_help word.now }
+{
+    word == "-h" || word == "--help"
+}
+
+/// The options after a word, and the option that needs a value then. The word is the value of
+/// `option`, if that is one.
+fn set_by<'a, O: Options<'a>>(
+    options: O,
+    option: Option<&'a str>,
+    word: &'a str,
+) -> Result<(O, Option<&'a str>), ArgumentError<'a>>
+    ensures { result_map_both (λ next. (O.view next.0, option_map text_of next.1)) wrong_argument result
+        ≡ set_by O.rule (O.view options) (option_map text_of option.entry) word.now }
+{
+    let (name, value) = match (option, cut(word)) {
+        (Some(name), _) => (name, Some(word)),
+        (None, Some((name, value))) => (name, Some(value)),
+        (None, None) => (word, None),
+    };
+    match options.set(name, value) {
+        Setting::Unknown => Err(ArgumentError::Unknown(O::NAME, word)),
+        Setting::Set(options) => Ok((options, None)),
+        Setting::NeedsValue => Ok((options, Some(name))),
+        Setting::Invalid(value, valid) => Err(ArgumentError::Invalid(name, value, valid)),
+    }
+}
+
+/// The parts around the first `=`, if there is one.
+fn cut(word: &str) -> Option<(&str, &str)>
+    ensures { option_map (λ parts. (parts.0.now, parts.1.now)) result ≡ split_once (byte "=") word.now }
+{
+    word.split_once('=')
+}

@@ -1,0 +1,34 @@
+//! Whole writes.
+
+ghost use Rattle.std.specs.Prelude.{◌≡◌, IfErr, OnOk, OnErr};
+ghost use Rattle.std.specs.Io.KnownBytes.{Appends};
+ghost use Rattle.program.specs.Writes.{AppendsPrefixOf};
+
+use crate::outcome::RunError;
+use std::io::{ErrorKind, Write};
+
+/// Writes all of the bytes. It does not allocate.
+///
+/// # Errors
+///
+/// [`RunError::Write`] if writing failed. What was written then is the beginning of the bytes.
+#[inline(never)]
+pub fn write_all<W: Write>(bytes: &[u8], output: &mut W) -> Result<(), RunError>
+    ensures ok { OnOk result (Appends (W.contents output.old) (W.contents output.new) bytes.now) }
+    ensures err { OnErr result (AppendsPrefixOf (W.contents output.old) (W.contents output.new) bytes.now) }
+    ensures stop { IfErr result (λ stop. stop ≡ RunError.Write) }
+{
+    let mut written = 0;
+    for _ in 0..u64::MAX {
+        if written >= bytes.len() {
+            return Ok(());
+        }
+        match output.write(&bytes[written..]) {
+            Ok(0) => return Err(RunError::Write),
+            Ok(count) => written += count,
+            Err(e) if e.kind() == ErrorKind::Interrupted => {}
+            Err(_) => return Err(RunError::Write),
+        }
+    }
+    Err(RunError::Write)
+}

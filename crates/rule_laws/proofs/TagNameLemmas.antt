@@ -1,0 +1,22 @@
+-- The laws of the rule of tag names.
+use Rattle.std.proofs.Common.{ℕ, List, sym, ap, ◌∙◌, arith}
+use Rattle.std.proofs.lemmas.List.Splits.{join_with_byte-slice_split}
+use Rattle.std.proofs.lemmas.Bool.Decides.{nat_tests}
+use Rattle.std.specs.Str.{byte}
+use Rattle.gix_validate.specs.Bytes.{is_bad}
+use Rattle.gix_validate.specs.Pieces.{pieces}
+use Rattle.gix_validate.specs.Tag.{fault_table, faults_at}
+use Rattle.gix_validate.proofs.Texts.Endings.{ends_push_one}
+use Rattle.gix_validate.proofs.Texts.Pieces.{pieces_some, pieces_apart, pieces-joined}
+use Rattle.gix_validate.proofs.TagNames.FaultTable.{lock_ends_in_k}
+use Rattle.rule_laws.specs.TagNames.{HasAtMostOneFaultPerOffset, PiecesAreTheOnlySplit}
+
+pub one_fault_a_place : (x : List ℕ) → HasAtMostOneFaultPerOffset x
+unfolding faults_at fault_table is_bad
+one_fault_a_place x i inside = grind (arith, nat_tests, lock_ends_in_k, ends_push_one)
+
+pub pieces_are_the_only_split : (x : List ℕ) → PiecesAreTheOnlySplit x
+pieces_are_the_only_split x = record {
+  these = record { some = pieces_some x; apart = pieces_apart x; whole = join_with_byte-slice_split (byte "/") x };
+  only = λ texts h. sym (pieces-joined texts h.some h.apart) ∙ ap pieces h.whole;
+}

@@ -1,6 +1,0 @@
-use Rattle.uses.proofs.WalkLemmas.{pieces_accepted}
-use Rattle.uses.proofs.checkout.Place.path.Goals as goal
-
-pub returns-clause-accepted : goal.returns-clause-accepted
-returns-clause-accepted c =
-    rw (← c.self.view_is) (pieces_accepted c.self.inside.options c.self.inside.names.items c.join.result c.self.inside.accepted (rw c.deref.ensures.value at c.join.ensures.pieces))

@@ -128,7 +128,7 @@ class InvalidName(ValueError):
     text: str
     """The text of the fault, in English."""
     byte: Optional[int]
-    """The invalid byte if the fault is INVALID_BYTE, and else None."""
+    """The invalid byte if the fault is INVALID_BYTE, otherwise None."""
 
     def __init__(self, name: bytes, fault: Fault, text: str, byte: Optional[int] = None) -> None:
         super().__init__(name, fault, text, byte)

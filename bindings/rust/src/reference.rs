@@ -89,7 +89,7 @@ pub mod name {
     }
 }
 
-/// Gives `path` back where it is a valid full name, and else its first fault. A full name has a slash, as
+/// Returns `path` if it is a valid full name, otherwise its first fault. A full name has a slash, as
 /// `refs/heads/main`, or has no byte but `A` to `Z` and `_`, as `HEAD`.
 ///
 /// ```
@@ -104,13 +104,13 @@ pub fn name(path: &BStr) -> Result<&BStr, name::Error> {
     accepted(path, block::full(path))
 }
 
-/// Gives `path` back where it is a valid partial name, and else its first fault. `main` is one.
+/// Returns `path` if it is a valid partial name, otherwise its first fault. `main` is one.
 #[inline]
 pub fn name_partial(path: &BStr) -> Result<&BStr, name::Error> {
     accepted(path, block::partial(path))
 }
 
-/// Gives `path` back where it is a full name other than `refs/heads/HEAD`, and else its first fault. `HEAD` and
+/// Returns `path` if it is a full name other than `refs/heads/HEAD`, otherwise its first fault. `HEAD` and
 /// `refs/tags/v1` pass too: put `refs/heads/` before a branch's short name.
 #[inline]
 pub fn branch_name(path: &BStr) -> Result<&BStr, name::Error> {

@@ -34,7 +34,7 @@ pub mod name {
     }
 }
 
-/// Gives `name` back where it is a valid name of a submodule, and else its fault. It may be neither empty nor have a
+/// Returns `name` if it is a valid name of a submodule, otherwise its fault. It may be neither empty nor have a
 /// part `..` between its slashes and backslashes.
 ///
 /// ```

@@ -57,7 +57,7 @@ pub mod name {
     }
 }
 
-/// Gives `input` back where it is a valid name of a tag, and else its first fault. It may hold slashes.
+/// Returns `input` if it is a valid name of a tag, otherwise its first fault. It may hold slashes.
 ///
 /// ```
 /// use bstr::ByteSlice;

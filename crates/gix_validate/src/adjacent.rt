@@ -17,6 +17,7 @@ ghost use Rattle.std.specs.Str.{byte};
 ghost use Rattle.gix_validate.specs.Bytes.{is_among, ends};
 ghost use Rattle.gix_validate.specs.Private.Adjacent.{is_suspect, IsClear};
 ghost use Rattle.gix_validate.specs.Private.Scan.{Finds, at_pair};
+ghost use Rattle.gix_validate.specs.Private.TagWalk.{CanWalkFrom};
 
 use crate::bytes::may_be_faulty;
 use crate::lanes::{classify, nonzero_lanes};
@@ -101,6 +102,22 @@ pub(crate) fn is_clear(text: &[u8]) -> bool
     first_suspect(text).is_none()
 }
 
+/// The offset from which on a walk finds the first fault of a tag name, if a byte is one. If the first
+/// byte may be, this needs no scan.
+#[inline(always)]
+#[tactic(auto, using(crate::proofs::TagNames::Places::none_before_suspect, crate::proofs::TagNames::Places::none_without_suspect))]
+pub(crate) fn first_to_walk(text: &[u8]) -> usize
+    ensures { CanWalkFrom text.now result }
+{
+    if text.is_empty() || may_be_faulty(text[0]) {
+        return 0;
+    }
+    match first_suspect(text) {
+        Some(place) => place + 1,
+        None => text.len(),
+    }
+}
+
 /// Whether the name ends with a dot or a slash.
 #[inline(always)]
 fn ends_in_break(text: &[u8]) -> bool
@@ -111,7 +128,7 @@ fn ends_in_break(text: &[u8]) -> bool
 
 /// The first place before a suspect byte.
 #[inline(always)]
-pub(crate) fn first_suspect(text: &[u8]) -> Option<usize>
+fn first_suspect(text: &[u8]) -> Option<usize>
     requires { 1 ≤ length text.now }
     ensures { Finds (at_pair is_suspect text.now) (length text.now - 1) (length text.now - 1) result }
 {

@@ -4,18 +4,15 @@ ghost use Rattle.std.specs.Prelude.{◌≡◌, ◌↔◌, ◌<◌, ◌≤◌, �
 ghost use Rattle.bstr.specs.BStr.{bstr_bytes};
 ghost use Rattle.gix_validate.specs.Bytes.{ends};
 ghost use Rattle.gix_validate.specs.Faults.{Validates, first_of, at_first_place};
-ghost use Rattle.gix_validate.specs.Private.TagWalk.{fault_of_byte, fault_of_byte_at, first_fault_between};
+ghost use Rattle.gix_validate.specs.Private.TagWalk.{fault_of_byte, first_fault_between};
 ghost use Rattle.gix_validate.specs.Tag.{fault_of, faults_at, is_tag_name};
 
-use crate::adjacent::{first_suspect, is_clear};
+use crate::adjacent::{first_to_walk, is_clear};
 use crate::bytes::{is_bad_byte, may_be_faulty};
 use crate::quoted::Quoted;
 use bstr::BStr;
 use std::error::Error;
 use std::fmt;
-
-/// How many bytes at the front are checked one by one.
-const FRONT: usize = 3;
 
 /// Why a name is not a valid tag name. docs/RULES.md, "Printed texts", has what each prints.
 #[derive(Debug, Drop)]
@@ -120,7 +117,7 @@ fn name_on_walk<'a>(input: BStr<'a>) -> Result<BStr<'a>, NameError>
     ensures grammar { IsOk result ↔ IsTrue (is_tag_name (bstr_bytes input.entry)) }
     ensures same { IfOk result (λ name. name ≡ input.entry) }
 {
-    match first_fault_on_walk(input.as_bytes()) {
+    match first_fault(input.as_bytes()) {
         None => Ok(input),
         Some(fault) => Err(fault),
     }
@@ -129,7 +126,7 @@ fn name_on_walk<'a>(input: BStr<'a>) -> Result<BStr<'a>, NameError>
 /// The first fault of a name, in the order of docs/RULES.md, "Tag names".
 #[inline(never)]
 #[tactic(auto, unfolding(crate::specs::Tag::fault_of))]
-fn first_fault_on_walk(bytes: &[u8]) -> Option<NameError>
+fn first_fault(bytes: &[u8]) -> Option<NameError>
     ensures { result ≡ fault_of bytes.now }
 {
     if bytes.is_empty() {
@@ -160,29 +157,14 @@ fn fault_at_first_place(bytes: &[u8]) -> Option<NameError>
     requires { 0 < length bytes.now }
     ensures { result ≡ at_first_place (λ i. first_of (faults_at bytes.now i)) (length bytes.now) }
 {
-    if let Some(fault) = fault_by_suspects(bytes) {
+    let from = first_to_walk(bytes);
+    if let Some(fault) = first_fault_between(bytes, from, bytes.len()) {
         return Some(fault);
     }
     if bytes.ends_with(b".lock") && bytes.len() != 5 {
         return Some(NameError::LockFileSuffix);
     }
     None
-}
-
-/// The fault at the least offset where the bytes before it make one. After the first byte, none is
-/// before the first suspect byte. The front is checked first, since a fault there then needs no scan.
-#[tactic(auto, using(crate::proofs::TagNames::Places::from_suspect, crate::proofs::TagNames::Places::without_suspect, crate::proofs::TagNames::Places::found_first))]
-fn fault_by_suspects(bytes: &[u8]) -> Option<NameError>
-    requires { 0 < length bytes.now }
-    ensures { result ≡ at_first_place (fault_of_byte_at bytes.now) (length bytes.now) }
-{
-    if let Some(fault) = first_fault_between(bytes, 0, bytes.len().min(FRONT)) {
-        return Some(fault);
-    }
-    match first_suspect(bytes) {
-        Some(place) => first_fault_between(bytes, place + 1, bytes.len()),
-        None => None,
-    }
 }
 
 /// The first fault that a byte has after those before it, from one offset on and before another.

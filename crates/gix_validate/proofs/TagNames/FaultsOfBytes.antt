@@ -47,11 +47,6 @@ at_first_place_split (b ∷ x) some =
     grind (arith, take_more, take_all, drop_all, fault_at_end (take n y) (get_or y n 0)) in
     grind (arith, at_first_place_more, orelse_assoc)
 
--- a text that ends in `.lock` is longer, or is that
-pub lock_by_length : (x : List ℕ) → 0 < length x → at_first_place (λ i. first_of (faults_at x i)) (length x)
-    ≡ (at_first_place (fault_of_byte_at x) (length x) orelse when (ends x (codes ".lock") && not (eqb (length x) 5)) LockFileSuffix)
-lock_by_length x some = grind (arith, at_first_place_split, bytes_eq-Decides)
-
 -- the faults from here on, what stands before growing by each byte
 unfoldable pub walked : List ℕ → List ℕ → Option NameError
 walked before [] = None

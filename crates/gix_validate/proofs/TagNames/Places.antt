@@ -1,13 +1,19 @@
 -- The faults of a part of a text, and of all of it from its first suspect byte on.
-use Rattle.std.proofs.Common.{◌≡◌, ℕ, ◌+◌, ◌-◌, ◌<◌, ◌≤◌, List, length, sym, ap, ◌∙◌, arith, Some, None, inl, inr}
+use Rattle.std.proofs.Common.{◌≡◌, ℕ, ◌+◌, ◌-◌, ◌<◌, ◌≤◌, false, not, ◌&&◌, eqb, List, length, get_or, ap, ◌∙◌, arith, Some, None, inl, inr}
 use Rattle.std.proofs.lemmas.Bool.{cases_lt}
 use Rattle.gix_validate.specs.declared.tag.NameError.{NameError}
+use Rattle.gix_validate.specs.declared.tag.NameError.TheVariants.{LockFileSuffix}
+use Rattle.gix_validate.specs.Bytes.{ends}
+use Rattle.gix_validate.specs.Tag.{faults_at}
 use Rattle.gix_validate.specs.Private.Adjacent.{is_suspect}
 use Rattle.gix_validate.specs.Private.Scan.{NoneBelow, IsFirst, at_pair}
-use Rattle.gix_validate.specs.Faults.{at_first_place}
-use Rattle.gix_validate.specs.Private.TagWalk.{fault_of_byte_at, first_fault_between, NoFaultBetween}
-use Rattle.gix_validate.proofs.Texts.Places.{at_first_place_none, at_first_place_more, at_first_place_from, found_below, none_below}
+use Rattle.gix_validate.specs.Faults.{first_of, at_first_place, when, ◌orelse◌}
+use Rattle.gix_validate.specs.Private.TagWalk.{may_be_faulty, fault_of_byte_at, first_fault_between, NoFaultBetween, CanWalkFrom}
+use Rattle.gix_validate.proofs.Texts.Places.{at_first_place_none, at_first_place_more, at_first_place_from, found_below}
 use Rattle.gix_validate.proofs.TagNames.FaultTable.{quiet}
+use Rattle.gix_validate.proofs.TagNames.FaultsOfBytes.{at_first_place_split}
+use Rattle.std.proofs.lemmas.Slice.Eq.{bytes_eq-Decides}
+use Rattle.std.specs.Prelude.{codes}
 use Rattle.gix_validate.proofs.TagNames.ClearTexts.{none_to_suspect}
 
 -- where nothing is found before a part, the part says what is found
@@ -35,25 +41,16 @@ between_more x i j none here p from to = elim (cases_lt p j) [ inl early ↦ non
 -- what the walk over single bytes needs
 pub ruleset place_by_place = (between_none, between_more, between_found, quiet)
 
-front_none : (x : List ℕ) (m : ℕ) → 0 < m → first_fault_between x 0 m ≡ None → fault_of_byte_at x 0 ≡ None
-front_none x m some none = none_below (fault_of_byte_at x) m 0 some (from_place x 0 m (omega arith) (λ p from to. absurd (omega arith)) ∙ none)
+-- Up to the first suspect byte, none has a fault.
+pub none_before_suspect : (x : List ℕ) (i : ℕ) → may_be_faulty (get_or x 0 0) ≡ false → IsFirst (at_pair is_suspect x) (length x - 1) i → CanWalkFrom x (i + 1)
+none_before_suspect x i start first = (omega (arith, first.within), none_to_suspect x i (omega (arith, first.within)) (quiet x 0 start) first.none)
 
--- From the first suspect byte on, the walk finds the first fault.
-pub from_suspect : (x : List ℕ) (i n m : ℕ) → n ≡ length x → 0 < m → first_fault_between x 0 m ≡ None → IsFirst (at_pair is_suspect x) (n - 1) i
-    → first_fault_between x (i + 1) n ≡ at_first_place (fault_of_byte_at x) n
-from_suspect x i n m long some front first =
-    sym (from_place x (i + 1) n (omega (arith, first.within))
-    (none_to_suspect x i (omega (arith, first.within)) (front_none x m some front) first.none))
+-- where there is none, none has one
+pub none_without_suspect : (x : List ℕ) → 0 < length x → may_be_faulty (get_or x 0 0) ≡ false → NoneBelow (at_pair is_suspect x) (length x - 1) → CanWalkFrom x (length x)
+none_without_suspect x some start none =
+    (omega arith, λ p from small. none_to_suspect x (length x - 1) (omega arith) (quiet x 0 start) none p from (omega arith))
 
--- where there is none, there is no fault
-pub without_suspect : (x : List ℕ) (n m : ℕ) → n ≡ length x → 0 < n → 0 < m → first_fault_between x 0 m ≡ None → NoneBelow (at_pair is_suspect x) (n - 1)
-    → None ≡ at_first_place (fault_of_byte_at x) n
-without_suspect x n m long some few front none =
-    let quiet = none_to_suspect x (n - 1) (omega arith) (front_none x m few front) none in
-    sym (at_first_place_none (fault_of_byte_at x) n (λ k small. quiet k (omega arith) (omega arith)))
-
--- what is found at the front is the first fault
-pub found_first : (x : List ℕ) (m : ℕ) (a : NameError) → m ≤ length x → first_fault_between x 0 m ≡ Some a
-    → Some a ≡ at_first_place (fault_of_byte_at x) (length x)
-found_first x m a within found =
-    sym (found_below (fault_of_byte_at x) m (length x) a within (from_place x 0 m (omega arith) (λ p from to. absurd (omega arith)) ∙ found))
+-- What a walk from there on finds is the first fault, and else the last line of the table is. (A text that ends in `.lock` is longer, or is that.)
+pub found_from : (x : List ℕ) (i : ℕ) → 0 < length x → CanWalkFrom x i → at_first_place (λ j. first_of (faults_at x j)) (length x)
+    ≡ (first_fault_between x i (length x) orelse when (ends x (codes ".lock") && not (eqb (length x) 5)) LockFileSuffix)
+found_from x i some from = grind (arith, at_first_place_split, bytes_eq-Decides, from_place x i (length x) from.0 from.1)

@@ -1,14 +1,14 @@
 -- The last line of the table, where no other applies.
 use Rattle.std.proofs.Common.{arith}
 use Rattle.std.proofs.lemmas.Bool.Decides.{nat_tests}
-use Rattle.gix_validate.proofs.TagNames.FaultsOfBytes.{lock_by_length}
+use Rattle.gix_validate.proofs.TagNames.Places.{found_from}
 use Rattle.gix_validate.proofs.tag.fault_at_first_place.Goals as goal
 
 pub returns-in-Some : goal.returns-in-Some
-returns-in-Some c = grind (arith, lock_by_length c.args.bytes.now c.requires, c.in-Some.ensures)
+returns-in-Some c = grind (arith, found_from c.args.bytes.now _ c.requires c.first_to_walk-from.ensures, c.in-Some.ensures)
 
 pub returns-then-bytes-ne5 : goal.returns-then-bytes-ne5
-returns-then-bytes-ne5 c = grind (arith, nat_tests, lock_by_length c.args.bytes.now c.requires, c.in_default.ensures, c.if-ends_with.ensures.value)
+returns-then-bytes-ne5 c = grind (arith, nat_tests, found_from c.args.bytes.now _ c.requires c.first_to_walk-from.ensures, c.in_default.ensures, c.if-ends_with.ensures.value)
 
 pub returns : goal.returns
-returns c = grind (arith, nat_tests, lock_by_length c.args.bytes.now c.requires, c.in_default.ensures, c.else-ends_with.branch)
+returns c = grind (arith, nat_tests, found_from c.args.bytes.now _ c.requires c.first_to_walk-from.ensures, c.in_default.ensures, c.else-ends_with.branch)

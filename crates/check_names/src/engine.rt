@@ -2,7 +2,7 @@
 
 ghost use Rattle.std.specs.Prelude.{◌≡◌, ◌≢◌, ◌+◌, ◌<◌, [], ◌∷◌, ◌++◌, ℕ, List, codes, length, vec_len, vec_capacity, Some, None, Err, IsOk, IsOkUnless, IfErr, IfOk, OnOk, OnErr, IfSome, MatchOption, MatchResult};
 ghost use Rattle.std.specs.Io.KnownBytes.{Appends, IsAtEnd};
-ghost use Rattle.program.specs.Writes.{AppendsPrefixOf};
+ghost use Rattle.program.specs.Writes.{AppendsPrefixOf, IsWriteError};
 ghost use Rattle.bstr.specs.BStr.{bstr_bytes};
 ghost use Rattle.gix_validate.specs.Component.{all_protections, fault_of, text_of as component_text};
 ghost use Rattle.gix_validate.specs.Sanitized.{sanitized};
@@ -47,8 +47,8 @@ const UNKNOWN_KIND: &[u8] = b"unknown kind";
 /// - [`RunError::Read`] if reading to the end failed, or memory for what was read can't be
 ///   allocated. Nothing was written.
 /// - [`RunError::Memory`] if memory for the results can't be allocated. Nothing was written.
-/// - [`RunError::Write`] if writing or flushing failed. What was written is the beginning of the
-///   results.
+/// - [`RunError::Closed`] if the reader of the pipe has closed it, and [`RunError::Write`] if writing
+///   or flushing failed otherwise. What was written is the beginning of the results.
 pub fn run<R: Read, W: Write>(alloc: Global, input: &mut R, output: &mut W) -> Result<(), RunError>
     ensures ok { OnOk result (IfSome (R.remaining input.old)
         (λ text. Appends (W.contents output.old) (W.contents output.new) (answers text))) }
@@ -83,13 +83,13 @@ fn write_once<W: Write>(bytes: &[u8], output: &mut W) -> Result<(), RunError>
     ensures ok { OnOk result (Appends (W.contents output.old) (W.contents output.new) bytes.now) }
     ensures none { bytes.now ≡ [] → IsOk result × (output.new ≡ output.old) }
     ensures err { OnErr result (AppendsPrefixOf (W.contents output.old) (W.contents output.new) bytes.now) }
-    ensures stop { IfErr result (λ stop. stop ≡ RunError.Write) }
+    ensures stop { IfErr result IsWriteError }
 {
     if bytes.is_empty() {
         return Ok(());
     }
     write_all(bytes, output)?;
-    output.flush().map_err(|_| RunError::Write)
+    output.flush().map_err(RunError::from_write)
 }
 
 /// The results for the lines of the input. It does not allocate if there is no line.

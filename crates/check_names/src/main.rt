@@ -102,7 +102,7 @@ fn answer<R: Read, W: Write, E: Write>(
         AppendsPrefixOf (W.contents output.old) (W.contents output.new) (answers text)) }
     ensures message { AsksForAnswers words.now → exit_status result ≡ 1 → (stop : RunError)
         × AppendsPrefixOf (E.contents errors.old) (E.contents errors.new) (message_of stop)
-        × (stop ≢ RunError.Write → output.new ≡ output.old) }
+        × (stop ≢ RunError.Write → stop ≢ RunError.Closed → output.new ≡ output.old) }
     ensures arguments { exit_status result ≡ 2 → request_of (map string_bytes words.now) ≢ Ok (Check tt) }
     ensures unread { request_of (map string_bytes words.now) ≢ Ok (Check tt)
         → (input.new ≡ input.old) × (output.new ≡ output.old) }
@@ -123,7 +123,7 @@ fn answer<R: Read, W: Write, E: Write>(
     }
 }
 
-/// The line on standard error if a run failed.
+/// What is written on standard error if a run failed: a line, or nothing if the pipe is closed.
 fn message_of(stop: RunError) -> &'static [u8]
     ensures { result.now ≡ message_of stop }
 {
@@ -131,5 +131,6 @@ fn message_of(stop: RunError) -> &'static [u8]
         RunError::Read => b"check_names: read failed\n",
         RunError::Memory => b"check_names: out of memory\n",
         RunError::Write => b"check_names: write failed\n",
+        RunError::Closed => b"",
     }
 }

@@ -54,6 +54,17 @@ pub fn fail(rt: &HostRuntime, name: &str, what: impl Display + Drop) -> ExitCode
     ExitCode::from(2)
 }
 
+/// Prints why a run failed as [`fail`] does, and nothing if the reader of the pipe has closed it.
+/// Returns the status 2.
+pub fn fail_run(rt: &HostRuntime, name: &str, stop: RunError) -> ExitCode
+    ensures status { exit_status result ≡ 2 }
+{
+    match stop {
+        RunError::Closed => ExitCode::from(2),
+        _ => fail(rt, name, stop),
+    }
+}
+
 /// Prints a text instead of checking the input, and returns the exit status: 0, or 2 if that
 /// failed.
 pub fn print(rt: &HostRuntime, name: &str, text: impl Display + Drop) -> ExitCode
@@ -61,6 +72,6 @@ pub fn print(rt: &HostRuntime, name: &str, text: impl Display + Drop) -> ExitCod
 {
     match println!(rt; "{text}") {
         Ok(()) => ExitCode::SUCCESS,
-        Err(_) => fail(rt, name, RunError::Write),
+        Err(e) => fail_run(rt, name, RunError::from_write(e)),
     }
 }

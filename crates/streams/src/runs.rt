@@ -11,7 +11,7 @@ ghost use Rattle.streams.specs.Reports.{Report, verdict_of};
 use crate::outcome::{Fault, Verdict};
 use program::arguments::{Options, Request, request_of};
 use program::outcome::RunError;
-use program::{VERSION, fail, print};
+use program::{VERSION, fail, fail_run, print};
 use std::alloc::Global;
 use std::io::{BufRead, BufReader, BufWriter, Read, Write};
 use std::process::ExitCode;
@@ -88,10 +88,10 @@ pub fn answer<'a, C: Check<'a>, R: Read + Drop, W: Write + Drop>(
     }
 }
 
-/// Checks the input, and returns the exit status: 0 if nothing is refused, 1
-/// if something is, and 2, after a message on standard error, if the input is malformed or the run
-/// failed (docs/RULES.md, "Streams of objects"). The lines of the report are written before the status is known. The
-/// writer is returned too, unless the run failed.
+/// Checks the input, and returns the exit status: 0 if nothing is refused, 1 if something is, and 2 if
+/// the input is malformed or the run failed, after a message on standard error, except if the reader
+/// of the report's pipe has closed it (docs/RULES.md, "Streams of objects"). The lines of the report
+/// are written before the status is known. The writer is returned too, unless the run failed.
 ///
 /// # Memory
 ///
@@ -124,7 +124,7 @@ pub fn exit_code<'a, C: Check<'a>, R: Read + Drop, W: Write + Drop>(
             let what = format_args!("malformed input: {unit} {number}: {fault}{hint}");
             (fail(rt, C::NAME, what), Some(output))
         }
-        Err(stop) => (fail(rt, C::NAME, stop), None),
+        Err(stop) => (fail_run(rt, C::NAME, stop), None),
     }
 }
 
@@ -149,10 +149,10 @@ pub fn run_buffered<'a, C: Check<'a>, R: Read + Drop, W: Write + Drop>(
         |_| RunError::Memory,
     )?;
     let verdict = check.run(alloc, &mut input, &mut buffered);
-    buffered.flush().map_err(|_| RunError::Write)?;
+    buffered.flush().map_err(RunError::from_write)?;
     let verdict = verdict?;
     match buffered.into_inner() {
         Ok(output) => Ok((verdict, output)),
-        Err(_) => Err(RunError::Write),
+        Err(e) => Err(RunError::from_write(e.into_error())),
     }
 }

@@ -1,9 +1,8 @@
 //! Names that mean something else on Windows, and names that it forbids.
 //!
 //! The names of devices begin with `aux`, `com`, `con`, `lpt`, `nul` or `prn`. Tables say which of
-//! these words may have a letter at each of the first three offsets. The first letters of file
-//! names are hard to predict, so a branch for each took most of the time. Now there is one branch,
-//! which hardly any other name takes.
+//! these words may have a letter at each of the first three offsets, since a branch for each letter
+//! is hard to predict. The one branch on what they say is hardly ever taken.
 
 ghost use Rattle.std.specs.Prelude.{◌≡◌, ◌≤◌, false, length, ◌==◌, ◌||◌, ◌∷◌, [], ◌++◌, ◌%◌, slice_index, bit_and, codes, IsTrue};
 ghost use Rattle.std.specs.List.{list_all, list_any};

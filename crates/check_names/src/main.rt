@@ -11,7 +11,7 @@ ghost use Rattle.check_names.specs.Arguments.{AsksForAnswers, request_of, rule};
 ghost use Rattle.program.specs.Arguments.{Check};
 ghost use Rattle.check_names.specs.Messages.{message_of};
 
-mod engine;
+mod check;
 
 use program::arguments::{Options, Request, Setting, request_of};
 use program::outcome::RunError;
@@ -110,7 +110,7 @@ fn answer<R: Read, W: Write, E: Write>(
     ensures status { exit_status result ≤ 2 }
 {
     match request_of::<NoOptions>(words) {
-        Ok(Request::Check(_)) => match engine::run(rt.alloc(), input, output) {
+        Ok(Request::Check(_)) => match check::run(rt.alloc(), input, output) {
             Ok(()) => ExitCode::SUCCESS,
             Err(stop) => {
                 let _ = write_all(message_of(stop), errors);

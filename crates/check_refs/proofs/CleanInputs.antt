@@ -132,5 +132,5 @@ pub clean_if_accepted : (options : Options) (text : List ℕ) (verdict : Verdict
     → (verdict ≡ Clean) ↔ IsAcceptedInput options text
 clean_if_accepted options text verdict is = (λ e. only_accepted options text (sym is ∙ e), λ good. is ∙ accepted_clean options text good)
 
--- what the promises of `engine::run` need
+-- what the promises of `check::run` need
 pub ruleset update_laws = (reported_in_order, well_formed_only_if_spelled, clean_if_accepted, linear_report)

@@ -7,7 +7,7 @@ ghost use Rattle.check_refs.specs.Arguments.{no_options, rule};
 ghost use Rattle.std.proofs.Common.{ap, subst};
 ghost use Rattle.check_refs.specs.Report.{refs_report};
 
-mod engine;
+mod check;
 mod refusal;
 mod report;
 mod update;
@@ -99,7 +99,7 @@ impl Check<'_> for Options {
         input: &mut R,
         output: &mut W,
     ) -> Result<Verdict, RunError> {
-        engine::run(alloc, self, input, output)
+        check::run(alloc, self, input, output)
     }
 
     ghost by_view = { λ a b same. ap refs_report same };

@@ -4,10 +4,10 @@
 
 ghost use Rattle.check_submodules.specs.Arguments.{no_options, rule};
 
-mod engine;
+mod check;
 mod report;
 
-use engine::Options;
+use check::Options;
 use program::arguments::Setting;
 use program::{arguments, words};
 use std::process::ExitCode;
@@ -40,7 +40,7 @@ The status is 0 if nothing is refused, 1 if a name, a section or a file is, and
 argument is wrong.";
 
 impl<'a> arguments::Options<'a> for Options {
-    ghost use Rattle.check_submodules.specs.declared.engine.Options.{Options};
+    ghost use Rattle.check_submodules.specs.declared.check.Options.{Options};
 
     const NAME: &'static str = "check_submodules";
 

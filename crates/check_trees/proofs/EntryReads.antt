@@ -3,8 +3,8 @@ use Rattle.std.proofs.Common.{ℕ, ◌+◌, ◌≤◌, Bool, true, false, List, 
 use Rattle.streams.specs.declared.input.Found.TheVariants.{Byte}
 use Rattle.streams.specs.Promises.{ReadsBefore, ReadsUpTo, ReadsExactly}
 use Rattle.streams.proofs.LinesStop.{up_to_more}
-use Rattle.check_trees.specs.declared.engine.Finding.{Finding}
-use Rattle.check_trees.specs.declared.engine.Finding.TheVariants.{Accepted, Modules, Refused}
+use Rattle.check_trees.specs.declared.check.Finding.{Finding}
+use Rattle.check_trees.specs.declared.check.Finding.TheVariants.{Accepted, Modules, Refused}
 use Rattle.check_trees.specs.Entries.{nul}
 use Rattle.check_trees.specs.Private.{PassesId}
 

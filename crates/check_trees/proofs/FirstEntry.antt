@@ -17,9 +17,9 @@ use Rattle.program.specs.Writes.{AppendsPrefixOf}
 use Rattle.streams.specs.Promises.{ReadsBefore, ReadsExactly}
 use Rattle.streams.proofs.SplitTexts.{take_after, take_past, drop_before, drop_both, split_within, split_short, split_long}
 use Rattle.check_trees.specs.Options.{Options}
-use Rattle.check_trees.specs.declared.engine.Checked.{Checked}
-use Rattle.check_trees.specs.declared.engine.Finding.{Finding}
-use Rattle.check_trees.specs.declared.engine.Finding.TheVariants.{Accepted, Modules, Refused}
+use Rattle.check_trees.specs.declared.check.Checked.{Checked}
+use Rattle.check_trees.specs.declared.check.Finding.{Finding}
+use Rattle.check_trees.specs.declared.check.Finding.TheVariants.{Accepted, Modules, Refused}
 use Rattle.check_trees.specs.Entries.{nul, ParsedModeAndName, ParsedEntry, parsed_front, entry_at, entry_with, entry_of}
 use Rattle.check_trees.specs.Report.{short_of, finding_of, finding_said, entry_said}
 use Rattle.check_trees.specs.Private.{first_entry, EntryGives, PassesId}

@@ -17,8 +17,8 @@ use Rattle.streams.specs.Reports.{PrintsAtMost}
 use Rattle.streams.specs.Objects.{Judged}
 use Rattle.streams.proofs.LinearReports.{quoted_length, id_length, IsObjectWithin, stream_prints_at_most}
 use Rattle.check_trees.specs.Options.{Options}
-use Rattle.check_trees.specs.declared.engine.Finding.{Finding}
-use Rattle.check_trees.specs.declared.engine.Finding.TheVariants.{Accepted, Modules, Refused}
+use Rattle.check_trees.specs.declared.check.Finding.{Finding}
+use Rattle.check_trees.specs.declared.check.Finding.TheVariants.{Accepted, Modules, Refused}
 use Rattle.check_trees.specs.Entries.{ParsedModeAndName, ParsedEntry, entry_of, named}
 use Rattle.check_trees.specs.Report.{longest_path, shown_path, in_path, place, refused_line, modules_line, finding_of, finding_said, entry_said}
 use Rattle.check_trees.specs.Report.{entries_then, entries_within, entries, short_of, judged_by_kind, tree_rule, report}

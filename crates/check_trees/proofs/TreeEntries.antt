@@ -15,7 +15,7 @@ use Rattle.program.specs.Writes.{AppendsPrefixOf}
 use Rattle.streams.specs.Promises.{FollowsRule}
 use Rattle.streams.proofs.ReportSoFar.{SoFar, goes, ends, stops}
 use Rattle.check_trees.specs.Options.{Options}
-use Rattle.check_trees.specs.declared.engine.Checked.{Checked}
+use Rattle.check_trees.specs.declared.check.Checked.{Checked}
 use Rattle.check_trees.specs.Entries.{nul, ParsedEntry, entry_of}
 use Rattle.check_trees.specs.Report.{entry_said, entries_then, entries_within, entries, short_of}
 use Rattle.check_trees.specs.Private.{first_entry, first_said, tree_report, EntryGives}

@@ -9,9 +9,9 @@ use Rattle.streams.specs.Reports.{Said, nothing, Step}
 use Rattle.program.specs.Writes.{AppendsPrefixOf}
 use Rattle.streams.specs.Promises.{ReadsUpTo, ReadsExactly, or_cut, judged_with_rest}
 use Rattle.check_trees.specs.Options.{Options}
-use Rattle.check_trees.specs.declared.engine.Checked.{Checked}
-use Rattle.check_trees.specs.declared.engine.Finding.{Finding}
-use Rattle.check_trees.specs.declared.engine.Finding.TheVariants.{Accepted, Modules, Refused}
+use Rattle.check_trees.specs.declared.check.Checked.{Checked}
+use Rattle.check_trees.specs.declared.check.Finding.{Finding}
+use Rattle.check_trees.specs.declared.check.Finding.TheVariants.{Accepted, Modules, Refused}
 use Rattle.check_trees.specs.declared.entry.ModeAndName.{ModeAndName}
 use Rattle.check_trees.specs.Entries.{ParsedModeAndName, ParsedEntry, entry_of}
 use Rattle.check_trees.specs.Report.{entry_said, entries, short_of}

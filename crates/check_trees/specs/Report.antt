@@ -19,8 +19,8 @@ use Rattle.streams.specs.Reports as stream
 use Rattle.streams.specs.Reports.{Said, nothing, then_said}
 use Rattle.streams.specs.Objects.{Judged, ObjectRule, object_report}
 use Rattle.check_trees.specs.Options.{Options, protections_for}
-use Rattle.check_trees.specs.declared.engine.Finding.{Finding}
-use Rattle.check_trees.specs.declared.engine.Finding.TheVariants.{Accepted, Modules, Refused}
+use Rattle.check_trees.specs.declared.check.Finding.{Finding}
+use Rattle.check_trees.specs.declared.check.Finding.TheVariants.{Accepted, Modules, Refused}
 use Rattle.check_trees.specs.Entries.{ParsedModeAndName, ParsedEntry, entry_of}
 
 -- ---- one entry

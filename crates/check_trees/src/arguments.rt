@@ -5,7 +5,7 @@ ghost use Rattle.program.specs.Arguments.{effect_of};
 ghost use Rattle.check_trees.specs.Arguments.{no_options, protections_of, rule, switched_on};
 ghost use Rattle.check_trees.specs.Options.{Options, as_options};
 
-use crate::engine::CheckOptions;
+use crate::check::CheckOptions;
 use gix_validate::path::ComponentOptions;
 use memchr::memchr;
 use program::arguments::{Options, Setting};

@@ -3,11 +3,11 @@
 #![tactic(auto)]
 
 mod arguments;
-mod engine;
+mod check;
 mod entry;
-mod output;
+mod report;
 
-use engine::CheckOptions;
+use check::CheckOptions;
 use program::words;
 use std::process::ExitCode;
 use streams::runs::answer;

@@ -1,0 +1,18 @@
+use Rattle.std.proofs.Common.{rules, codes, ◌≡◌, Result, Ok, Err, OnOk, is_ok, sym}
+use Rattle.std.proofs.lemmas.Bool.{false≢true}
+use Rattle.std.proofs.lemmas.Option.{IfSome_then}
+use Rattle.check_names.proofs.WriteLemmas.{took_format}
+use Rattle.check_names.proofs.check.push_fault.Goals as goal
+
+OnOk-from_same : {T U E F P Q : Type 0} (r : Result T E) (s : Result U F) → is_ok r ≡ is_ok s → (P → Q) → OnOk s P → OnOk r Q
+OnOk-from_same (Ok x) (Ok y) same more told = more told
+OnOk-from_same (Ok x) (Err e) same more told = absurd (false≢true (sym same))
+OnOk-from_same (Err e) s same more told = tt
+
+pub returns : goal.returns
+returns g c =
+    let text = g.E.Display.output c.args.fault in
+    OnOk-from_same c.map_err.result c.write.result c.map_err.ensures.variant
+    (λ written. IfSome_then text (took_format (λ s. s.answers.ghost_name) (λ s. s.answers.now.items) _ (codes "error: ") text _ written)
+    (λ printed k. let (same, appended) = k in search rules))
+    c.write.ensures.writes

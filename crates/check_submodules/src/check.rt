@@ -1,0 +1,155 @@
+//! The report of a stream of objects.
+//!
+//! A file is held whole, since a section may begin anywhere in it. 16 MiB have room for some
+//! hundred thousand submodules. A larger file is refused, and skipped.
+
+ghost use Rattle.std.specs.Prelude.{false, true, IfOk, IfSome};
+ghost use Rattle.std.proofs.Common.{ap, subst};
+ghost use Rattle.streams.specs.Objects.{IsWholeStream, object_reach};
+ghost use Rattle.streams.specs.Promises.{Runs, as_object};
+ghost use Rattle.streams.specs.Reports.{PrintsAtMost};
+ghost use Rattle.streams.specs.Spelled.{IsReportedInOrder, IsWellFormedOnlyIfSpelled};
+ghost use Rattle.check_submodules.specs.Private.{Reads};
+ghost use Rattle.check_submodules.specs.Report.{report, submodules_rule};
+ghost use Rattle.check_submodules.specs.Spelled.{IsAcceptedStream, IsCleanIff, IsEachHeaderReported, IsEachNameReported};
+
+use crate::HELP;
+use crate::report::{push_lines, push_too_large};
+use program::outcome::RunError;
+use program::output::write_all;
+use std::alloc::Global;
+use std::io::{BufRead, Write};
+use streams::header::{Kind, Object};
+use streams::input::{read_bytes, skip};
+use streams::lines::Buffers;
+use streams::objects;
+use streams::objects::ObjectCheck;
+use streams::outcome::{Fault, Verdict};
+use streams::runs::Check;
+
+/// The size in bytes of the largest file that is read.
+const LARGEST: u64 = 16_777_216;
+
+/// How the input is checked.
+#[derive(Debug, Clone, Copy, PartialEq, Eq)]
+pub struct Options {
+    /// Whether the input has to be whole (`--end`): no object is missing, and the line `..end
+    /// missing` ends it.
+    pub whole: bool,
+}
+
+/// Reads all of `input`, objects as `git cat-file --batch` prints them, and writes a line to
+/// `output` for each section of a submodule in a blob whose name is refused, and for each that
+/// can't be read (docs/RULES.md, "The names in a .gitmodules file"). Objects that are not blobs are
+/// skipped. A blob of more than 16,777,216 bytes is skipped too, and has a line that says so.
+///
+/// ```
+/// run(alloc, Options { whole: false }, &mut input, &mut output)?; // Verdict::Refused
+/// ```
+///
+/// The lines of a blob are written once all of it is read, and `output` is not flushed. A malformed
+/// object ends the run, and what was found before it is written.
+///
+/// # Errors
+///
+/// [`RunError`] says whether reading, memory or writing failed. What was written then is the
+/// beginning of the report.
+///
+/// # Memory
+///
+/// It allocates memory for the longest header line, of at most 65,536 bytes, and for the largest
+/// file that is read, its longest name and its lines, from `alloc`.
+pub fn run<R: BufRead, W: Write>(
+    alloc: Global,
+    options: Options,
+    input: &mut R,
+    output: &mut W,
+) -> Result<Verdict, RunError>
+    ensures runs { Runs (report options.whole) object_reach (R.remaining input.old) (R.remaining input.new)
+        (W.contents output.old) (W.contents output.new) result }
+    ensures clean { IfOk result (λ verdict. IfSome (R.remaining input.old) (IsCleanIff options.whole verdict)) }
+    ensures spelled { IsReportedInOrder submodules_rule options.whole }
+    ensures well_formed { IsWellFormedOnlyIfSpelled submodules_rule options.whole }
+    ensures whole { IsWholeStream submodules_rule options.whole }
+    ensures names { IsEachNameReported }
+    ensures headers { IsEachHeaderReported }
+    ensures linear { PrintsAtMost 17 (report options.whole) }
+{
+    objects::run(alloc, options, options.whole, input, output)
+}
+
+impl Check<'_> for Options {
+    ghost use Rattle.check_submodules.specs.declared.check.Options.{Options};
+
+    const HELP: &'static str = HELP;
+
+    const UNIT: &'static str = "object";
+
+    const HINT: &'static str = "; pass a file through git cat-file --batch, as in: \
+        echo HEAD:.gitmodules | git cat-file --batch | check_submodules";
+
+    ghost report = { λ options. report options.whole };
+
+    ghost accepts = { λ options. IsAcceptedStream options.whole };
+
+    fn run<R: BufRead, W: Write>(
+        self,
+        alloc: Global,
+        input: &mut R,
+        output: &mut W,
+    ) -> Result<Verdict, RunError> {
+        run(alloc, self, input, output)
+    }
+
+    ghost by_view = { λ a b same. ap (λ (options : Options). report options.whole) same };
+
+    ghost accepts_by_view = { λ a b text same. subst (λ (options : Options). IsAcceptedStream options.whole text) same };
+}
+
+impl ObjectCheck for Options {
+    ghost object_rule = { λ options. submodules_rule };
+
+    fn check_object<R: BufRead, W: Write>(
+        self,
+        object: Object<'_>,
+        input: &mut R,
+        output: &mut W,
+        buffers: &mut Buffers,
+    ) -> Result<Result<bool, Fault>, RunError> {
+        if !read_object(object, input, buffers)? {
+            return Ok(Err(Fault::Ended));
+        }
+        write_all(&buffers.lines, output)?;
+        Ok(Ok(!buffers.lines.is_empty()))
+    }
+}
+
+/// Reads or skips the bytes of an object, replaces the last lines with those of the object, and
+/// returns whether the input had all of it.
+fn read_object<R: BufRead>(
+    object: Object<'_>,
+    input: &mut R,
+    buffers: &mut Buffers,
+) -> Result<bool, RunError>
+    ensures { IfOk result (Reads (as_object object.entry) (R.remaining input.old) (R.remaining input.new) buffers.new.lines.items) }
+{
+    buffers.lines.clear();
+    if object.kind != Kind::Blob {
+        return skip(input, object.size);
+    }
+    if object.size > LARGEST {
+        push_too_large(object.id, &mut buffers.lines).map_err(|_| RunError::Memory)?;
+        return skip(input, object.size);
+    }
+    if !read_bytes(input, object.size as usize, &mut buffers.read)? {
+        return Ok(false);
+    }
+    push_lines(
+        object.id,
+        &buffers.read,
+        &mut buffers.part,
+        &mut buffers.lines,
+    )
+    .map_err(|_| RunError::Memory)?;
+    Ok(true)
+}

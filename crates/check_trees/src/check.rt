@@ -1,0 +1,327 @@
+//! The report of a stream of objects.
+
+ghost use Rattle.std.specs.Prelude.{◌≡◌, ◌<◌, ◌≤◌, Some, false, true, IfOk, IfSome};
+ghost use Rattle.std.proofs.Common.{ap, subst};
+ghost use Rattle.std.specs.List.{list_any};
+ghost use Rattle.std.specs.Str.{bytes_eq};
+ghost use Rattle.streams.specs.Reports.{PrintsAtMost};
+ghost use Rattle.streams.specs.Objects.{IsWholeStream, object_reach};
+ghost use Rattle.streams.specs.Promises.{Runs, FollowsRule, ReadsUpTo, as_object};
+ghost use Rattle.streams.specs.Spelled.{IsReportedInOrder, IsWellFormedOnlyIfSpelled};
+ghost use Rattle.gix_validate.specs.Component.{fault_of};
+ghost use Rattle.gix_validate.specs.Pieces.{pieces};
+ghost use Rattle.check_trees.specs.Options.{as_options, protections_for};
+ghost use Rattle.check_trees.specs.Report.{finding_by, finding_of, finding_said, is_gitmodules_fault, report, tree_rule};
+ghost use Rattle.check_trees.specs.Spelled.{IsAcceptedStream, IsCleanIff, IsReadAsItems};
+ghost use Rattle.check_trees.specs.Private.{EntryGives, EntryReads, PassesId, Says, as_front, tree_report};
+
+use crate::HELP;
+use crate::entry::{ModeAndName, front_of};
+use crate::report::{set_modules_line, set_refused_line};
+use bstr::BStr;
+use gix_validate::path;
+use gix_validate::path::{ComponentError, ComponentMode, ComponentOptions};
+use program::outcome::RunError;
+use program::output::write_all;
+use std::alloc::Global;
+use std::io::{BufRead, Write};
+use streams::header::{Kind, Object};
+use streams::input::{Found, read_before, read_bytes, skip};
+use streams::lines::{Buffers, LONGEST};
+use streams::objects;
+use streams::objects::ObjectCheck;
+use streams::outcome::{Fault, Verdict};
+use streams::runs::Check;
+
+/// How the input is checked.
+#[derive(Debug, Clone, Copy)]
+pub struct CheckOptions<'a> {
+    /// The file systems to protect.
+    pub protections: ComponentOptions,
+    /// Whether files that a checkout reads as `.gitmodules` are listed too (`--modules`).
+    pub modules: bool,
+    /// Whether the input has to be whole (`--end`): no object is missing, and the line `..end
+    /// missing` ends it.
+    pub whole: bool,
+    /// The names to which the rules of Windows do not apply, separated by slashes (`--accept`).
+    pub accepted: &'a str,
+}
+
+/// Reads all of `input`, objects as `git cat-file --batch` prints them, and writes a line to
+/// `output` for each entry of a tree whose name [`path::component`] refuses with these options, and
+/// for each file to be listed (docs/RULES.md, "The report of trees").
+///
+/// ```
+/// run(alloc, options, &mut input, &mut output)?; // Verdict::Refused
+/// ```
+///
+/// Each line is written as it is found, and `output` is not flushed. A malformed object ends the
+/// run, and what was found before it is written.
+///
+/// # Errors
+///
+/// [`RunError`] says whether reading, memory or writing failed. What was written then is the
+/// beginning of the report.
+///
+/// # Memory
+///
+/// It allocates memory for the longest header line, the longest entry and the longest line of the
+/// report, from `alloc`, whatever the sizes of the objects. Each of the first two has at most
+/// 65,536 bytes.
+pub fn run<R: BufRead, W: Write>(
+    alloc: Global,
+    options: CheckOptions<'_>,
+    input: &mut R,
+    output: &mut W,
+) -> Result<Verdict, RunError>
+    ensures runs { Runs (report (as_options options.entry)) object_reach (R.remaining input.old) (R.remaining input.new)
+        (W.contents output.old) (W.contents output.new) result }
+    ensures clean { IfOk result (λ verdict. IfSome (R.remaining input.old) (IsCleanIff (as_options options.entry) verdict)) }
+    ensures spelled { IsReportedInOrder (tree_rule (as_options options.entry)) options.entry.whole }
+    ensures well_formed { IsWellFormedOnlyIfSpelled (tree_rule (as_options options.entry)) options.entry.whole }
+    ensures whole { IsWholeStream (tree_rule (as_options options.entry)) options.entry.whole }
+    ensures items { IsReadAsItems (as_options options.entry) }
+    ensures linear { PrintsAtMost 32 (report (as_options options.entry)) }
+{
+    objects::run(alloc, options, options.whole, input, output)
+}
+
+impl<'a> Check<'a> for CheckOptions<'a> {
+    const HELP: &'static str = HELP;
+
+    const UNIT: &'static str = "object";
+
+    const HINT: &'static str = "";
+
+    ghost report = { λ options. report (as_options options) };
+
+    ghost accepts = { λ options. IsAcceptedStream (as_options options) };
+
+    fn run<R: BufRead, W: Write>(
+        self,
+        alloc: Global,
+        input: &mut R,
+        output: &mut W,
+    ) -> Result<Verdict, RunError> {
+        run(alloc, self, input, output)
+    }
+
+    ghost by_view = { λ a b same. ap report same };
+
+    ghost accepts_by_view = { λ a b text same. subst (λ options. IsAcceptedStream options text) same };
+}
+
+/// Trees are checked, and other objects are skipped.
+impl ObjectCheck for CheckOptions<'_> {
+    ghost object_rule = { λ options. tree_rule (as_options options) };
+
+    fn check_object<R: BufRead, W: Write>(
+        self,
+        object: Object<'_>,
+        input: &mut R,
+        output: &mut W,
+        buffers: &mut Buffers,
+    ) -> Result<Result<bool, Fault>, RunError> {
+        if object.kind == Kind::Tree {
+            return check_tree(self, object, input, output, buffers);
+        }
+        if skip(input, object.size)? {
+            Ok(Ok(false))
+        } else {
+            Ok(Err(Fault::Ended))
+        }
+    }
+}
+
+/// Checks a tree, and returns whether an entry was refused.
+fn check_tree<R: BufRead, W: Write>(
+    options: CheckOptions<'_>,
+    tree: Object<'_>,
+    input: &mut R,
+    output: &mut W,
+    buffers: &mut Buffers,
+) -> Result<Result<bool, Fault>, RunError>
+    ensures gives { IfSome (R.remaining input.old) (λ text. FollowsRule (tree_report (as_options options.entry) (as_object tree.entry) tree.entry.size text)
+        (R.remaining input.new) (W.contents output.old) (W.contents output.new) result) }
+    ensures within { IfOk result (λ _. ReadsUpTo tree.entry.size (R.remaining input.old) (R.remaining input.new)) }
+{
+    let (mut left, mut refused) = (tree.size, false);
+    while left > 0 {
+        match check_entry(options, tree, left, input, output, buffers)? {
+            Ok(entry) => {
+                left -= entry.len;
+                refused |= entry.refused;
+            }
+            Err(fault) => return Ok(Err(fault)),
+        }
+    }
+    Ok(Ok(refused))
+}
+
+/// The length of an entry in bytes, and whether it was refused.
+#[derive(Clone, Copy)]
+struct Checked {
+    len: u64,
+    refused: bool,
+}
+
+/// Checks the first entry of the last `left` bytes of a tree.
+fn check_entry<R: BufRead, W: Write>(
+    options: CheckOptions<'_>,
+    tree: Object<'_>,
+    left: u64,
+    input: &mut R,
+    output: &mut W,
+    buffers: &mut Buffers,
+) -> Result<Result<Checked, Fault>, RunError>
+    requires { 0 < left }
+    ensures bound { IfOk result (λ checked. IfOk checked (λ entry. (0 < entry.len) × (entry.len ≤ left))) }
+    ensures gives { IfSome (R.remaining input.old) (λ text.
+        EntryGives (as_options options.entry) (as_object tree.entry) left text (R.remaining input.new)
+        (W.contents output.old) (W.contents output.new) result) }
+    ensures within { IfOk result (EntryReads left (R.remaining input.old) (R.remaining input.new)) }
+{
+    let limit = left.min(LONGEST);
+    match read_before(input, 0, limit as usize, &mut buffers.read)? {
+        Found::Byte => {}
+        Found::Limit if left < LONGEST => return Ok(Err(Fault::Entry)),
+        Found::Limit => return Ok(Err(Fault::TooLong)),
+        Found::End => return Ok(Err(Fault::Ended)),
+    }
+    let Some(front) = front_of(&buffers.read) else {
+        return Ok(Err(Fault::Entry));
+    };
+    let finding = finding_of(options, front);
+    let front_len = buffers.read.len() as u64 + 1;
+    let id_len = tree.id.len() as u64 / 2;
+    let id_left = id_len.min(left - front_len);
+    if !pass_id(&finding, input, id_left, &mut buffers.part)? {
+        return Ok(Err(Fault::Ended));
+    }
+    if id_left < id_len {
+        return Ok(Err(Fault::Entry));
+    }
+    let refused = say(
+        finding,
+        tree,
+        front,
+        &buffers.part,
+        &mut buffers.lines,
+        output,
+    )?;
+    let len = front_len + id_len;
+    Ok(Ok(Checked { len, refused }))
+}
+
+/// The result for an entry.
+#[derive(Debug, Drop)]
+enum Finding {
+    /// Accepted, and not listed.
+    Accepted,
+    /// A file that a checkout reads as `.gitmodules`, to be listed.
+    Modules,
+    /// Refused.
+    Refused(ComponentError),
+}
+
+/// The result for an entry with these options.
+fn finding_of(options: CheckOptions<'_>, front: ModeAndName<'_>) -> Finding
+    ensures { result ≡ finding_of (as_options options.entry) (as_front front.entry) }
+{
+    let protections = protections_for(options, front.name);
+    let may_be_listed = options.modules && front.is_file;
+    // A name that is valid for a symbolic link is valid for any entry.
+    let kind = if may_be_listed {
+        Some(ComponentMode::Symlink)
+    } else {
+        front.kind
+    };
+    match path::component(BStr::new(front.name), kind, protections) {
+        Ok(_) => Finding::Accepted,
+        Err(fault) if may_be_listed => finding_of_file(protections, front, fault),
+        Err(fault) => Finding::Refused(fault),
+    }
+}
+
+/// The switches for a name.
+fn protections_for(options: CheckOptions<'_>, name: &[u8]) -> ComponentOptions
+    ensures { result ≡ protections_for (as_options options.entry) name.now }
+{
+    if is_piece(name, options.accepted) {
+        ComponentOptions {
+            protect_windows: false,
+            ..options.protections
+        }
+    } else {
+        options.protections
+    }
+}
+
+/// Whether a name is one of the texts between the slashes of `names`.
+fn is_piece(name: &[u8], names: &str) -> bool
+    ensures { result ≡ list_any (λ piece. bytes_eq piece name.now) (pieces names.now) }
+{
+    let mut pieces = names.as_bytes().split(|byte| *byte == b'/');
+    pieces.any(|piece| piece == name)
+}
+
+/// The result for a file whose name is invalid as that of a symbolic link, for the reason
+/// `as_symlink`.
+#[cold]
+#[inline(never)]
+fn finding_of_file(
+    protections: ComponentOptions,
+    front: ModeAndName<'_>,
+    as_symlink: ComponentError,
+) -> Finding
+    ensures { result ≡ finding_by (is_gitmodules_fault (Some as_symlink)) (fault_of protections front.entry.kind front.entry.name.now) }
+{
+    match path::component(BStr::new(front.name), front.kind, protections) {
+        Err(fault) => Finding::Refused(fault),
+        Ok(_) if matches!(as_symlink, ComponentError::SymlinkedGitModules) => Finding::Modules,
+        Ok(_) => Finding::Accepted,
+    }
+}
+
+/// Reads or skips the bytes of an entry's id, and returns whether the input had them. They are kept
+/// if the entry is listed.
+fn pass_id<R: BufRead>(
+    finding: &Finding,
+    input: &mut R,
+    count: u64,
+    id: &mut Vec<u8>,
+) -> Result<bool, RunError>
+    ensures { IfOk result (λ whole. PassesId finding.now count (R.remaining input.old) (R.remaining input.new) id.new.items whole) }
+{
+    match finding {
+        Finding::Modules => read_bytes(input, count as usize, id),
+        Finding::Accepted | Finding::Refused(_) => skip(input, count),
+    }
+}
+
+/// Writes the line of an entry, if it has one, and returns whether it is refused.
+fn say<W: Write>(
+    finding: Finding,
+    tree: Object<'_>,
+    front: ModeAndName<'_>,
+    id: &[u8],
+    line: &mut Vec<u8>,
+    output: &mut W,
+) -> Result<bool, RunError>
+    ensures { Says (finding_said (as_object tree.entry) (record { front = as_front front.entry; id = id.now }) finding)
+        (W.contents output.old) (W.contents output.new) result }
+{
+    match finding {
+        Finding::Accepted => Ok(false),
+        Finding::Modules => {
+            set_modules_line(line, tree, front, id).map_err(|_| RunError::Memory)?;
+            write_all(line, output)?;
+            Ok(false)
+        }
+        Finding::Refused(fault) => {
+            set_refused_line(line, tree, front, fault).map_err(|_| RunError::Memory)?;
+            write_all(line, output)?;
+            Ok(true)
+        }
+    }
+}

@@ -7,8 +7,8 @@ use Rattle.std.specs.Str.{byte}
 abbrev pub is_among : List ℕ → ℕ → Bool
 is_among set b = list_any (λ c. b == c) set
 
--- a bad byte of reference names: a control byte, DEL, a space, or one of `:`, `?`, `[`, `\`, `^` and `~`
--- (`*` is not one of them: it has a fault of its own)
+-- A bad byte of reference names: a control byte, DEL, or one of these. (`*` has a fault of its own.) `scripts/bytes` writes
+-- again what is derived from this.
 unfoldable pub is_bad : ℕ → Bool
 is_bad b = nat_lt b 0x20 || (b == 0x7F || is_among (codes " :?[\\^~") b)
 

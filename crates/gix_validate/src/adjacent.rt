@@ -26,22 +26,22 @@ use std::simd::prelude::*;
 
 // The classes of bytes that may be suspect, a bit for each. The bytes of a class have one high
 // nibble, except the control bytes, which have two. The bytes of the first five classes are suspect
-// anywhere.
+// anywhere: bad bytes, `*` and `{`. `scripts/bytes` writes the two tables by nibbles.
 
 /// A byte below 0x20.
 const CONTROL: u8 = 0x01;
 
-/// A space or `*`.
-const SPACE_OR_STAR: u8 = 0x02;
+/// A suspect byte from 0x20 to 0x2F.
+const SUSPECT_2X: u8 = 0x02;
 
-/// `:` or `?`.
-const COLON_OR_MARK: u8 = 0x04;
+/// A suspect byte from 0x30 to 0x3F.
+const SUSPECT_3X: u8 = 0x04;
 
-/// `[`, `\` or `^`.
-const BRACKET_OR_CARET: u8 = 0x08;
+/// A suspect byte from 0x50 to 0x5F.
+const SUSPECT_5X: u8 = 0x08;
 
-/// `{`, `~` or DEL.
-const BRACE_OR_TILDE: u8 = 0x10;
+/// A suspect byte from 0x70 to 0x7F.
+const SUSPECT_7X: u8 = 0x10;
 
 /// A dot or a slash, suspect after a dot or a slash.
 const BREAK: u8 = 0x20;
@@ -50,7 +50,7 @@ const BREAK: u8 = 0x20;
 const LETTER: u8 = 0x40;
 
 /// The classes that are suspect after any byte.
-const ANYWHERE: u8 = CONTROL | SPACE_OR_STAR | COLON_OR_MARK | BRACKET_OR_CARET | BRACE_OR_TILDE;
+const ANYWHERE: u8 = CONTROL | SUSPECT_2X | SUSPECT_3X | SUSPECT_5X | SUSPECT_7X;
 
 /// The classes that are suspect after a slash.
 const BEHIND_SLASH: u8 = ANYWHERE | BREAK;
@@ -61,24 +61,32 @@ const BEHIND_DOT: u8 = BEHIND_SLASH | LETTER;
 /// The classes that a byte with this low nibble may have.
 #[rattlefmt::skip]
 const CLASSES_BY_LOW_NIBBLE: [u8; 16] = [
-    CONTROL | SPACE_OR_STAR, // 0: a space
-    CONTROL, CONTROL, CONTROL, CONTROL, CONTROL, CONTROL, CONTROL, CONTROL, CONTROL, // 1 to 9
-    CONTROL | SPACE_OR_STAR | COLON_OR_MARK, // A: `*`, `:`
-    CONTROL | BRACKET_OR_CARET | BRACE_OR_TILDE, // B: `[`, `{`
-    CONTROL | BRACKET_OR_CARET | LETTER, // C: `\`, `l`
-    CONTROL, // D
-    CONTROL | BRACKET_OR_CARET | BRACE_OR_TILDE | BREAK, // E: `^`, `~`, `.`
-    CONTROL | COLON_OR_MARK | BRACE_OR_TILDE | BREAK, // F: `?`, DEL, `/`
+    CONTROL | SUSPECT_2X, // 00
+    CONTROL, // 01
+    CONTROL, // 02
+    CONTROL, // 03
+    CONTROL, // 04
+    CONTROL, // 05
+    CONTROL, // 06
+    CONTROL, // 07
+    CONTROL, // 08
+    CONTROL, // 09
+    CONTROL | SUSPECT_2X | SUSPECT_3X, // 0A
+    CONTROL | SUSPECT_5X | SUSPECT_7X, // 0B
+    CONTROL | LETTER | SUSPECT_5X, // 0C
+    CONTROL, // 0D
+    BREAK | CONTROL | SUSPECT_5X | SUSPECT_7X, // 0E
+    BREAK | CONTROL | SUSPECT_3X | SUSPECT_7X, // 0F
 ];
 
 /// The classes that a byte with this high nibble may have. What both tables have for a byte is its
 /// class, or nothing.
 #[rattlefmt::skip]
 const CLASSES_BY_HIGH_NIBBLE: [u8; 16] = [
-    CONTROL, CONTROL, SPACE_OR_STAR | BREAK, COLON_OR_MARK, // 0 to 3
-    0, BRACKET_OR_CARET, LETTER, BRACE_OR_TILDE, // 4 to 7
-    0, 0, 0, 0, // 8 to B
-    0, 0, 0, 0, // C to F
+    CONTROL, CONTROL, BREAK | SUSPECT_2X, SUSPECT_3X, // 00
+    0, SUSPECT_5X, LETTER, SUSPECT_7X, // 04
+    0, 0, 0, 0, // 08
+    0, 0, 0, 0, // 0C
 ];
 
 /// The classes that are suspect after a dot, after a slash, and after any other byte.

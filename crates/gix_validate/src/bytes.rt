@@ -1,22 +1,10 @@
 //! The classes of single bytes in reference names (docs/RULES.md, "Bytes").
 //!
-//! One table says which bytes may be an error, since more than one loop reads it. Its 256 entries
-//! are proved against the rule.
+//! One table says which bytes may be an error, since more than one loop reads it. `scripts/bytes`
+//! writes its 256 entries, which are proved against the rule.
 
 ghost use Rattle.std.specs.Prelude.{◌≡◌};
-ghost use Rattle.gix_validate.specs.Bytes.{is_bad};
 ghost use Rattle.gix_validate.specs.Private.TagWalk.{may_be_faulty};
-
-/// Whether the byte is a bad byte of reference names.
-#[tactic(auto, unfolding(crate::specs::Bytes::is_bad))]
-pub(crate) fn is_bad_byte(byte: u8) -> bool
-    ensures { result ≡ is_bad byte }
-{
-    matches!(
-        byte,
-        0..=b' ' | b':' | b'?' | b'[' | b'\\' | b'^' | b'~' | 0x7f
-    )
-}
 
 /// Whether a byte can be an error, depending on the bytes before it. No other byte is ever one.
 #[inline]

@@ -8,7 +8,7 @@ ghost use Rattle.gix_validate.specs.Private.TagWalk.{fault_of_byte, first_fault_
 ghost use Rattle.gix_validate.specs.Tag.{fault_of, faults_at, is_tag_name};
 
 use crate::adjacent::{first_to_walk, is_clear};
-use crate::bytes::{is_bad_byte, may_be_faulty};
+use crate::bytes::may_be_faulty;
 use crate::quoted::Quoted;
 use bstr::BStr;
 use std::error::Error;
@@ -17,8 +17,8 @@ use std::fmt;
 /// Why a name is not a valid tag name. docs/RULES.md, "Printed texts", has what each prints.
 #[derive(Debug, Drop)]
 pub enum NameError {
-    /// It has a control byte, a space, DEL, or one of `:` `?` `[` `\` `^` `~`. `byte` is the first
-    /// of them.
+    /// It has a bad byte, and `byte` is the first: a control byte, a space, DEL, or one of
+    /// `:` `?` `[` `\` `^` `~`.
     InvalidByte { byte: u8 },
     /// It starts with a slash.
     StartsWithSlash,
@@ -203,7 +203,7 @@ fn fault_of_byte(before: &[u8], byte: u8) -> Option<NameError>
         b'/' if before.ends_with(b"/") => Some(NameError::RepeatedSlash),
         b'/' if ends_in_lock(before) => Some(NameError::LockFileSuffix),
         b'/' => None,
-        _ if is_bad_byte(byte) => Some(NameError::InvalidByte { byte }),
+        _ if may_be_faulty(byte) => Some(NameError::InvalidByte { byte }),
         _ => None,
     }
 }

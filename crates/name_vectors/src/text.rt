@@ -2,9 +2,9 @@
 
 use std::alloc::{AllocError, Global};
 
-/// Whether the byte is a bad byte. `*` is not: it has an error of its own.
+/// Whether the byte is a bad byte, as `scripts/bytes` lists them. `*` has an error of its own.
 pub(crate) fn is_bad(byte: u8) -> bool {
-    byte < 0x20 || b"\\^:[? ~\x7f".contains(&byte)
+    byte < 0x20 || b"\x7f :?[\\^~".contains(&byte)
 }
 
 /// Whether the word is anywhere in the byte string.

@@ -1,11 +1,10 @@
 -- The definitions of tag names, computed on texts: worked answers, and the tables of bytes.
-use Rattle.std.proofs.Common.{◌≡◌, ℕ, zero, suc, refl, List, [], ◌∷◌, ◌++◌, Some, None}
-use Rattle.std.specs.Prelude.{codes, filter}
+use Rattle.std.proofs.Common.{◌≡◌, refl, [], ◌∷◌, Some, None}
+use Rattle.std.specs.Prelude.{codes}
 use Rattle.gix_validate.proofs.OnLiterals.{names_on_literals}
 use Rattle.gix_validate.proofs.Rows.Tables.{Gives, Judges}
 use Rattle.gix_validate.specs.declared.tag.NameError.TheVariants.{InvalidByte, StartsWithSlash, RepeatedSlash, RepeatedDot, LockFileSuffix}
 use Rattle.gix_validate.specs.declared.tag.NameError.TheVariants.{ReflogPortion, Asterisk, StartsWithDot, EndsWithDot, EndsWithSlash, Empty}
-use Rattle.gix_validate.specs.Bytes.{is_bad}
 use Rattle.gix_validate.specs.Quoted.{quoted}
 use Rattle.gix_validate.specs.Tag.{fault_of, is_tag_name, text_of}
 
@@ -62,16 +61,6 @@ marks : Judges fault_of is_tag_name
     ∷ [])
 unfolding names_on_literals
 marks = (refl, refl)
-
--- the numbers below n, the least first
-below : ℕ → List ℕ
-below zero = []
-below (suc n) = below n ++ n ∷ []
-
--- the bytes that no reference name has
-all_bad_bytes : filter is_bad (below 256) ≡ below 0x20 ++ 0x20 ∷ 0x3A ∷ 0x3F ∷ 0x5B ∷ 0x5C ∷ 0x5E ∷ 0x7E ∷ 0x7F ∷ []
-unfolding below is_bad
-all_bad_bytes = refl
 
 -- bytes, and the same quoted
 quoted_bytes : Gives quoted

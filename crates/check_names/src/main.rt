@@ -17,7 +17,7 @@ use program::arguments::{Options, Request, Setting, request_of};
 use program::outcome::RunError;
 use program::output::write_all;
 use program::{VERSION, fail, print, words};
-use std::io::{Read, Write};
+use std::io::{IsTerminal, Read, Write};
 use std::process::ExitCode;
 
 const NAME: &str = "check_names";
@@ -31,7 +31,7 @@ each at the end of the input:
 A line is a kind, a space and a name. The name is all that follows the first
 space, up to the newline.
 
-    tag          prints ok if this is a valid tag name, and else error: and why
+    tag          prints ok if this is a valid tag name, otherwise error: and why
     partial      the same for a reference name, which may be short, as main
     ref          the same for a full reference name, as HEAD or refs/heads/main
     branch       the same for the full name of a branch
@@ -39,7 +39,7 @@ space, up to the newline.
     path         the same for the name of an entry in a directory
     symlink      the same for the name of a symbolic link in a directory
     device       prints yes or no: whether Windows takes the name for a device
-    sanitize     prints the name if it is a valid partial name, and else its
+    sanitize     prints the name if it is a valid partial name, otherwise its
                  repair
 
 For any other kind, and for a line without a space, it prints: unknown kind
@@ -50,6 +50,10 @@ For any other kind, and for a line without a space, it prints: unknown kind
 The status is 0 whether or not the names are valid. It is 1 if reading the lines
 or writing the results fails or memory for them runs out, and 2 if an argument
 is wrong or can't be read, or if this text or the version can't be printed.";
+
+/// What is said to whoever sits at a terminal.
+const HINT: &str =
+    "type lines such as 'tag v1.2.3', and then Ctrl-D; the results are printed at the end";
 
 /// The program has no options.
 #[derive(Clone, Copy)]
@@ -77,13 +81,18 @@ impl<'a> Options<'a> for NoOptions {
 
 fn main(rt: HostRuntime) -> ExitCode {
     match words(&rt, NAME) {
-        Ok(words) => answer(
-            &rt,
-            &words,
-            &mut rt.stdin(),
-            &mut rt.stdout(),
-            &mut rt.stderr(),
-        ),
+        Ok(words) => {
+            if words.is_empty() && rt.stdin().is_terminal() {
+                let _ = eprintln!(rt; "{NAME}: {HINT}");
+            }
+            answer(
+                &rt,
+                &words,
+                &mut rt.stdin(),
+                &mut rt.stdout(),
+                &mut rt.stderr(),
+            )
+        }
         Err(status) => status,
     }
 }

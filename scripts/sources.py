@@ -3,9 +3,9 @@ import os
 import re
 
 ROOT = os.path.dirname(os.path.dirname(os.path.realpath(__file__)))
-QUOTED = re.compile(r'"(\\.|[^"\\])*"', re.S)
-LETTER = re.compile(r"b?'(\\.[^']*|[^'\\])'")
+QUOTED_OR_BRACE = re.compile(r""""(?:\\.|[^"\\])*"|b?'(?:\\.[^']*|[^'\\])'|[{}]""", re.S)
 CLAUSE = re.compile(r"\s*(requires|ensures)(?: (\w+))? \{")
+TOP = re.compile(r"(?m)^(?:(pub(?:\([\w ]+\))?) )?(?:const )?(?:extern \"C\" )?(fn|struct|trait|impl)\b ?([^\n]*)")
 HEAD = re.compile(r"(?m)^(?:    )?(?:pub(?:\([\w ]+\))? )?(?:const )?(?:extern \"C\" )?(fn|struct|enum|trait|impl|const|static)\b.*")
 # Words of a line 'refused:' for what has no name of its own: a function's one clause, what holds in its loops, and what a
 # call of another crate asks for.
@@ -29,55 +29,30 @@ def crates():
 
 def closing(text, start):
     """The place of the brace that closes the one at `start`. Braces in quotes don't count."""
-    depth, i = 0, start
-    while i < len(text):
-        quoted = QUOTED.match(text, i) if text[i] == '"' else LETTER.match(text, i)
-        if quoted:
-            i = quoted.end()
-            continue
-        depth += (text[i] == "{") - (text[i] == "}")
+    depth = 0
+    for found in QUOTED_OR_BRACE.finditer(text, start):
+        depth += (found[0] == "{") - (found[0] == "}")
         if depth == 0:
-            return i
-        i += 1
+            return found.start()
     raise Fault("a brace is not closed")
 
 
-def without_comments(text):
-    """The text with spaces in place of the lines that are comments, so that no place changes."""
-    return re.sub(r"(?m)^[ \t]*//.*$", lambda it: " " * len(it[0]), text)
+def path_of(module, *names):
+    return "::".join(it for it in [*module, *names] if it)
 
 
 class Item:
-    """A function, or the ghost members of an impl or of a struct, as a list of clauses."""
+    """A function, or the ghost members of an impl or of a struct, as a list of clauses. An unnamed clause is its answer."""
 
-    def __init__(self, module, owner, name, is_public, of_trait=None):
-        self.module, self.owner, self.name = module, owner, name
-        self.is_public, self.of_trait, self.ghosts = is_public, of_trait, None
-        self.ensures, self.requires = [], []
-        self.heads = set()
-        self.shown, self.is_empty, self.is_declared = None, False, False
+    def __init__(self, module, owner, name, is_public, of_trait=None, ghosts=None):
+        self.module, self.owner, self.name, self.is_public, self.of_trait, self.ghosts = module, owner, name, is_public, of_trait, ghosts
+        self.ensures, self.requires, self.heads, self.is_empty, self.is_declared = [], [], set(), False, False
+        self.path = self.short = path_of(module, owner, name) # (`short` is the path by which a caller knows it)
+        # The name that the check has for it.
+        self.proved_as = path_of(module, "".join(it[:1].upper() + it[1:] for it in (owner or "").split("::")) + (of_trait or ""), name)
 
-    @property
-    def path(self):
-        return "::".join(it for it in [*self.module, self.owner, self.name] if it)
-
-    @property
-    def short(self):
-        """The path by which a caller knows it."""
-        return self.shown or self.path
-
-    @property
-    def proved_as(self):
-        """The name that the check has for it."""
-        owner = "".join(it[0].upper() + it[1:] for it in (self.owner or "").split("::") if it) + (self.of_trait or "")
-        return "::".join(it for it in [*self.module, owner, self.name] if it)
-
-    def offer(self, module):
-        """Makes it public as an item of another module, by a `pub use` there."""
-        self.is_public, self.shown = True, "::".join(it for it in [*module, self.owner, self.name] if it)
-
-    def read_clauses(self, text):
-        """Reads the clauses of the function whose text starts here. An unnamed one is its answer."""
+    def with_clauses(self, text):
+        """Reads the clauses of the function whose text starts here."""
         start = re.search(r"\s(requires|ensures)(?: \w+)? \{|\s?\{|;\s*\n", text).start()
         while found := CLAUSE.match(text, start):
             if found[1] == "ensures":
@@ -88,68 +63,56 @@ class Item:
         body = re.compile(r"\s*\{").match(text, start)
         self.is_declared = not body
         self.is_empty = bool(body) and not text[body.end() : closing(text, body.end() - 1)].strip()
+        return self
 
 
 def items_of(module, text):
     """The items of a file, each public if it says so itself."""
-    text = without_comments(text)
+    text = re.sub(r"(?m)^[ \t]*//.*$", lambda it: " " * len(it[0]), text) # (comments, so that no place changes)
     hidden = set(re.findall(r"(?m)^(?:struct|enum) (\w+)", text))
-    head = r"(?m)^(?:(pub(?:\([\w ]+\))?) )?(?:const )?(?:extern \"C\" )?(fn|struct|trait|impl)\b ?([^\n]*)"
-    for it in re.finditer(head, text):
-        is_public = it[1] == "pub"
+    for it in TOP.finditer(text):
+        is_public, opening = it[1] == "pub", re.compile("[{;]").search(text, it.start())
         if it[2] == "fn":
-            item = Item(module, None, re.match(r"\w+", it[3])[0], is_public)
-            item.heads = {it[0]}
-            item.read_clauses(text[it.start() :])
-            yield item
+            found = [Item(module, None, re.match(r"\w+", it[3])[0], is_public).with_clauses(text[it.start() :])]
+        elif not opening or opening[0] == ";":
             continue
-        opening = re.compile(r"[{;]").search(text, it.start())
-        if not opening or opening[0] == ";":
-            continue
-        inside = text[opening.end() : closing(text, opening.start())]
-        name = " ".join(text[it.end(2) : opening.start()].split())
-        if it[2] == "struct":
-            item = Item(module, re.match(r"\w+", name)[0], "", is_public)
-            item.heads = {it[0]}
-            item.ensures = re.findall(r"(?m)^    (?:pub )?ghost (\w+): \{", inside)
-            yield item
-            continue
-        for member in members(module, it[2], name, is_public or it[2] == "impl", inside):
-            member.is_public &= member.owner not in hidden
-            member.heads.add(it[0])
-            yield member
+        else:
+            inside = text[opening.end() : closing(text, opening.start())]
+            name = " ".join(text[it.end(2) : opening.start()].split())
+            if it[2] == "struct":
+                found = [Item(module, re.match(r"\w+", name)[0], "", is_public)]
+                found[0].ensures = re.findall(r"(?m)^    (?:pub )?ghost (\w+): \{", inside)
+            else:
+                found = list(members(module, it[2] == "trait", name, is_public or it[2] == "impl", inside))
+        for item in found:
+            item.is_public &= item.owner not in hidden or it[2] == "struct"
+            item.heads.add(it[0])
+        yield from found
 
 
-def members(module, kind, name, is_public, inside):
+def members(module, is_trait, name, is_public, inside):
     """The functions and the ghost members of a trait or an impl."""
     name = re.sub(r"^<(?:[^<>]|<[^<>]*>)*> ?", "", name)
-    plain = re.sub(r"<.*?>(?=\s|$)|<.*$", "", name.partition(" where ")[0])
-    trait, _, owner = plain.rpartition(" for ")
+    trait, _, owner = re.sub(r"<.*?>(?=\s|$)|<.*$", "", name.partition(" where ")[0]).rpartition(" for ")
     trait = trait.rpartition("::")[2] or None
     owner = re.match(r"(?:\w+::)*\w+", owner)[0].removeprefix("crate::").removeprefix("super::")
     ghosts = Item(module, owner, "", is_public, trait)
     ghosts.ensures = [it for it in re.findall(r"(?m)^    ghost (\w+) = \{", inside) if it not in ("laws", "Value", "view")]
     yield ghosts
-    for it in re.finditer(r"(?m)^    (pub(?:\([\w ]+\))? )?(?:const )?fn (\w+)", inside):
-        is_method = is_public and (it[1] == "pub " or kind == "trait")
-        item = Item(module, owner, it[2], is_method, trait if kind == "impl" else owner)
-        item.heads = {inside[it.start() : inside.index("\n", it.start())]}
-        item.read_clauses(inside[it.start() :])
-        item.ghosts = ghosts
-        yield item
-
-
-def root_of(crate):
-    return "main" if os.path.isfile(f"{ROOT}/crates/{crate}/src/main.rt") else "lib"
+    for it in re.finditer(r"(?m)^    (pub(?:\([\w ]+\))? )?(?:const )?fn (\w+).*", inside):
+        item = Item(module, owner, it[2], is_public and (is_trait or it[1] == "pub "), owner if is_trait else trait, ghosts)
+        item.heads = {it[0]}
+        yield item.with_clauses(inside[it.start() :])
 
 
 def modules(crate):
-    """The modules of a crate without its tests: path, text, and whether another crate can name it. In a program all can be."""
-    top, root = f"crates/{crate}/src", root_of(crate)
+    """The modules of a crate without its tests: file, path, text, and whether another crate can name it. In a program all can be."""
+    root = "main" if os.path.isfile(f"{ROOT}/crates/{crate}/src/main.rt") else "lib"
 
     def visit(path, is_public):
-        text = read(f"{top}/{'/'.join(path) or root}.rt")
-        yield path, text, is_public
+        file = f"src/{'/'.join(path) or root}.rt"
+        text = read(f"crates/{crate}/{file}")
+        yield file, path, text, is_public
         for test, public, name in re.findall(r"(?m)^(#\[cfg\(test\)\]\n)?(pub )?mod (\w+);", text):
             if not test:
                 yield from visit([*path, name], is_public and (bool(public) or root == "main"))
@@ -161,31 +124,26 @@ def items(crate):
     """All functions and ghost members of a crate. Each that another crate can name, by a `pub use` too, is public; in a
     program each `pub` function is, and each that `main` calls."""
     found, offered = [], {}
-    root = root_of(crate)
-    for path, text, is_public in modules(crate):
+    for file, path, text, is_public in modules(crate):
         for source, names in re.findall(r"(?m)^pub use (?:crate::|self::)?([\w:]+)::(\{[^}]*\}|\w+);", text):
-            for name in re.findall(r"\w+", names):
-                offered[source.rpartition("::")[2], name] = path
+            offered.update(((source.rpartition("::")[2], name), path) for name in re.findall(r"\w+", names))
         called = re.findall(r"\b(\w+)\(", re.search(r"(?ms)^fn main\(.*?^\}|\Z", text)[0])
         for item in items_of(path, text):
-            item.heads = {(f"src/{'/'.join(path) or root}.rt", it) for it in item.heads}
+            item.heads = {(file, it) for it in item.heads}
             item.is_said = item.is_public
             item.is_public = item.is_said and is_public or bool(item.name in called and item.ensures)
             found.append(item)
     for item in found:
         where = offered.get((item.module[-1] if item.module else "", item.owner or item.name))
         if where is not None and item.is_said:
-            item.offer(where)
+            item.is_public, item.short = True, path_of(where, item.owner, item.name)
     return found
 
 
 def find(name, known):
     """The items of a crate that a name means: by their path, as a caller or as the check has it, or by an end of it."""
-    for same in (lambda it: name in (it.path, it.short, it.proved_as), lambda it: f"::{it.path}".endswith(f"::{name}")):
-        found = [it for it in known if same(it)]
-        if found:
-            return found
-    return []
+    return ([it for it in known if name in (it.path, it.short, it.proved_as)]
+            or [it for it in known if f"::{it.path}".endswith(f"::{name}")])
 
 
 class Edit:
@@ -193,8 +151,7 @@ class Edit:
 
     def __init__(self, crate, file):
         self.crate, self.file, self.name = crate, file, os.path.basename(file).removesuffix(".edit")
-        self.pairs, self.refused = [], None
-        path, old = None, None
+        self.pairs, self.refused, path, old = [], None, None, None
         for line in read(file).split("\n"):
             word, _, rest = line.partition(":")
             rest = rest.removeprefix(" ")
@@ -210,18 +167,11 @@ class Edit:
                 raise Fault(f"{self.file}: its line '{line}' is none of file:, old:, new: and refused:, or changes nothing")
 
     def parsed(self, text):
-        words = text.split()
-        if len(words) < 2:
+        """A function and its clauses, of which `requires` and `invariant` have a name after them."""
+        function, *clauses = re.findall(rf"(?:requires|invariant) (?!(?:{'|'.join(WORDS)})(?: |$))\S+|\S+", " ".join(text.split())) or [""]
+        if not clauses:
             raise Fault(f"{self.file}: a line 'refused:' names a function and what of it refuses the edit")
-        clauses, i = [], 1
-        while i < len(words):
-            if words[i] in ("requires", "invariant") and i + 1 < len(words) and words[i + 1] not in WORDS:
-                clauses.append(f"{words[i]} {words[i + 1]}")
-                i += 1
-            else:
-                clauses.append(words[i])
-            i += 1
-        return words[0], clauses
+        return function, clauses
 
     def texts(self, before=None):
         """The files that it changes, as they are with it, and those of `before`, which it changes further."""
@@ -240,8 +190,7 @@ class Edit:
         found, texts = set(), {}
         for path, old, new in self.pairs:
             text = texts.get(path) or read(f"crates/{self.crate}/{path}")
-            at = text.find(old)
-            above = list(HEAD.finditer(text, 0, at + len(old)))
+            above = list(HEAD.finditer(text, 0, text.find(old) + len(old)))
             if not above or above[-1][1] != "fn":
                 return None
             found.add((path, above[-1][0]))

@@ -9,13 +9,13 @@ import tempfile
 sys.dont_write_bytecode = True
 BENCH = os.path.dirname(os.path.realpath(__file__))
 ROOT = os.path.dirname(BENCH)
-SCRIPT = os.path.relpath(os.path.realpath(sys.argv[0]), ROOT)
+CRATE = ("--crate", {"metavar": "ARCHIVE", "type": os.path.realpath, "help": "the Rust crate's, which bench/crate/build makes"})
 os.environ["LC_ALL"] = "C"
 
 
 def script(main, doc, *arguments, folder=None):
     """Runs a script's `main` with a folder to work in and its arguments. The status is 1 if that returns False: over a limit."""
-    parser = argparse.ArgumentParser(prog=SCRIPT, description=doc, formatter_class=argparse.RawDescriptionHelpFormatter)
+    parser = argparse.ArgumentParser(description=doc, formatter_class=argparse.RawDescriptionHelpFormatter)
     for name, how in arguments:
         parser.add_argument(name, **how)
     options = parser.parse_args()
@@ -23,37 +23,29 @@ def script(main, doc, *arguments, folder=None):
     try:
         with tempfile.TemporaryDirectory(dir=folder) as work:
             is_within = main(work, options)
-            sys.stdout.flush()
     except Exception as failure:
-        sys.exit(print(f"{SCRIPT}: {type(failure).__name__}: {failure}", file=sys.stderr) or 2)
+        print(f"{parser.prog}: {type(failure).__name__}: {failure}", file=sys.stderr)
+        sys.exit(2)
     sys.exit(1 if is_within is False else 0)
-
-
-def existing(path):
-    if not os.path.isfile(path):
-        raise argparse.ArgumentTypeError(f"there is no archive {path}")
-    return os.path.realpath(path)
-
-
-CRATE = ("--crate", {"metavar": "ARCHIVE", "type": existing, "help": "the Rust crate's archive, which bench/crate/build makes"})
 
 
 def output(*words, **how):
     """What a command prints. It has to succeed."""
-    return subprocess.run(words, **{"stdout": subprocess.PIPE, "check": True, "encoding": "utf-8", "errors": "surrogateescape", **how}).stdout
+    how = {"stdout": subprocess.PIPE, "check": True, "encoding": "utf-8", "errors": "surrogateescape", **how}
+    return subprocess.run(words, **how).stdout
 
 
-def for_git():
-    """Frees Git from the repository of whoever runs this, and gives commits an author."""
+def for_git(home):
+    """Frees Git from the repository and the settings of whoever runs this, and gives commits an author."""
     for name in output("git", "rev-parse", "--local-env-vars").split():
         os.environ.pop(name, None)
-    for who in ("AUTHOR", "COMMITTER"):
-        os.environ.update({f"GIT_{who}_NAME": "bench", f"GIT_{who}_EMAIL": "bench@example.org"})
+    os.environ.update({f"GIT_{who}_{what}": "a@b" for who in ("AUTHOR", "COMMITTER") for what in ("NAME", "EMAIL")},
+                      HOME=home, GIT_CONFIG_GLOBAL="/dev/null", GIT_CONFIG_NOSYSTEM="1")
 
 
-def git(folder, *words, given="", **how):
+def git(folder, *words, given=""):
     """What Git prints in a folder, without the newline at its end."""
-    return output("git", "-C", folder, *words, input=given, **how).removesuffix("\n")
+    return output("git", "-C", folder, *words, input=given).removesuffix("\n")
 
 
 def archive():
@@ -62,16 +54,11 @@ def archive():
     return f"{ROOT}/crates/gix_validate_c/out/libgix_validate_c.a"
 
 
-def compiled(program, source, *parts):
-    """Builds a C program, and returns its path."""
-    compiler = os.environ.get("CC", "cc")
-    output(compiler, "-std=gnu11", "-O2", f"-I{ROOT}/bindings/c", "-o", program, f"{BENCH}/{source}", *parts)
+def compiled(program, source, *parts, crate=None):
+    """Builds a C program, with the Rust crate if there is an archive of it, and returns its path."""
+    parts = (*parts, "-DCRATE", crate, "-lpthread", "-ldl", "-lm") if crate else (*parts, "-lm")
+    output(os.environ.get("CC", "cc"), "-std=gnu11", "-O2", f"-I{ROOT}/bindings/c", "-o", program, f"{BENCH}/{source}", *parts)
     return program
-
-
-def with_crate(path):
-    """What links the Rust crate, if there is an archive of it."""
-    return ["-DCRATE", path, "-lpthread", "-ldl", "-lm"] if path else []
 
 
 def with_libgit2():

@@ -1,24 +1,11 @@
-"""The calls through Python: of this project, or of dulwich where the second argument says so."""
+"""The best time of the passes over all names in three seconds, through Python: of this project, or of dulwich."""
 import sys
 import time
-
-
-def measure(caller, call, count, passed, wanted):
-    """Prints the best time of the passes over all names in three seconds. Each has to give the wanted result."""
-    best = float("inf")
-    first = time.perf_counter()
-    while time.perf_counter() < first + 3:
-        start = time.perf_counter_ns()
-        result = passed()
-        best = min(best, time.perf_counter_ns() - start)
-        if result != wanted:
-            sys.exit(f"{caller}, {call}: not all names are accepted")
-    print(f"{caller}\t{call}\t{best / count:.1f}")
-
 
 with open(sys.argv[1], "rb") as file:
     buffer = file.read()
 names = buffer.splitlines()
+# The passes over all names, and what each has to return.
 if sys.argv[2:] == ["dulwich"]:
     import dulwich
     from dulwich.refs import check_ref_format
@@ -37,4 +24,11 @@ else:
         "repair": (lambda: all(map(gix_validate.sanitize, names)), True),
     }
 for call, (passed, wanted) in calls.items():
-    measure(caller, call, len(names), passed, wanted)
+    best, first = float("inf"), time.perf_counter()
+    while time.perf_counter() < first + 3:
+        start = time.perf_counter_ns()
+        result = passed()
+        best = min(best, time.perf_counter_ns() - start)
+        if result != wanted:
+            sys.exit(f"{caller}, {call}: not all names are accepted")
+    print(f"{caller}\t{call}\t{best / len(names):.1f}")

@@ -48,6 +48,15 @@ def git(folder, *words, given=""):
     return output("git", "-C", folder, *words, input=given).removesuffix("\n")
 
 
+def with_files(work, paths):
+    """A repository with a file at each of these paths on its branch `main`, and with nothing else."""
+    path = tempfile.mkdtemp(dir=work)
+    head = "blob\nmark :1\ndata 2\nx\n\ncommit refs/heads/main\ncommitter a <a@x> 1700000000 +0000\ndata 1\nm\n"
+    git(path, "init", "-q", "-b", "main")
+    git(path, "fast-import", "--quiet", given=head + "".join(f"M 100644 :1 {it}\n" for it in paths))
+    return path
+
+
 def archive():
     """The static library of this tree, proved."""
     output("rt", "lib", cwd=f"{ROOT}/crates/gix_validate_c")

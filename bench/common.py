@@ -2,6 +2,7 @@
 import argparse
 import os
 import re
+import signal
 import subprocess
 import sys
 import tempfile
@@ -15,16 +16,18 @@ os.environ["LC_ALL"] = "C"
 
 def script(main, doc, *arguments, folder=None):
     """Runs a script's `main` with a folder to work in and its arguments. The status is 1 if that returns False: over a limit."""
-    parser = argparse.ArgumentParser(description=doc, formatter_class=argparse.RawDescriptionHelpFormatter)
+    program = os.path.relpath(os.path.realpath(sys.argv[0]), ROOT)
+    parser = argparse.ArgumentParser(prog=program, description=doc, formatter_class=argparse.RawDescriptionHelpFormatter)
     for name, how in arguments:
         parser.add_argument(name, **how)
     options = parser.parse_args()
     sys.stdout.reconfigure(line_buffering=True)
+    signal.signal(signal.SIGTERM, lambda *_: sys.exit(143)) # (so that the folder goes)
     try:
         with tempfile.TemporaryDirectory(dir=folder) as work:
             is_within = main(work, options)
     except Exception as failure:
-        print(f"{parser.prog}: {type(failure).__name__}: {failure}", file=sys.stderr)
+        print(f"{program}: {type(failure).__name__}: {failure}", file=sys.stderr)
         sys.exit(2)
     sys.exit(1 if is_within is False else 0)
 

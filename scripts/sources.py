@@ -105,26 +105,17 @@ def members(module, is_trait, name, is_public, inside):
         yield item.with_clauses(inside[it.start() :])
 
 
-def modules(crate):
-    """The modules of a crate without its tests: file, path, text, and whether another crate can name it. In a program all can be."""
-    root = "main" if os.path.isfile(f"{ROOT}/crates/{crate}/src/main.rt") else "lib"
-
-    def visit(path, is_public):
-        file = f"src/{'/'.join(path) or root}.rt"
-        text = read(f"crates/{crate}/{file}")
-        yield file, path, text, is_public
-        for test, public, name in re.findall(r"(?m)^(#\[cfg\(test\)\]\n)?(pub )?mod (\w+);", text):
-            if not test:
-                yield from visit([*path, name], is_public and (bool(public) or root == "main"))
-
-    return visit([], True)
-
-
 def items(crate):
-    """All functions and ghost members of a crate. Each that another crate can name, by a `pub use` too, is public; in a
-    program each `pub` function is, and each that `main` calls."""
+    """All functions and ghost members of a crate without its tests. Each that another crate can name, by a `pub use` too, is
+    public; in a program each `pub` function is, and each that `main` calls."""
     found, offered = [], {}
-    for file, path, text, is_public in modules(crate):
+    root = "main" if os.path.isfile(f"{ROOT}/crates/{crate}/src/main.rt") else "lib"
+    left = [([], True)] # (the modules, and whether another crate can name each)
+    while left:
+        (path, is_public), file = left[0], f"src/{'/'.join(left[0][0]) or root}.rt"
+        text = read(f"crates/{crate}/{file}")
+        modules = re.findall(r"(?m)^(#\[cfg\(test\)\]\n)?(pub )?mod (\w+);", text)
+        left[:1] = [([*path, name], is_public and (bool(public) or root == "main")) for test, public, name in modules if not test]
         for source, names in re.findall(r"(?m)^pub use (?:crate::|self::)?([\w:]+)::(\{[^}]*\}|\w+);", text):
             offered.update(((source.rpartition("::")[2], name), path) for name in re.findall(r"\w+", names))
         called = re.findall(r"\b(\w+)\(", re.search(r"(?ms)^fn main\(.*?^\}|\Z", text)[0])

@@ -1,6 +1,10 @@
 """The best time of the passes over all names in three seconds, through Python: of this project, or of dulwich."""
+import os
 import sys
 import time
+
+sys.dont_write_bytecode = True
+sys.path.insert(0, f"{os.path.dirname(os.path.realpath(__file__))}/../../bindings/python")
 
 with open(sys.argv[1], "rb") as file:
     buffer = file.read()

@@ -130,6 +130,17 @@ pub(crate) fn block_contains_either(text: &[u8], at: usize, one: u8, other: u8) 
     lanes_contain(block, one) | lanes_contain(block, other)
 }
 
+/// Whether each of the sixteen bytes from this offset on is one of the two.
+#[inline(always)]
+pub(crate) fn block_has_only(text: &[u8], at: usize, one: u8, other: u8) -> bool
+    requires { at + LANES ≤ length text.now }
+    ensures { IsTrue result
+        ↔ ((k : ℕ) → k < LANES → (slice_index text.now (at + k) == one || slice_index text.now (at + k) == other) ≡ true) }
+{
+    let block = u8x16::from_slice(&text[at..]);
+    (block.simd_ne(u8x16::splat(one)) & block.simd_ne(u8x16::splat(other))).to_bitmask() == 0
+}
+
 /// Whether the byte is in one of the lanes.
 #[inline(always)]
 fn lanes_contain(lanes: u8x16, byte: u8) -> bool

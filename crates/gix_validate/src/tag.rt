@@ -4,7 +4,7 @@ ghost use Rattle.std.specs.Prelude.{◌≡◌, ◌↔◌, ◌<◌, ◌≤◌, �
 ghost use Rattle.bstr.specs.BStr.{bstr_bytes};
 ghost use Rattle.gix_validate.specs.Bytes.{ends};
 ghost use Rattle.gix_validate.specs.Faults.{Validates, first_of, at_first_place};
-ghost use Rattle.gix_validate.specs.Private.TagWalk.{fault_of_byte, first_fault_between};
+ghost use Rattle.gix_validate.specs.Private.TagWalk.{fault_of_byte, first_fault_between, may_be_faulty};
 ghost use Rattle.gix_validate.specs.Tag.{fault_of, faults_at, is_tag_name};
 
 use crate::adjacent::{first_to_walk, is_clear};
@@ -187,24 +187,22 @@ fn first_fault_between(bytes: &[u8], from: usize, to: usize) -> Option<NameError
     None
 }
 
-/// The fault of a byte after those before it, if another byte follows.
+/// The fault of a byte that may be one, after those before it, if another byte follows.
 #[inline]
 #[tactic(auto, unfolding(crate::specs::Private::TagWalk::fault_of_byte, crate::specs::Tag::fault_table, crate::specs::Bytes::is_bad))]
 fn fault_of_byte(before: &[u8], byte: u8) -> Option<NameError>
+    requires { IsTrue (may_be_faulty byte) }
     ensures { result ≡ fault_of_byte before.now byte }
 {
-    match byte {
-        b'*' => Some(NameError::Asterisk),
-        b'.' if before.ends_with(b".") => Some(NameError::RepeatedDot),
-        b'.' if before.ends_with(b"/") => Some(NameError::StartsWithDot),
-        b'.' => None,
-        b'{' if before.ends_with(b"@") => Some(NameError::ReflogPortion),
-        b'{' => None,
-        b'/' if before.ends_with(b"/") => Some(NameError::RepeatedSlash),
-        b'/' if ends_in_lock(before) => Some(NameError::LockFileSuffix),
-        b'/' => None,
-        _ if may_be_faulty(byte) => Some(NameError::InvalidByte { byte }),
-        _ => None,
+    match (byte, before) {
+        (b'*', _) => Some(NameError::Asterisk),
+        (b'.', [.., b'.']) => Some(NameError::RepeatedDot),
+        (b'.', [.., b'/']) => Some(NameError::StartsWithDot),
+        (b'{', [.., b'@']) => Some(NameError::ReflogPortion),
+        (b'/', [.., b'/']) => Some(NameError::RepeatedSlash),
+        (b'/', _) if ends_in_lock(before) => Some(NameError::LockFileSuffix),
+        (b'.' | b'{' | b'/', _) => None,
+        _ => Some(NameError::InvalidByte { byte }),
     }
 }
 

@@ -32,6 +32,26 @@ pub ntfs_all_left : (x : List ℕ) (i : ℕ) → length x ≤ i → is_empty (nt
 unfolding ntfs_form
 ntfs_all_left = form_all_left is_ntfs_cut is_ntfs_trimmed
 
+-- spaces and dots in front, which leave it to what stands behind them whether there is a form
+pub ntfs_behind : (n : ℕ) (x : List ℕ) (i : ℕ) → i + n ≤ length x
+    → ((k : ℕ) → k < n → (eqb (get_or x (i + k) 0) (byte " ") || eqb (get_or x (i + k) 0) (byte ".")) ≡ true)
+    → is_empty (ntfs_form (drop (i + n) x)) ≡ is_empty (ntfs_form (drop i x))
+ntfs_behind zero x i room all = grind arith
+ntfs_behind (suc n) x i room all =
+    let first = all 0 (omega arith) in
+    let moved = λ (k : ℕ) (h : k < n). all (suc k) (omega arith) in
+    let rest = ntfs_behind n x (i + 1) (omega arith) (λ k h. grind (arith, moved k h)) in
+    grind (arith, ntfs_left x i (omega arith), rest, first)
+
+-- a text that ends in n spaces and dots, from a place among them on
+pub ntfs_ended : (n : ℕ) (x : List ℕ) (i : ℕ) → n ≤ length x → length x ≤ i + n → i ≤ length x
+    → ((k : ℕ) → k < n → (eqb (get_or x (length x - n + k) 0) (byte " ") || eqb (get_or x (length x - n + k) 0) (byte ".")) ≡ true)
+    → true ≡ is_empty (ntfs_form (drop i x))
+ntfs_ended n x i room near within all =
+    let place = λ (k : ℕ). (let e : length x - n + (i + n - length x + k) ≡ i + k = omega arith in e) in
+    let moved = λ (k : ℕ) (h : k < length x - i). rw (place k) at (all (i + n - length x + k) (omega arith)) in
+    sym (ntfs_all_left x (i + (length x - i)) (omega arith)) ∙ ntfs_behind (length x - i) x i (omega arith) moved
+
 pub ntfs_word : (word x : List ℕ) → IsTrue (list_all stays_in_form word)
     → bytes_eq (lower (ntfs_form x)) (lower word) ≡ (begins (lower x) (lower word) && is_empty (ntfs_form (drop (length word) x)))
 unfolding ntfs_form

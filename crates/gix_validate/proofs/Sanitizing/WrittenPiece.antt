@@ -1,17 +1,16 @@
 -- What was written, and the rest that is not yet read, decide the mended pieces of the whole text.
-use Rattle.std.proofs.Common.{◌≡◌, ◌⊎◌, ℕ, ◌-◌, true, false, cond, List, [], ◌∷◌, ◌++◌, length, take, refl, sym, ap, ◌∙◌, arith, length-append, append_assoc}
+use Rattle.std.proofs.Common.{◌≡◌, ℕ, ◌-◌, true, false, cond, List, [], ◌∷◌, ◌++◌, length, take, refl, sym, ap, ◌∙◌, arith, length-append, append_assoc}
 use Rattle.std.proofs.Common.{append-nil}
 use Rattle.std.specs.Prelude.{codes, ◌||◌, ◌&&◌, ◌==◌, if◌then◌else◌, Option, Some, None, is_none}
 use Rattle.std.specs.Str.{byte}
 use Rattle.std.proofs.lemmas.Grind.{common_steps}
 use Rattle.std.proofs.lemmas.List.{take_at}
-use Rattle.gix_validate.specs.Bytes.{is_bad, is_empty, ends}
+use Rattle.gix_validate.specs.Bytes.{is_empty, ends}
 use Rattle.gix_validate.specs.Pieces.{is_slash, pieces, joined}
 use Rattle.gix_validate.specs.Sanitized.{allowed, cut, mended_pieces}
-use Rattle.gix_validate.proofs.Sanitizing.LockSuffixes.{cut-append}
 use Rattle.gix_validate.proofs.Sanitizing.MendedPieces.{is_after, dot_first, written_for, written_by, written_some, cleaned-written}
 use Rattle.gix_validate.proofs.Sanitizing.Laws.{mended_of}
-use Rattle.gix_validate.proofs.Texts.Pieces.{pieces_front, joined-push}
+use Rattle.gix_validate.proofs.Texts.Pieces.{joined-push}
 
 -- what a byte adds to its piece
 abbrev pub added : List ℕ → ℕ → ℕ
@@ -52,9 +51,9 @@ mended_from-start texts [] = refl
 mended_from-start texts ([] ∷ ps) = refl
 mended_from-start texts ((b ∷ p) ∷ ps) = grind (arith, cleaned-written (b ∷ p), written_some None (b ∷ p) refl)
 
-mended_from-next : (texts : List (List ℕ)) (piece : List ℕ) (last : Option ℕ) (p : List ℕ) (ps : List (List ℕ))
-    → kept (piece ++ written_by last p) ≡ kept piece → mended_from texts piece last (p ∷ ps) ≡ mended_from (texts ++ kept piece) [] None ps
-mended_from-next texts piece last p ps same = grind (arith, append_assoc, mended_from-start)
+mended_from-next : (texts : List (List ℕ)) (piece : List ℕ) (last : Option ℕ) (ps : List (List ℕ))
+    → mended_from texts piece last ([] ∷ ps) ≡ mended_from (texts ++ kept piece) [] None ps
+mended_from-next texts piece last ps = grind (arith, append-nil, append_assoc, mended_from-start)
 
 mended_from-byte : (texts : List (List ℕ)) (piece : List ℕ) (last : Option ℕ) (b : ℕ) (rest : List ℕ) → is_slash b ≡ false
     → mended_from texts piece last (pieces (b ∷ rest)) ≡ (if b == byte "." && dot_first rest
@@ -86,37 +85,21 @@ pub GivesWhole-byte : (whole done piece rest : List ℕ) (b w : ℕ) → GivesWh
 unfolding written_for
 GivesWhole-byte whole done piece rest b w so_far other single e = grind (arith, common_steps, mended_from-byte)
 
--- The piece ends where what is left of it adds nothing, up to a slash.
-GivesWhole-closed : (whole done piece text rest p : List ℕ) (so_far : GivesWhole whole done piece text) → pieces text ≡ p ∷ pieces rest
-    → kept (piece ++ written_by so_far.last p) ≡ kept piece → GivesWhole whole (closed done piece) [] rest
-GivesWhole-closed whole done piece text rest p so_far split same = record {
+-- A slash ends the piece.
+pub GivesWhole-slash : (whole done piece rest : List ℕ) (b : ℕ) → GivesWhole whole done piece (b ∷ rest) → is_slash b ≡ true
+    → GivesWhole whole (closed done piece) [] rest
+GivesWhole-slash whole done piece rest b so_far slash = record {
   texts = so_far.texts ++ kept piece;
   last = None;
   done_is = ap (λ v. closed v piece) so_far.done_is ∙ closed-slashed so_far.texts piece;
   begun = refl;
   at_sign = refl;
-  gives = sym (mended_from-next so_far.texts piece so_far.last p (pieces rest) same)
+  gives =
+      let split : pieces (b ∷ rest) ≡ [] ∷ pieces rest = rw slash refl in
+      sym (mended_from-next so_far.texts piece so_far.last (pieces rest))
       ∙ (ap (mended_from so_far.texts piece so_far.last) (sym split) ∙ so_far.gives);
 }
 
-pub GivesWhole-slash : (whole done piece rest : List ℕ) (b : ℕ) → GivesWhole whole done piece (b ∷ rest) → is_slash b ≡ true
-    → GivesWhole whole (closed done piece) [] rest
-GivesWhole-slash whole done piece rest b so_far slash =
-    GivesWhole-closed whole done piece (b ∷ rest) rest [] so_far (rw slash refl) (ap kept (append-nil piece))
-
-lock_written : (last : Option ℕ) → is_none last ≡ false → written_by last (codes ".lock") ≡ codes ".lock"
-unfolding written_for is_bad
-lock_written None some = grind arith
-lock_written (Some a) some = refl
-
--- A `.lock` that ends a piece in which something was written is cut, so it need not be written.
-pub GivesWhole-lock : (whole done piece rest : List ℕ) → GivesWhole whole done piece (codes ".lock/" ++ rest) → is_empty piece ≡ false
-    → GivesWhole whole (closed done piece) [] rest
-GivesWhole-lock whole done piece rest so_far some =
-    GivesWhole-closed whole done piece (codes ".lock/" ++ rest) rest (codes ".lock") so_far (pieces_front (codes ".lock") rest refl)
-    (grind (arith, lock_written so_far.last, cut-append piece (codes ".lock") refl))
-
--- Where no rest is left, or a slash alone, the last piece ends.
-pub GivesWhole-end : (whole done piece rest : List ℕ) → GivesWhole whole done piece rest → rest ≡ [] ⊎ rest ≡ codes "/"
-    → finished done piece ≡ joined (mended_pieces whole)
-GivesWhole-end whole done piece rest so_far last = grind (arith, finished-slashed, append-nil)
+-- Where no rest is left, the last piece ends.
+pub GivesWhole-end : (whole done piece : List ℕ) → GivesWhole whole done piece [] → finished done piece ≡ joined (mended_pieces whole)
+GivesWhole-end whole done piece so_far = grind (arith, finished-slashed, append-nil)

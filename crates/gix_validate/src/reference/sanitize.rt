@@ -1,15 +1,6 @@
 //! The repair of names that are not partial names.
 //!
-//! A clear name (see `adjacent`) stays as it is. Any other is walked once, in the buffer. The walk
-//! differs from a plain loop that carries the previous byte. Each difference saves instructions
-//! (`bench/run`):
-//!
-//! - The last byte is replaced by a slash meanwhile, if it is plain. So each run of plain bytes
-//!   ends by itself, and its loop needs no second test.
-//! - Pieces of plain bytes at the front stay where they are, so they are only read.
-//! - A `.lock` right before a slash is skipped, and not written only to be cut again.
-//! - The previous byte is read from the piece that is written so far, so a run of plain bytes has
-//!   nothing to carry.
+//! A clear name (see `adjacent`) stays as it is. Any other is walked once, in the buffer.
 
 ghost use Rattle.std.specs.Prelude.{◌≡◌, ◌≢◌, ℕ, false, ◌↔◌, ◌+◌, ◌-◌, ◌≤◌, ◌<◌, ◌==◌, ◌||◌, ◌&&◌, ◌++◌, [], ◌∷◌, max, if◌then◌else◌, length, take, drop, get_or, set, codes, IsTrue, IsOk, IfOk, Some, None, slice_range, vec_capacity};
 ghost use Rattle.bstr.specs.BStr.{bstr_bytes};
@@ -121,103 +112,30 @@ pub fn sanitize_in_place(buf: &mut [u8], len: usize) -> usize
 }
 
 /// Writes the nonempty pieces of the name over it, each cleaned and cut, and returns how many bytes
-/// it wrote. A byte is written at the offset of the byte just read, or before it.
-///
-/// The last byte is handled at the end. If it is plain, a slash is in its position until then, so
-/// that each run of plain bytes ends before the name does. Pieces of plain bytes at the start, and
-/// the plain bytes after them, stay where they are, so they are only read. A `.lock` right before a
-/// slash is skipped, if something is before it in its piece: it would be cut.
+/// it wrote. A byte is written at the offset of the byte just read, or before it. Of dots in a row
+/// the last is written.
 fn mend_pieces(text: &mut [u8]) -> usize
     ensures within { result ≤ length text.old }
     ensures text { take result text.new ≡ joined (mended_pieces text.old) }
 {
-    let Some(stop) = text.len().checked_sub(1) else {
-        return 0;
-    };
-    let last = guard_end(text, stop);
-    let (mut start, mut read) = (0, end_of_run(text, 0));
-    while text[read] == b'/' && start < read && read < stop {
-        start = read + 1;
-        read = end_of_run(text, start);
-    }
-    let mut end = read;
-    loop {
-        while !may_be_faulty(text[read]) {
-            text[end] = text[read];
+    let (mut start, mut end) = (0, 0);
+    for read in 0..text.len() {
+        let byte = text[read];
+        if !may_be_faulty(byte) {
+            text[end] = byte;
             end += 1;
-            read += 1;
-        }
-        if read == stop {
-            break;
-        }
-        let (byte, next) = (text[read], text[read + 1]);
-        if byte == b'/' {
+        } else if byte == b'/' {
             end = close_piece(text, start, end);
             start = end;
-        } else if byte == b'.'
-            && next == b'l'
-            && start < end
-            && text[read..stop].starts_with(b".lock/")
-        {
-            end = close_piece(text, start, end);
-            start = end;
-            read += 5;
-        } else if byte != b'.' || next != b'.' {
+        } else if byte != b'.' || text.get(read + 1) != Some(&b'.') {
             text[end] = mended_byte(&text[start..end], byte);
             end += 1;
         }
-        read += 1;
     }
-    write_last(text, start, end, last)
+    end_of_text(text, start, end)
 }
 
-/// Writes a slash at the offset `stop`, if the byte there is plain, and returns that byte.
-fn guard_end(text: &mut [u8], stop: usize) -> u8
-    requires { stop < length text.old }
-    ensures last { result ≡ get_or text.old stop 0 }
-    ensures text { let last = get_or text.old stop 0 in
-        text.new ≡ (if may_be_faulty last then text.old else set text.old stop (byte "/")) }
-{
-    let last = text[stop];
-    if !may_be_faulty(last) {
-        text[stop] = b'/';
-    }
-    last
-}
-
-/// The first offset from this one on whose byte isn't plain. The last byte isn't.
-#[inline(always)]
-fn end_of_run(text: &[u8], from: usize) -> usize
-    requires within { from < length text.now }
-    requires guarded { let last = get_or text.now (length text.now - 1) 0 in IsTrue (may_be_faulty last) }
-    ensures in_order { from ≤ result }
-    ensures within { result < length text.now }
-    ensures run { (k : ℕ) → from ≤ k → k < result → may_be_faulty (get_or text.now k 0) ≡ false }
-    ensures stops { IsTrue (may_be_faulty (get_or text.now result 0)) }
-{
-    let mut read = from;
-    while !may_be_faulty(text[read]) {
-        read += 1;
-    }
-    read
-}
-
-/// The byte that is written for any byte other than a slash, after the piece that is written so
-/// far. Of dots in a row this handles the last.
-#[tactic(auto, unfolding(crate::specs::Bytes::is_bad))]
-fn cleaned_byte(piece: &[u8], next: u8) -> u8
-    requires no_slash { next ≢ byte "/" }
-    ensures { result ≡ (if (next == byte "." && is_empty piece.now) || (next == byte "{" && ends piece.now (codes "@"))
-        then byte "-" else allowed next) }
-{
-    if may_be_faulty(next) {
-        mended_byte(piece, next)
-    } else {
-        next
-    }
-}
-
-/// The same for a byte that isn't plain.
+/// The byte that is written for a byte that isn't plain, after the piece that is written so far.
 #[tactic(auto, unfolding(crate::specs::Bytes::is_bad))]
 fn mended_byte(piece: &[u8], next: u8) -> u8
     requires no_slash { next ≢ byte "/" }
@@ -251,27 +169,6 @@ fn close_piece(text: &mut [u8], start: usize, end: usize) -> usize
     let end = end_of_cut(text, start, end);
     text[end] = b'/';
     end + 1
-}
-
-/// Writes the last byte, unless it is a slash, to the last piece, which was written from `start` to
-/// `end`, and returns the offset at which the result ends.
-#[tactic(auto, using(crate::proofs::Sanitizing::OneBuffer::take_pushed))]
-fn write_last(text: &mut [u8], start: usize, end: usize, last: u8) -> usize
-    requires in_order { start ≤ end }
-    requires room { end < length text.old }
-    ensures within { result ≤ length text.old }
-    ensures slash { last ≡ byte "/" → take result text.new ≡ (if start == end
-        then take (end - 1) text.old
-        else take start text.old ++ cut (slice_range text.old start end)) }
-    ensures other { last ≢ byte "/" → (let piece = slice_range text.old start end in
-        take result text.new ≡ take start text.old ++ cut (piece ++ (if (last == byte "." && is_empty piece) || (last == byte "{" && ends piece (codes "@"))
-        then byte "-" else allowed last) ∷ [])) }
-{
-    if last == b'/' {
-        return end_of_text(text, start, end);
-    }
-    text[end] = cleaned_byte(&text[start..end], last);
-    end_of_cut(text, start, end + 1)
 }
 
 /// The offset at which the result ends if its last piece was written from `start` to `end`: that

@@ -1,6 +1,7 @@
 -- Partial, full and branch names: a slash in a name, and two tag names that a slash joins.
-use Rattle.std.proofs.Common.{◌≡◌, ℕ, true, false, IsTrue, List, [], ◌∷◌, ◌⊎◌, suc, arith, ◌-◌, ◌++◌, ◌<◌, length, drop, length-append}
-use Rattle.std.specs.Prelude.{All, Contains}
+use Rattle.std.proofs.Common.{◌≡◌, ℕ, true, false, IsTrue, List, [], ◌∷◌, ◌⊎◌, suc, arith, sym, ◌-◌, ◌++◌, ◌<◌, length, drop, length-append}
+use Rattle.std.specs.Prelude.{All, Contains, ◌==◌, Option, Some, None, is_some}
+use Rattle.std.specs.List.{list_any}
 use Rattle.std.specs.Str.{byte}
 use Rattle.std.proofs.lemmas.Slice.Eq.{bytes_eq-Decides}
 use Rattle.std.proofs.lemmas.List.Folds.{list_any_at, list_all-append, list_any-append, Any-from_list_any}
@@ -8,8 +9,16 @@ use Rattle.std.proofs.lemmas.List.Sums.{AllPass-from_list_all, list_all-from_All
 use Rattle.gix_validate.specs.Pieces.{pieces, joined}
 use Rattle.gix_validate.specs.Reference.{is_standalone_byte, has_slash_or_stands_alone, is_full_name, is_partial_name}
 use Rattle.gix_validate.specs.Tag.{is_good_piece, is_tag_name}
+use Rattle.gix_validate.specs.Private.Scan.{Finds, at_both}
+use Rattle.gix_validate.proofs.Blocks.Parts.{none_at}
 use Rattle.gix_validate.proofs.Texts.Pieces.{pieces_some}
 use Rattle.std.proofs.lemmas.Grind.{common_steps}
+
+-- The first slash, or none, says whether a text has one.
+pub slash_found : (x : List ℕ) (found : Option ℕ) → Finds (at_both (λ a b. a == byte "/") x x) (length x) (length x) found
+    → is_some found ≡ list_any (λ b. b == byte "/") x
+slash_found x None none = sym ((none_at (λ b. b == byte "/") x).1 none)
+slash_found x (Some i) first = sym (list_any_at (λ b. b == byte "/") x i 0 first.within first.here)
 
 -- What the search for a slash says of a text.
 pub may_stand : (x : List ℕ) → has_slash_or_stands_alone x ≡ true → Contains x (byte "/") ⊎ All (λ b. IsTrue (is_standalone_byte b)) x

@@ -88,37 +88,6 @@ pub(crate) fn first_lane(lanes: u64) -> usize
     lanes.trailing_zeros() as usize
 }
 
-/// Whether the byte occurs in the bytes.
-#[inline(always)]
-pub(crate) fn contains_byte(text: &[u8], byte: u8) -> bool
-    ensures { result ≡ list_any (λ b. b == byte) text.now }
-{
-    if text.len() < 8 {
-        return text.contains(&byte);
-    }
-    if text.len() < LANES {
-        return lanes_contain(halves(text, 0, text.len() - 8), byte);
-    }
-    let last = text.len() - LANES;
-    let mut at = 0;
-    while at < last {
-        if block_contains(text, at, byte) {
-            return true;
-        }
-        at += LANES;
-    }
-    block_contains(text, last, byte)
-}
-
-/// Whether the byte is one of the sixteen bytes from this offset on.
-#[inline(always)]
-pub(crate) fn block_contains(text: &[u8], at: usize, byte: u8) -> bool
-    requires { at + LANES ≤ length text.now }
-    ensures { result ≡ list_any (λ b. b == byte) (chunk at LANES text.now) }
-{
-    lanes_contain(u8x16::from_slice(&text[at..]), byte)
-}
-
 /// Whether one of the two bytes is one of the sixteen bytes from this offset on.
 #[inline(always)]
 #[tactic(auto, using(crate::proofs::Blocks::Lanes::any_of_two))]
@@ -128,17 +97,6 @@ pub(crate) fn block_contains_either(text: &[u8], at: usize, one: u8, other: u8) 
 {
     let block = u8x16::from_slice(&text[at..]);
     lanes_contain(block, one) | lanes_contain(block, other)
-}
-
-/// Whether each of the sixteen bytes from this offset on is one of the two.
-#[inline(always)]
-pub(crate) fn block_has_only(text: &[u8], at: usize, one: u8, other: u8) -> bool
-    requires { at + LANES ≤ length text.now }
-    ensures { IsTrue result
-        ↔ ((k : ℕ) → k < LANES → (slice_index text.now (at + k) == one || slice_index text.now (at + k) == other) ≡ true) }
-{
-    let block = u8x16::from_slice(&text[at..]);
-    (block.simd_ne(u8x16::splat(one)) & block.simd_ne(u8x16::splat(other))).to_bitmask() == 0
 }
 
 /// Whether the byte is in one of the lanes.

@@ -8,7 +8,7 @@
 //! `name_partial`, `name` and `branch_name` don't allocate. On `Ok` each returns the value that it
 //! was passed.
 
-ghost use Rattle.std.specs.Prelude.{◌≡◌, ◌≢◌, ◌↔◌, ◌⊎◌, ◌+◌, ◌≤◌, [], ◌∷◌, ◌++◌, length, codes, All, Contains, IsOk, IfOk, IsTrue, MatchResult, vec_len, vec_capacity};
+ghost use Rattle.std.specs.Prelude.{◌≡◌, ◌==◌, ◌≢◌, ◌↔◌, ◌⊎◌, ◌+◌, ◌≤◌, [], ◌∷◌, ◌++◌, length, codes, All, Contains, IsOk, IfOk, IsTrue, MatchResult, vec_len, vec_capacity};
 ghost use Rattle.std.specs.List.{list_all};
 ghost use Rattle.std.specs.Str.{byte};
 ghost use Rattle.bstr.specs.BStr.{bstr_bytes};
@@ -18,14 +18,15 @@ ghost use Rattle.gix_validate.specs.Pieces.{joined};
 ghost use Rattle.gix_validate.specs.Reference.{is_standalone_byte, has_slash_or_stands_alone, is_partial_name, is_full_name, is_branch_name, reserved as reserved_fault, partial_fault_of, full_fault_of, branch_fault_of};
 ghost use Rattle.gix_validate.specs.Tag.{is_tag_name};
 
-use crate::lanes::contains_byte;
 use crate::quoted::Quoted;
+use crate::scan::{self, Pattern};
 use crate::tag;
 use arrayvec::ArrayVec;
 use bstr::{BStr, BString};
 use std::alloc::{AllocError, Global};
 use std::error::Error;
 use std::fmt;
+use std::simd::prelude::*;
 
 mod sanitize;
 
@@ -241,12 +242,25 @@ fn unless_reserved<'a>(name: BStr<'a>, reserved: &[u8]) -> Result<BStr<'a>, Name
     })
 }
 
+/// A slash.
+enum Slash {}
+
+impl Pattern for Slash {
+    ghost hit = { λ a b. a == byte "/" };
+
+    #[inline(always)]
+    fn hits(front: u8x16, _back: u8x16) -> u64 {
+        front.simd_eq(u8x16::splat(b'/')).to_bitmask()
+    }
+}
+
 /// Whether the name has a slash, or is valid without one.
 #[inline(always)]
+#[tactic(auto, using(crate::proofs::References::slash_found))]
 fn has_slash_or_stands_alone(bytes: &[u8]) -> bool
     ensures { result ≡ has_slash_or_stands_alone bytes.now }
 {
-    contains_byte(bytes, b'/') || stands_alone(bytes)
+    scan::first::<Slash>(bytes, bytes).is_some() || stands_alone(bytes)
 }
 
 /// Whether each byte may be in a name without a slash. Most names fail by their first letter.

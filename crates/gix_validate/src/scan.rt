@@ -32,7 +32,7 @@ pub(crate) fn first_pair<P: Pattern>(text: &[u8]) -> Option<usize>
 
 /// The first place where the bytes of two texts of one length are a hit.
 #[inline(always)]
-fn first<P: Pattern>(front: &[u8], back: &[u8]) -> Option<usize>
+pub(crate) fn first<P: Pattern>(front: &[u8], back: &[u8]) -> Option<usize>
     requires { length back.now ≡ length front.now }
     ensures { Finds (at_both P.hit front.now back.now) (length front.now) (length front.now) result }
 {

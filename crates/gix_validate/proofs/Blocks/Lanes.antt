@@ -88,30 +88,17 @@ pub nonzero_lane : (v : List ℕ) → length v ≡ 16
     → not (eqb (mask_l (map (top 7) (zip2 (λ x y. cond (not (eqb x y)) 255 0) v (replicate 16 0))) % 2 ^ 64) 0) ≡ list_any is_nonzero v
 nonzero_lane v = some_lane (λ x y. not (eqb x y)) v 0
 
--- The mask has a bit for each lane that is not zero.
-pub nonzero_mask : (v : List ℕ) → length v ≡ 16 → let mask = mask_l (map (top 7) (zip2 (λ x y. cond (not (eqb x y)) 255 0) v (replicate 16 0))) % 2 ^ 64 in
-    (mask < 2 ^ 16) × ((k : ℕ) → k < 16 → bit_at mask k ≡ cond (is_nonzero (get_or v k 0)) 1 0)
-nonzero_mask v long =
-    let e = bitmask_splat w8 (λ x y. not (eqb x y)) v 16 0 long (omega arith) in
+-- The mask has a bit for each lane that passes a test against a byte.
+pub lane_mask : (t : ℕ → ℕ → Bool) (v : List ℕ) (b : ℕ) → length v ≡ 16
+    → let mask = mask_l (map (top 7) (zip2 (λ x y. cond (t x y) 255 0) v (replicate 16 b))) % 2 ^ 64 in
+    (mask < 2 ^ 16) × ((k : ℕ) → k < 16 → bit_at mask k ≡ cond (t (get_or v k 0) b) 1 0)
+lane_mask t v b long =
+    let test = λ (x : ℕ). t x b in
+    let e = bitmask_splat w8 t v 16 b long (omega arith) in
     rw e (
-      (let size = length-map v is_nonzero in rw (size ∙ long) at (mask_l-lt (map is_nonzero v))),
-      λ k within. bit_mask_l (map is_nonzero v) k ∙ ap (λ t. cond t 1 0) (get_or-map is_nonzero v k 0 false (omega arith)),
+      (let size = length-map v test in rw (size ∙ long) at (mask_l-lt (map test v))),
+      λ k within. bit_mask_l (map test v) k ∙ ap (λ t. cond t 1 0) (get_or-map test v k 0 false (omega arith)),
     )
-
--- A mask is empty where none of its lanes has a bit.
-pub no_bit : (mask : ℕ) (f : ℕ → Bool) → mask < 2 ^ 16 → ((k : ℕ) → k < 16 → bit_at mask k ≡ cond (f k) 1 0)
-    → (eqb mask 0 ≡ true) ↔ ((k : ℕ) → k < 16 → f k ≡ false)
-no_bit mask f few bits = (
-  λ none k within. unset (f k) (sym (bits k within) ∙ ap (λ m. bit_at m k) (eqb-true mask 0 none) ∙ bit_at-zero k),
-  λ none. is_zero mask (same_from_bits_below 16 mask 0 few (omega arith)
-      (λ k within. bits k within ∙ ap (λ t. cond t 1 0) (none k within) ∙ sym (bit_at-zero k))),
-)
-  where
-    unset : (t : Bool) → ◌≡◌ {A = ℕ} (cond t 1 0) 0 → t ≡ false
-    unset t h = grind arith
-
-    is_zero : (m : ℕ) → m ≡ 0 → eqb m 0 ≡ true
-    is_zero m h = grind arith
 
 -- a test of two lanes by the bits that both have
 pub lane_of : (p : ℕ → Bool) (f g : ℕ → ℕ) (v w left right : List ℕ) → (length v ≡ 16) × (length w ≡ 16) → left ≡ map f v → right ≡ map g w
@@ -148,31 +135,6 @@ both_mask s t v w b c lv lw =
   where
     either : (u z : Bool) → top 7 (bit_and (cond u 255 0) (cond z 255 0)) ≡ (u && z)
     either u z = grind arith
-
--- what a comparison puts into a lane whose byte is another one
-abbrev differs : ℕ → ℕ → ℕ
-differs x y = cond (not (eqb x y)) 255 0
-
--- The mask of the lanes of a part that are neither of two bytes is empty where each byte is one of them.
-pub only_two : (x : List ℕ) (i b c : ℕ) → i + 16 ≤ length x → let v = chunk i 16 x in
-    (eqb (mask_l (map (top 7) (zip2 bit_and (zip2 differs v (replicate 16 b)) (zip2 differs v (replicate 16 c)))) % 2 ^ 64) 0 ≡ true)
-    ↔ ((k : ℕ) → k < 16 → (eqb (get_or x (i + k) 0) b || eqb (get_or x (i + k) 0) c) ≡ true)
-only_two x i b c room =
-    let v = chunk i 16 x in
-    let long = length-chunk i 16 x room in
-    let other = λ (x y : ℕ). not (eqb x y) in
-    let law = both_mask other other v v b c long long in
-    let none = no_bit _ (λ k. other (get_or v k 0) b && other (get_or v k 0) c) law.0 law.1 in
-    let at = λ (k : ℕ) (h : k < 16). get_or-chunk i 16 x k 0 h in (
-      λ t k h. one_of (get_or v k 0) _ b c (at k h) (none.0 t k h),
-      λ all. none.1 (λ k h. none_of (get_or v k 0) _ b c (at k h) (all k h)),
-    )
-  where
-    one_of : (a d b c : ℕ) → a ≡ d → (not (eqb a b) && not (eqb a c)) ≡ false → (eqb d b || eqb d c) ≡ true
-    one_of a d b c e h = grind arith
-
-    none_of : (a d b c : ℕ) → a ≡ d → (eqb d b || eqb d c) ≡ true → (not (eqb a b) && not (eqb a c)) ≡ false
-    none_of a d b c e h = grind arith
 
 -- whether a lane passes one of two tests
 pub any_of_two : (p q : ℕ → Bool) (v : List ℕ) → list_any (λ b. p b || q b) v ≡ (list_any p v || list_any q v)

@@ -1,11 +1,13 @@
 -- NTFS forms: which text ends one, and which names have a given form.
 use Rattle.std.proofs.Common.{◌≡◌, ℕ, zero, suc, ◌+◌, ◌-◌, ◌<◌, ◌≤◌, Bool, true, false, ◌&&◌, ◌||◌, cond, eqb, List, [], ◌∷◌, length, drop, get_or, refl, sym, ap, ◌∙◌, arith, codes}
-use Rattle.std.specs.Prelude.{IsTrue}
+use Rattle.std.specs.Prelude.{IsTrue, not, ◌==◌}
+use Rattle.std.proofs.lemmas.Bool.Decides.{nat_tests}
 use Rattle.std.specs.List.{list_all}
 use Rattle.std.specs.Str.{byte, bytes_eq}
 use Rattle.gix_validate.specs.Bytes.{is_empty, is_among, lower, lower_byte, begins}
 use Rattle.gix_validate.specs.Ntfs.{ntfs_form, is_git_form}
 use Rattle.gix_validate.specs.Private.Forms.{stays_in_form}
+use Rattle.gix_validate.specs.Private.Scan.{IsFirst, NoneBelow, at_both}
 use Rattle.gix_validate.proofs.Components.Forms.{form_at}
 use Rattle.gix_validate.proofs.Texts.Words.{ntfs_keeps, other_head, form_left, form_all_left, form_word}
 
@@ -23,34 +25,37 @@ pub ntfs_form-at : (b : ℕ) (x : List ℕ) → ntfs_form (b ∷ x) ≡ cond (is
 unfolding ntfs_form
 ntfs_form-at b x = form_at is_ntfs_cut is_ntfs_trimmed b x
 
-pub ntfs_left : (x : List ℕ) (i : ℕ) → i < length x
+ntfs_left : (x : List ℕ) (i : ℕ) → i < length x
     → is_empty (ntfs_form (drop i x)) ≡ (is_ntfs_cut (get_or x i 0) || (is_ntfs_trimmed (get_or x i 0) && is_empty (ntfs_form (drop (i + 1) x))))
 unfolding ntfs_form
 ntfs_left x i h = grind (arith, form_left is_ntfs_cut is_ntfs_trimmed x i h)
 
-pub ntfs_all_left : (x : List ℕ) (i : ℕ) → length x ≤ i → is_empty (ntfs_form (drop i x)) ≡ true
+ntfs_all_left : (x : List ℕ) (i : ℕ) → length x ≤ i → is_empty (ntfs_form (drop i x)) ≡ true
 unfolding ntfs_form
 ntfs_all_left = form_all_left is_ntfs_cut is_ntfs_trimmed
 
--- spaces and dots in front, which leave it to what stands behind them whether there is a form
-pub ntfs_behind : (n : ℕ) (x : List ℕ) (i : ℕ) → i + n ≤ length x
-    → ((k : ℕ) → k < n → (eqb (get_or x (i + k) 0) (byte " ") || eqb (get_or x (i + k) 0) (byte ".")) ≡ true)
+-- a byte that is neither a space nor a dot
+abbrev is_kept : ℕ → ℕ → Bool
+is_kept a b = not (a == byte " ") && not (b == byte ".")
+
+ntfs_behind : (n : ℕ) (x : List ℕ) (i : ℕ) → i + n ≤ length x → ((k : ℕ) → i ≤ k → k < i + n → at_both is_kept x x k ≡ false)
     → is_empty (ntfs_form (drop (i + n) x)) ≡ is_empty (ntfs_form (drop i x))
 ntfs_behind zero x i room all = grind arith
 ntfs_behind (suc n) x i room all =
-    let first = all 0 (omega arith) in
-    let moved = λ (k : ℕ) (h : k < n). all (suc k) (omega arith) in
-    let rest = ntfs_behind n x (i + 1) (omega arith) (λ k h. grind (arith, moved k h)) in
-    grind (arith, ntfs_left x i (omega arith), rest, first)
+    let first = all i (omega arith) (omega arith) in
+    let rest = ntfs_behind n x (i + 1) (omega arith) (λ k from to. all k (omega arith) (omega arith)) in
+    grind (arith, nat_tests, ntfs_left x i (omega arith), rest, first)
 
--- a text that ends in n spaces and dots, from a place among them on
-pub ntfs_ended : (n : ℕ) (x : List ℕ) (i : ℕ) → n ≤ length x → length x ≤ i + n → i ≤ length x
-    → ((k : ℕ) → k < n → (eqb (get_or x (length x - n + k) 0) (byte " ") || eqb (get_or x (length x - n + k) 0) (byte ".")) ≡ true)
-    → true ≡ is_empty (ntfs_form (drop i x))
-ntfs_ended n x i room near within all =
-    let place = λ (k : ℕ). (let e : length x - n + (i + n - length x + k) ≡ i + k = omega arith in e) in
-    let moved = λ (k : ℕ) (h : k < length x - i). rw (place k) at (all (i + n - length x + k) (omega arith)) in
-    sym (ntfs_all_left x (i + (length x - i)) (omega arith)) ∙ ntfs_behind (length x - i) x i (omega arith) moved
+-- Spaces and dots in front leave it to the first other byte whether there is a form.
+pub ntfs_ended : (x : List ℕ) (i : ℕ) → IsFirst (at_both is_kept x x) (length x) i → is_empty (ntfs_form x) ≡ is_ntfs_cut (get_or x i 0)
+ntfs_ended x i first =
+    let before = ntfs_behind i x 0 (omega (arith, first.within)) (λ k from to. first.none k (omega arith)) in
+    grind (arith, nat_tests, ntfs_left x i first.within, before, first.here)
+
+pub ntfs_all_trimmed : (x : List ℕ) → NoneBelow (at_both is_kept x x) (length x) → is_empty (ntfs_form x) ≡ true
+ntfs_all_trimmed x none =
+    let before = ntfs_behind (length x) x 0 (omega arith) (λ k from to. none k (omega arith)) in
+    grind (arith, before, ntfs_all_left x (length x) (omega arith))
 
 pub ntfs_word : (word x : List ℕ) → IsTrue (list_all stays_in_form word)
     → bytes_eq (lower (ntfs_form x)) (lower word) ≡ (begins (lower x) (lower word) && is_empty (ntfs_form (drop (length word) x)))

@@ -1,15 +1,14 @@
 -- Sixteen lanes: look-ups in a table of sixteen, and tests whether some lane passes.
-use Rattle.std.proofs.Common.{◌≡◌, ℕ, zero, suc, ◌+◌, ◌*◌, ◌/◌, ◌%◌, ◌^◌, ◌<◌, ◌≤◌, ◌↔◌, Bool, true, false, not, ◌&&◌, ◌||◌, cond, eqb, List, [], ◌∷◌, map}
+use Rattle.std.proofs.Common.{◌≡◌, ℕ, zero, suc, ◌+◌, ◌*◌, ◌/◌, ◌%◌, ◌^◌, ◌<◌, Bool, true, false, not, ◌&&◌, ◌||◌, cond, eqb, List, [], ◌∷◌, map}
 use Rattle.std.proofs.Common.{length, get_or, replicate, bit_and, refl, sym, ap, ap₂, subst, ◌∙◌, arith, w8, Fits, eqb-true}
 use Rattle.std.proofs.lemmas.Bool.{agree_below, agree_below_at}
 use Rattle.std.proofs.lemmas.List.{get_or-map, length-map, ext_get_or}
 use Rattle.std.proofs.lemmas.Nat.{and_mask}
-use Rattle.std.proofs.lemmas.Simd.{Each1-from_get_or, get_or-zip2, zip2_splat, zip2-map, length-zip2, length-chunk, get_or-chunk, mask_l-lt, mask_l-mod, bit_mask_l, bitmask_splat}
-use Rattle.std.proofs.lemmas.Nat.Bits.{bit_at-zero, same_from_bits_below}
+use Rattle.std.proofs.lemmas.Simd.{Each1-from_get_or, get_or-zip2, zip2_splat, zip2-map, length-zip2, mask_l-lt, mask_l-mod, bit_mask_l, bitmask_splat}
 use Rattle.std.specs.Int.{bit_at}
 use Rattle.std.proofs.lemmas.Simd.{swz_l, SwzOk, SwzOk-from_below, length-swz_l, get_or-swz_l_below}
 use Rattle.std.specs.List.{list_any}
-use lib.Lanes.{zip2, chunk, mask_l, top, Each1}
+use lib.Lanes.{zip2, mask_l, top, Each1}
 use Rattle.gix_validate.specs.Private.Lanes.{is_nonzero}
 
 -- sixteen lanes of bytes

@@ -1,18 +1,17 @@
 -- The text is mended and repaired within one buffer: what is written stands before the place that is read next.
 use Rattle.std.proofs.Common.{◌≡◌, ℕ, ◌+◌, ◌-◌, ◌≤◌, ◌<◌, true, false, List, [], ◌∷◌, ◌++◌, length, take, drop, set, get_or, refl}
-use Rattle.std.proofs.Common.{sym, ap, arith, length-take, length-drop, length-append, length-set, append_assoc, max}
+use Rattle.std.proofs.Common.{sym, ap, arith, length-take, length-drop, length-set, append_assoc, max}
 use Rattle.std.specs.Prelude.{codes, ◌==◌, slice_range, if◌then◌else◌}
 use Rattle.std.specs.Str.{byte}
 use Rattle.std.proofs.lemmas.Bool.Decides.{Decides-eqb, nat_tests}
-use Rattle.std.proofs.lemmas.List.{get_or-take, get_or-drop, take-append-drop, take-take, take-set-le, take_more_set, drop_all}
-use Rattle.std.proofs.lemmas.List.{drop-set-add, drop-set-lt, drop-take, drop-drop, drop_more, get_or_push, take-append-le}
+use Rattle.std.proofs.lemmas.List.{get_or-drop, take-append-drop, take-take, take-set-le, take_more_set, drop_all}
+use Rattle.std.proofs.lemmas.List.{drop-set-add, drop-set-lt, drop-take, drop-drop, drop_more, take-append-le}
 use Rattle.std.proofs.lemmas.Slice.{drop-append-drop}
 use Rattle.gix_validate.specs.Bytes.{is_empty}
 use Rattle.gix_validate.specs.Private.TagWalk.{may_be_faulty}
 use Rattle.gix_validate.specs.Pieces.{is_slash, joined}
 use Rattle.gix_validate.specs.Sanitized.{cut, mended_pieces, repaired_dot, repaired_at, repaired_nothing, sanitized}
 use Rattle.gix_validate.proofs.Sanitizing.MendedPieces.{dot_first}
-use Rattle.gix_validate.proofs.Sanitizing.LockSuffixes.{cut-own}
 use Rattle.gix_validate.proofs.Sanitizing.WrittenPiece.{added, closed, GivesWhole, GivesWhole-start, GivesWhole-slash, GivesWhole-dots, GivesWhole-byte, GivesWhole-end}
 
 take-add : (m n : ℕ) (xs : List ℕ) → take (m + n) xs ≡ take m xs ++ take n (drop m xs)
@@ -23,19 +22,16 @@ pub take-front : (text : List ℕ) (start end n : ℕ) → n ≤ length (slice_r
     → take (start + n) text ≡ take start text ++ take n (slice_range text start end)
 take-front text start end n h = grind (arith, length-take, take-add, take-take)
 
--- A part whose last byte is not `k` does not end in `.lock`, so nothing of it is cut.
-pub take-uncut : (text : List ℕ) (start end : ℕ) → start < end → end ≤ length text → (get_or text (end - 1) 0 ≡ byte "k" → ⊥)
-    → take end text ≡ take start text ++ cut (slice_range text start end)
-take-uncut text start end some within other =
-    let whole : start + (end - start) ≡ end = omega arith in
-    let size : length (slice_range text start end) ≡ end - start = omega (arith, length-take (end - start) (drop start text), length-drop start text) in
-    let letter : get_or (slice_range text start end) (end - start - 1) 0 ≡ get_or text (end - 1) 0 = grind (arith, get_or-take, get_or-drop) in
-    let uncut = cut-own (slice_range text start end) (λ f e.
-    let last = get_or_push (f ++ codes ".loc") (byte "k") 0 (end - start - 1) in grind (arith, append_assoc, length-append)) in
-    grind (arith, take-add)
+-- A slash behind a part that was cut.
+pub take_closed : (text : List ℕ) (start end n : ℕ) → start ≤ end → end < length text → n ≤ length (slice_range text start end)
+    → take n (slice_range text start end) ≡ cut (slice_range text start end)
+    → take (start + n + 1) (set text (start + n) (byte "/")) ≡ take start text ++ (cut (slice_range text start end) ++ codes "/")
+take_closed text start end n order room within front =
+    let at : start + n < length text = omega (arith, length-take (end - start) (drop start text)) in
+    grind (arith, take_more_set text (start + n) (byte "/"), take-front text start end n within, append_assoc)
 
 -- where a written piece ends once it is cut
-pub ruleset part_ends = (nat_tests, take-front, take-uncut)
+pub ruleset part_ends = (nat_tests, take-front, take_closed)
 
 slice_more : (text : List ℕ) (start end w : ℕ) → start ≤ end → end < length text
     → slice_range (set text end w) start (end + 1) ≡ slice_range text start end ++ w ∷ []
@@ -43,11 +39,6 @@ slice_more text start end w order room =
     let at : start + (end - start) ≡ end = omega arith in
     let more : end + 1 - start ≡ end - start + 1 = omega arith in
     grind (arith, drop-set-add start text (end - start) w, take_more_set (drop start text) (end - start) w, length-drop)
-
--- The text once a byte is written behind its last piece.
-pub take_pushed : (text : List ℕ) (start end w : ℕ) → start ≤ end → end < length text
-    → take start (set text end w) ++ cut (slice_range (set text end w) start (end + 1)) ≡ take start text ++ cut (slice_range text start end ++ w ∷ [])
-take_pushed text start end w order room = grind (arith, slice_more, take-set-le)
 
 no_slice : (text : List ℕ) (n : ℕ) → slice_range text n n ≡ []
 no_slice text n = let none : n - n ≡ 0 = omega arith in ap (λ v. take v (drop n text)) none

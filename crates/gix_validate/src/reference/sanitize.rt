@@ -154,6 +154,7 @@ fn mended_byte(piece: &[u8], next: u8) -> u8
 
 /// Cuts the written piece from `start` to `end`, if it has a byte, writes a slash after it, and
 /// returns the offset after that.
+#[tactic(auto, using(crate::proofs::Sanitizing::OneBuffer::part_ends))]
 fn close_piece(text: &mut [u8], start: usize, end: usize) -> usize
     requires in_order { start ≤ end }
     requires room { end < length text.old }
@@ -166,13 +167,14 @@ fn close_piece(text: &mut [u8], start: usize, end: usize) -> usize
     if start == end {
         return end;
     }
-    let end = end_of_cut(text, start, end);
+    let end = start + length_of_cut(&text[start..end]);
     text[end] = b'/';
     end + 1
 }
 
 /// The offset at which the result ends if its last piece was written from `start` to `end`: that
 /// piece is cut, or if it has no byte, the slash before it is dropped.
+#[tactic(auto, using(crate::proofs::Sanitizing::OneBuffer::part_ends))]
 fn end_of_text(text: &[u8], start: usize, end: usize) -> usize
     requires in_order { start ≤ end }
     requires within { end ≤ length text.now }
@@ -184,23 +186,7 @@ fn end_of_text(text: &[u8], start: usize, end: usize) -> usize
     if start == end {
         end.saturating_sub(1)
     } else {
-        end_of_cut(text, start, end)
-    }
-}
-
-/// The offset at which the piece that was written from `start` to `end` ends once the `.lock`s at
-/// its end are cut. Few pieces end with a `k`.
-#[tactic(auto, using(crate::proofs::Sanitizing::OneBuffer::part_ends))]
-fn end_of_cut(text: &[u8], start: usize, end: usize) -> usize
-    requires some { start < end }
-    requires within { end ≤ length text.now }
-    ensures within { result ≤ end }
-    ensures text { take result text.now ≡ take start text.now ++ cut (slice_range text.now start end) }
-{
-    if text[end - 1] == b'k' {
         start + length_of_cut(&text[start..end])
-    } else {
-        end
     }
 }
 

@@ -2,7 +2,7 @@
 use Rattle.std.proofs.Common.{◌≡◌, ℕ, true, false, refl, List, [], ◌∷◌, ◌++◌, Option, Some, None, map, codes}
 use Rattle.std.specs.Option.{option_map}
 use Rattle.gix_validate.specs.Bytes.{is_bad}
-use Rattle.gix_validate.specs.Faults.{at_first_place}
+use Rattle.gix_validate.specs.Faults.{at_first_offset}
 use Rattle.gix_validate.specs.Reference.{partial_fault_of, full_fault_of, branch_fault_of}
 use Rattle.gix_validate.specs.Tag.{fault_of, faults_at, fault_table}
 use Rattle.streams.specs.Texts.{is_id}
@@ -74,10 +74,10 @@ rows =
 
 printed_without : map (λ (row : Row). option_map (line_of (record { lists_ids = false; allows_replace = false })) (parsed_update row.0)) rows
     ≡ map (λ (row : Row). row.1) rows
-unfolding parsed_update is_id partial_fault_of full_fault_of branch_fault_of fault_of faults_at fault_table at_first_place is_bad
+unfolding parsed_update is_id partial_fault_of full_fault_of branch_fault_of fault_of faults_at fault_table at_first_offset is_bad
 printed_without = refl
 
 printed_under_both : map (λ (row : Row). option_map (line_of (record { lists_ids = true; allows_replace = true })) (parsed_update row.0)) rows
     ≡ map (λ (row : Row). row.2) rows
-unfolding parsed_update is_id partial_fault_of full_fault_of branch_fault_of fault_of faults_at fault_table at_first_place is_bad
+unfolding parsed_update is_id partial_fault_of full_fault_of branch_fault_of fault_of faults_at fault_table at_first_offset is_bad
 printed_under_both = refl

@@ -4,7 +4,7 @@ use Rattle.std.specs.Prelude.{⊤, codes}
 use Rattle.gix_validate.specs.Bytes.{is_bad, lower_byte}
 use Rattle.gix_validate.specs.Component.{conditions, fault_of as component_fault_of, is_component}
 use Rattle.gix_validate.specs.ComponentLaws.{no_protections}
-use Rattle.gix_validate.specs.Faults.{at_first_place}
+use Rattle.gix_validate.specs.Faults.{at_first_offset}
 use Rattle.gix_validate.specs.Hfs.{hfs_form, is_ignored}
 use Rattle.gix_validate.specs.Ntfs.{ntfs_form, is_git_form, is_modules_form}
 use Rattle.gix_validate.specs.Reference.{is_partial_name, is_full_name, is_branch_name, partial_fault_of, full_fault_of, branch_fault_of}
@@ -16,7 +16,7 @@ use Rattle.gix_validate.specs.Windows.{device_form, devices, is_device_form, is_
 
 -- the rules of tag names, reference names, submodule names and the repair
 unfoldable pub names_on_literals : ⊤
-unfolding is_bad is_good_piece is_tag_name fault_table faults_at at_first_place tag_fault_of
+unfolding is_bad is_good_piece is_tag_name fault_table faults_at at_first_offset tag_fault_of
     is_partial_name is_full_name is_branch_name partial_fault_of full_fault_of branch_fault_of is_submodule_name submodule_fault_of cleaned cut sanitized
 names_on_literals = tt
 

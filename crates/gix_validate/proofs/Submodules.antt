@@ -1,4 +1,4 @@
--- A part that is `..` stands between two places, each the text's end or a separator's.
+-- A part that is `..` stands between two offsets, each the text's end or a separator's.
 use Rattle.std.proofs.Common.{◌≡◌, ℕ, zero, suc, ◌+◌, ◌-◌, ◌<◌, ◌↔◌, Bool, true, false, ◌&&◌, ◌||◌, eqb, List, [], ◌∷◌, length, get_or, drop, refl, sym}
 use Rattle.std.proofs.Common.{ap, ap₂, ◌∙◌, inl, inr, ◌⊎◌, arith}
 use Rattle.std.proofs.lemmas.Bool.{cases_eq, false_from_ne_true, true≢false, cases_lt}
@@ -18,14 +18,14 @@ abbrev first_is : List ℕ → List (List ℕ) → Bool
 first_is word [] = bytes_eq [] word
 first_is word (p ∷ ps) = bytes_eq p word
 
--- some part behind the first is `..`
+-- some part after the first is `..`
 abbrev has_later_parent : List ℕ → Bool
 has_later_parent x = list_any is_parent (drop 1 (parts x))
 
 first_or_later_parent : (ps : List (List ℕ)) → list_any is_parent ps ≡ (first_is (codes "..") ps || list_any is_parent (drop 1 ps))
 first_or_later_parent ps = grind arith
 
--- a part that is `..` begins at this place
+-- a part that is `..` begins at this offset
 record ParentBegins (x : List ℕ) (i : ℕ) : Type 0 where
   first : get_or x i 0 ≡ byte "."
   second : get_or x (i + 1) 0 ≡ byte "."
@@ -41,15 +41,15 @@ parent_begins_first [] b = grind arith
 parent_begins_first (c ∷ []) b = grind arith
 parent_begins_first (c ∷ d ∷ x) b = grind (arith, common_steps)
 
--- the same of the text behind its first byte
-parent_begins_behind : (c : ℕ) (x : List ℕ) (i : ℕ) → ParentBegins (c ∷ x) (suc i) ↔ ParentBegins x i
-parent_begins_behind c x i = grind arith
+-- the same of the text after its first byte
+parent_begins_after : (c : ℕ) (x : List ℕ) (i : ℕ) → ParentBegins (c ∷ x) (suc i) ↔ ParentBegins x i
+parent_begins_after c x i = grind arith
 
 no_later_parent : (x : List ℕ) → ((i : ℕ) → is_separator (get_or x i 0) ≡ true → ParentBegins x (suc i) → ⊥) → has_later_parent x ≡ false
 no_later_parent [] none = refl
 no_later_parent (c ∷ x) none =
-    let rest = no_later_parent x (λ i e b. none (suc i) e ((parent_begins_behind c x (suc i)).1 b)) in
-    let here : is_separator c ≡ true → first_is (codes "..") (parts x) ≡ true → ⊥ = λ e t. none 0 e ((parent_begins_behind c x 0).1 (first_is_parent x t)) in
+    let rest = no_later_parent x (λ i e b. none (suc i) e ((parent_begins_after c x (suc i)).1 b)) in
+    let here : is_separator c ≡ true → first_is (codes "..") (parts x) ≡ true → ⊥ = λ e t. none 0 e ((parent_begins_after c x 0).1 (first_is_parent x t)) in
     grind (arith, rest, here, first_or_later_parent)
 
 later_parent : (x : List ℕ) (i : ℕ) → is_separator (get_or x i 0) ≡ true → ParentBegins x (suc i) → has_later_parent x ≡ true
@@ -100,20 +100,20 @@ none_and_next x n none next k small = elim (cases_lt k n) [
   | inr late ↦ let here : k ≡ n = omega arith in ap (is_parent_at x) here ∙ next
 ]
 
--- None begins at a place behind a dot.
-none_behind_dot : (x : List ℕ) (k : ℕ) → get_or x k 0 ≡ byte "." → is_parent_at x (k + 1) ≡ false
-none_behind_dot x k dot = grind (arith, common_steps, dot)
+-- None begins at a offset after a dot.
+none_after_dot : (x : List ℕ) (k : ℕ) → get_or x k 0 ≡ byte "." → is_parent_at x (k + 1) ≡ false
+none_after_dot x k dot = grind (arith, common_steps, dot)
 
--- Where no dot stands behind a place, none begins there or at the next.
+-- Where no dot follows a offset, none begins there or at the next.
 pub none_and_two : (x : List ℕ) (n : ℕ) → NoParentBelow x n → (get_or x (n + 1) 0 ≡ byte "." → ⊥) → NoParentBelow x (n + 2)
 none_and_two x n none other =
     let here = false_from_ne_true _ (λ t. other ((parent_begins x n t).0.second)) in
     let next = false_from_ne_true _ (λ t. other ((parent_begins x (n + 1) t).0.first)) in
     λ k small. none_and_next x (n + 1) (none_and_next x n none here) next k (omega arith)
 
--- Where two dots are no part, no part begins up to the place behind them.
+-- Where two dots are no part, no part begins up to the offset after them.
 pub none_and_three : (x : List ℕ) (n : ℕ) → NoParentBelow x n → is_parent_at x n ≡ false
     → get_or x n 0 ≡ byte "." → get_or x (n + 1) 0 ≡ byte "." → NoParentBelow x (n + 3)
 none_and_three x n none here first second =
-    let two = none_and_next x (n + 1) (none_and_next x n none here) (none_behind_dot x n first) in
-    λ k small. none_and_next x (n + 1 + 1) two (none_behind_dot x (n + 1) second) k (omega arith)
+    let two = none_and_next x (n + 1) (none_and_next x n none here) (none_after_dot x n first) in
+    λ k small. none_and_next x (n + 1 + 1) two (none_after_dot x (n + 1) second) k (omega arith)

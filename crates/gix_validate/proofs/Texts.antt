@@ -1,6 +1,6 @@
--- Texts: pieces, ends, places, words and letter case.
+-- Texts: pieces, ends, offsets, words and letter case.
 pub mod Endings
-pub mod Places
+pub mod Offsets
 pub mod Pieces
 pub mod Joined
 pub mod LetterCase

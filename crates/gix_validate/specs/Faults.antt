@@ -19,9 +19,9 @@ first_of [] = None
 first_of (line ∷ lines) = line orelse first_of lines
 
 -- what f gives at the first offset at which it gives something, if there is one before offset n
-unfoldable pub at_first_place : {A : Type 0} → (ℕ → Option A) → ℕ → Option A
-at_first_place f zero = None
-at_first_place f (suc n) = at_first_place f n orelse f n
+unfoldable pub at_first_offset : {A : Type 0} → (ℕ → Option A) → ℕ → Option A
+at_first_offset f zero = None
+at_first_offset f (suc n) = at_first_offset f n orelse f n
 
 -- A validator by a rule of faults: it gives back a text without a fault, and otherwise gives the fault.
 abbrev pub Validates : {E : Type 0} → (List ℕ → Option E) → List ℕ → Result BStr E → Type 0

@@ -37,7 +37,7 @@ byte_of (Some before) Dots = byte "."
 byte_of None (Other b) = allowed b
 byte_of (Some before) (Other b) = if before == byte "@" && b == byte "{" then byte "-" else allowed b
 
--- what runs give, where this byte, if there is one, stands before the first of them
+-- what runs give, where this byte, if there is one, is before the first of them
 abbrev pub bytes_of : Option ℕ → List Run → List ℕ
 bytes_of before [] = []
 bytes_of before (run ∷ after) = byte_of before run ∷ bytes_of (Some (last_of run)) after

@@ -7,7 +7,7 @@ use Rattle.gix_validate.specs.declared.tag.NameError.TheVariants.{InvalidByte, S
 use Rattle.gix_validate.specs.declared.tag.NameError.TheVariants.{ReflogPortion, Asterisk, StartsWithDot, EndsWithDot, EndsWithSlash, Empty}
 use Rattle.gix_validate.specs.Bytes.{is_bad, is_empty, begins, ends, holds}
 use Rattle.gix_validate.specs.Pieces.{pieces}
-use Rattle.gix_validate.specs.Faults.{when, first_of, at_first_place}
+use Rattle.gix_validate.specs.Faults.{when, first_of, at_first_offset}
 use Rattle.gix_validate.specs.Quoted.{quoted}
 
 -- The piece may be in a tag name.
@@ -48,7 +48,7 @@ fault_of x = first_of (
     when (is_empty x) Empty
     ∷ when (ends x (codes "/")) EndsWithSlash
     ∷ when (begins x (codes "/")) StartsWithSlash
-    ∷ at_first_place (λ i. first_of (faults_at x i)) (length x)
+    ∷ at_first_offset (λ i. first_of (faults_at x i)) (length x)
     ∷ when (begins x (codes ".")) StartsWithDot
     ∷ when (ends x (codes ".")) EndsWithDot
     ∷ [])

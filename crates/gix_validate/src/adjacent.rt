@@ -53,10 +53,10 @@ const LETTER: u8 = 0x40;
 const ANYWHERE: u8 = CONTROL | SUSPECT_2X | SUSPECT_3X | SUSPECT_5X | SUSPECT_7X;
 
 /// The classes that are suspect after a slash.
-const BEHIND_SLASH: u8 = ANYWHERE | BREAK;
+const AFTER_SLASH: u8 = ANYWHERE | BREAK;
 
 /// The classes that are suspect after a dot.
-const BEHIND_DOT: u8 = BEHIND_SLASH | LETTER;
+const AFTER_DOT: u8 = AFTER_SLASH | LETTER;
 
 /// The classes that a byte with this low nibble may have.
 #[rattlefmt::skip]
@@ -91,8 +91,8 @@ const CLASSES_BY_HIGH_NIBBLE: [u8; 16] = [
 
 /// The classes that are suspect after a dot, after a slash, and after any other byte.
 #[rattlefmt::skip]
-const SUSPECT_BEHIND: [u8; 16] = [
-    BEHIND_DOT, BEHIND_SLASH, ANYWHERE, ANYWHERE,
+const SUSPECT_AFTER: [u8; 16] = [
+    AFTER_DOT, AFTER_SLASH, ANYWHERE, ANYWHERE,
     ANYWHERE, ANYWHERE, ANYWHERE, ANYWHERE,
     ANYWHERE, ANYWHERE, ANYWHERE, ANYWHERE,
     ANYWHERE, ANYWHERE, ANYWHERE, ANYWHERE,
@@ -113,7 +113,7 @@ pub(crate) fn is_clear(text: &[u8]) -> bool
 /// The offset from which on a walk finds the first fault of a tag name, if a byte is one. If the first
 /// byte may be, this needs no scan.
 #[inline(always)]
-#[tactic(auto, using(crate::proofs::TagNames::Places::none_before_suspect, crate::proofs::TagNames::Places::none_without_suspect))]
+#[tactic(auto, using(crate::proofs::TagNames::Offsets::none_before_suspect, crate::proofs::TagNames::Offsets::none_without_suspect))]
 pub(crate) fn first_to_walk(text: &[u8]) -> usize
     ensures { CanWalkFrom text.now result }
 {
@@ -121,7 +121,7 @@ pub(crate) fn first_to_walk(text: &[u8]) -> usize
         return 0;
     }
     match first_suspect(text) {
-        Some(place) => place + 1,
+        Some(offset) => offset + 1,
         None => text.len(),
     }
 }
@@ -134,7 +134,7 @@ fn ends_in_break(text: &[u8]) -> bool
     matches!(text.last(), Some(b'.' | b'/'))
 }
 
-/// The first place before a suspect byte.
+/// The first offset before a suspect byte.
 #[inline(always)]
 fn first_suspect(text: &[u8]) -> Option<usize>
     requires { 1 ≤ length text.now }
@@ -152,7 +152,7 @@ impl Pattern for Suspect {
     #[inline(always)]
     fn hits(front: u8x16, back: u8x16) -> u64 {
         nonzero_lanes(
-            classify(CLASSES_BY_LOW_NIBBLE, CLASSES_BY_HIGH_NIBBLE, back) & suspect_behind(front),
+            classify(CLASSES_BY_LOW_NIBBLE, CLASSES_BY_HIGH_NIBBLE, back) & suspect_after(front),
         )
     }
 }
@@ -160,10 +160,10 @@ impl Pattern for Suspect {
 /// The classes that are suspect after each byte.
 #[inline(always)]
 #[tactic(auto, using(crate::proofs::Blocks::AdjacentBytes::reaches_ok, crate::proofs::Blocks::AdjacentBytes::suspect_classes))]
-fn suspect_behind(bytes: u8x16) -> u8x16
-    ensures { result ≡ map (λ b. if b == byte "." then BEHIND_DOT else if b == byte "/" then BEHIND_SLASH else ANYWHERE) bytes }
+fn suspect_after(bytes: u8x16) -> u8x16
+    ensures { result ≡ map (λ b. if b == byte "." then AFTER_DOT else if b == byte "/" then AFTER_SLASH else ANYWHERE) bytes }
 {
     // A dot becomes 0, and a slash 1.
     let from_dot = bytes ^ u8x16::splat(b'.');
-    u8x16::from_array(SUSPECT_BEHIND).swizzle_dyn(from_dot.simd_min(u8x16::splat(15)))
+    u8x16::from_array(SUSPECT_AFTER).swizzle_dyn(from_dot.simd_min(u8x16::splat(15)))
 }

@@ -1,5 +1,5 @@
-//! Finds the first place in a name whose byte, or whose two adjacent bytes, a pattern marks.
-//! Sixteen places are checked at a time. The last block overlaps the one before it, and the places
+//! Finds the first offset in a name whose byte, or whose two adjacent bytes, a pattern marks.
+//! Sixteen offsets are checked at a time. The last block overlaps the one before it, and the offsets
 //! of a short name are one block.
 
 ghost use Rattle.std.specs.Prelude.{◌≡◌, ◌<◌, ◌≤◌, ◌+◌, ◌-◌, ◌^◌, ℕ, Bool, if◌then◌else◌, length, slice_index};
@@ -21,7 +21,7 @@ pub(crate) trait Pattern {
         ensures lanes { (k : ℕ) → k < LANES → bit_at result k ≡ (if hit (slice_index front k) (slice_index back k) then 1 else 0) };
 }
 
-/// The first place whose byte and the next are a hit.
+/// The first offset whose byte and the next are a hit.
 #[inline(always)]
 pub(crate) fn first_pair<P: Pattern>(text: &[u8]) -> Option<usize>
     requires { 1 ≤ length text.now }
@@ -30,7 +30,7 @@ pub(crate) fn first_pair<P: Pattern>(text: &[u8]) -> Option<usize>
     first::<P>(&text[..text.len() - 1], &text[1..])
 }
 
-/// The first place where the bytes of two texts of one length are a hit.
+/// The first offset where the bytes of two texts of one length are a hit.
 #[inline(always)]
 pub(crate) fn first<P: Pattern>(front: &[u8], back: &[u8]) -> Option<usize>
     requires { length back.now ≡ length front.now }
@@ -76,8 +76,8 @@ pub(crate) fn first<P: Pattern>(front: &[u8], back: &[u8]) -> Option<usize>
     )
 }
 
-/// The same for texts that have a block. The last block overlaps the one before it. Most names have
-/// two blocks at most, which need no loop.
+/// The first hit of texts that have a block. The last block overlaps the one before it. Most names
+/// have two blocks at most, which need no loop.
 #[inline(always)]
 fn first_by_blocks<P: Pattern>(front: &[u8], back: &[u8]) -> Option<usize>
     requires same { length back.now ≡ length front.now }
@@ -88,20 +88,20 @@ fn first_by_blocks<P: Pattern>(front: &[u8], back: &[u8]) -> Option<usize>
     let mut at = 0;
     if last <= LANES {
         return match first_of_block::<P>(front, back, at) {
-            Some(place) => Some(place),
+            Some(offset) => Some(offset),
             None => first_of_block::<P>(front, back, last),
         };
     }
     while at < last {
-        if let Some(place) = first_of_block::<P>(front, back, at) {
-            return Some(place);
+        if let Some(offset) = first_of_block::<P>(front, back, at) {
+            return Some(offset);
         }
         at += LANES;
     }
     first_of_block::<P>(front, back, last)
 }
 
-/// The first hit, if it is one of the sixteen places from this one on.
+/// The first hit, if it is one of the sixteen offsets from this one on.
 #[inline(always)]
 fn first_of_block<P: Pattern>(front: &[u8], back: &[u8], at: usize) -> Option<usize>
     requires same { length back.now ≡ length front.now }

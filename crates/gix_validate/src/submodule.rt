@@ -97,21 +97,21 @@ fn has_parent_part(bytes: &[u8]) -> bool
     ensures { result ≡ has_parent_part bytes.now }
 {
     match scan::first_pair::<TwoDots>(bytes) {
-        Some(place) => has_parent_from(bytes, place),
+        Some(offset) => has_parent_from(bytes, offset),
         None => false,
     }
 }
 
-/// The same for a name in which no part before this offset is `..`. After a dot none begins, so two
-/// dots that aren't a part are skipped with the byte after them.
+/// Whether some part from this offset on is `..`. After a dot none begins, so two dots that aren't a
+/// part are skipped with the byte after them.
 #[inline(never)]
 #[tactic(auto, using(crate::proofs::Submodules::some_parent, crate::proofs::Submodules::no_parent))]
-fn has_parent_from(bytes: &[u8], place: usize) -> bool
-    requires within { place + 1 < length bytes.now }
-    requires none { NoParentBelow bytes.now place }
+fn has_parent_from(bytes: &[u8], offset: usize) -> bool
+    requires within { offset + 1 < length bytes.now }
+    requires none { NoParentBelow bytes.now offset }
     ensures { result ≡ has_parent_part bytes.now }
 {
-    let mut at = place;
+    let mut at = offset;
     while at < bytes.len() - 1 {
         if bytes[at + 1] != b'.' {
             at += 2;

@@ -3,7 +3,7 @@
 ghost use Rattle.std.specs.Prelude.{◌≡◌, ◌↔◌, ◌<◌, ◌≤◌, ◌+◌, ◌-◌, length, slice_index, codes, Some, IsOk, IfOk, IsTrue, MatchOption};
 ghost use Rattle.bstr.specs.BStr.{bstr_bytes};
 ghost use Rattle.gix_validate.specs.Bytes.{ends};
-ghost use Rattle.gix_validate.specs.Faults.{Validates, first_of, at_first_place};
+ghost use Rattle.gix_validate.specs.Faults.{Validates, first_of, at_first_offset};
 ghost use Rattle.gix_validate.specs.Private.TagWalk.{fault_of_byte, first_fault_between, may_be_faulty};
 ghost use Rattle.gix_validate.specs.Tag.{fault_of, faults_at, is_tag_name};
 
@@ -140,7 +140,7 @@ fn first_fault(bytes: &[u8]) -> Option<NameError>
     if first == b'/' {
         return Some(NameError::StartsWithSlash);
     }
-    if let Some(fault) = fault_at_first_place(bytes) {
+    if let Some(fault) = fault_at_first_offset(bytes) {
         return Some(fault);
     }
     if first == b'.' {
@@ -153,9 +153,9 @@ fn first_fault(bytes: &[u8]) -> Option<NameError>
 }
 
 /// The fault at the least offset that has one.
-fn fault_at_first_place(bytes: &[u8]) -> Option<NameError>
+fn fault_at_first_offset(bytes: &[u8]) -> Option<NameError>
     requires { 0 < length bytes.now }
-    ensures { result ≡ at_first_place (λ i. first_of (faults_at bytes.now i)) (length bytes.now) }
+    ensures { result ≡ at_first_offset (λ i. first_of (faults_at bytes.now i)) (length bytes.now) }
 {
     let from = first_to_walk(bytes);
     if let Some(fault) = first_fault_between(bytes, from, bytes.len()) {
@@ -170,16 +170,16 @@ fn fault_at_first_place(bytes: &[u8]) -> Option<NameError>
 /// The first fault that a byte has after those before it, from one offset on and before another.
 /// Most bytes take one look into a table.
 #[inline(always)]
-#[tactic(auto, using(crate::proofs::TagNames::Places::place_by_place))]
+#[tactic(auto, using(crate::proofs::TagNames::Offsets::offset_by_offset))]
 fn first_fault_between(bytes: &[u8], from: usize, to: usize) -> Option<NameError>
     requires in_order { from ≤ to }
     requires within { to ≤ length bytes.now }
     ensures { result ≡ first_fault_between bytes.now from to }
 {
-    for place in from..to {
-        let byte = bytes[place];
+    for offset in from..to {
+        let byte = bytes[offset];
         if may_be_faulty(byte) {
-            if let Some(fault) = fault_of_byte(&bytes[..place], byte) {
+            if let Some(fault) = fault_of_byte(&bytes[..offset], byte) {
                 return Some(fault);
             }
         }

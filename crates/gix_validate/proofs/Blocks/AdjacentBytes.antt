@@ -6,7 +6,7 @@ use Rattle.std.proofs.lemmas.Simd.{zip2_splat, splat_is_map, zip2_of_maps, map-m
 use Rattle.std.specs.Prelude.{codes, ◌==◌, if◌then◌else◌}
 use Rattle.std.specs.Str.{byte}
 use lib.Lanes.{zip2, sel_l, top}
-use Rattle.gix_validate.specs.declared.adjacent.TheConstants.{CLASSES_BY_LOW_NIBBLE, CLASSES_BY_HIGH_NIBBLE, SUSPECT_BEHIND, BEHIND_DOT, BEHIND_SLASH}
+use Rattle.gix_validate.specs.declared.adjacent.TheConstants.{CLASSES_BY_LOW_NIBBLE, CLASSES_BY_HIGH_NIBBLE, SUSPECT_AFTER, AFTER_DOT, AFTER_SLASH}
 use Rattle.gix_validate.specs.declared.adjacent.TheConstants.{ANYWHERE}
 use Rattle.gix_validate.specs.Bytes.{is_bad, is_among, ends}
 use Rattle.gix_validate.specs.Private.TagWalk.{may_be_faulty}
@@ -54,26 +54,26 @@ reach_small b small = ltb-true (reach b) 16 (agree_below_at (λ b. ltb (reach b)
 pub reaches_ok : (v : List ℕ) → IsBlock v → SwzOk w8 16 16 0 (reaches v)
 reaches_ok v block = may_look reach v (reaches v) block (reaches_are v block) reach_small
 
--- the classes that are suspect behind the byte
-abbrev pub classes_behind : ℕ → ℕ
-classes_behind b = if b == byte "." then BEHIND_DOT else if b == byte "/" then BEHIND_SLASH else ANYWHERE
+-- the classes that are suspect after the byte
+abbrev pub classes_after : ℕ → ℕ
+classes_after b = if b == byte "." then AFTER_DOT else if b == byte "/" then AFTER_SLASH else ANYWHERE
 
--- Read there, the table gives for each byte the classes that are suspect behind it.
-pub suspect_classes : (v : List ℕ) → IsBlock v → swz_l w8 16 SUSPECT_BEHIND 0 (reaches v) ≡ map classes_behind v
+-- Read there, the table gives for each byte the classes that are suspect after it.
+pub suspect_classes : (v : List ℕ) → IsBlock v → swz_l w8 16 SUSPECT_AFTER 0 (reaches v) ≡ map classes_after v
 suspect_classes v block =
-    looked_up SUSPECT_BEHIND reach v (reaches v) block (reaches_are v block) reach_small
-    ∙ same_bytes (λ b. get_or SUSPECT_BEHIND (reach b) 0) classes_behind v block.1 refl
+    looked_up SUSPECT_AFTER reach v (reaches v) block (reaches_are v block) reach_small
+    ∙ same_bytes (λ b. get_or SUSPECT_AFTER (reach b) 0) classes_after v block.1 refl
 
 -- the classes that both tables have for the byte
 abbrev pub class : ℕ → ℕ
 class b = bit_and (get_or CLASSES_BY_LOW_NIBBLE (b % 16) 0) (get_or CLASSES_BY_HIGH_NIBBLE (b / 16) 0)
 
--- `is_suspect` behind a dot, a slash or another byte, and what the tables say of it
+-- `is_suspect` after a dot, a slash or another byte, and what the tables say of it
 suspect_if : Bool → Bool → ℕ → Bool
 suspect_if dot slash b = is_bad b || is_among (codes "*{") b || ((dot || (slash || false)) && is_among (codes "./") b) || (dot && b == byte "l")
 
 table_if : Bool → Bool → ℕ → Bool
-table_if dot slash b = is_nonzero (bit_and (class b) (if dot then BEHIND_DOT else if slash then BEHIND_SLASH else ANYWHERE))
+table_if dot slash b = is_nonzero (bit_and (class b) (if dot then AFTER_DOT else if slash then AFTER_SLASH else ANYWHERE))
 
 suspect_tabled : (dot slash : Bool) (b : ℕ) → b < 256 → table_if dot slash b ≡ suspect_if dot slash b
 unfolding is_bad suspect_if table_if
@@ -81,12 +81,12 @@ suspect_tabled true slash b small = agree_below_at (table_if true true) (suspect
 suspect_tabled false true b small = agree_below_at (table_if false true) (suspect_if false true) 256 b refl small
 suspect_tabled false false b small = agree_below_at (table_if false false) (suspect_if false false) 256 b refl small
 
--- In a lane the class of the byte is among those that are suspect behind the byte before it, exactly where the byte is suspect.
-pub suspect_lane : (before bytes classes behind : List ℕ) → IsBlock before → IsBlock bytes → classes ≡ map class bytes → behind ≡ map classes_behind before
-    → (k : ℕ) → k < 16 → is_nonzero (get_or (zip2 bit_and classes behind) k 0) ≡ is_suspect (get_or before k 0) (get_or bytes k 0)
+-- In a lane the class of the byte is among those that are suspect after the byte before it, exactly where the byte is suspect.
+pub suspect_lane : (before bytes classes after : List ℕ) → IsBlock before → IsBlock bytes → classes ≡ map class bytes → after ≡ map classes_after before
+    → (k : ℕ) → k < 16 → is_nonzero (get_or (zip2 bit_and classes after) k 0) ≡ is_suspect (get_or before k 0) (get_or bytes k 0)
 unfolding is_suspect suspect_if table_if
-suspect_lane before bytes classes behind ba bb ek eb =
-    lane_of is_nonzero class classes_behind bytes before classes behind (bb.0, ba.0) ek eb (λ b a. is_suspect a b) (λ k.
+suspect_lane before bytes classes after ba bb ek eb =
+    lane_of is_nonzero class classes_after bytes before classes after (bb.0, ba.0) ek eb (λ b a. is_suspect a b) (λ k.
     suspect_tabled (get_or before k 0 == byte ".") (get_or before k 0 == byte "/") (get_or bytes k 0) (lane_fits bytes k bb.1))
 
 suspect_regrouped : (w s d l c : Bool) → (w || (s || (d || (l || (c || false))))) ≡ ((w || (s || (c || false)) || (true && (d || (l || false)))) || false)

@@ -29,7 +29,7 @@ same_bytes f g [] fit all = refl
 same_bytes f g (b ∷ v) fit all =
     ap₂ (λ (k : ℕ) ks. k ∷ ks) (eqb-true _ _ (agree_below_at (λ b. eqb (f b) (g b)) (λ _. true) 256 b all fit.0.fits)) (same_bytes f g v fit.1 all)
 
--- a table may be read at places g b below 16, and is read there
+-- a table may be read at offsets g b below 16, and is read there
 pub may_look : (g : ℕ → ℕ) (v js : List ℕ) → IsBlock v → js ≡ map g v → ((b : ℕ) → b < 256 → g b < 16) → SwzOk w8 16 16 0 js
 may_look g v js block e small =
     subst (SwzOk w8 16 16 0) (sym e)
@@ -45,9 +45,9 @@ looked_up t g v js block e small =
     let within : k < length v = omega arith in
     let is : get_or js k 0 ≡ g (get_or v k 0) = ap (λ l. get_or l k 0) e ∙ get_or-map g v k 0 0 within in
     let below : get_or js k 0 < 16 = omega (arith, small (get_or v k 0) (lane_fits v k block.1)) in
-    let place : 16 * ((0 + k) / 16) + get_or js k 0 ≡ get_or js k 0 = omega arith in
+    let offset : 16 * ((0 + k) / 16) + get_or js k 0 ≡ get_or js k 0 = omega arith in
     get_or-swz_l_below w8 16 t 0 js k (omega arith) below
-    ∙ ap (λ j. get_or t j 0) (place ∙ is)
+    ∙ ap (λ j. get_or t j 0) (offset ∙ is)
     ∙ sym (get_or-map (λ b. get_or t (g b) 0) v k 0 0 within))
 
 -- the nibbles

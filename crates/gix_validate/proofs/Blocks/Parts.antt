@@ -8,11 +8,11 @@ use Rattle.std.specs.List.{list_any}
 use Rattle.std.proofs.lemmas.List.Folds.{list_any-append}
 use Rattle.std.proofs.lemmas.Simd.{length-chunk, get_or-chunk}
 use lib.Lanes.{chunk, pick_l}
-use Rattle.gix_validate.specs.Private.Lanes.{place_of, HasParts}
+use Rattle.gix_validate.specs.Private.Lanes.{offset_of, HasParts}
 use Rattle.std.proofs.lemmas.Grind.{common_steps}
 use Rattle.std.proofs.lemmas.Bool.Decides.{nat_tests}
 
--- no element passes exactly where none does at its place
+-- no element passes exactly where none does at its offset
 pub none_at : (p : ℕ → Bool) (v : List ℕ) → (list_any p v ≡ false) ↔ ((k : ℕ) → k < length v → p (get_or v k 0) ≡ false)
 none_at p [] = (λ _ k h. absurd (omega arith), λ _. refl)
 none_at p (b ∷ v) = (
@@ -39,7 +39,7 @@ any_overlap p (b ∷ x) (suc i) (suc j) h = grind (arith, nat_tests, any_overlap
 pub whole_chunk : (i n : ℕ) (x : List ℕ) → i + n ≡ length x → chunk i n x ≡ drop i x
 whole_chunk i n x e = grind (arith, common_steps)
 
--- a front, and the part behind it
+-- a front, and the part after it
 pub any_with_chunk : (p : ℕ → Bool) (x : List ℕ) (i n : ℕ) → list_any p (take (i + n) x) ≡ (list_any p (take i x) || list_any p (chunk i n x))
 any_with_chunk p x i n = ap (list_any p) (take-add i n x) ∙ list_any-append p (take i x) (chunk i n x)
 
@@ -74,40 +74,40 @@ has_parts n first second x ks some f s long all k small =
           ∙ ap (λ j. get_or x j 0) (grind (arith, nat_tests))
     ]
 
--- the first n of m places and the last n are all of them, and a block has them
+-- the first n of m offsets and the last n are all of them, and a block has them
 abbrev pub AreAll : ℕ → ℕ → ℕ → Type 0
 AreAll n back m = (0 < n) × (n + n ≤ 16) × (back + n ≡ m) × (m ≤ n + n)
 
-pub all_places : (n m back : ℕ) (q : ℕ → Bool) → AreAll n back m
-    → ((k : ℕ) → k < 16 → q (place_of n 0 back k) ≡ false) ↔ ((j : ℕ) → j < m → q j ≡ false)
-all_places n m back q all = (
+pub all_offsets : (n m back : ℕ) (q : ℕ → Bool) → AreAll n back m
+    → ((k : ℕ) → k < 16 → q (offset_of n 0 back k) ≡ false) ↔ ((j : ℕ) → j < m → q j ≡ false)
+all_offsets n m back q all = (
   λ none j h. elim (cases_lt j n) [
     | inl early ↦ ap q (sym (front j early)) ∙ none j (omega arith)
-    | inr late ↦ ap q (sym (behind j late h)) ∙ none (n + (j - back)) (omega arith)
+    | inr late ↦ ap q (sym (after j late h)) ∙ none (n + (j - back)) (omega arith)
   ],
-  λ none k h. none (place_of n 0 back k) (grind (arith, nat_tests, mod-lt)),
+  λ none k h. none (offset_of n 0 back k) (grind (arith, nat_tests, mod-lt)),
 )
   where
-    front : (j : ℕ) → j < n → place_of n 0 back j ≡ j
+    front : (j : ℕ) → j < n → offset_of n 0 back j ≡ j
     front j early = grind (arith, nat_tests, mod-eq_of_lt)
 
-    behind : (j : ℕ) → n ≤ j → j < m → place_of n 0 back (n + (j - back)) ≡ j
-    behind j late h = grind (arith, nat_tests, mod-eq_of_lt)
+    after : (j : ℕ) → n ≤ j → j < m → offset_of n 0 back (n + (j - back)) ≡ j
+    after j late h = grind (arith, nat_tests, mod-eq_of_lt)
 
 -- so a block of the first n bytes and the last n has all bytes of the text
 pub parts_cover : (n back : ℕ) (x block : List ℕ) → AreAll n back (length x) → length block ≡ 16 → HasParts n 0 back x block
     → (p : ℕ → Bool) → list_any p block ≡ list_any p x
 parts_cover n back x block all long parts p =
-    let law = all_places n (length x) back (λ j. p (get_or x j 0)) all in
+    let law = all_offsets n (length x) back (λ j. p (get_or x j 0)) all in
     same_none _ _
     (λ e. (none_at p x).1 (law.0 (λ k h. ap p (sym (parts k h)) ∙ (none_at p block).0 e k (omega arith))))
     (λ e. (none_at p block).1 (λ k h. ap p (parts k (omega arith)) ∙ law.1 ((none_at p x).0 e) k (omega arith)))
 
--- a front, and the two parts behind it
+-- a front, and the two parts after it
 pub any_two_chunks : (p : ℕ → Bool) (x : List ℕ) (i n : ℕ) → list_any p (chunk i (n + n) x) ≡ (list_any p (chunk i n x) || list_any p (chunk (i + n) n x))
 any_two_chunks p x i n = any_with_chunk p (drop i x) n n ∙ ap (λ y. list_any p (take n (drop i x)) || list_any p (take n y)) (drop-drop n i x)
 
--- The places of four parts of eight bytes that together are all of a text of 8 to 32 bytes: the first eight, eight that follow or are the last,
+-- The offsets of four parts of eight bytes that together are all of a text of 8 to 32 bytes: the first eight, eight that follow or are the last,
 -- eight from sixteen before the end on, and the last eight.
 abbrev pub AreShort : ℕ → ℕ → ℕ → ℕ → Type 0
 AreShort mid start last m = (last + 8 ≡ m) × (mid ≤ last) × (start ≤ last) × (last ≤ mid + 16) × (last ≤ start + 8) × (start ≤ mid + 8) × (mid ≤ 8)
@@ -125,7 +125,7 @@ none_of_block p a b x block long parts none k small =
 none_in_block : (p : ℕ → Bool) (a b : ℕ) (x block : List ℕ) → length block ≡ 16 → HasParts 8 a b x block → a + 8 ≤ length x → b + 8 ≤ length x
     → list_any p x ≡ false → list_any p block ≡ false
 none_in_block p a b x block long parts fa fb none =
-    (none_at p block).1 (λ k h. ap p (parts k (omega arith)) ∙ (none_at p x).0 none (place_of 8 a b k) (grind (arith, nat_tests, mod-lt)))
+    (none_at p block).1 (λ k h. ap p (parts k (omega arith)) ∙ (none_at p x).0 none (offset_of 8 a b k) (grind (arith, nat_tests, mod-lt)))
 
 pub both_cover : (mid start last : ℕ) (x v w : List ℕ) → AreShort mid start last (length x) → (length v ≡ 16) × (length w ≡ 16)
     → HasParts 8 0 mid x v → HasParts 8 start last x w → (p : ℕ → Bool) → (list_any p v || list_any p w) ≡ list_any p x
@@ -143,7 +143,7 @@ both_cover mid start last x v w short long pv pw p =
           | inl early ↦ ap (λ i. p (get_or x i 0)) (omega arith) ∙ (front j early).0
           | inr late ↦ elim (cases_lt j (mid + 8)) [
             | inl within ↦ ap (λ i. p (get_or x i 0)) (omega arith) ∙ (front (j - mid) (omega arith)).1
-            | inr behind ↦ elim (cases_lt j (start + 8)) [
+            | inr after ↦ elim (cases_lt j (start + 8)) [
               | inl before ↦ ap (λ i. p (get_or x i 0)) (omega arith) ∙ (back (j - start) (omega arith)).0
               | inr after ↦ ap (λ i. p (get_or x i 0)) (omega arith) ∙ (back (j - last) (omega arith)).1
             ]

@@ -8,7 +8,7 @@ use Rattle.std.proofs.lemmas.Grind.{reverse_onto}
 use Rattle.gix_validate.specs.Bytes.{is_empty}
 use Rattle.gix_validate.specs.Ntfs.{without_end}
 
--- what stands before a cut, less what is trimmed from its end
+-- what is before a cut, less what is trimmed from its end
 abbrev pub form : (ℕ → Bool) → (ℕ → Bool) → List ℕ → List ℕ
 form cut trim x = without_end trim (before_first cut x)
 

@@ -35,7 +35,7 @@ next-take_fitting (range ∷ row) on (b ∷ x) =
       | inr differs ↦ rw differs refl
     ]
 
--- the bytes of the front of n bytes that stand behind its first one
+-- the bytes of the front of n bytes that follow its first one
 abbrev HasTail : ℕ → List ℕ → Type 0
 HasTail n x = list_all is_next (take (n - 1) x) ≡ true
 

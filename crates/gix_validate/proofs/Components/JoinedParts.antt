@@ -28,7 +28,7 @@ length_joined f [] some = grind arith
 length_joined f (x ∷ []) some = grind arith
 length_joined f (x ∷ y ∷ xs) some = grind (arith, common_steps, length_joined f (y ∷ xs))
 
--- What a text holds once an item is written to it, behind a slash if it is not the first.
+-- What a text holds once an item is written to it, after a slash if it is not the first.
 pub written : {X : Type 0} (f : X → List ℕ) (xs : List X) (i : ℕ) (d : X) (start text : List ℕ) → i < length xs
     → text ≡ start ++ joined (take i (map f xs))
     → (text ++ cond (eqb i 0) [] (byte "/" ∷ [])) ++ f (get_or xs i d) ≡ start ++ joined (take (i + 1) (map f xs))

@@ -38,23 +38,23 @@ ntfs_all_left = form_all_left is_ntfs_cut is_ntfs_trimmed
 abbrev is_kept : ℕ → ℕ → Bool
 is_kept a b = not (a == byte " ") && not (b == byte ".")
 
-ntfs_behind : (n : ℕ) (x : List ℕ) (i : ℕ) → i + n ≤ length x → ((k : ℕ) → i ≤ k → k < i + n → at_both is_kept x x k ≡ false)
+ntfs_after : (n : ℕ) (x : List ℕ) (i : ℕ) → i + n ≤ length x → ((k : ℕ) → i ≤ k → k < i + n → at_both is_kept x x k ≡ false)
     → is_empty (ntfs_form (drop (i + n) x)) ≡ is_empty (ntfs_form (drop i x))
-ntfs_behind zero x i room all = grind arith
-ntfs_behind (suc n) x i room all =
+ntfs_after zero x i room all = grind arith
+ntfs_after (suc n) x i room all =
     let first = all i (omega arith) (omega arith) in
-    let rest = ntfs_behind n x (i + 1) (omega arith) (λ k from to. all k (omega arith) (omega arith)) in
+    let rest = ntfs_after n x (i + 1) (omega arith) (λ k from to. all k (omega arith) (omega arith)) in
     grind (arith, nat_tests, ntfs_left x i (omega arith), rest, first)
 
 -- Spaces and dots in front leave it to the first other byte whether there is a form.
 pub ntfs_ended : (x : List ℕ) (i : ℕ) → IsFirst (at_both is_kept x x) (length x) i → is_empty (ntfs_form x) ≡ is_ntfs_cut (get_or x i 0)
 ntfs_ended x i first =
-    let before = ntfs_behind i x 0 (omega (arith, first.within)) (λ k from to. first.none k (omega arith)) in
+    let before = ntfs_after i x 0 (omega (arith, first.within)) (λ k from to. first.none k (omega arith)) in
     grind (arith, nat_tests, ntfs_left x i first.within, before, first.here)
 
 pub ntfs_all_trimmed : (x : List ℕ) → NoneBelow (at_both is_kept x x) (length x) → is_empty (ntfs_form x) ≡ true
 ntfs_all_trimmed x none =
-    let before = ntfs_behind (length x) x 0 (omega arith) (λ k from to. none k (omega arith)) in
+    let before = ntfs_after (length x) x 0 (omega arith) (λ k from to. none k (omega arith)) in
     grind (arith, before, ntfs_all_left x (length x) (omega arith))
 
 pub ntfs_word : (word x : List ℕ) → IsTrue (list_all stays_in_form word)

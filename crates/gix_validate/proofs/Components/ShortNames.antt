@@ -69,7 +69,7 @@ form_is_front : (x : List ℕ) → (ntfs_form x ≡ take (length (ntfs_form x)) 
 form_is_front [] = grind (arith, ntfs_form-none)
 form_is_front (b ∷ x) = grind (arith, ntfs_form-at, form_is_front x)
 
--- plain bytes behind which nothing of the form is left are the form
+-- plain bytes after which nothing of the form is left are the form
 plain_front : (n : ℕ) (x : List ℕ) → list_all stays_in_form (take n x) ≡ true → is_empty (ntfs_form (drop n x)) ≡ true → ntfs_form x ≡ take n x
 plain_front zero x plain none = grind arith
 plain_front (suc n) [] plain none = grind arith
@@ -82,7 +82,7 @@ list_all-lower p skips (b ∷ x) = rw (test-lower_byte p skips b, list_all-lower
 eight_long : (x : List ℕ) → eqb (lower_byte (get_or x 0 0)) (byte ".") ≡ false → is_modules_form (lower (ntfs_form x)) ≡ true → length (ntfs_form x) ≡ 8
 eight_long x other modules = grind (arith, common_steps, other_is_plain, ntfs_form-none, ntfs_other)
 
--- A name that begins with no dot stands for `.gitmodules` exactly where its first eight bytes do, and the form ends behind them.
+-- A name that begins with no dot stands for `.gitmodules` exactly where its first eight bytes do, and the form ends after them.
 pub modules_elsewhere : (x : List ℕ) → eqb (lower_byte (get_or x 0 0)) (byte ".") ≡ false → 8 ≤ length x
     → is_modules_form (lower (ntfs_form x)) ≡ (is_modules_form (lower (take 8 x)) && is_empty (ntfs_form (drop 8 x)))
 modules_elsewhere x other long = bool_same _ _ forward back

@@ -8,7 +8,7 @@ use Rattle.std.proofs.lemmas.List.{take_at, take-take}
 use Rattle.std.proofs.lemmas.Slice.Eq.{bytes_eq-Decides}
 use Rattle.gix_validate.specs.Sanitized.{cut, is_locks}
 
--- Behind `.lock`s stand more of them.
+-- After `.lock`s stand more of them.
 is_locks-append : (x r : List ℕ) → is_locks r ≡ true → is_locks (x ++ r) ≡ is_locks x
 is_locks-append [] r h = h
 is_locks-append (a ∷ []) r h = grind arith
@@ -54,7 +54,7 @@ cut-own t other =
 pub cut_open : (t f : List ℕ) → cut t ≢ f ++ codes ".lock"
 cut_open t f e = grind (arith, cut_front t, cut-append, length-cut, length-append)
 
--- The piece is a front of the whole, behind which only `.lock`s were taken away.
+-- The piece is a front of the whole, after which only `.lock`s were taken away.
 pub record IsCutTo (whole piece : List ℕ) : Type 0 where
   pub same : cut piece ≡ cut whole
   pub shorter : length piece ≤ length whole

@@ -16,12 +16,12 @@ use Rattle.gix_validate.proofs.Texts.Endings.{ends-false, ends-no}
 use Rattle.gix_validate.proofs.TagNames.Grammar.{is_refused}
 use Rattle.gix_validate.proofs.Sanitizing.LockSuffixes.{cut_front, cut_open, cut-own, length-cut}
 
--- the byte may stand behind this one, or first in a piece
+-- the byte may follow this one, or first in a piece
 abbrev pub may_follow : Option ℕ → ℕ → Bool
 may_follow None b = not (is_refused b) && not (begins (b ∷ []) (codes "."))
 may_follow (Some a) b = not (is_refused b) && (not (begins (a ∷ b ∷ []) (codes "..")) && not (begins (a ∷ b ∷ []) (codes "@{")))
 
--- each byte of the text may follow the one before it, where this one, if any, stands before the first
+-- each byte of the text may follow the one before it, where this one, if any, is before the first
 abbrev pub each_may_follow : Option ℕ → List ℕ → Bool
 each_may_follow before [] = true
 each_may_follow before (b ∷ p) = may_follow before b && each_may_follow (Some b) p
@@ -49,7 +49,7 @@ pub each_may_follow-front : (before : Option ℕ) (f r : List ℕ) → each_may_
 each_may_follow-front before [] r h = grind arith
 each_may_follow-front before (b ∷ f) r h = grind (arith, each_may_follow-front (Some b) f r)
 
--- A dash may stand behind each byte, and first.
+-- A dash may follow each byte, and first.
 pub each_may_follow-dash : (before : Option ℕ) (f : List ℕ) → each_may_follow before f ≡ true → each_may_follow before (f ++ codes "-") ≡ true
 unfolding is_bad is_refused
 each_may_follow-dash before [] h = grind arith
@@ -65,11 +65,11 @@ abbrev pub dot_first : List ℕ → Bool
 dot_first [] = false
 dot_first (b ∷ p) = b == byte "."
 
--- what a byte becomes, behind this written byte of its piece, if any
+-- what a byte becomes, after this written byte of its piece, if any
 unfoldable pub written_for : Option ℕ → ℕ → ℕ
 written_for last b = if (b == byte "." && is_none last) || (b == byte "{" && is_after (byte "@") last) then byte "-" else allowed b
 
--- what the bytes of a piece become behind it: of the dots in a row the last is written
+-- what the bytes of a piece become after it: of the dots in a row the last is written
 abbrev pub written_by : Option ℕ → List ℕ → List ℕ
 written_by last [] = []
 written_by last (b ∷ p) =

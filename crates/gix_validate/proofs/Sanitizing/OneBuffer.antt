@@ -1,4 +1,4 @@
--- The text is mended and repaired within one buffer: what is written stands before the place that is read next.
+-- The text is mended and repaired within one buffer: what is written is before the offset that is read next.
 use Rattle.std.proofs.Common.{◌≡◌, ℕ, ◌+◌, ◌-◌, ◌≤◌, ◌<◌, true, false, List, [], ◌∷◌, ◌++◌, length, take, drop, set, get_or, refl}
 use Rattle.std.proofs.Common.{sym, ap, arith, length-take, length-drop, length-set, append_assoc, max}
 use Rattle.std.specs.Prelude.{codes, ◌==◌, slice_range, if◌then◌else◌}
@@ -17,12 +17,12 @@ use Rattle.gix_validate.proofs.Sanitizing.WrittenPiece.{added, closed, GivesWhol
 take-add : (m n : ℕ) (xs : List ℕ) → take (m + n) xs ≡ take m xs ++ take n (drop m xs)
 take-add m n xs = grind (arith, take-append-drop m (take (m + n) xs), take-take, drop-take)
 
--- A front of a part, behind what stands before the part.
+-- A front of a part, after what is before the part.
 pub take-front : (text : List ℕ) (start end n : ℕ) → n ≤ length (slice_range text start end)
     → take (start + n) text ≡ take start text ++ take n (slice_range text start end)
 take-front text start end n h = grind (arith, length-take, take-add, take-take)
 
--- A slash behind a part that was cut.
+-- A slash after a part that was cut.
 pub take_closed : (text : List ℕ) (start end n : ℕ) → start ≤ end → end < length text → n ≤ length (slice_range text start end)
     → take n (slice_range text start end) ≡ cut (slice_range text start end)
     → take (start + n + 1) (set text (start + n) (byte "/")) ≡ take start text ++ (cut (slice_range text start end) ++ codes "/")
@@ -122,7 +122,7 @@ pub sanitized-in_place : (whole front rest new : List ℕ) (m n : ℕ) → m ≤
 unfolding sanitized
 sanitized-in_place whole front rest new m n within mended repaired = grind (arith, take-append-le)
 
--- What stands behind it stays.
+-- What follows it stays.
 pub rest-in_place : (buf front new : List ℕ) (m len : ℕ) → m ≤ len → length front ≡ len
     → drop (max 1 m) new ≡ drop (max 1 m) (front ++ drop len buf) → drop (max 1 len) new ≡ drop (max 1 len) buf
 rest-in_place buf front new m len within same stays =

@@ -16,7 +16,7 @@ use Rattle.gix_validate.proofs.Texts.Pieces.{joined-push}
 abbrev pub added : List ℕ → ℕ → ℕ
 added piece b = if (b == byte "." && is_empty piece) || (b == byte "{" && ends piece (codes "@")) then byte "-" else allowed b
 
--- texts joined, with a slash behind the last one
+-- texts joined, with a slash after the last one
 abbrev slashed : List (List ℕ) → List ℕ
 slashed [] = []
 slashed (p ∷ ps) = joined (p ∷ ps) ++ codes "/"
@@ -25,7 +25,7 @@ slashed (p ∷ ps) = joined (p ∷ ps) ++ codes "/"
 abbrev kept : List ℕ → List (List ℕ)
 kept piece = cond (is_empty piece) [] (cut piece ∷ [])
 
--- the written text once a piece ends: cut, with a slash behind it, if anything of it was written
+-- the written text once a piece ends: cut, with a slash after it, if anything of it was written
 abbrev pub closed : List ℕ → List ℕ → List ℕ
 closed done piece = cond (is_empty piece) done (done ++ (cut piece ++ codes "/"))
 
@@ -33,7 +33,7 @@ closed done piece = cond (is_empty piece) done (done ++ (cut piece ++ codes "/")
 abbrev pub finished : List ℕ → List ℕ → List ℕ
 finished done piece = cond (is_empty piece) (take (length done - 1) done) (done ++ cut piece)
 
--- these texts, and behind them what becomes of the written piece with the rest of it and of the pieces behind it
+-- these texts, and after them what becomes of the written piece with the rest of it and of the pieces after it
 abbrev mended_from : List (List ℕ) → List ℕ → Option ℕ → List (List ℕ) → List (List ℕ)
 mended_from texts piece last [] = texts ++ kept piece
 mended_from texts piece last (p ∷ ps) = texts ++ (kept (piece ++ written_by last p) ++ mended_of ps)

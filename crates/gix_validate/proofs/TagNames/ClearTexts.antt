@@ -1,4 +1,4 @@
--- What is not suspect has no fault: place by place, and so a clear text.
+-- What is not suspect has no fault: offset by offset, and so a clear text.
 use Rattle.std.proofs.Common.{◌≡◌, ℕ, ◌+◌, ◌-◌, ◌<◌, ◌≤◌, true, false, eqb, List, [], ◌∷◌, length, take, get_or, refl, sym, ap, ◌∙◌, inl, inr, arith, None, length-take}
 use Rattle.std.proofs.lemmas.Bool.{cases_lt, false_from_ne_true}
 use Rattle.std.proofs.lemmas.List.{take_all, get_or-take}
@@ -11,10 +11,10 @@ use Rattle.gix_validate.specs.Reference.{is_partial_name}
 use Rattle.gix_validate.specs.Private.Adjacent.{is_suspect, IsClear}
 use Rattle.gix_validate.specs.Private.Scan.{NoneBelow, at_pair}
 use Rattle.gix_validate.specs.Private.TagWalk.{fault_of_byte_at, NoFaultBetween}
-use Rattle.gix_validate.proofs.Texts.Places.{at_first_place_none}
+use Rattle.gix_validate.proofs.Texts.Offsets.{at_first_offset_none}
 use Rattle.gix_validate.proofs.Texts.Endings.{ends_read, lock_read}
 use Rattle.gix_validate.proofs.TagNames.FaultTable.{is_none-fault_of_byte}
-use Rattle.gix_validate.proofs.TagNames.FaultsOfBytes.{at_first_place_split}
+use Rattle.gix_validate.proofs.TagNames.FaultsOfBytes.{at_first_offset_split}
 use Rattle.gix_validate.proofs.TagNames.Grammar.{tag_grammar_law}
 use Rattle.std.proofs.lemmas.Grind.{common_steps}
 use Rattle.std.proofs.lemmas.Bool.Decides.{nat_tests}
@@ -30,7 +30,7 @@ no_fault : (x : List ℕ) (i a : ℕ) → is_suspect a (get_or x i 0) ≡ false
 unfolding is_suspect
 no_fault x i a quiet near lock = grind (arith, nat_tests, is_none-fault_of_byte (take i x) (get_or x i 0))
 
--- the byte before place i
+-- the byte before offset i
 pub last_read : (x : List ℕ) (i c : ℕ) → 0 < i → i ≤ length x → ends (take i x) (c ∷ []) ≡ eqb (get_or x (i - 1) 0) c
 last_read x i c some within = grind (arith, ends_read, get_or-take, length-take)
 
@@ -40,7 +40,7 @@ no_lock : (x : List ℕ) (p : ℕ) → p ≤ length x → (5 ≤ p → is_suspec
 unfolding is_suspect
 no_lock x p within quiet = grind (arith, nat_tests, false_from_ne_true, lock_read, get_or-take, length-take)
 
--- Up to the first place before a suspect byte, no byte behind the first has a fault.
+-- Up to the first offset before a suspect byte, no byte after the first has a fault.
 pub none_to_suspect : (x : List ℕ) (n : ℕ) → n < length x → fault_of_byte_at x 0 ≡ None → NoneBelow (at_pair is_suspect x) n → NoFaultBetween x 0 (n + 1)
 none_to_suspect x n within first none p from to = elim (cases_lt p 1) [
   | inl start ↦ let here : p ≡ 0 = omega arith in ap (fault_of_byte_at x) here ∙ first
@@ -61,9 +61,9 @@ clear_has_no_fault (b ∷ x) clear =
     let y = b ∷ x in
     let n = length y in
     let quiet = none_to_suspect y (n - 1) (omega arith) (no_fault_first y clear.first) clear.between in
-    let places = at_first_place_none (fault_of_byte_at y) n (λ k small. quiet k (omega arith) (omega arith)) in
+    let offsets = at_first_offset_none (fault_of_byte_at y) n (λ k small. quiet k (omega arith) (omega arith)) in
     let lock = no_lock y n (omega arith) (λ five. clear.between (n - 5) (omega arith)) in
-    grind (arith, nat_tests, take_all, at_first_place_split y refl, places, lock, clear.end, clear.first)
+    grind (arith, nat_tests, take_all, at_first_offset_split y refl, offsets, lock, clear.end, clear.first)
 
 -- A clear text of two bytes or more is a partial name.
 pub clear_is_partial : (x : List ℕ) → 1 < length x → IsClear x → is_partial_name x ≡ true

@@ -1,4 +1,4 @@
--- The table of the faults at a place: what each byte may have of them.
+-- The table of the faults at a offset: what each byte may have of them.
 use Rattle.std.proofs.Common.{◌≡◌, ℕ, ◌<◌, Bool, false, not, ◌&&◌, eqb, List, take, get_or, true, refl, Option, None}
 use Rattle.std.proofs.lemmas.Bool.{agree_below_at}
 use Rattle.std.specs.Str.{byte}
@@ -18,7 +18,7 @@ lock_ends_in_k y other = grind (arith, lock_read, ends_read)
 pub is_none-when : {A : Type 0} (t : Bool) (e : A) (o : Option A) → is_none (when t e orelse o) ≡ (not t && is_none o)
 is_none-when t e o = grind arith
 
--- what the table says of a byte by what stands before it
+-- what the table says of a byte by what is before it
 pub is_none-fault_of_byte : (before : List ℕ) (b : ℕ) → is_none (fault_of_byte before b)
     ≡ (not (is_bad b) && (not (eqb b (byte "*")) && (not (eqb b (byte ".") && ends before (codes "."))
     && (not (eqb b (byte ".") && ends before (codes "/")) && (not (eqb b (byte "{") && ends before (codes "@"))
@@ -27,7 +27,7 @@ pub is_none-fault_of_byte : (before : List ℕ) (b : ℕ) → is_none (fault_of_
 unfolding fault_of_byte fault_table
 is_none-fault_of_byte before b = simp is_none-when
 
--- The table of bytes says no only of bytes that have no fault, whatever stands before them.
+-- The table of bytes says no only of bytes that have no fault, whatever is before them.
 pub faulty_tabled : (b : ℕ) → b < 256 → get_or MAY_BE_FAULTY b false ≡ may_be_faulty b
 unfolding is_bad
 faulty_tabled b small = agree_below_at (λ b. get_or MAY_BE_FAULTY b false) may_be_faulty 256 b refl small

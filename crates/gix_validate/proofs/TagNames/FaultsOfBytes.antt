@@ -7,10 +7,10 @@ use Rattle.std.specs.Str.{bytes_eq}
 use Rattle.gix_validate.specs.declared.tag.NameError.{NameError}
 use Rattle.gix_validate.specs.declared.tag.NameError.TheVariants.{LockFileSuffix}
 use Rattle.gix_validate.specs.Bytes.{is_empty, ends}
-use Rattle.gix_validate.specs.Faults.{when, first_of, ◌orelse◌, at_first_place}
+use Rattle.gix_validate.specs.Faults.{when, first_of, ◌orelse◌, at_first_offset}
 use Rattle.gix_validate.specs.Tag.{fault_table, faults_at}
 use Rattle.gix_validate.specs.Private.TagWalk.{fault_of_byte, fault_of_byte_at}
-use Rattle.gix_validate.proofs.Texts.Places.{orelse_assoc, at_first_place_more, at_first_place_none, at_first_place_same}
+use Rattle.gix_validate.proofs.Texts.Offsets.{orelse_assoc, at_first_offset_more, at_first_offset_none, at_first_offset_same}
 
 -- the text ends in `.lock`, and isn't that alone
 abbrev pub has_lock_suffix : List ℕ → Bool
@@ -25,28 +25,28 @@ unfolding fault_of_byte fault_table
 fault_inside before b [] some = absurd (omega arith)
 fault_inside before b (c ∷ after) some = refl
 
--- at the end of the text the last line comes behind them
+-- at the end of the text the last line comes after them
 fault_at_end : (before : List ℕ) (b : ℕ)
     → first_of (fault_table before b []) ≡ (fault_of_byte before b orelse when (has_lock_suffix (before ++ b ∷ [])) LockFileSuffix)
 unfolding fault_of_byte fault_table
 fault_at_end before b = grind (arith, first_of-more)
 
--- The fault at the least place: by the lines that look back alone, and then the last line.
-pub at_first_place_split : (x : List ℕ) → is_empty x ≡ false
-    → at_first_place (λ i. first_of (faults_at x i)) (length x)
-    ≡ (at_first_place (fault_of_byte_at x) (length x) orelse when (has_lock_suffix x) LockFileSuffix)
+-- The fault at the least offset: by the lines that look back alone, and then the last line.
+pub at_first_offset_split : (x : List ℕ) → is_empty x ≡ false
+    → at_first_offset (λ i. first_of (faults_at x i)) (length x)
+    ≡ (at_first_offset (fault_of_byte_at x) (length x) orelse when (has_lock_suffix x) LockFileSuffix)
 unfolding faults_at fault_of_byte
-at_first_place_split [] some = grind arith
-at_first_place_split (b ∷ x) some =
+at_first_offset_split [] some = grind arith
+at_first_offset_split (b ∷ x) some =
     let y = b ∷ x in
     let n = length x in
-    let same = at_first_place_same (λ i. first_of (faults_at y i)) (fault_of_byte_at y) n
+    let same = at_first_offset_same (λ i. first_of (faults_at y i)) (fault_of_byte_at y) n
     (λ i small. fault_inside (take i y) (get_or y i 0) (drop (i + 1) y) (omega (arith, length-drop (i + 1) y))) in
     let last : first_of (faults_at y n) ≡ (fault_of_byte_at y n orelse when (has_lock_suffix y) LockFileSuffix) =
     grind (arith, take_more, take_all, drop_all, fault_at_end (take n y) (get_or y n 0)) in
-    grind (arith, at_first_place_more, orelse_assoc)
+    grind (arith, at_first_offset_more, orelse_assoc)
 
--- the faults from here on, what stands before growing by each byte
+-- the faults from here on, what is before growing by each byte
 unfoldable pub walked : List ℕ → List ℕ → Option NameError
 walked before [] = None
 walked before (b ∷ x) = fault_of_byte before b orelse walked (before ++ b ∷ []) x
@@ -56,10 +56,10 @@ unfolding walked
 walked_push before [] b = grind (arith, append-nil)
 walked_push before (c ∷ x) b = grind (arith, append_assoc, walked_push (before ++ c ∷ []) x b)
 
-walked_places : (x : List ℕ) (n : ℕ) → n ≤ length x → at_first_place (fault_of_byte_at x) n ≡ walked [] (take n x)
+walked_offsets : (x : List ℕ) (n : ℕ) → n ≤ length x → at_first_offset (fault_of_byte_at x) n ≡ walked [] (take n x)
 unfolding walked
-walked_places x zero h = at_first_place_none (fault_of_byte_at x) zero (λ k small. absurd (omega arith))
-walked_places x (suc n) h = grind (arith, at_first_place_more, take_more, walked_push [] (take n x), walked_places x n)
+walked_offsets x zero h = at_first_offset_none (fault_of_byte_at x) zero (λ k small. absurd (omega arith))
+walked_offsets x (suc n) h = grind (arith, at_first_offset_more, take_more, walked_push [] (take n x), walked_offsets x n)
 
-pub at_first_place_walked : (x : List ℕ) → at_first_place (fault_of_byte_at x) (length x) ≡ walked [] x
-at_first_place_walked x = grind (arith, take_all, walked_places)
+pub at_first_offset_walked : (x : List ℕ) → at_first_offset (fault_of_byte_at x) (length x) ≡ walked [] x
+at_first_offset_walked x = grind (arith, take_all, walked_offsets)

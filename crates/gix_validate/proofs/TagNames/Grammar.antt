@@ -11,7 +11,7 @@ use Rattle.gix_validate.specs.Tag.{is_good_piece, is_tag_name, fault_of}
 use Rattle.gix_validate.proofs.Texts.Pieces.{pieces_front, pieces_alone}
 use Rattle.gix_validate.proofs.Texts.Endings.{last_piece, last_piece_nothing, last_piece_push, ends_last_piece, slash_last, last_piece_apart, ends_cons}
 use Rattle.gix_validate.proofs.TagNames.FaultTable.{is_none-when, is_none-fault_of_byte}
-use Rattle.gix_validate.proofs.TagNames.FaultsOfBytes.{walked, has_lock_suffix, at_first_place_split, at_first_place_walked}
+use Rattle.gix_validate.proofs.TagNames.FaultsOfBytes.{walked, has_lock_suffix, at_first_offset_split, at_first_offset_walked}
 use native.Mathlib.Omega.{arith}
 use Rattle.std.proofs.lemmas.Bool.Decides.{nat_tests}
 
@@ -66,7 +66,7 @@ nothing_goes_on : goes_on [] ≡ true
 unfolding goes_on
 nothing_goes_on = refl
 
--- Behind what has begun, the pieces are good where the table finds no fault and the last of them may end.
+-- After what has begun, the pieces are good where the table finds no fault and the last of them may end.
 walked_good : (y x : List ℕ) → is_empty y ≡ false
     → list_all is_good_piece (pieces (last_piece y ++ x)) ≡ (goes_on (last_piece y) && (is_none (walked y x) && may_end (last_piece (y ++ x))))
 unfolding walked
@@ -85,7 +85,7 @@ begun_good b x =
 is_none-parts : (x : List ℕ) → is_empty x ≡ false → is_none (fault_of x) ≡ (not (ends x (codes "/")) && (not (begins x (codes "/"))
     && ((is_none (walked [] x) && not (has_lock_suffix x)) && (not (begins x (codes ".")) && not (ends x (codes "."))))))
 unfolding fault_of
-is_none-parts x some = grind (arith, is_none-when, at_first_place_split, at_first_place_walked)
+is_none-parts x some = grind (arith, is_none-when, at_first_offset_split, at_first_offset_walked)
 
 law_begun : (b : ℕ) (x : List ℕ) → is_tag_name (b ∷ x) ≡ is_none (fault_of (b ∷ x))
 unfolding is_tag_name may_end

@@ -57,14 +57,14 @@ ends_cons f b y h =
     let e : length (b ∷ y) - length f ≡ suc (length y - length f) = omega arith in
     ap (λ k. bytes_eq f (drop k (b ∷ y))) e
 
-ends_behind_slash : (f : List ℕ) → has_no_slash f ≡ true → (b : ℕ) (y : List ℕ) → has_no_slash (b ∷ y) ≡ false → ends (b ∷ y) f ≡ ends y f
-ends_behind_slash f apart b y slash = grind (arith, bytes_eq-Decides)
+ends_after_slash : (f : List ℕ) → has_no_slash f ≡ true → (b : ℕ) (y : List ℕ) → has_no_slash (b ∷ y) ≡ false → ends (b ∷ y) f ≡ ends y f
+ends_after_slash f apart b y slash = grind (arith, bytes_eq-Decides)
 
 -- A back without a slash is the end of a text where it is the end of its last piece.
 pub ends_last_piece : (f : List ℕ) → has_no_slash f ≡ true → (y : List ℕ) → ends (last_piece y) f ≡ ends y f
 unfolding last_piece
 ends_last_piece f apart [] = refl
-ends_last_piece f apart (b ∷ y) = grind (arith, ends_behind_slash, ends_last_piece f apart y)
+ends_last_piece f apart (b ∷ y) = grind (arith, ends_after_slash, ends_last_piece f apart y)
 
 -- In a text that has begun, a slash stands last where the last piece is empty.
 pub slash_last : (y : List ℕ) → is_empty y ≡ false → ends y (codes "/") ≡ is_empty (last_piece y)

@@ -27,8 +27,8 @@ length-dash_last_of (p ∷ []) = refl
 length-dash_last_of (p ∷ q ∷ ps) = ap suc (length-dash_last_of (q ∷ ps))
 
 -- a text with more in front
-dash_behind : (s t : List ℕ) → 0 < length t → dash_last (s ++ t) ≡ s ++ dash_last t
-dash_behind s t some =
+dash_after : (s t : List ℕ) → 0 < length t → dash_last (s ++ t) ≡ s ++ dash_last t
+dash_after s t some =
     let n : length (s ++ t) - 1 ≡ length s + (length t - 1) = omega (arith, length-append s t) in
     ap (λ v. take v (s ++ t) ++ codes "-") n ∙ grind (arith, take-append-add, append_assoc)
 
@@ -48,7 +48,7 @@ dash_last_of-cons q (p ∷ ps) = (_, _, refl)
 pub joined-dash_last_of : (p : List ℕ) (ps : List (List ℕ)) → list_all is_good_piece (p ∷ ps) ≡ true
     → joined (dash_last_of (p ∷ ps)) ≡ dash_last (joined (p ∷ ps))
 joined-dash_last_of p [] h = refl
-joined-dash_last_of p (q ∷ []) h = grind (arith, good_nonempty, joined_some q [], dash_behind p (byte "/" ∷ q), dash_behind (byte "/" ∷ []) q)
+joined-dash_last_of p (q ∷ []) h = grind (arith, good_nonempty, joined_some q [], dash_after p (byte "/" ∷ q), dash_after (byte "/" ∷ []) q)
 joined-dash_last_of p (q ∷ r ∷ ps) h =
     let t = joined (q ∷ r ∷ ps) in
-    grind (arith, joined_some q (r ∷ ps), dash_behind p (byte "/" ∷ t), dash_behind (byte "/" ∷ []) t, joined-dash_last_of q (r ∷ ps))
+    grind (arith, joined_some q (r ∷ ps), dash_after p (byte "/" ∷ t), dash_after (byte "/" ∷ []) t, joined-dash_last_of q (r ∷ ps))

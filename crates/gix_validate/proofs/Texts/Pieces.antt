@@ -31,7 +31,7 @@ pieces-joined [] some h = grind arith
 pieces-joined (t ∷ []) some h = grind (arith, pieces_alone)
 pieces-joined (t ∷ u ∷ texts) some h = grind (arith, pieces_front, pieces-joined (u ∷ texts))
 
--- one text more behind the others
+-- one text more after the others
 pub joined-push : (text : List ℕ) (texts : List (List ℕ)) (last : List ℕ) → joined (text ∷ (texts ++ last ∷ [])) ≡ joined (text ∷ texts) ++ (byte "/" ∷ last)
 joined-push text [] last = grind arith
 joined-push text (next ∷ texts) last = grind (arith, append_assoc, joined-push next texts last)

@@ -5,16 +5,16 @@ use Rattle.std.specs.Str.{byte}
 use Rattle.gix_validate.specs.Private.Scan.{NoneBelow, at_pair}
 use Rattle.gix_validate.specs.Bytes.{is_bad, is_among, ends}
 
--- Behind the byte before it, the byte may be the place of a fault, or lead to one: it is one that no reference name
--- has, a `*`, or a `{`, which may stand behind a `@`; or it is a dot or a slash behind a dot or a slash; or it is an
--- `l` behind a dot, as in `.lock`.
+-- After the byte before it, the byte may be the offset of a fault, or lead to one: it is one that no reference name
+-- has, a `*`, or a `{`, which may follow a `@`; or it is a dot or a slash after a dot or a slash; or it is an
+-- `l` after a dot, as in `.lock`.
 unfoldable pub is_suspect : ℕ → ℕ → Bool
 is_suspect before b =
     is_bad b || is_among (codes "*{") b
     || (is_among (codes "./") before && is_among (codes "./") b)
     || (before == byte "." && b == byte "l")
 
--- The text has a byte, none that is suspect, the first as behind a slash, and no slash or dot at its end.
+-- The text has a byte, none that is suspect, the first as after a slash, and no slash or dot at its end.
 pub record IsClear (x : List ℕ) : Type 0 where
   pub some : 0 < length x
   pub first : is_suspect (byte "/") (slice_index x 0) ≡ false

@@ -1,9 +1,9 @@
--- Parts `..` of a submodule name, by the places where they begin.
+-- Parts `..` of a submodule name, by the offsets where they begin.
 use Rattle.std.specs.Prelude.{◌≡◌, ℕ, ◌+◌, ◌-◌, ◌<◌, Bool, false, ◌==◌, ◌&&◌, ◌||◌, List, length, slice_index}
 use Rattle.std.specs.Str.{byte}
 use Rattle.gix_validate.specs.Submodule.{is_separator}
 
--- a part that is `..` begins at this place: two dots, the start or a separator before them, and the end or one behind them
+-- a part that is `..` begins at this offset: two dots, the start or a separator before them, and the end or one after them
 abbrev pub is_parent_at : List ℕ → ℕ → Bool
 is_parent_at x i =
     slice_index x i == byte "." && slice_index x (i + 1) == byte "."

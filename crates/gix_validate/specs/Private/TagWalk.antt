@@ -1,30 +1,30 @@
--- The walk over a text that may be a tag name: the fault of each byte by what stands before it.
+-- The walk over a text that may be a tag name: the fault of each byte by what is before it.
 use Rattle.std.specs.Prelude.{◌≡◌, ℕ, ◌+◌, ◌-◌, ◌<◌, ◌≤◌, Bool, ◌||◌, List, [], ◌∷◌, codes, length, take, slice_index, Option, None}
 use Rattle.gix_validate.specs.declared.tag.NameError.{NameError}
 use Rattle.gix_validate.specs.Bytes.{is_bad, is_among}
-use Rattle.gix_validate.specs.Faults.{first_of, at_first_place}
+use Rattle.gix_validate.specs.Faults.{first_of, at_first_offset}
 use Rattle.gix_validate.specs.Tag.{fault_table}
 
--- the byte may have a fault by what stands before it; no other byte ever has one
+-- the byte may have a fault by what is before it; no other byte ever has one
 abbrev pub may_be_faulty : ℕ → Bool
 may_be_faulty b = is_bad b || is_among (codes "*./{") b
 
--- the fault of a byte by what stands before it, where something follows
+-- the fault of a byte by what is before it, where something follows
 unfoldable pub fault_of_byte : List ℕ → ℕ → Option NameError
 fault_of_byte before b = first_of (fault_table before b (0 ∷ []))
 
--- the same of the byte at place i
+-- the same of the byte at offset i
 abbrev pub fault_of_byte_at : List ℕ → ℕ → Option NameError
 fault_of_byte_at x i = fault_of_byte (take i x) (slice_index x i)
 
--- the first such fault at the places from i on and before j
+-- the first such fault at the offsets from i on and before j
 unfoldable pub first_fault_between : List ℕ → ℕ → ℕ → Option NameError
-first_fault_between x i j = at_first_place (λ k. fault_of_byte_at x (i + k)) (j - i)
+first_fault_between x i j = at_first_offset (λ k. fault_of_byte_at x (i + k)) (j - i)
 
--- no place from i on and before j has a fault by what stands before it
+-- no offset from i on and before j has a fault by what is before it
 abbrev pub NoFaultBetween : List ℕ → ℕ → ℕ → Type 0
 NoFaultBetween x i j = (p : ℕ) → i ≤ p → p < j → fault_of_byte_at x p ≡ None
 
--- no place before i has such a fault, so a walk from there on finds the first
+-- no offset before i has such a fault, so a walk from there on finds the first
 abbrev pub CanWalkFrom : List ℕ → ℕ → Type 0
 CanWalkFrom x i = (i ≤ length x) × NoFaultBetween x 0 i

@@ -29,8 +29,8 @@ pub(super) fn eq_ignore_ascii_case(text: &[u8], word: &[u8]) -> bool
     if text.len() != word.len() {
         return false;
     }
-    for (place, wanted) in word.iter().enumerate() {
-        if !bytes_eq_ignore_ascii_case(text[place], *wanted) {
+    for (offset, wanted) in word.iter().enumerate() {
+        if !bytes_eq_ignore_ascii_case(text[offset], *wanted) {
             return false;
         }
     }

@@ -33,10 +33,10 @@ pub(super) fn first_unit_len(text: &[u8]) -> usize
 fn fitting_len(row: &[(u8, u8)], text: &[u8]) -> usize
     ensures { result ≡ fitting_len row.now text.now }
 {
-    for (place, range) in row.iter().enumerate() {
-        match text.get(place) {
+    for (offset, range) in row.iter().enumerate() {
+        match text.get(offset) {
             Some(byte) if range.0 <= *byte && *byte <= range.1 => {}
-            _ => return place,
+            _ => return offset,
         }
     }
     row.len()

@@ -60,7 +60,7 @@ const BY_FIRST: [u8; 32] = [
     0, 0, 0, 0, 0, 0, 0, 0,
 ];
 
-/// The same by the second letter.
+/// The words that may have a byte as their second letter.
 #[rattlefmt::skip]
 const BY_SECOND: [u8; 32] = [
     0, 0, 0, 0, 0, 0, 0, DOT_GIT, // g
@@ -69,7 +69,7 @@ const BY_SECOND: [u8; 32] = [
     0, 0, 0, 0, 0, 0, 0, 0,
 ];
 
-/// The same by the third letter.
+/// The words that may have a byte as their third letter.
 #[rattlefmt::skip]
 const BY_THIRD: [u8; 32] = [
     0, 0, 0, 0, 0, 0, 0, 0,

@@ -1,6 +1,6 @@
 use Rattle.std.proofs.Common.{◌≡◌, ◌-◌, ◌%◌, ◌+◌, length, arith, subst}
 use Rattle.std.proofs.lemmas.Bool.Decides.{nat_tests}
-use Rattle.gix_validate.specs.Private.Lanes.{place_of}
+use Rattle.gix_validate.specs.Private.Lanes.{offset_of}
 use Rattle.gix_validate.specs.Private.Scan.{IsFirst, at_both}
 use Rattle.gix_validate.proofs.Blocks.Scan.{parts_marks, none_in_parts, first_in_parts}
 use Rattle.gix_validate.proofs.scan.first_of_parts.Goals as goal
@@ -23,7 +23,7 @@ returns-then-lane-size g c =
     let m = parts_marks g.P.Pattern.hit x c.args.back.now c.args.lanes c.args.others c.args.size back _ h.few r.front r.back h.lanes in
     let found = first_in_parts _ _ _ _ _ c.first_lane.result (omega (arith, r.some, r.few, r.enough, r.all)) m
     (record { set = first.set; below = first.below }) in
-    let here : place_of c.args.size 0 back c.first_lane.result ≡ c.first_lane.result % (c.args.size + c.args.size) =
+    let here : offset_of c.args.size 0 back c.first_lane.result ≡ c.first_lane.result % (c.args.size + c.args.size) =
     grind (arith, nat_tests, c.if-lane-size.true) in
     subst (IsFirst (at_both g.P.Pattern.hit x c.args.back.now) (length x)) here found
 
@@ -37,6 +37,6 @@ returns-else-lane-size g c =
     let m = parts_marks g.P.Pattern.hit x c.args.back.now c.args.lanes c.args.others c.args.size back _ h.few r.front r.back h.lanes in
     let found = first_in_parts _ _ _ _ _ c.first_lane.result (omega (arith, r.some, r.few, r.enough, r.all)) m
     (record { set = first.set; below = first.below }) in
-    let here : place_of c.args.size 0 back c.first_lane.result ≡ back + (c.first_lane.result % (c.args.size + c.args.size) - c.args.size) =
+    let here : offset_of c.args.size 0 back c.first_lane.result ≡ back + (c.first_lane.result % (c.args.size + c.args.size) - c.args.size) =
     grind (arith, nat_tests, c.if-lane-size.false) in
     subst (IsFirst (at_both g.P.Pattern.hit x c.args.back.now) (length x)) here found

@@ -1,4 +1,4 @@
--- The capacity that was asked for all the parts is enough for each, and each part goes behind those before it.
+-- The capacity that was asked for all the parts is enough for each, and each part goes after those before it.
 use Rattle.std.proofs.Common.{[], arith}
 use Rattle.bstr.specs.declared.bstr.BStr.{BStr}
 use Rattle.bstr.specs.BStr.{bstr_bytes}

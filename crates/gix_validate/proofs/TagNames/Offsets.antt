@@ -7,25 +7,25 @@ use Rattle.gix_validate.specs.Bytes.{ends}
 use Rattle.gix_validate.specs.Tag.{faults_at}
 use Rattle.gix_validate.specs.Private.Adjacent.{is_suspect}
 use Rattle.gix_validate.specs.Private.Scan.{NoneBelow, IsFirst, at_pair}
-use Rattle.gix_validate.specs.Faults.{first_of, at_first_place, when, ◌orelse◌}
+use Rattle.gix_validate.specs.Faults.{first_of, at_first_offset, when, ◌orelse◌}
 use Rattle.gix_validate.specs.Private.TagWalk.{may_be_faulty, fault_of_byte_at, first_fault_between, NoFaultBetween, CanWalkFrom}
-use Rattle.gix_validate.proofs.Texts.Places.{at_first_place_none, at_first_place_more, at_first_place_from, found_below}
+use Rattle.gix_validate.proofs.Texts.Offsets.{at_first_offset_none, at_first_offset_more, at_first_offset_from, found_below}
 use Rattle.gix_validate.proofs.TagNames.FaultTable.{quiet}
-use Rattle.gix_validate.proofs.TagNames.FaultsOfBytes.{at_first_place_split}
+use Rattle.gix_validate.proofs.TagNames.FaultsOfBytes.{at_first_offset_split}
 use Rattle.std.proofs.lemmas.Slice.Eq.{bytes_eq-Decides}
 use Rattle.std.specs.Prelude.{codes}
 use Rattle.gix_validate.proofs.TagNames.ClearTexts.{none_to_suspect}
 
 -- where nothing is found before a part, the part says what is found
-pub from_place : (x : List ℕ) (i j : ℕ) → i ≤ j → NoFaultBetween x 0 i → at_first_place (fault_of_byte_at x) j ≡ first_fault_between x i j
+pub from_offset : (x : List ℕ) (i j : ℕ) → i ≤ j → NoFaultBetween x 0 i → at_first_offset (fault_of_byte_at x) j ≡ first_fault_between x i j
 unfolding first_fault_between
-from_place x i j order none =
+from_offset x i j order none =
     let e : j ≡ i + (j - i) = omega arith in
-    ap (at_first_place (fault_of_byte_at x)) e ∙ at_first_place_from (fault_of_byte_at x) i (j - i) (λ k small. none k (omega arith) small)
+    ap (at_first_offset (fault_of_byte_at x)) e ∙ at_first_offset_from (fault_of_byte_at x) i (j - i) (λ k small. none k (omega arith) small)
 
 pub between_none : (x : List ℕ) (i j : ℕ) → NoFaultBetween x i j → first_fault_between x i j ≡ None
 unfolding first_fault_between
-between_none x i j none = at_first_place_none (λ k. fault_of_byte_at x (i + k)) (j - i) (λ k small. none (i + k) (omega arith) (omega arith))
+between_none x i j none = at_first_offset_none (λ k. fault_of_byte_at x (i + k)) (j - i) (λ k small. none (i + k) (omega arith) (omega arith))
 
 pub between_found : (x : List ℕ) (i j n : ℕ) (a : NameError) → i ≤ j → j < n → NoFaultBetween x i j → fault_of_byte_at x j ≡ Some a
     → first_fault_between x i n ≡ Some a
@@ -33,13 +33,13 @@ unfolding first_fault_between
 between_found x i j n a order within none here =
     let f = λ (k : ℕ). fault_of_byte_at x (i + k) in
     let there : i + (j - i) ≡ j = omega arith in
-    grind (arith, between_none, at_first_place_more f (j - i), found_below f (j - i + 1) (n - i))
+    grind (arith, between_none, at_first_offset_more f (j - i), found_below f (j - i + 1) (n - i))
 
 pub between_more : (x : List ℕ) (i j : ℕ) → NoFaultBetween x i j → fault_of_byte_at x j ≡ None → NoFaultBetween x i (j + 1)
 between_more x i j none here p from to = elim (cases_lt p j) [ inl early ↦ none p from early | inr last ↦ grind (arith, here) ]
 
 -- what the walk over single bytes needs
-pub ruleset place_by_place = (between_none, between_more, between_found, quiet)
+pub ruleset offset_by_offset = (between_none, between_more, between_found, quiet)
 
 -- Up to the first suspect byte, none has a fault.
 pub none_before_suspect : (x : List ℕ) (i : ℕ) → may_be_faulty (get_or x 0 0) ≡ false → IsFirst (at_pair is_suspect x) (length x - 1) i → CanWalkFrom x (i + 1)
@@ -51,6 +51,6 @@ none_without_suspect x some start none =
     (omega arith, λ p from small. none_to_suspect x (length x - 1) (omega arith) (quiet x 0 start) none p from (omega arith))
 
 -- What a walk from there on finds is the first fault, and else the last line of the table is. (A text that ends in `.lock` is longer, or is that.)
-pub found_from : (x : List ℕ) (i : ℕ) → 0 < length x → CanWalkFrom x i → at_first_place (λ j. first_of (faults_at x j)) (length x)
+pub found_from : (x : List ℕ) (i : ℕ) → 0 < length x → CanWalkFrom x i → at_first_offset (λ j. first_of (faults_at x j)) (length x)
     ≡ (first_fault_between x i (length x) orelse when (ends x (codes ".lock") && not (eqb (length x) 5)) LockFileSuffix)
-found_from x i some from = grind (arith, at_first_place_split, bytes_eq-Decides, from_place x i (length x) from.0 from.1)
+found_from x i some from = grind (arith, at_first_offset_split, bytes_eq-Decides, from_offset x i (length x) from.0 from.1)

@@ -1,8 +1,8 @@
 -- The last line of the table, where no other applies.
 use Rattle.std.proofs.Common.{arith}
 use Rattle.std.proofs.lemmas.Bool.Decides.{nat_tests}
-use Rattle.gix_validate.proofs.TagNames.Places.{found_from}
-use Rattle.gix_validate.proofs.tag.fault_at_first_place.Goals as goal
+use Rattle.gix_validate.proofs.TagNames.Offsets.{found_from}
+use Rattle.gix_validate.proofs.tag.fault_at_first_offset.Goals as goal
 
 pub returns-in-Some : goal.returns-in-Some
 returns-in-Some c = grind (arith, found_from c.args.bytes.now _ c.requires c.first_to_walk-from.ensures, c.in-Some.ensures)

@@ -129,7 +129,8 @@ unfolding conditions fault_of
 none_under_fewer options fewer mode other part less x none = grind (arith, git_forms, modules_forms)
 
 -- What is accepted is accepted under fewer switches, and without the mode.
-pub fewer_law : (options : ComponentOptions) (mode : Option ComponentMode) (x : List ℕ) → fault_of options mode x ≡ None → IsValidUnderFewerSwitches options mode x
+pub fewer_law : (options : ComponentOptions) (mode : Option ComponentMode) (x : List ℕ) → fault_of options mode x ≡ None
+    → IsValidUnderFewerSwitches options mode x
 unfolding fault_of
 fewer_law options mode x none =
     let lines = AllNone-from_first (conditions options mode x) none in

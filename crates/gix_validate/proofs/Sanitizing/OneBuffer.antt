@@ -12,7 +12,8 @@ use Rattle.gix_validate.specs.Private.TagWalk.{may_be_faulty}
 use Rattle.gix_validate.specs.Pieces.{is_slash, joined}
 use Rattle.gix_validate.specs.Sanitized.{cut, mended_pieces, repaired_dot, repaired_at, repaired_nothing, sanitized}
 use Rattle.gix_validate.proofs.Sanitizing.MendedPieces.{dot_first}
-use Rattle.gix_validate.proofs.Sanitizing.WrittenPiece.{added, closed, GivesWhole, GivesWhole-start, GivesWhole-slash, GivesWhole-dots, GivesWhole-byte, GivesWhole-end}
+use Rattle.gix_validate.proofs.Sanitizing.WrittenPiece.{added, closed, GivesWhole, GivesWhole-start, GivesWhole-slash, GivesWhole-dots}
+use Rattle.gix_validate.proofs.Sanitizing.WrittenPiece.{GivesWhole-byte, GivesWhole-end}
 
 take-add : (m n : ℕ) (xs : List ℕ) → take (m + n) xs ≡ take m xs ++ take n (drop m xs)
 take-add m n xs = grind (arith, take-append-drop m (take (m + n) xs), take-take, drop-take)

@@ -46,7 +46,8 @@ pub none_before_suspect : (x : List ℕ) (i : ℕ) → may_be_faulty (get_or x 0
 none_before_suspect x i start first = (omega (arith, first.within), none_to_suspect x i (omega (arith, first.within)) (quiet x 0 start) first.none)
 
 -- where there is none, none has one
-pub none_without_suspect : (x : List ℕ) → 0 < length x → may_be_faulty (get_or x 0 0) ≡ false → NoneBelow (at_pair is_suspect x) (length x - 1) → CanWalkFrom x (length x)
+pub none_without_suspect : (x : List ℕ) → 0 < length x → may_be_faulty (get_or x 0 0) ≡ false
+    → NoneBelow (at_pair is_suspect x) (length x - 1) → CanWalkFrom x (length x)
 none_without_suspect x some start none =
     (omega arith, λ p from small. none_to_suspect x (length x - 1) (omega arith) (quiet x 0 start) none p from (omega arith))
 

@@ -2,7 +2,8 @@
 use Rattle.std.specs.Prelude.{◌≡◌, ℕ, Bool, false, ◌==◌, ◌||◌, not, nat_lt, ◌≤◌, if◌then◌else◌, List, length, codes, map, bit_and}
 use Rattle.std.specs.List.{list_any}
 use Rattle.std.specs.Str.{byte}
-use Rattle.gix_validate.specs.declared.path.classes.TheConstants.{CONTROL, QUOTE_OR_STAR, COLON_ANGLE_OR_MARK, BACKSLASH, PIPE, LEAD, SLASH, TILDE, ILLEGAL, ANY, SHORT}
+use Rattle.gix_validate.specs.declared.path.classes.TheConstants.{CONTROL, QUOTE_OR_STAR, COLON_ANGLE_OR_MARK, BACKSLASH, PIPE, LEAD, SLASH, TILDE}
+use Rattle.gix_validate.specs.declared.path.classes.TheConstants.{ILLEGAL, ANY, SHORT}
 use Rattle.gix_validate.specs.declared.path.classes.Sought.{Sought}
 use Rattle.gix_validate.specs.declared.path.classes.Sought.TheVariants.{Class, Slash, Separator}
 use Rattle.gix_validate.specs.Bytes.{is_among}

@@ -8,7 +8,8 @@ pub returns-in-Some : goal.returns-in-Some
 returns-in-Some c = grind (arith, found_from c.args.bytes.now _ c.requires c.first_to_walk-from.ensures, c.in-Some.ensures)
 
 pub returns-then-bytes-ne5 : goal.returns-then-bytes-ne5
-returns-then-bytes-ne5 c = grind (arith, nat_tests, found_from c.args.bytes.now _ c.requires c.first_to_walk-from.ensures, c.in_default.ensures, c.if-ends_with.ensures.value)
+returns-then-bytes-ne5 c =
+    grind (arith, nat_tests, found_from c.args.bytes.now _ c.requires c.first_to_walk-from.ensures, c.in_default.ensures, c.if-ends_with.ensures.value)
 
 pub returns : goal.returns
 returns c = grind (arith, nat_tests, found_from c.args.bytes.now _ c.requires c.first_to_walk-from.ensures, c.in_default.ensures, c.else-ends_with.branch)

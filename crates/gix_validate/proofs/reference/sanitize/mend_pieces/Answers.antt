@@ -16,7 +16,8 @@ loop-read-preserved c =
       | goal.then-not-may_be_faulty w ↦ rw (w.text-is, w.start-is, w.end-is)
           (MendedUpTo-plain _ _ _ _ _ so_far room (sym c.may_be_faulty.ensures ∙ w.if-not-may_be_faulty.true))
       | goal.else-not-may_be_faulty+then-byte-eq47 w ↦ let close = w.close_piece-end in rw (w.text-is, w.start-is, w.end-is)
-          (MendedUpTo-slash _ _ _ _ _ _ _ so_far room (eq-eqb _ _ w.if-byte-eq47.true) close.auto.text close.ensures.within close.ensures.text close.ensures.rest)
+          (MendedUpTo-slash _ _ _ _ _ _ _ so_far room (eq-eqb _ _ w.if-byte-eq47.true)
+          close.auto.text close.ensures.within close.ensures.text close.ensures.rest)
       | goal.else-not-may_be_faulty+else-byte-eq47+then-byte-ne46 w ↦
           let single : (get_or c.loop-read.text c.loop-read.read 0 == 46) ≡ true → (get_or c.loop-read.text (c.loop-read.read + 1) 0 == 46) ≡ false =
           elim w.then-byte-ne46.branch [
@@ -30,4 +31,6 @@ loop-read-preserved c =
     ]
 
 pub returns-clause-text : goal.returns-clause-text
-returns-clause-text c = mended_text _ _ _ _ _ _ c.loop-read.invariant (omega (arith, c.loop-read.invariant.long)) (omega (arith, c.loop-read.invariant.long)) c.end_of_text.ensures.text
+returns-clause-text c =
+    let long = c.loop-read.invariant.long in
+    mended_text _ _ _ _ _ _ c.loop-read.invariant (omega (arith, long)) (omega (arith, long)) c.end_of_text.ensures.text

@@ -66,7 +66,7 @@ class Edit:
         self.crate, self.file, self.name = crate, file, os.path.basename(file).removesuffix(".edit")
         text = read(file)
         if not EDIT.fullmatch(text):
-            raise Fault(f"{file} is no edit: its lines are file:, old:, new:, and the last 'refused: FUNCTION CLAUSE..'")
+            raise Fault(f"{file} is no edit: its lines are file:, old:, new:, the last 'refused: FUNCTION CLAUSE..'")
         self.pairs = []
         for path, rest in re.findall(r"file: (.*)\n((?:old: .*\nnew:.*\n)+)", text):
             self.pairs += [(path, old, new) for old, new in re.findall(r"old: (.*)\nnew: ?(.*)\n", rest)]

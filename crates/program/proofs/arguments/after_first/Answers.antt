@@ -3,7 +3,7 @@ use Rattle.std.specs.Vec.Iter.{into_iter_items}
 use Rattle.std.proofs.lemmas.Iterator.{items_from_collect}
 use Rattle.std.proofs.lemmas.Iterator.Consumers.{YieldsList-at}
 use Rattle.std.proofs.lemmas.Iterator.Adapters.{YieldsList-from_vec, YieldsList-from_skip}
-use Rattle.program.proofs.after_first.Goals as goal
+use Rattle.program.proofs.arguments.after_first.Goals as goal
 
 pub returns : goal.returns
 returns c =

@@ -15,6 +15,6 @@ less_empty_last (text ∷ next ∷ more) = text ∷ less_empty_last (next ∷ mo
 unfoldable pub lines : List ℕ → List (List ℕ)
 lines text = less_empty_last (slice_split (λ b. b == line_end) text)
 
--- what a line asks for, a kind and a name: the kind stands before the first space, the name is all after it
+-- what a line asks for, a kind and a name: the kind is before the first space, the name is all after it
 abbrev pub request_of : List ℕ → Option (List ℕ × List ℕ)
 request_of line = split_once (byte " ") line

@@ -13,10 +13,10 @@ ghost use Rattle.check_names.specs.Messages.{message_of};
 
 mod check;
 
-use program::arguments::{Options, Request, Setting, request_of};
+use program::arguments::{Options, Request, Setting, arguments, request_of};
 use program::outcome::RunError;
 use program::output::write_all;
-use program::{VERSION, fail, print, words};
+use program::{VERSION, fail, print};
 use std::io::{IsTerminal, Read, Write};
 use std::process::ExitCode;
 
@@ -80,14 +80,14 @@ impl<'a> Options<'a> for NoOptions {
 }
 
 fn main(rt: HostRuntime) -> ExitCode {
-    match words(&rt, NAME) {
-        Ok(words) => {
-            if words.is_empty() && rt.stdin().is_terminal() {
+    match arguments(&rt, NAME) {
+        Ok(arguments) => {
+            if arguments.is_empty() && rt.stdin().is_terminal() {
                 let _ = eprintln!(rt; "{NAME}: {HINT}");
             }
             answer(
                 &rt,
-                &words,
+                &arguments,
                 &mut rt.stdin(),
                 &mut rt.stdout(),
                 &mut rt.stderr(),
@@ -100,25 +100,25 @@ fn main(rt: HostRuntime) -> ExitCode {
 /// Does what the arguments say, and returns the exit status.
 fn answer<R: Read, W: Write, E: Write>(
     rt: &HostRuntime,
-    words: &[String],
+    arguments: &[String],
     input: &mut R,
     output: &mut W,
     errors: &mut E,
 ) -> ExitCode
-    ensures answered { AsksForAnswers words.now → exit_status result ≡ 0 → IfSome (R.remaining input.old) (λ text.
+    ensures answered { AsksForAnswers arguments.now → exit_status result ≡ 0 → IfSome (R.remaining input.old) (λ text.
         Appends (W.contents output.old) (W.contents output.new) (answers text)) × (errors.new ≡ errors.old) }
-    ensures begun { AsksForAnswers words.now → exit_status result ≡ 1 → IfSome (R.remaining input.old) (λ text.
+    ensures begun { AsksForAnswers arguments.now → exit_status result ≡ 1 → IfSome (R.remaining input.old) (λ text.
         AppendsPrefixOf (W.contents output.old) (W.contents output.new) (answers text)) }
-    ensures message { AsksForAnswers words.now → exit_status result ≡ 1 → (stop : RunError)
+    ensures message { AsksForAnswers arguments.now → exit_status result ≡ 1 → (stop : RunError)
         × AppendsPrefixOf (E.contents errors.old) (E.contents errors.new) (message_of stop)
         × (stop ≢ RunError.Write → stop ≢ RunError.Closed → output.new ≡ output.old) }
-    ensures arguments { exit_status result ≡ 2 → request_of (map string_bytes words.now) ≢ Ok (Check tt) }
-    ensures unread { request_of (map string_bytes words.now) ≢ Ok (Check tt)
+    ensures arguments { exit_status result ≡ 2 → request_of (map string_bytes arguments.now) ≢ Ok (Check tt) }
+    ensures unread { request_of (map string_bytes arguments.now) ≢ Ok (Check tt)
         → (input.new ≡ input.old) × (output.new ≡ output.old) }
-    ensures unknown { IsErr (request_of (map string_bytes words.now)) → exit_status result ≡ 2 }
+    ensures unknown { IsErr (request_of (map string_bytes arguments.now)) → exit_status result ≡ 2 }
     ensures status { exit_status result ≤ 2 }
 {
-    match request_of::<NoOptions>(words) {
+    match request_of::<NoOptions>(arguments) {
         Ok(Request::Check(_)) => match check::run(rt.alloc(), input, output) {
             Ok(()) => ExitCode::SUCCESS,
             Err(stop) => {

@@ -51,7 +51,7 @@ module _ (options : Options) where
       lines_first rule (update_leaves options) AfterALine number (spelling update ++ rest) (some_bytes update rest) refl
       ∙ ap (lines_then (lines_from rule AfterALine (number + 1)) number (spelling update ++ rest)) (update_spelled update rest good)
 
-  -- the same of many updates
+  -- many updates
   pub updates_reported : (number : ℕ) (updates : List ParsedUpdate) (rest : List ℕ) → AllByRecursion IsSpelled updates
       → lines_from (update_rule options) AfterALine number (flat_map spelling updates ++ rest)
       ≡ before_report (all_said (map (said_of options) updates)) (lines_from (update_rule options) AfterALine (number + length updates) rest)
@@ -68,13 +68,13 @@ module _ (options : Options) where
 
 -- ---- nothing else is well-formed
 
-each_behind : (front rest : List ℕ) → AllByRecursion NoEnd (front ++ rest) → AllByRecursion NoEnd rest
-each_behind [] rest each = each
-each_behind (b ∷ front) rest (first, each) = each_behind front rest each
+each_after : (front rest : List ℕ) → AllByRecursion NoEnd (front ++ rest) → AllByRecursion NoEnd rest
+each_after [] rest each = each
+each_after (b ∷ front) rest (first, each) = each_after front rest each
 
 -- the name at the end of a line
 name_whole : (front name : List ℕ) → AllByRecursion NoEnd (front ++ byte " " ∷ name) → All NoEnd name
-name_whole front name each = All-from_recursion NoEnd name (each_behind front (byte " " ∷ name) each).1
+name_whole front name each = All-from_recursion NoEnd name (each_after front (byte " " ∷ name) each).1
 
 module _ (options : Options) where
   -- some updates, or none

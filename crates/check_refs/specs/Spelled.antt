@@ -1,4 +1,4 @@
--- The same from the other side: what is reported of updates that are written out, and that no other input is well-formed.
+-- What is reported of updates that are written out, and that no other input is well-formed.
 use Rattle.std.specs.Prelude.{◌≡◌, ◌≢◌, ◌↔◌, ◌+◌, ◌<◌, true, List, [], ◌∷◌, ◌++◌, All, length, map, flat_map, ℕ, None, Some}
 use Rattle.std.specs.List.{AllByRecursion}
 use Rattle.std.specs.Str.{byte}

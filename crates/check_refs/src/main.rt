@@ -12,9 +12,9 @@ mod refusal;
 mod report;
 mod update;
 
+use program::arguments;
 use program::arguments::Setting;
 use program::outcome::RunError;
-use program::{arguments, words};
 use report::Options;
 use std::alloc::Global;
 use std::io::{BufRead, Write};
@@ -108,8 +108,8 @@ impl Check<'_> for Options {
 }
 
 fn main(rt: HostRuntime) -> ExitCode {
-    match words(&rt, "check_refs") {
-        Ok(words) => answer::<Options, _, _>(&rt, &words, rt.stdin(), rt.stdout()).0,
+    match arguments::arguments(&rt, "check_refs") {
+        Ok(arguments) => answer::<Options, _, _>(&rt, &arguments, rt.stdin(), rt.stdout()).0,
         Err(status) => status,
     }
 }

@@ -13,7 +13,7 @@ use Rattle.streams.specs.declared.header.Kind.TheVariants.{Blob, Tree, Commit, T
 use Rattle.streams.specs.declared.outcome.Verdict.{Verdict}
 use Rattle.streams.specs.Spelled as stream
 use Rattle.streams.specs.Spelled.{Spelled, Present, Absent, IsSpelled, spelled_said, IsCleanStream}
-use Rattle.check_submodules.specs.Lines.{place, line_if, line_of, lines_of, too_large_line}
+use Rattle.check_submodules.specs.Lines.{line_start, line_if, line_of, lines_of, too_large_line}
 use Rattle.check_submodules.specs.Report.{largest, file_lines, object_lines, submodules_rule}
 use Rattle.check_submodules.specs.Spelled.{IsAccepted, IsAcceptedFile, IsAcceptedObject, IsAcceptedStream, IsCleanIff}
 
@@ -39,7 +39,7 @@ none_by id name offset (Some fault) e = absurd (grind (arith, right_of _ (byte "
 
 accepts : (id : List ℕ) (s : ℕ × Option (List ℕ)) → is_empty (line_of id s) ≡ true → IsAccepted s
 accepts id (offset, Some name) e = none_by id name offset (fault_of name) e
-accepts id (offset, None) e = grind (arith, right_of (place id offset) (codes "a section can't be read\n") e)
+accepts id (offset, None) e = grind (arith, right_of (line_start id offset) (codes "a section can't be read\n") e)
 
 no_line : (id : List ℕ) (s : ℕ × Option (List ℕ)) → IsAccepted s → line_of id s ≡ []
 no_line id (offset, Some name) fine = ap (line_if id offset name) fine

@@ -20,7 +20,7 @@ use Rattle.streams.specs.declared.header.Kind.{Kind}
 use Rattle.streams.specs.declared.header.Kind.TheVariants.{Blob, Tree, Commit, Tag}
 use Rattle.streams.specs.Reports.{PrintsAtMost}
 use Rattle.streams.proofs.LinearReports.{quoted_length, id_length, IsObjectWithin, stream_prints_at_most}
-use Rattle.check_submodules.specs.Lines.{place, line_if, line_of, lines_of, too_large_line}
+use Rattle.check_submodules.specs.Lines.{line_start, line_if, line_of, lines_of, too_large_line}
 use Rattle.check_submodules.specs.Report.{largest, object_lines, submodules_rule, report}
 
 -- ---- a line
@@ -29,8 +29,8 @@ text_length : (fault : NameError) → length (text_of fault) ≤ 39
 text_length Empty = omega arith
 text_length ParentComponent = omega arith
 
-place_length : (id : List ℕ) (offset : ℕ) → length id ≤ 64 → offset ≤ largest → length (place id offset) ≤ 74
-place_length id offset short within =
+start_length : (id : List ℕ) (offset : ℕ) → length id ≤ 64 → offset ≤ largest → length (line_start id offset) ≤ 74
+start_length id offset short within =
     let digits = length-decimal-le 8 offset (omega arith) (omega (arith, within)) (omega (arith, within)) in
     grind (arith, length-append, digits)
 
@@ -38,10 +38,10 @@ if_length : (id : List ℕ) (offset : ℕ) (name : List ℕ) (fault : Option Nam
     → length (line_if id offset name fault) ≤ 4 * length name + 117
 if_length id offset name None short within = omega arith
 if_length id offset name (Some fault) short within =
-    grind (arith, length-append, place_length id offset short within, quoted_length name, text_length fault)
+    grind (arith, length-append, start_length id offset short within, quoted_length name, text_length fault)
 
 unreadable_length : (id : List ℕ) (offset : ℕ) → length id ≤ 64 → offset ≤ largest → length (line_of id (offset, None)) ≤ 98
-unreadable_length id offset short within = grind (arith, length-append, place_length id offset short within)
+unreadable_length id offset short within = grind (arith, length-append, start_length id offset short within)
 
 -- ---- names
 

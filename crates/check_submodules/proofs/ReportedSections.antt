@@ -10,7 +10,7 @@ use Rattle.gitmodules.specs.Sections.{sections}
 use Rattle.gitmodules.specs.Spelled.{SectionAt, name_of}
 use Rattle.gitmodules.proofs.SpelledSections.{each_section_found}
 use Rattle.gitmodules.proofs.ReadSections.{each_header_given, each_name_spelled}
-use Rattle.check_submodules.specs.Lines.{place, line_if, line_of, lines_of}
+use Rattle.check_submodules.specs.Lines.{line_start, line_if, line_of, lines_of}
 use Rattle.check_submodules.specs.Spelled.{HasLine, IsEachNameReported, IsEachHeaderReported}
 
 abbrev with_end : List ℕ → List ℕ
@@ -21,11 +21,11 @@ AreWhole lines = (own : List (List ℕ)) × (lines ≡ flat_map with_end own)
 
 fault_whole : (id name : List ℕ) (offset : ℕ) (fault : Option NameError) → AreWhole (line_if id offset name fault)
 fault_whole id name offset None = ([], refl)
-fault_whole id name offset (Some fault) = ((place id offset ++ quoted name ++ codes " " ++ text_of fault) ∷ [], grind (arith, append_assoc))
+fault_whole id name offset (Some fault) = ((line_start id offset ++ quoted name ++ codes " " ++ text_of fault) ∷ [], grind (arith, append_assoc))
 
 section_whole : (id : List ℕ) (s : ℕ × Option (List ℕ)) → AreWhole (line_of id s)
 section_whole id (offset, Some name) = fault_whole id name offset (fault_of name)
-section_whole id (offset, None) = ((place id offset ++ codes "a section can't be read") ∷ [], grind (arith, append_assoc))
+section_whole id (offset, None) = ((line_start id offset ++ codes "a section can't be read") ∷ [], grind (arith, append_assoc))
 
 line_among : (id : List ℕ) (all : List (ℕ × Option (List ℕ))) (s : ℕ × Option (List ℕ)) → Contains all s
     → (above : List (List ℕ)) × (below : List ℕ) × (lines_of id all ≡ flat_map with_end above ++ line_of id s ++ below)
@@ -50,7 +50,7 @@ each_name_reported id file offset name fault at is =
     subst (λ own. HasLine id file (line_if id offset name own)) is line
 
 header_reported : (id file : List ℕ) (offset : ℕ) (name : Option (List ℕ)) → Contains (sections 0 file) (offset, name)
-    → ((own : List ℕ) × SectionAt file offset own) ⊎ HasLine id file (place id offset ++ codes "a section can't be read\n")
+    → ((own : List ℕ) × SectionAt file offset own) ⊎ HasLine id file (line_start id offset ++ codes "a section can't be read\n")
 header_reported id file offset (Some name) there = inl (name, each_name_spelled file offset name there)
 header_reported id file offset None there = inr (line_among id (sections 0 file) (offset, None) there)
 

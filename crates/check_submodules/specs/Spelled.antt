@@ -10,7 +10,7 @@ use Rattle.streams.specs.declared.header.Kind.TheVariants.{Blob}
 use Rattle.streams.specs.declared.outcome.Verdict.{Verdict}
 use Rattle.streams.specs.declared.outcome.Verdict.TheVariants.{Clean}
 use Rattle.streams.specs.Spelled.{Spelled, Present, Absent, IsSpelled, spelling, end_of}
-use Rattle.check_submodules.specs.Lines.{place, lines_of}
+use Rattle.check_submodules.specs.Lines.{line_start, lines_of}
 use Rattle.check_submodules.specs.Report.{largest, submodules_rule}
 
 -- the lines of a file are whole lines, then these bytes, then others
@@ -23,13 +23,13 @@ HasLine id file line =
 abbrev pub IsEachNameReported : Type 0
 IsEachNameReported =
     (id file : List ℕ) (offset : ℕ) (name : List ℕ) (fault : NameError) → SectionAt file offset name → fault_of name ≡ Some fault
-    → HasLine id file (place id offset ++ quoted name ++ codes " " ++ text_of fault ++ codes "\n")
+    → HasLine id file (line_start id offset ++ quoted name ++ codes " " ++ text_of fault ++ codes "\n")
 
 -- at a header a section is spelled out, or else there is a line that says that it can't be read
 abbrev pub IsEachHeaderReported : Type 0
 IsEachHeaderReported =
     (id file : List ℕ) (offset : ℕ) → HeaderAt file offset
-    → ((name : List ℕ) × SectionAt file offset name) ⊎ HasLine id file (place id offset ++ codes "a section can't be read\n")
+    → ((name : List ℕ) × SectionAt file offset name) ⊎ HasLine id file (line_start id offset ++ codes "a section can't be read\n")
 
 -- ---- nothing refused
 

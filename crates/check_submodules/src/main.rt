@@ -8,8 +8,8 @@ mod check;
 mod report;
 
 use check::Options;
+use program::arguments;
 use program::arguments::Setting;
-use program::{arguments, words};
 use std::process::ExitCode;
 use streams::runs::answer;
 
@@ -65,8 +65,8 @@ impl<'a> arguments::Options<'a> for Options {
 }
 
 fn main(rt: HostRuntime) -> ExitCode {
-    match words(&rt, "check_submodules") {
-        Ok(words) => answer::<Options, _, _>(&rt, &words, rt.stdin(), rt.stdout()).0,
+    match arguments::arguments(&rt, "check_submodules") {
+        Ok(arguments) => answer::<Options, _, _>(&rt, &arguments, rt.stdin(), rt.stdout()).0,
         Err(status) => status,
     }
 }

@@ -3,7 +3,7 @@
 ghost use Rattle.std.specs.Prelude.{◌≡◌, ◌++◌, OnOk};
 ghost use Rattle.gitmodules.specs.Sections.{sections};
 ghost use Rattle.gitmodules.specs.Headers.{section_pair};
-ghost use Rattle.check_submodules.specs.Lines.{line_of, lines_of, place, too_large_line};
+ghost use Rattle.check_submodules.specs.Lines.{line_of, lines_of, line_start, too_large_line};
 
 use bstr::BStr;
 use gitmodules::{Section, Sections};
@@ -54,14 +54,14 @@ fn push_line(
     ensures { OnOk result (lines.new.items ≡ lines.old.items ++ line_of id.now (section_pair section.now)) }
 {
     let Some(escaped) = &section.name else {
-        push_place(id, section.offset, lines)?;
+        push_start(id, section.offset, lines)?;
         lines.extend_from_slice(b"a section can't be read\n")?;
         return Ok(());
     };
     name.clear();
     escaped.push_to(name)?;
     if let Err(fault) = submodule::name(BStr::new(name)) {
-        push_place(id, section.offset, lines)?;
+        push_start(id, section.offset, lines)?;
         push_quoted(lines, name)?;
         write!(lines, " {fault}\n")?;
     }
@@ -70,8 +70,8 @@ fn push_line(
 
 /// Appends the beginning of a line: the file's id, and the offset at which the section begins in
 /// it.
-fn push_place(id: &[u8], offset: usize, lines: &mut Vec<u8>) -> io::Result<()>
-    ensures { OnOk result (lines.new.items ≡ lines.old.items ++ place id.now offset) }
+fn push_start(id: &[u8], offset: usize, lines: &mut Vec<u8>) -> io::Result<()>
+    ensures { OnOk result (lines.new.items ≡ lines.old.items ++ line_start id.now offset) }
 {
     lines.extend_from_slice(id)?;
     write!(lines, " {offset} ")

@@ -86,10 +86,12 @@ id_taken front id rest start width left at long room =
 -- up to the NUL
 module _ (options : Options) (tree : ParsedObject) (left : ℕ) (out : Option (List ℕ)) {old new : Option (List ℕ)} {limit : ℕ} {front : List ℕ}
     (is : limit ≡ min left longest) where
-  pub gives_past : ReadsBefore nul limit old new front Limit → left < longest → IfSome old (λ text. EntryGives options tree left text new out out (Ok (Err Entry)))
+  pub gives_past : ReadsBefore nul limit old new front Limit → left < longest
+      → IfSome old (λ text. EntryGives options tree left text new out out (Ok (Err Entry)))
   gives_past read few = grind (arith, append-nil, length-append, first_past)
 
-  pub gives_long : ReadsBefore nul limit old new front Limit → longest ≤ left → IfSome old (λ text. EntryGives options tree left text new out out (Ok (Err TooLong)))
+  pub gives_long : ReadsBefore nul limit old new front Limit → longest ≤ left
+      → IfSome old (λ text. EntryGives options tree left text new out out (Ok (Err TooLong)))
   gives_long read many = grind (arith, append-nil, length-append, first_long)
 
   pub gives_cut : ReadsBefore nul limit old new front End → IfSome old (λ text. EntryGives options tree left text new out out (Ok (Err Ended)))

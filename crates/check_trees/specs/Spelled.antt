@@ -1,4 +1,4 @@
--- The same from the other side: a tree that is written out, entry by entry, and the streams of which nothing is refused.
+-- A tree that is written out, entry by entry, and the streams of which nothing is refused.
 use Rattle.std.specs.Prelude.{◌≡◌, ◌≢◌, ◌↔◌, ℕ, ◌+◌, ◌/◌, ◌≤◌, false, List, ◌∷◌, ◌++◌, All, length, map, flat_map, Some, None, ⊤}
 use Rattle.std.specs.List.{AllByRecursion}
 use Rattle.std.specs.Str.{byte}

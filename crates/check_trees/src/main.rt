@@ -8,7 +8,7 @@ mod entry;
 mod report;
 
 use check::CheckOptions;
-use program::words;
+use program::arguments::arguments;
 use std::process::ExitCode;
 use streams::runs::answer;
 
@@ -46,8 +46,13 @@ ntfs are both protected. ntfs without windows accepts a\\.git, which Windows
 reads as a path, and which `git fsck` refuses.";
 
 fn main(rt: HostRuntime) -> ExitCode {
-    match words(&rt, "check_trees") {
-        Ok(words) => answer::<CheckOptions<'_>, _, _>(&rt, &words, rt.stdin(), rt.stdout()).0,
+    match arguments(&rt, "check_trees") {
+        Ok(arguments) => answer::<CheckOptions<'_>, _, _>(
+            &rt,
+            &arguments,
+            rt.stdin(),
+            rt.stdout(),
+        ).0,
         Err(status) => status,
     }
 }

@@ -27,7 +27,7 @@ target_found x refs i r h e = grind (arith, length-map, find_at, slice_get-map, 
 pub no_target : (x : List ℕ) (es : Entries) → position (is_named x) es ≡ None → target_of es x ≡ None
 no_target x es h = grind (arith, find_at, slice_get_past)
 
--- A target is written at the place of its name.
+-- A target is written at the position of its name.
 
 pub target_written : (x : List ℕ) (es : Entries) (i : ℕ) (t : ObjectId) → position (is_named x) es ≡ Some i → target_of (set es i (x, t)) x ≡ Some t
 target_written x es i t h = grind (arith, find-set (is_named x) es i (x, t), bytes_eq-Decides)

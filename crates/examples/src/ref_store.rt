@@ -55,7 +55,7 @@ impl<'a> RefStore<'a> {
         ensures target { result ≡ target_of self.now (name_bytes name.entry) }
         ensures distinct { HasDistinctNames self.now }
     {
-        let i = self.place_of(name)?;
+        let i = self.index_of(name)?;
         Some(self.refs[i].target)
     }
 
@@ -68,7 +68,7 @@ impl<'a> RefStore<'a> {
         ensures same { OnErr result (self.new ≡ self.old) }
         ensures memory { OnErr result (target_of self.old (name_bytes name.entry) ≡ None) }
     {
-        match self.place_of(name) {
+        match self.index_of(name) {
             Some(i) => self.refs[i] = Reference { name, target },
             None => self.refs.push(Reference { name, target })?,
         }
@@ -76,8 +76,8 @@ impl<'a> RefStore<'a> {
     }
 
     /// The index of the first reference with this name.
-    fn place_of(&self, name: FullName<'_>) -> Option<usize>
-        ensures place { result ≡ position (is_named (name_bytes name.entry)) self.now }
+    fn index_of(&self, name: FullName<'_>) -> Option<usize>
+        ensures index { result ≡ position (is_named (name_bytes name.entry)) self.now }
         ensures distinct { HasDistinctNames self.now }
     {
         self.refs.iter().position(|it| it.name == name)

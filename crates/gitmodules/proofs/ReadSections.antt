@@ -1,5 +1,6 @@
 -- A section that is found, in the bytes of its file: how its header is spelled.
-use Rattle.std.proofs.Common.{◌≡◌, ◌≢◌, ℕ, ◌+◌, ◌<◌, ◌≤◌, ◌==◌, ◌&&◌, ◌||◌, not, if◌then◌else◌, Bool, true, false, inl, inr, List, [], ◌∷◌, ◌++◌, All, Some, None, Option, codes, map, length, take, drop, refl, ap, sym, subst, ◌∙◌, arith, append_assoc, add-zero, zero, suc}
+use Rattle.std.proofs.Common.{◌≡◌, ◌≢◌, ℕ, ◌+◌, ◌<◌, ◌≤◌, ◌==◌, ◌&&◌, ◌||◌, not, if◌then◌else◌, Bool, true, false, inl, inr, List, [], ◌∷◌, ◌++◌, All, Some}
+use Rattle.std.proofs.Common.{None, Option, codes, map, length, take, drop, refl, ap, sym, subst, ◌∙◌, arith, append_assoc, add-zero, zero, suc}
 use Rattle.std.specs.Prelude.{Contains, option_map}
 use Rattle.std.proofs.lemmas.Bool.{cases_Bool, eqb-true}
 use Rattle.std.proofs.lemmas.Bool.Decides.{nat_tests}
@@ -10,8 +11,10 @@ use Rattle.std.proofs.lemmas.Slice.Eq.{bytes_eq-Decides}
 use Rattle.std.specs.Char.{to_ascii_lowercase}
 use Rattle.std.specs.List.{AllByRecursion, AllPairs}
 use Rattle.std.specs.Str.{byte, bytes_eq}
-use Rattle.gitmodules.specs.Sections.{Header, Named, Unreadable, Other, is_never_in_name, is_blank, is_word_byte, closed, without_blanks, escaped_name, unescaped, named, quoted_header, header_after_word, header_after_bracket, begun, sections}
-use Rattle.gitmodules.specs.Spelled.{SpelledByte, IsSpelled, HeaderAt, is_other, spelled_name, name_of, section_bytes, IsEachNameSpelled, IsEachHeaderGiven, IsInOrder}
+use Rattle.gitmodules.specs.Sections.{Header, Named, Unreadable, Other, is_never_in_name, is_blank, is_word_byte, closed, without_blanks, escaped_name}
+use Rattle.gitmodules.specs.Sections.{unescaped, named, quoted_header, header_after_word, header_after_bracket, begun, sections}
+use Rattle.gitmodules.specs.Spelled.{SpelledByte, IsSpelled, HeaderAt, is_other, spelled_name, name_of, section_bytes, IsEachNameSpelled, IsEachHeaderGiven}
+use Rattle.gitmodules.specs.Spelled.{IsInOrder}
 use Rattle.gitmodules.proofs.SpelledSections.{in_parts, name_read, word_read, one_of_all, first_of_all}
 
 -- ---- names

@@ -1,5 +1,6 @@
 -- A section that is spelled out, in a file.
-use Rattle.std.proofs.Common.{◌==◌, if◌then◌else◌, Bool, add-zero, ◌≡◌, ◌≢◌, ℕ, ◌+◌, true, false, List, [], ◌∷◌, ◌++◌, Some, Option, codes, map, length, refl, ap, sym, subst, ◌∙◌, arith, append_assoc, take_at, drop_at}
+use Rattle.std.proofs.Common.{◌==◌, if◌then◌else◌, Bool, add-zero, ◌≡◌, ◌≢◌, ℕ, ◌+◌, true, false, List, [], ◌∷◌, ◌++◌, Some, Option, codes, map, length}
+use Rattle.std.proofs.Common.{refl, ap, sym, subst, ◌∙◌, arith, append_assoc, take_at, drop_at}
 use Rattle.std.specs.Prelude.{Contains}
 use Rattle.std.proofs.lemmas.List.{length-map}
 use Rattle.std.proofs.lemmas.List.Elements.{Contains-append_right}

@@ -1,7 +1,8 @@
 -- The submodules' sections of a `.gitmodules` file: where each begins, and its name. Files and names are lists of bytes, and offsets are in
 -- bytes. Each `[` that begins a submodule's section is one of them, wherever it is in the file, in a comment or a value too: what Git reads
 -- from a `[` on depends on the bytes after it alone. So nothing else of the file has to be understood, and no section that Git sees is missed.
-use Rattle.std.specs.Prelude.{ℕ, ◌+◌, Bool, true, false, ◌==◌, ◌&&◌, ◌||◌, not, nat_le, if◌then◌else◌, List, [], ◌∷◌, ◌++◌, take, drop, codes, Option, Some, None, option_map, map}
+use Rattle.std.specs.Prelude.{ℕ, ◌+◌, Bool, true, false, ◌==◌, ◌&&◌, ◌||◌, not, nat_le, if◌then◌else◌, List, [], ◌∷◌, ◌++◌, take, drop, codes, Option, Some}
+use Rattle.std.specs.Prelude.{None, option_map, map}
 use Rattle.std.specs.Str.{byte, bytes_eq}
 use Rattle.std.specs.Char.{to_ascii_lowercase}
 

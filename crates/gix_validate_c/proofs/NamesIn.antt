@@ -19,7 +19,8 @@ module _ (end : ℕ) (buffer : List ℕ) where
   unfolding names_in
   names_in-cut k (first, here) =
       let at : position_or_len (λ b. b == end) buffer ≡ k =
-      position_or_len_is (λ b. b == end) buffer k 0 (omega (arith, first.high)) (λ j below. false_from_ne_true _ (first.before j (omega arith) below)) (λ _. here) in
+      position_or_len_is (λ b. b == end) buffer k 0 (omega (arith, first.high))
+      (λ j below. false_from_ne_true _ (first.before j (omega arith) below)) (λ _. here) in
       let cut : slice_split (λ b. b == end) buffer
       ≡ before_first (λ b. b == end) buffer ∷ slice_split (λ b. b == end) (after_first (λ b. b == end) buffer) =
       slice_split_first (λ b. b == end) buffer 0 (rw at first.high) in

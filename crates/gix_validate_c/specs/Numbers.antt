@@ -28,7 +28,7 @@ tag_number tag.EndsWithDot = 9
 tag_number tag.EndsWithSlash = 10
 tag_number tag.Empty = 11
 
--- Those of reference names: the same for the same faults, and two more.
+-- Those of reference names: faults of tag names keep their numbers, and there are two more.
 abbrev pub reference_number : ReferenceError → ℕ
 reference_number (reference.InvalidByte b) = 1
 reference_number reference.StartsWithSlash = 2
@@ -65,7 +65,7 @@ abbrev pub invalid_byte_of : Option TagError → ℕ
 invalid_byte_of (Some (tag.InvalidByte b)) = b
 invalid_byte_of _ = 256
 
--- the same for a fault of reference names
+-- the byte of the fault `InvalidByte` of a reference name, and 256 where there is no such fault
 abbrev pub reference_invalid_byte_of : Option ReferenceError → ℕ
 reference_invalid_byte_of (Some (reference.InvalidByte b)) = b
 reference_invalid_byte_of _ = 256

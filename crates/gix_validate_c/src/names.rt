@@ -11,7 +11,8 @@ ghost use Rattle.gix_validate.specs.Submodule as submodule;
 ghost use Rattle.gix_validate.specs.Component as component;
 ghost use Rattle.gix_validate.specs.Windows.{is_device};
 ghost use Rattle.gix_validate_c.specs.Flags.{options_of, mode_of};
-ghost use Rattle.gix_validate_c.specs.Numbers.{code_by, tag_number, reference_number, submodule_number, component_number, invalid_byte_of, reference_invalid_byte_of};
+ghost use Rattle.gix_validate_c.specs.Numbers.{code_by, tag_number, reference_number, submodule_number, component_number, invalid_byte_of};
+ghost use Rattle.gix_validate_c.specs.Numbers.{reference_invalid_byte_of};
 
 use crate::fault::code;
 use crate::flags;

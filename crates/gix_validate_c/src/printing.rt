@@ -1,6 +1,7 @@
 //! Printed texts, made in a buffer that holds the longest of them.
 
-ghost use Rattle.std.specs.Prelude.{◌≡◌, ◌+◌, ◌*◌, ◌≤◌, ◌<◌, ◌++◌, length};
+ghost use Rattle.std.specs.Prelude.{◌≡◌, ◌+◌, ◌*◌, ◌≤◌, ◌<◌, ◌++◌, None, MatchOption, length};
+ghost use Rattle.std.specs.Option.{ForSome};
 ghost use Rattle.arrayvec.specs.ArrayVec.{array_vec_len};
 ghost use Rattle.gix_validate.specs.Quoted.{quoted, escape_of, hex_digit};
 ghost use Rattle.gix_validate_c.specs.Texts.{with_text};
@@ -14,26 +15,52 @@ pub const LONGEST_TEXT: usize = 134;
 /// A printed text.
 pub(crate) type Text = ArrayVec<u8, LONGEST_TEXT>;
 
-/// These words.
-pub(crate) fn plain(words: &[u8]) -> Text
-    requires { length words.now ≤ LONGEST_TEXT }
-    ensures { result.items ≡ words.now }
-{
-    ArrayVec::try_from(words).unwrap()
+/// The number of a fault, and what it prints: words, and then bytes in quotes, if there are any.
+#[derive(Clone, Copy)]
+pub(crate) struct Row<'a> {
+    pub(crate) number: u32,
+    pub(crate) words: &'static [u8],
+    pub(crate) quoted: Option<&'a [u8]>,
+    pub(crate) ghost words_fit: { length words.now ≤ 134 },
+    pub(crate) ghost text_fits: { ForSome quoted (λ bytes. length words.now + 4 * length bytes.now + 2 ≤ 134) },
 }
 
-/// These words, and then the bytes in quotes (docs/RULES.md, "Quoted bytes").
-pub(crate) fn quoting(words: &[u8], bytes: &[u8]) -> Text
-    requires { length words.now + 4 * length bytes.now + 2 ≤ LONGEST_TEXT }
-    ensures { result.items ≡ words.now ++ quoted bytes.now }
+/// The row of a fault that prints no bytes in quotes.
+pub(crate) fn plain(number: u32, words: &'static [u8]) -> Row<'static>
+    requires { length words.now ≤ LONGEST_TEXT }
+    ensures { (result.number ≡ number) × (result.words.now ≡ words.now) × (result.quoted ≡ None) }
 {
-    let mut text = plain(words);
+    Row {
+        number,
+        words,
+        quoted: None,
+    }
+}
+
+impl Row<'_> {
+    /// The text (docs/RULES.md, "Quoted bytes").
+    pub(crate) fn text(self) -> Text
+        ensures { MatchOption self.entry.quoted (result.items ≡ self.entry.words.now)
+            (λ bytes. result.items ≡ self.entry.words.now ++ quoted bytes.now) }
+    {
+        let mut text = ArrayVec::try_from(self.words).unwrap();
+        if let Some(bytes) = self.quoted {
+            push_quoted(&mut text, bytes);
+        }
+        text
+    }
+}
+
+/// Appends the bytes in quotes.
+fn push_quoted(text: &mut Text, bytes: &[u8])
+    requires { array_vec_len text.old + 4 * length bytes.now + 2 ≤ LONGEST_TEXT }
+    ensures { text.new.items ≡ text.old.items ++ quoted bytes.now }
+{
     text.push(b'"');
     for byte in bytes {
-        push_escape(&mut text, *byte);
+        push_escape(text, *byte);
     }
     text.push(b'"');
-    text
 }
 
 /// Appends one byte, as itself or as an escape of at most four bytes.

@@ -131,6 +131,6 @@ fn write_text<E: Fault + Drop>(answer: Result<BStr<'_>, E>, buffer: &mut [u8]) -
 {
     match answer {
         Ok(_) => 0,
-        Err(fault) => write_all(fault.text().as_slice(), buffer),
+        Err(fault) => write_all(fault.row().text().as_slice(), buffer),
     }
 }

@@ -64,7 +64,7 @@ after_effect options word name (Sets set) = Ok (set, None)
 after_effect options word name NeedsValue = Ok (options, Some name)
 after_effect options word name (Invalid value) = Err (WrongValue name value)
 
--- The same after a word. It is the value of this option, or NAME=VALUE, or the name of an option.
+-- the options after a word, NAME=VALUE or the name of an option, and the option that needs a value then
 abbrev pub set_parts : {V : Type 0} → OptionRule V → V → List ℕ → Option (List ℕ × List ℕ) → Result (V × Option (List ℕ)) WrongArgument
 set_parts rule options word None = after_effect options word word (rule word None options)
 set_parts rule options word (Some parts) = after_effect options word parts.0 (rule parts.0 (Some parts.1) options)

@@ -1,15 +1,23 @@
 //! The arguments of a program.
 
-ghost use Rattle.std.specs.Prelude.{◌≡◌, map};
+ghost use Rattle.std.specs.Prelude.{◌≡◌, IfErr, IfOk, drop, map};
 ghost use Rattle.std.specs.Option.{option_map};
+ghost use Rattle.std.specs.Process.{exit_status};
 ghost use Rattle.std.specs.Result.{result_map_both};
 ghost use Rattle.std.specs.Str.{byte};
 ghost use Rattle.std.specs.String.{string_bytes};
+ghost use Rattle.std.specs.Vec.Iter.{into_iter_items};
 ghost use Rattle.program.specs.Arguments.{OptionRule, effect_of, is_help, request_of, set_by, task_of, text_of, wrong_argument};
 ghost use Rattle.program.specs.Lines.{split_once};
 
+use crate::fail;
+use crate::outcome::RunError;
+use std::alloc::{AllocError, Global};
+use std::env::Args;
 use std::error::Error;
-use std::fmt;
+use std::io::ErrorKind;
+use std::process::ExitCode;
+use std::{env, fmt};
 
 /// What a program has to do.
 #[derive(Debug, Clone, Copy)]
@@ -86,6 +94,32 @@ impl fmt::Display for ArgumentError<'_> {
 
 impl Error for ArgumentError<'_> {}
 
+/// Returns the arguments of the program `name`, without its own name.
+///
+/// # Errors
+///
+/// The exit status 2, after a message on standard error, if an argument is not UTF-8 or memory
+/// can't be allocated.
+pub fn arguments(rt: &HostRuntime, name: &str) -> Result<Vec<String>, ExitCode>
+    ensures status { IfErr result (λ status. exit_status status ≡ 2) }
+{
+    match env::args(rt) {
+        Ok(args) => match after_first(rt.alloc(), args) {
+            Ok(arguments) => Ok(arguments),
+            Err(_) => Err(fail(rt, name, RunError::Memory)),
+        },
+        Err(e) if e.kind() == ErrorKind::OutOfMemory => Err(fail(rt, name, RunError::Memory)),
+        Err(_) => Err(fail(rt, name, "the arguments can't be read as UTF-8")),
+    }
+}
+
+/// All arguments but the first, in order.
+fn after_first(alloc: Global, args: Args) -> Result<Vec<String>, AllocError>
+    ensures { IfOk result (λ arguments. arguments.items ≡ drop 1 (into_iter_items args)) }
+{
+    args.skip(1).collect(alloc)
+}
+
 /// Reads the arguments: options, or the help or the version, if that argument comes before any that
 /// is wrong. An option's value is the next argument, or follows the name and `=`. A later option
 /// replaces an earlier one. It does not allocate.
@@ -93,13 +127,13 @@ impl Error for ArgumentError<'_> {}
 /// # Errors
 ///
 /// [`ArgumentError`] with the first argument that is wrong.
-pub fn request_of<'a, O: Options<'a>>(words: &'a [String]) -> Result<Request<O>, ArgumentError<'a>>
+pub fn request_of<'a, O: Options<'a>>(arguments: &'a [String]) -> Result<Request<O>, ArgumentError<'a>>
     ensures request { result_map_both (task_of O.view) wrong_argument result
-        ≡ request_of O.rule O.start (map string_bytes words.now) }
+        ≡ request_of O.rule O.start (map string_bytes arguments.now) }
 {
     let mut options = O::start();
     let mut option = None;
-    let mut rest = words;
+    let mut rest = arguments;
     while let [word, after @ ..] = rest {
         let word = word.as_str();
         match option {

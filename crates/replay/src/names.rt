@@ -104,8 +104,9 @@ fn sanitized(alloc: Global, name: BStr<'_>) -> Result<String, AllocError> {
     )
 }
 
-/// The same by the one that works in place, in a buffer that is longer than the name. If it changes
-/// a byte after the name, a plus sign and the bytes after the name follow.
+/// The sanitised name in hexadecimal, by the sanitiser that works in place, in a buffer that is
+/// longer than the name. If it changes a byte after the name, a plus sign and the bytes after the
+/// name follow.
 fn sanitized_in_place(alloc: Global, name: &[u8]) -> Result<String, AllocError> {
     let mut buffer = name.to_vec(alloc)?;
     buffer.extend_from_slice(AFTER)?;

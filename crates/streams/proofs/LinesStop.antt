@@ -51,7 +51,8 @@ module _ (reach : Reach) where
   extent_cut text none few = grind (arith, split_short line_end text longest none)
 
   -- a line that is found, and what is read for it
-  pub line_within : (front : List ℕ) (a b mid c : Option (List ℕ)) → ReadsBefore line_end longest a b front Byte → Consumes b mid [] → ReadsUpTo (reach front) mid c
+  pub line_within : (front : List ℕ) (a b mid c : Option (List ℕ)) → ReadsBefore line_end longest a b front Byte → Consumes b mid []
+      → ReadsUpTo (reach front) mid c
       → IfSome a (λ text. ReadsUpTo (extent reach text) (Some text) c)
   line_within front None b mid c read kept more = tt
   line_within front (Some x) None mid c read kept more = absurd read.bytes

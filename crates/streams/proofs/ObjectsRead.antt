@@ -1,4 +1,4 @@
--- An object's bytes, and then the LF behind them.
+-- An object's bytes, and then the LF after them.
 use Rattle.std.proofs.Common.{◌≡◌, ℕ, Bool, nat_lt, List, Option, None, Some, Result, Ok, Err, length, take, drop}
 use Rattle.std.proofs.Common.{refl, ◌∙◌, arith, drop_of_length-le}
 use Rattle.std.proofs.lemmas.Bool.Decides.{nat_tests}

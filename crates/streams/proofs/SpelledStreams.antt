@@ -86,7 +86,7 @@ module _ (rule : ObjectRule) (whole : Bool) where
     line_spelled rule whole object rest good,
   )
 
-  -- the same of many objects
+  -- many objects
   pub stream_reported : (number : ℕ) (stream : List Spelled) (rest : List ℕ) → AllByRecursion (IsSpelled rule whole) stream
       → lines_from (object_rule rule whole) (ending_of whole) number (flat_map spelling stream ++ rest)
       ≡ before_report (all_said (map (spelled_said rule) stream)) (lines_from (object_rule rule whole) (ending_of whole) (number + length stream) rest)

@@ -39,7 +39,7 @@ module _ (separator : ℕ) where
   split_nowhere (b ∷ text) none =
       grind (arith, nat_tests, All-head (λ c. c ≢ separator) b text none, split_nowhere text (All-tail (λ c. c ≢ separator) b text none))
 
-  -- the same of so many bytes of a text
+  -- a text of so many bytes
   pub split_within : (front rest : List ℕ) (n : ℕ) → All (λ b. b ≢ separator) front → length front < n
       → split_once separator (take n (front ++ separator ∷ rest)) ≡ Some (front, take (n - length front - 1) rest)
   split_within front rest n none less = grind (arith, take_past, split_found)
@@ -61,7 +61,7 @@ module _ (separator : ℕ) where
       All-from_get_or (λ b. b ≢ separator) (take k text) 0 (λ j below e. grind (arith, nat_tests, length-take, get_or-take, found.0.before j)) in
       ap (split_once separator) cut ∙ split_found (take k text) (drop (k + 1) text) none
 
--- ---- the same from the other side
+-- ---- from the other side
 
 abbrev pub IsCut : ℕ → List ℕ → List ℕ × List ℕ → Type 0
 IsCut separator text parts = (text ≡ parts.0 ++ separator ∷ parts.1) × AllByRecursion (λ b. b ≢ separator) parts.0

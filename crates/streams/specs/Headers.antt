@@ -33,7 +33,7 @@ kind_of_word text =
     if bytes_eq text (codes "tag") then Some Tag else
     None
 
--- a size and the rest of the line after it, where it is known what the first space behind the type divides
+-- a size and the rest of the line after it, where it is known what the first space after the size divides
 abbrev pub with_size : List ℕ → Kind → List ℕ → Option (List ℕ) → Option ParsedHeader
 with_size id kind digits rest =
     option_map (λ size. Object (record { id = id; kind = kind; size = size; rest = rest })) (number_of 10 digits)

@@ -17,12 +17,12 @@ Judged = Said × Option Fault
 abbrev pub ObjectRule : Type 0
 ObjectRule = (cut : Bool) → ParsedObject → List ℕ → Judged
 
--- what follows the LF behind an object
+-- what follows the LF after an object
 abbrev pub after_end : List ℕ → Result (List ℕ) Fault
 after_end [] = Err Ended
 after_end (b ∷ text) = if b == line_end then Ok text else Err LineEnd
 
--- an object that is judged so, and the text behind it
+-- an object that is judged so, and the text after it
 abbrev pub closed : Judged → List ℕ → Step
 closed (said, Some fault) text = (said, Err fault)
 closed (said, None) text = (said, after_end text)
@@ -40,7 +40,7 @@ header_rule rule whole (Some (Object object)) text = object_step rule object tex
 abbrev pub object_rule : ObjectRule → Bool → LineRule
 object_rule rule whole line text = header_rule rule whole (parsed_header line) text
 
--- how many bytes can belong to a header line: those of the object, and the byte behind it, which has to be LF
+-- how many bytes can belong to a header line: those of the object, and the byte after it, which has to be LF
 abbrev pub header_reach : Option ParsedHeader → ℕ
 header_reach None = 0
 header_reach (Some Missing) = 0

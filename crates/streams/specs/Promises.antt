@@ -50,7 +50,7 @@ pub record ReadsBefore (byte limit : ℕ) (old new : Option (List ℕ)) (front :
   pub none : All (λ b. b ≢ byte) front
   pub reach : Reaches limit old new front found
 
--- the same of a part of it, or where there is more to come
+-- a part of the front went to `front`, and there may be more to come
 abbrev pub Part : ℕ → ℕ → Option (List ℕ) → Option (List ℕ) → List ℕ → Option Found → Type 0
 Part byte limit old new front (Some found) = ReadsBefore byte limit old new front found
 Part byte limit old new front None = Consumes old new front × All (λ b. b ≢ byte) front × (length front ≤ limit)
@@ -105,7 +105,7 @@ FollowsRule wanted left old new (Ok (Ok refused)) =
 FollowsRule wanted left old new (Ok (Err fault)) = Appends old new wanted.0.lines × (wanted.1 ≡ Err fault)
 FollowsRule wanted left old new (Err stop) = AppendsPrefixOf old new wanted.0.lines
 
--- what a rule judges of an object, where the text behind its header may have fewer bytes than it: then the input ended within it
+-- what a rule judges of an object, where the text after its header may have fewer bytes than it: then the input ended within it
 abbrev pub or_cut : Bool → Judged → Judged
 or_cut cut (said, Some fault) = (said, Some fault)
 or_cut cut (said, None) = (said, when cut Ended)
@@ -114,12 +114,12 @@ abbrev pub judged_with_rest : Judged → List ℕ → Step
 judged_with_rest (said, Some fault) text = (said, Err fault)
 judged_with_rest (said, None) text = (said, Ok text)
 
--- an object's bytes in the text behind its header
+-- an object's bytes in the text after its header
 abbrev pub body_step : ObjectRule → ParsedObject → List ℕ → Step
 body_step rule object text =
     let cut = nat_lt (length text) object.size in judged_with_rest (or_cut cut (rule cut object (take object.size text))) (drop object.size text)
 
--- the LF behind an object was read
+-- the LF after an object was read
 abbrev pub Closes : Bool → List ℕ → Option (List ℕ) → Result (Result Bool Fault) RunError → Type 0
 Closes refused text new (Ok (Ok found)) = (found ≡ refused) × ((rest : List ℕ) × (new ≡ Some rest) × (after_end text ≡ Ok rest))
 Closes refused text new (Ok (Err fault)) = after_end text ≡ Err fault

@@ -1,7 +1,8 @@
 -- The report of a text that is read line by line: what each line and what belongs to it give, in order, up to the first
--- that is malformed. `Spelled` says the same from the other side, with no steps: what is reported of a stream that is written out,
+-- that is malformed. `Spelled` says it from the other side, with no steps: what is reported of a stream that is written out,
 -- object by object, and that no other text is well-formed.
-use Rattle.std.specs.Prelude.{◌≡◌, ℕ, zero, suc, ◌+◌, ◌*◌, ◌≤◌, Bool, true, false, ◌==◌, ◌||◌, nat_lt, if◌then◌else◌, List, [], ◌∷◌, ◌++◌, length, take, drop, codes}
+use Rattle.std.specs.Prelude.{◌≡◌, ℕ, zero, suc, ◌+◌, ◌*◌, ◌≤◌, Bool, true, false, ◌==◌, ◌||◌, nat_lt, if◌then◌else◌, List, [], ◌∷◌, ◌++◌, length, take}
+use Rattle.std.specs.Prelude.{drop, codes}
 use Rattle.std.specs.Prelude.{Option, Some, None, Result, Ok, Err, IfOk, option_map}
 use Rattle.std.specs.Str.{bytes_eq}
 use Rattle.gix_validate.specs.Faults.{when}
@@ -41,7 +42,7 @@ all_said (first ∷ more) = then_said first (all_said more)
 abbrev pub Step : Type 0
 Step = Said × Result (List ℕ) Fault
 
--- A rule of lines: what it gives for a line without its end, and the text behind it, of which a front may belong to the line.
+-- A rule of lines: what it gives for a line without its end, and the text after it, whose front may belong to the line.
 abbrev pub LineRule : Type 0
 LineRule = (line text : List ℕ) → Step
 
@@ -123,7 +124,7 @@ report rule ending text = lines_from rule ending 1 text
 
 -- what a run says of a text
 abbrev pub verdict_by : Bool → Option (ℕ × Fault) → Verdict
-verdict_by refused (Some place) = Malformed place.0 place.1
+verdict_by refused (Some malformed) = Malformed malformed.0 malformed.1
 verdict_by refused None = if refused then Refused else Clean
 
 abbrev pub verdict_of : Report → Verdict
@@ -137,7 +138,7 @@ is_malformed (Malformed number fault) = true
 
 -- ---- what is read where a line is malformed
 
--- how many bytes of the text behind a line, which is given without its end, can belong to it
+-- how many bytes of the text after a line, which is given without its end, can belong to it
 abbrev pub Reach : Type 0
 Reach = List ℕ → ℕ
 
@@ -146,7 +147,7 @@ abbrev pub extent_with : Reach → Option (List ℕ × List ℕ) → ℕ
 extent_with reach None = longest
 extent_with reach (Some parts) = length parts.0 + 1 + reach parts.0
 
--- the same of the first line of a text
+-- the most bytes of the first line of a text with its end and what can belong to it
 unfoldable pub extent : Reach → List ℕ → ℕ
 extent reach text = extent_with reach (split_once line_end (take longest text))
 

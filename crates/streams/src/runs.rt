@@ -56,28 +56,28 @@ pub trait Check<'a>: Options<'a> {
 /// writer.
 pub fn answer<'a, C: Check<'a>, R: Read + Drop, W: Write + Drop>(
     rt: &HostRuntime,
-    words: &'a [String],
+    arguments: &'a [String],
     input: R,
     output: W,
 ) -> (ExitCode, Option<W>)
     ensures written { IfSome result.1 (λ writer. IfSome (R.remaining input) (λ text. (options : C)
-        → AsksFor C.rule C.start words.now (C.view options)
+        → AsksFor C.rule C.start arguments.now (C.view options)
         → Appends (W.contents output) (W.contents writer) (C.report options text).said.lines)) }
-    ensures given { (options : C) → AsksFor C.rule C.start words.now (C.view options)
+    ensures given { (options : C) → AsksFor C.rule C.start arguments.now (C.view options)
         → exit_status result.0 ≢ 2 → IsSome result.1 }
     ensures clean { IfSome (R.remaining input) (λ text. (options : C)
-        → AsksFor C.rule C.start words.now (C.view options)
+        → AsksFor C.rule C.start arguments.now (C.view options)
         → exit_status result.0 ≡ 0 → verdict_of (C.report options text) ≡ Verdict.Clean) }
     ensures accepted { IfSome (R.remaining input) (λ text. (options : C)
-        → AsksFor C.rule C.start words.now (C.view options)
+        → AsksFor C.rule C.start arguments.now (C.view options)
         → exit_status result.0 ≡ 0 → C.accepts options text) }
     ensures refused { IfSome (R.remaining input) (λ text. (options : C)
-        → AsksFor C.rule C.start words.now (C.view options)
+        → AsksFor C.rule C.start arguments.now (C.view options)
         → exit_status result.0 ≡ 1 → verdict_of (C.report options text) ≡ Verdict.Refused) }
-    ensures unknown { IsErr (request_of C.rule C.start (map string_bytes words.now)) → exit_status result.0 ≡ 2 }
+    ensures unknown { IsErr (request_of C.rule C.start (map string_bytes arguments.now)) → exit_status result.0 ≡ 2 }
     ensures status { exit_status result.0 ≤ 2 }
 {
-    match request_of::<C>(words) {
+    match request_of::<C>(arguments) {
         Ok(Request::Check(options)) => exit_code(rt, options, input, output),
         Ok(Request::Help) => (print(rt, C::NAME, C::HELP), None),
         Ok(Request::Version) => {

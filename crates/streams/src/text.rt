@@ -18,8 +18,8 @@ use memchr::memchr;
 pub fn split_once(separator: u8, text: &[u8]) -> Option<(&[u8], &[u8])>
     ensures parts { option_map (λ parts. (parts.0.now, parts.1.now)) result ≡ split_once separator text.now }
 {
-    let place = memchr(separator, text)?;
-    Some((&text[..place], &text[place + 1..]))
+    let offset = memchr(separator, text)?;
+    Some((&text[..offset], &text[offset + 1..]))
 }
 
 /// Whether the bytes are a full object id: 40 or 64 hexadecimal digits in lower case.
@@ -44,7 +44,7 @@ fn are_hex_digits(text: &[u8]) -> bool
     are_digits
 }
 
-/// The number that the digits stand for in this base, if it is below 2^64. The base is at most ten.
+/// The number that the digits spell in this base, if it is below 2^64. The base is at most ten.
 ///
 /// ```
 /// number_of(8, b"100644"); // Some(0o100644)

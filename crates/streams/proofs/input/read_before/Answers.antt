@@ -5,7 +5,7 @@ use Rattle.streams.specs.declared.input.Found.{Found}
 use Rattle.streams.specs.Promises.{ReadsBefore, Part}
 use Rattle.streams.proofs.input.read_before.Goals as goal
 
--- a part behind what was read before
+-- a part after what was read before
 Fronts_more : (byte limit room : ℕ) (a b c : Option (List ℕ)) (done part new : List ℕ) (found : Found) → room + length done ≡ limit → new ≡ done ++ part
     → Consumes a b done → All (λ x. x ≢ byte) done → ReadsBefore byte room b c part found → ReadsBefore byte limit a c new found
 Fronts_more byte limit room a b c done part new found whole is first none front = grind (arith, common_steps)

@@ -3,4 +3,5 @@ use Rattle.examples.proofs.checkout.Place.path.Goals as goal
 
 pub returns-clause-accepted : goal.returns-clause-accepted
 returns-clause-accepted c =
-    rw (← c.self.view_is) (pieces_accepted c.self.inside.options c.self.inside.names.items c.join.result c.self.inside.accepted (rw c.deref.ensures.value at c.join.ensures.pieces))
+    rw (← c.self.view_is) (pieces_accepted c.self.inside.options c.self.inside.names.items c.join.result
+    c.self.inside.accepted (rw c.deref.ensures.value at c.join.ensures.pieces))

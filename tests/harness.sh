@@ -37,12 +37,10 @@ is_whole=
 trap 'ended $?' EXIT
 
 ended() {
-    if [[ -z $is_whole ]]; then
-        echo "$suite: FAILED: it stopped before its end"
-        set -- 1
-    fi
     rm -rf -- "$room" "$tally"
-    exit "$1"
+    [[ -n $is_whole ]] && exit "$1"
+    echo "$suite: FAILED: it stopped before its end"
+    exit 1
 }
 
 # Ends the script before it has run a case. leave STATUS
@@ -51,24 +49,15 @@ leave() {
     exit "$1"
 }
 
-tell() {
-    printf '%s\n' "$*" >> "$tally"
-}
-
 pass() {
-    tell "pass $current"
-}
-
-# failed WHAT
-failed() {
-    tell "fail $current"
-    echo "FAILED: ${current:+$current: }${1:0:500}"
+    echo "pass $current" >> "$tally"
 }
 
 # no WHAT: a check failed. A script can have a function `show`, which prints what the check saw.
 no() {
-    failed "$1"
-    ! declare -F show > /dev/null || show | cat -v | sed 's/^/    /' || true
+    echo "fail $current" >> "$tally"
+    echo "FAILED: ${current:+$current: }${1:0:500}"
+    [[ -z $current ]] || ! declare -F show > /dev/null || show | cat -v | sed 's/^/    /' || true
 }
 
 # check WHAT COMMAND..
@@ -79,10 +68,7 @@ check() {
 # Some cases can't run here. not_run WHY CASE..
 not_run() {
     echo "not run: $1"
-    for current in "${@:2}"; do
-        tell "skip $current"
-    done
-    current=
+    printf 'skip %s\n' "${@:2}" >> "$tally"
 }
 
 # Runs a case, if it is to run. try CASE ARGUMENT..
@@ -99,7 +85,7 @@ part() {
         wait -n || true
     done
     started+=("${*:2}")
-    { "${@:2}"; tell "end ${*:2}"; } > "$room/part ${#started[@]}" 2>&1 &
+    { "${@:2}"; echo "end ${*:2}" >> "$tally"; } > "$room/part ${#started[@]}" 2>&1 &
 }
 
 # Waits for all parts, and shows what they printed.
@@ -108,16 +94,15 @@ end_parts() {
     wait
     for number in "${!started[@]}"; do
         cat -- "$room/part $((number + 1))"
-        grep -q -x -F -e "end ${started[number]}" -- "$tally" || failed "it stopped before its end: ${started[number]}"
+        grep -q -x -F -e "end ${started[number]}" -- "$tally" || no "it stopped before its end: ${started[number]}"
     done
-    started=()
 }
 
 # Prints the last line. The status is 0 if each check passed.
 finish() {
-    local passed count
-    for current in "${due[@]}"; do
-        grep -q -x -e "[a-z]* $current" -- "$tally" || failed 'it made no check'
+    local name passed count
+    for name in "${due[@]}"; do
+        grep -q -x -e "[a-z]* $name" -- "$tally" || no "$name: it made no check"
     done
     passed=$(grep -c '^pass' -- "$tally") || true
     count=$(grep -c '^fail' -- "$tally") || true

@@ -9,23 +9,18 @@
 #include <time.h>
 
 uint32_t gix_validate_tag(const uint8_t *name, size_t len);
-uint32_t gix_validate_partial(const uint8_t *name, size_t len);
 uint32_t gix_validate_full(const uint8_t *name, size_t len);
-uint32_t gix_validate_branch(const uint8_t *name, size_t len);
 uint32_t gix_validate_submodule(const uint8_t *name, size_t len);
 uint32_t gix_validate_component(const uint8_t *name, size_t len, uint32_t flags);
-bool gix_validate_is_windows_device(const uint8_t *name, size_t len);
+size_t gix_validate_full_many(const uint8_t *names, size_t len, uint8_t end, uint8_t *faults, size_t faults_len);
 size_t gix_validate_sanitize_in_place(uint8_t *buffer, size_t buffer_len, size_t len);
 size_t gix_validate_sanitize(const uint8_t *name, size_t len, uint8_t *buffer, size_t buffer_len);
 
 #ifdef CRATE
 uint32_t crate_tag(const uint8_t *name, size_t len);
-uint32_t crate_partial(const uint8_t *name, size_t len);
 uint32_t crate_full(const uint8_t *name, size_t len);
-uint32_t crate_branch(const uint8_t *name, size_t len);
 uint32_t crate_submodule(const uint8_t *name, size_t len);
 uint32_t crate_component(const uint8_t *name, size_t len, uint32_t flags);
-uint32_t crate_is_windows_device(const uint8_t *name, size_t len);
 size_t crate_sanitize(const uint8_t *name, size_t len, uint8_t *out);
 #endif
 #ifdef LIBGIT2
@@ -39,7 +34,8 @@ struct name {
 
 static struct name *names;
 static size_t count;
-static uint8_t *buffer;
+static uint8_t *buffer, *all;
+static size_t all_len;
 
 /* So many calls, and the sum of their results, so that no call can be left out. */
 #define EACH(result)                                                                                                   \
@@ -52,26 +48,19 @@ static uint8_t *buffer;
         }                                                                                                              \
         return sum;                                                                                                    \
     }
-static size_t nothing(void) { return 0; }
 static size_t tag(void) EACH(gix_validate_tag(bytes, len))
-static size_t partial(void) EACH(gix_validate_partial(bytes, len))
 static size_t full(void) EACH(gix_validate_full(bytes, len))
-static size_t branch(void) EACH(gix_validate_branch(bytes, len))
 static size_t submodule(void) EACH(gix_validate_submodule(bytes, len))
 static size_t component(void) EACH(gix_validate_component(bytes, len, 7))
-static size_t symlink(void) EACH(gix_validate_component(bytes, len, 15))
-static size_t is_windows_device(void) EACH(gix_validate_is_windows_device(bytes, len))
 static size_t sanitize(void) EACH(gix_validate_sanitize(bytes, len, buffer, len + 1))
 static size_t in_place(void) EACH((memcpy(buffer, bytes, len), gix_validate_sanitize_in_place(buffer, len + 1, len)))
+/* All names, with the newlines between them, in one call. */
+static size_t full_many(void) { return gix_validate_full_many(all, all_len, '\n', buffer, count); }
 #ifdef CRATE
 static size_t c_tag(void) EACH(crate_tag(bytes, len))
-static size_t c_partial(void) EACH(crate_partial(bytes, len))
 static size_t c_full(void) EACH(crate_full(bytes, len))
-static size_t c_branch(void) EACH(crate_branch(bytes, len))
 static size_t c_submodule(void) EACH(crate_submodule(bytes, len))
 static size_t c_component(void) EACH(crate_component(bytes, len, 7))
-static size_t c_symlink(void) EACH(crate_component(bytes, len, 15))
-static size_t c_is_windows_device(void) EACH(crate_is_windows_device(bytes, len))
 static size_t c_sanitize(void) EACH(crate_sanitize(bytes, len, buffer))
 #endif
 #ifdef LIBGIT2
@@ -88,13 +77,11 @@ static const struct call {
     const char *name;
     size_t (*pass)(void);
 } calls[] = {
-    {"nothing", nothing}, {"tag", tag}, {"partial", partial}, {"full", full}, {"branch", branch},
-    {"submodule", submodule}, {"component", component}, {"symlink", symlink}, {"sanitize", sanitize},
-    {"is_windows_device", is_windows_device}, {"sanitize_in_place", in_place},
+    {"tag", tag}, {"full", full}, {"full_many", full_many}, {"submodule", submodule}, {"component", component},
+    {"sanitize", sanitize}, {"sanitize_in_place", in_place},
 #ifdef CRATE
-    {"crate_tag", c_tag}, {"crate_partial", c_partial}, {"crate_full", c_full}, {"crate_branch", c_branch},
-    {"crate_submodule", c_submodule}, {"crate_component", c_component}, {"crate_symlink", c_symlink},
-    {"crate_is_windows_device", c_is_windows_device}, {"crate_sanitize", c_sanitize},
+    {"crate_tag", c_tag}, {"crate_full", c_full}, {"crate_submodule", c_submodule}, {"crate_component", c_component},
+    {"crate_sanitize", c_sanitize},
 #endif
 #ifdef LIBGIT2
     {"libgit2_tag", l_tag}, {"libgit2_full", l_full},
@@ -131,14 +118,22 @@ static void read_names(const char *path)
             perror("memory");
             exit(2);
         }
+        all = realloc(all, all_len + (size_t)len + 1);
+        if (!all) {
+            perror("memory");
+            exit(2);
+        }
         memcpy(names[count].bytes, line, (size_t)len);
+        memcpy(all + all_len, line, (size_t)len);
+        all_len += (size_t)len;
+        all[all_len++] = '\n';
         names[count].bytes[len] = 0;
         count++;
         longest = (size_t)len > longest ? (size_t)len : longest;
     }
     fclose(file);
     free(line);
-    buffer = malloc(longest + 1);
+    buffer = malloc((longest > count ? longest : count) + 1);
 }
 
 int main(int argc, char **argv)

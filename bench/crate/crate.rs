@@ -45,12 +45,6 @@ pub unsafe extern "C" fn crate_component(name: *const u8, len: usize, flags: u32
     path::component(bytes(name, len), mode, options).is_err() as u32
 }
 
-/// Whether the name is a device's, which isn't whether it is refused.
-#[no_mangle]
-pub unsafe extern "C" fn crate_is_windows_device(name: *const u8, len: usize) -> u32 {
-    path::component_is_windows_device(bytes(name, len)) as u32
-}
-
 /// The length of the repaired name, which is written to `out`. That has room for `len` bytes, and for one.
 #[no_mangle]
 pub unsafe extern "C" fn crate_sanitize(name: *const u8, len: usize, out: *mut u8) -> usize {

@@ -38,30 +38,14 @@ import ctypes
 import enum
 import os
 from pathlib import Path
-from typing import Any, Callable, Dict, Iterable, List, Optional, Tuple, Union
+from typing import Any, Dict, Iterable, List, Optional, Tuple, Union
 
 __all__ = [
-    "Fault",
-    "InvalidName",
-    "Kind",
-    "branch_name",
-    "fault_numbers",
-    "faults",
-    "first_invalid",
-    "full_name",
-    "is_valid_branch_name",
-    "is_valid_full_name",
-    "is_valid_partial_name",
-    "is_valid_path_component",
-    "is_valid_submodule_name",
-    "is_valid_tag_name",
-    "is_windows_device",
-    "partial_name",
-    "path_component",
-    "sanitize",
-    "submodule_name",
-    "tag_name",
-    "version",
+    "Fault", "InvalidName", "Kind",
+    "tag_name", "partial_name", "full_name", "branch_name", "submodule_name", "path_component",
+    "is_valid_tag_name", "is_valid_partial_name", "is_valid_full_name", "is_valid_branch_name",
+    "is_valid_submodule_name", "is_valid_path_component", "is_windows_device",
+    "sanitize", "fault_numbers", "faults", "first_invalid", "version",
 ]
 
 _VERSION = (2, 1, 0)
@@ -167,52 +151,37 @@ def _version_of(library: ctypes.CDLL) -> Tuple[int, int, int]:
 
 
 _loaded = _library()
+_BYTES = ctypes.c_char_p, ctypes.c_size_t
 
 
 def _function(name: str, result: Any, *more: Any) -> Any:
-    """A call of the library that takes the bytes of a name, their number, and `more`."""
+    """A function of the library that takes the bytes of a name, their number, and `more`."""
     function = _loaded[f"gix_validate_{name}"]
-    function.argtypes = [ctypes.c_char_p, ctypes.c_size_t, *more]
+    function.argtypes = [*_BYTES, *more]
     function.restype = result
     return function
 
 
-def _code_and_text(name: str, *more: Any) -> Tuple[Callable[..., int], Callable[..., int]]:
-    text = _function(f"{name}_text", ctypes.c_size_t, *more, ctypes.c_char_p, ctypes.c_size_t)
-    return _function(name, ctypes.c_uint32, *more), text
-
-
-_tag, _tag_text = _code_and_text("tag")
-_partial, _partial_text = _code_and_text("partial")
-_full, _full_text = _code_and_text("full")
-_branch, _branch_text = _code_and_text("branch")
-_submodule, _submodule_text = _code_and_text("submodule")
-_component, _component_text = _code_and_text("component", ctypes.c_uint32)
+# What each kind of name takes beside its bytes, and its functions: the number of a fault, its text, and many numbers.
+_kinds: Dict[str, List[Any]] = {kind.value: [] for kind in Kind}
+_kinds["component"] = [ctypes.c_uint32]
+_code = {kind: _function(kind, ctypes.c_uint32, *more) for kind, more in _kinds.items()}
+_text = {kind: _function(f"{kind}_text", ctypes.c_size_t, *more, *_BYTES) for kind, more in _kinds.items()}
+_many = {kind: _function(f"{kind.value}_many", ctypes.c_size_t, ctypes.c_uint8, *_BYTES) for kind in Kind}
 _invalid_byte = _function("invalid_byte", ctypes.c_uint32)
 _is_windows_device = _function("is_windows_device", ctypes.c_bool)
-_sanitize = _function("sanitize", ctypes.c_size_t, ctypes.c_char_p, ctypes.c_size_t)
-_codes = {
-    Kind.TAG: _tag,
-    Kind.PARTIAL: _partial,
-    Kind.FULL: _full,
-    Kind.BRANCH: _branch,
-    Kind.SUBMODULE: _submodule,
-}
-_many = {
-    kind: _function(f"{kind.value}_many", ctypes.c_size_t, ctypes.c_uint8, ctypes.c_char_p, ctypes.c_size_t)
-    for kind in Kind
-}
+_sanitize = _function("sanitize", ctypes.c_size_t, *_BYTES)
 _fault_of: List[Optional[Fault]] = [None, *Fault]
 
 
 def tag_name(name: Bytes) -> bytes:
     """Returns `name` if it is a valid name of a tag, such as b"v1.2.3"; otherwise raises InvalidName."""
-    return _accepted(name, _tag, _tag_text)
+    return _accepted(name, "tag")
 
 
 def partial_name(name: Bytes) -> bytes:
     """Returns `name` if it is a valid partial name of a reference, such as b"main"; otherwise raises InvalidName."""
-    return _accepted(name, _partial, _partial_text)
+    return _accepted(name, "partial")
 
 
 def full_name(name: Bytes) -> bytes:
@@ -220,7 +189,7 @@ def full_name(name: Bytes) -> bytes:
 
     A full name has a slash, like b"refs/heads/main", or has no byte but A to Z and _, like b"HEAD".
     """
-    return _accepted(name, _full, _full_text)
+    return _accepted(name, "full")
 
 
 def branch_name(name: Bytes) -> bytes:
@@ -228,12 +197,12 @@ def branch_name(name: Bytes) -> bytes:
 
     b"HEAD" and b"refs/tags/v1" pass too: put b"refs/heads/" before a branch's short name.
     """
-    return _accepted(name, _branch, _branch_text)
+    return _accepted(name, "branch")
 
 
 def submodule_name(name: Bytes) -> bytes:
     """Returns `name` if it is a valid name of a submodule, such as b"vendor/package"; otherwise raises InvalidName."""
-    return _accepted(name, _submodule, _submodule_text)
+    return _accepted(name, "submodule")
 
 
 def path_component(
@@ -249,39 +218,39 @@ def path_component(
     if `windows` and `ntfs` are both set. `ntfs` without `windows` accepts b"a\\.git", which Windows reads as a path and
     `git fsck` refuses.
     """
-    return _accepted(name, _component, _component_text, _flags(windows, hfs, ntfs, symlink))
+    return _accepted(name, "component", _flags(windows, hfs, ntfs, symlink))
 
 
 def is_valid_tag_name(name: Bytes) -> bool:
     """Whether `tag_name` accepts the name."""
-    return not _tag(*_given(name))
+    return not _code["tag"](*_given(name))
 
 
 def is_valid_partial_name(name: Bytes) -> bool:
     """Whether `partial_name` accepts the name."""
-    return not _partial(*_given(name))
+    return not _code["partial"](*_given(name))
 
 
 def is_valid_full_name(name: Bytes) -> bool:
     """Whether `full_name` accepts the name."""
-    return not _full(*_given(name))
+    return not _code["full"](*_given(name))
 
 
 def is_valid_branch_name(name: Bytes) -> bool:
     """Whether `branch_name` accepts the name."""
-    return not _branch(*_given(name))
+    return not _code["branch"](*_given(name))
 
 
 def is_valid_submodule_name(name: Bytes) -> bool:
     """Whether `submodule_name` accepts the name."""
-    return not _submodule(*_given(name))
+    return not _code["submodule"](*_given(name))
 
 
 def is_valid_path_component(
     name: Bytes, *, windows: bool = True, hfs: bool = True, ntfs: bool = True, symlink: bool = False
 ) -> bool:
     """Whether `path_component` accepts the name."""
-    return not _component(*_given(name), _flags(windows, hfs, ntfs, symlink))
+    return not _code["component"](*_given(name), _flags(windows, hfs, ntfs, symlink))
 
 
 def is_windows_device(name: Bytes) -> bool:
@@ -293,7 +262,7 @@ def is_windows_device(name: Bytes) -> bool:
 def sanitize(name: Bytes) -> bytes:
     """Repairs any bytes to a valid partial name of a reference. A valid one is returned as it is."""
     name, length = _given(name)
-    if not _partial(name, length):
+    if not _code["partial"](name, length):
         return name
     buffer = ctypes.create_string_buffer(max(1, length))
     return ctypes.string_at(buffer, _sanitize(name, length, buffer, len(buffer)))
@@ -308,16 +277,13 @@ def fault_numbers(buffer: Bytes, kind: Kind, end: bytes = b"\n") -> bytes:
     end, ends = _given(end, "the end of a name")
     if ends != 1:
         raise ValueError(f"the end of a name has to be one byte, not {ends}")
-    many, last = _of_kind(_many, kind), bytes.__getitem__(end, 0)
-    room = length // 8 + 1
-    count, numbers = _numbers(many, buffer, length, last, room)
-    return numbers if count <= room else _numbers(many, buffer, length, last, count)[1]
+    return _numbers(_checked(kind), buffer, length, bytes.__getitem__(end, 0), length // 8 + 1)
 
 
 def faults(names: Iterable[Bytes], kind: Kind) -> List[Optional[Fault]]:
     """Checks many names: returns None for each that is valid, and the fault of each that isn't, in order."""
     numbers = _numbers_of_each(names, kind)
-    if _all_zero(numbers):
+    if numbers == bytes(len(numbers)):
         return [None] * len(numbers)
     return [_fault_of[number] for number in numbers]
 
@@ -325,7 +291,7 @@ def faults(names: Iterable[Bytes], kind: Kind) -> List[Optional[Fault]]:
 def first_invalid(names: Iterable[Bytes], kind: Kind) -> Optional[int]:
     """Checks many names: returns the index of the first that is invalid, and None if all are valid."""
     numbers = _numbers_of_each(names, kind)
-    return None if _all_zero(numbers) else len(numbers) - len(numbers.lstrip(b"\0"))
+    return None if numbers == bytes(len(numbers)) else len(numbers) - len(numbers.lstrip(b"\0"))
 
 
 def version() -> Tuple[int, int, int]:
@@ -346,51 +312,38 @@ def _flags(windows: bool, hfs: bool, ntfs: bool, symlink: bool) -> int:
     return bool(windows) | bool(hfs) << 1 | bool(ntfs) << 2 | bool(symlink) << 3
 
 
-def _of_kind(functions: Dict[Kind, Callable[..., int]], kind: Kind) -> Callable[..., int]:
+def _checked(kind: Kind) -> Kind:
     if not isinstance(kind, Kind):
         raise TypeError(f"a kind has to be a Kind, not {type(kind).__name__}")
-    return functions[kind]
+    return kind
 
 
-def _numbers(many: Callable[..., int], buffer: bytes, length: int, end: int, room: int) -> Tuple[int, bytes]:
-    """How many names the buffer has, and their numbers, as many as there is room for."""
+def _numbers(kind: Kind, buffer: bytes, length: int, end: int, room: int) -> bytes:
+    """The number of each name of the buffer. `room` is how many there may be."""
     numbers = ctypes.create_string_buffer(room)
-    count = many(buffer, length, end, numbers, room)
-    return count, ctypes.string_at(numbers, min(count, room))
+    count = _many[kind](buffer, length, end, numbers, room)
+    return ctypes.string_at(numbers, count) if count <= room else _numbers(kind, buffer, length, end, count)
 
 
 def _numbers_of_each(names: Iterable[Bytes], kind: Kind) -> bytes:
     """The number of each name. A name that holds a NUL can't be in a buffer in which NUL ends each name."""
-    many, code_of = _of_kind(_many, kind), _of_kind(_codes, kind)
-    parts = names if type(names) is list else list(names)
-    wanted = len(parts)
-    if list(map(type, parts)).count(bytes) == wanted:
-        buffer = b"\0".join(parts)
-        if not buffer or buffer.endswith(b"\0"):
-            buffer += b"\0"  # (which ends the last name, if that is empty)
-        count, numbers = _numbers(many, buffer, len(buffer), 0, wanted)
-        if count == wanted:
+    code_of = _code[_checked(kind).value]
+    parts = names if type(names) is list else [*names]
+    if list(map(type, parts)).count(bytes) == len(parts):
+        buffer = b"\0".join(parts) + b"\0"
+        numbers = _numbers(kind, buffer, len(buffer), 0, len(parts))
+        if len(numbers) == len(parts):
             return numbers
     return bytes([code_of(*_given(name)) for name in parts])
 
 
-def _all_zero(numbers: bytes) -> bool:
-    return numbers == bytes(len(numbers))
-
-
-def _accepted(name: Bytes, code_of: Callable[..., int], text_of: Callable[..., int], *flags: int) -> bytes:
+def _accepted(name: Bytes, kind: str, *flags: int) -> bytes:
     name, length = _given(name)
-    code = code_of(name, length, *flags)
-    if code:
-        raise _refused(name, length, code, text_of, flags)
-    return name
-
-
-def _refused(
-    name: bytes, length: int, code: int, text_of: Callable[..., int], flags: Tuple[int, ...]
-) -> InvalidName:
-    buffer = ctypes.create_string_buffer(_TEXT_MAX)
-    written = text_of(name, length, *flags, buffer, len(buffer))
+    code = _code[kind](name, length, *flags)
+    if not code:
+        return name
+    text = ctypes.create_string_buffer(_TEXT_MAX)
+    written = _text[kind](name, length, *flags, text, len(text))
     fault = Fault(code)
     byte = _invalid_byte(name, length) if fault is Fault.INVALID_BYTE else None
-    return InvalidName(name, fault, buffer.raw[:written].decode("ascii"), byte)
+    raise InvalidName(name, fault, text.raw[:written].decode("ascii"), byte)

@@ -1,4 +1,4 @@
-//! Prints how long gitoxide takes for what it does with many names, in a repository that bench/gitoxide makes: a line for
+//! Prints how long gitoxide takes for what it does with many names, in a repository that bench/run makes: a line for
 //! each call with its name, the number of its results, and its processor time in milliseconds, which is the least of a few
 //! passes.
 //!

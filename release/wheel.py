@@ -1,4 +1,4 @@
-"""wheel.py ROOT SHARED_OBJECT VERSION OUT: packs the Python module and the shared object as a wheel.
+"""wheel.py FOLDER OUT: packs a folder as a wheel, named by the folder and the tags of its file WHEEL.
 
 The same input gives the same bytes; the files' date is that of SOURCE_DATE_EPOCH.
 """
@@ -10,38 +10,18 @@ import time
 import zipfile
 from pathlib import Path
 
-root, shared, version, out = Path(sys.argv[1]), Path(sys.argv[2]), sys.argv[3], Path(sys.argv[4])
-tags = ["manylinux_2_17_x86_64", "manylinux2014_x86_64", "musllinux_1_1_x86_64"]
-info = f"gix_validate-{version}.dist-info"
-metadata = f"""Metadata-Version: 2.1
-Name: gix-validate
-Version: {version}
-Summary: Proved validation of the names that Git uses
-Author: The authors of Dihareku
-License: MIT OR Apache-2.0
-Classifier: License :: OSI Approved :: MIT License
-Classifier: License :: OSI Approved :: Apache Software License
-Classifier: Operating System :: POSIX :: Linux
-Classifier: Typing :: Typed
-Requires-Python: >=3.7
-Description-Content-Type: text/markdown
+folder, out = Path(sys.argv[1]), Path(sys.argv[2])
+info = next(folder.glob("*.dist-info"))
+tags = [line.split("-")[-1] for line in (info / "WHEEL").read_text().splitlines() if line.startswith("Tag: ")]
+files = {str(path.relative_to(folder)): path.read_bytes() for path in sorted(folder.rglob("*")) if path.is_file()}
+record = f"{info.name}/RECORD"
+lines = ""
+for name, data in files.items():
+    digest = base64.urlsafe_b64encode(hashlib.sha256(data).digest()).rstrip(b"=").decode()
+    lines += f"{name},sha256={digest},{len(data)}\n"
+files[record] = f"{lines}{record},,\n".encode()
 
-""" + (root / "release/python.md").read_text(encoding="utf-8")
-wheel = "Wheel-Version: 1.0\nGenerator: gix-validate release\nRoot-Is-Purelib: false\n" + "".join(f"Tag: py3-none-{it}\n" for it in tags)
-files = {
-    "gix_validate/__init__.py": (root / "bindings/python/gix_validate.py").read_bytes(),
-    "gix_validate/libgix_validate_c.so": shared.read_bytes(),
-    "gix_validate/py.typed": b"",
-    f"{info}/METADATA": metadata.encode(),
-    f"{info}/WHEEL": wheel.encode(),
-}
-for licence in sorted((root / "release/licences").iterdir()) + sorted(root.glob("LICENSE-*")):
-    files[f"{info}/licenses/{licence.name}"] = licence.read_bytes()
-sums = {name: base64.urlsafe_b64encode(hashlib.sha256(data).digest()).rstrip(b"=").decode() for name, data in files.items()}
-record = "".join(f"{name},sha256={sums[name]},{len(data)}\n" for name, data in files.items())
-files[f"{info}/RECORD"] = f"{record}{info}/RECORD,,\n".encode()
-
-with zipfile.ZipFile(out / f"gix_validate-{version}-py3-none-{'.'.join(tags)}.whl", "w") as packed:
+with zipfile.ZipFile(out / f"{info.stem}-py3-none-{'.'.join(tags)}.whl", "w") as packed:
     for name, data in files.items():
         entry = zipfile.ZipInfo(name, time.gmtime(int(os.environ["SOURCE_DATE_EPOCH"]))[:6])
         entry.create_system = 3  # Unix, wherever this runs

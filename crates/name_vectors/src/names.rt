@@ -1,105 +1,125 @@
 //! Tag names, reference names and submodule names (docs/RULES.md, the sections of these names).
 
 use crate::text::{contains_one, is_bad, joined};
-use crate::verdict::Verdict;
 use std::alloc::{AllocError, Global};
 
-const BRANCH_HEAD: &[u8] = b"refs/heads/HEAD";
+/// An error of a name: what `tag::NameError` prints, what `reference::NameError` prints, and what
+/// stands quoted after that, if anything does. Of a valid name all are empty.
+pub(crate) type Fault<'a> = [&'a [u8]; 3];
 
-/// The error at the offset between these two, if it is there only once.
-fn at_offset(before: &[u8], here: &[u8]) -> Verdict {
-    let is_last_of_lock = before.len() > 4 && before.ends_with(b".loc") && here == b"k".as_slice();
-    let found = match here.first() {
-        Some(byte) if is_bad(*byte) => Verdict::InvalidByte(*byte),
-        _ => Verdict::Valid,
-    };
-    let found = with(found, here.starts_with(b"*"), Verdict::Asterisk);
-    let found = with(found, meet(before, b".", here, b"."), Verdict::RepeatedDot);
-    let found = with(
-        found,
-        meet(before, b"/", here, b"."),
-        Verdict::StartsWithDot,
-    );
-    let found = with(
-        found,
-        meet(before, b"@", here, b"{"),
-        Verdict::ReflogPortion,
-    );
-    let found = with(
-        found,
-        meet(before, b"/", here, b"/"),
-        Verdict::RepeatedSlash,
-    );
-    let found = with(
-        found,
-        meet(before, b".lock", here, b"/"),
-        Verdict::LockFileSuffix,
-    );
-    with(found, is_last_of_lock, Verdict::LockFileSuffix)
-}
+const VALID: Fault<'static> = [b"", b"", b""];
 
-/// Whether `before` ends with `last`, and `here` starts with `next`.
-fn meet(before: &[u8], last: &[u8], here: &[u8], next: &[u8]) -> bool {
-    before.ends_with(last) && here.starts_with(next)
-}
+const EMPTY: Fault<'static> = [
+    b"A ref must not be empty",
+    b"Reference name cannot be empty",
+    b"",
+];
 
-/// What was found at an offset, and this error if it is there.
-fn with(found: Verdict, is_there: bool, error: Verdict) -> Verdict {
-    if !is_there {
-        found
-    } else if found == Verdict::Valid {
-        error
-    } else {
-        Verdict::TwoErrors
-    }
-}
+const ENDS_WITH_SLASH: Fault<'static> = [
+    b"A ref must not end with a '/'",
+    b"Reference name cannot end with a slash",
+    b"",
+];
 
-/// The error at the lowest offset that has one, unless an offset has two.
-fn at_lowest_offset(text: &[u8]) -> Verdict {
-    let mut lowest = Verdict::Valid;
+const STARTS_WITH_SLASH: Fault<'static> = [
+    b"A reference name must not start with a slash '/'",
+    b"Reference name cannot start with a slash",
+    b"",
+];
+
+const STARTS_WITH_DOT: Fault<'static> = [
+    b"A ref must not start with a '.'",
+    b"Reference name cannot start with a dot",
+    b"",
+];
+
+const ENDS_WITH_DOT: Fault<'static> = [
+    b"A ref must not end with a '.'",
+    b"Reference name cannot end with a dot",
+    b"",
+];
+
+const LOCK_FILE_SUFFIX: Fault<'static> = [
+    b"A ref must not end with '.lock'",
+    b"Reference name cannot end with '.lock'",
+    b"",
+];
+
+/// What a bad byte's error prints before the quoted byte.
+pub(crate) const INVALID_BYTE: [&[u8]; 2] = [
+    b"A ref must not contain invalid bytes or ascii control characters: ",
+    b"Reference name contains invalid byte: ",
+];
+
+/// What the error of a reserved name prints before the quoted name.
+pub(crate) const RESERVED: &[u8] = b"Reference name is reserved and cannot be used: ";
+
+const SOME_LOWERCASE: Fault<'static> = [
+    b"",
+    b"Standalone references must be all uppercased, like 'HEAD'",
+    b"",
+];
+
+/// The errors at an offset: what the bytes before it end with, what the bytes from it on start with.
+#[rattlefmt::skip]
+const AT_OFFSET: &[(&[u8], &[u8], Fault<'static>)] = &[
+    (b"", b"*", [b"A ref must not contain '*' character", b"Reference name cannot contain '*'", b""]),
+    (b".", b".", [b"A ref must not contain '..' as it may be mistaken for a range", b"Reference name cannot contain repeated dots", b""]),
+    (b"/", b".", STARTS_WITH_DOT),
+    (b"@", b"{", [b"A ref must not contain '@{' which is a part of a ref-log", b"Reference name cannot contain '@{'", b""]),
+    (b"/", b"/", [b"Multiple slashes in a row are not allowed as they may change the reference's meaning", b"Reference name cannot contain repeated slashes", b""]),
+    (b".lock", b"/", LOCK_FILE_SUFFIX),
+];
+
+/// The error at the lowest offset that has one. (The last byte of `.lock` at the end has no other.)
+fn at_lowest_offset(text: &[u8]) -> Fault<'_> {
     for offset in 0..text.len() {
-        let found = at_offset(&text[..offset], &text[offset..]);
-        if lowest == Verdict::Valid || found == Verdict::TwoErrors {
-            lowest = found;
+        let (before, here) = (&text[..offset], &text[offset..]);
+        if is_bad(text[offset]) {
+            return [INVALID_BYTE[0], INVALID_BYTE[1], &text[offset..offset + 1]];
+        }
+        for (last, next, fault) in AT_OFFSET {
+            if before.ends_with(last) && here.starts_with(next) {
+                return *fault;
+            }
         }
     }
-    lowest
+    if text.ends_with(b".lock") && text != b".lock".as_slice() {
+        LOCK_FILE_SUFFIX
+    } else {
+        VALID
+    }
 }
 
 /// The first error of a tag name.
-fn of_tag(text: &[u8]) -> Verdict {
-    let lowest = at_lowest_offset(text);
-    if lowest == Verdict::TwoErrors {
-        Verdict::TwoErrors
-    } else if text.is_empty() {
-        Verdict::Empty
-    } else if text.ends_with(b"/") {
-        Verdict::EndsWithSlash
-    } else if text.starts_with(b"/") {
-        Verdict::StartsWithSlash
-    } else if lowest != Verdict::Valid {
-        lowest
-    } else if text.starts_with(b".") {
-        Verdict::StartsWithDot
-    } else if text.ends_with(b".") {
-        Verdict::EndsWithDot
-    } else {
-        Verdict::Valid
+fn of_tag(text: &[u8]) -> Fault<'_> {
+    if text.is_empty() {
+        return EMPTY;
     }
+    if text.ends_with(b"/") {
+        return ENDS_WITH_SLASH;
+    }
+    if text.starts_with(b"/") {
+        return STARTS_WITH_SLASH;
+    }
+    let lowest = at_lowest_offset(text);
+    let lowest = or_else(lowest, text.starts_with(b"."), STARTS_WITH_DOT);
+    or_else(lowest, text.ends_with(b"."), ENDS_WITH_DOT)
 }
 
 /// The first error as a tag name, a partial name, a full name and the name of a branch.
-pub(crate) fn of_references(text: &[u8]) -> [Verdict; 4] {
+pub(crate) fn of_references(text: &[u8]) -> [Fault<'_>; 4] {
+    let reserved = [b"", RESERVED, text];
     let tag = of_tag(text);
-    let partial = or_else(tag, text == b"@".as_slice(), Verdict::ReservedAt);
-    let full = or_else(partial, !may_stand(text), Verdict::SomeLowercase);
-    let branch = or_else(full, text == BRANCH_HEAD, Verdict::ReservedBranchHead);
+    let partial = or_else(tag, text == b"@".as_slice(), reserved);
+    let full = or_else(partial, !may_stand(text), SOME_LOWERCASE);
+    let branch = or_else(full, text == b"refs/heads/HEAD".as_slice(), reserved);
     [tag, partial, full, branch]
 }
 
 /// The error that was found before, or else this one if it is there.
-fn or_else(found: Verdict, is_there: bool, error: Verdict) -> Verdict {
-    if found == Verdict::Valid && is_there {
+fn or_else<'a>(found: Fault<'a>, is_there: bool, error: Fault<'a>) -> Fault<'a> {
+    if found[1].is_empty() && is_there {
         error
     } else {
         found
@@ -116,29 +136,40 @@ fn may_stand(text: &[u8]) -> bool {
     true
 }
 
-/// Whether the rules for these four accept the name, by what it may not have. The slashes around it are for what a piece may not start with or end in.
-pub(crate) fn accepted(alloc: Global, text: &[u8]) -> Result<[bool; 4], AllocError> {
-    let mut has_bad = false;
-    for byte in text {
-        has_bad = has_bad || is_bad(*byte);
-    }
+/// How many of these four rules accept the name, by what it may not have. The slashes around it are
+/// for what a piece may not start with or end in.
+pub(crate) fn accepting(alloc: Global, text: &[u8]) -> Result<usize, AllocError> {
     let pieces = joined(alloc, b"/", text, b"/")?;
-    let is_tag = !has_bad
-        && !contains_one(&pieces, &[b"*", b"//", b"/.", b"..", b"@{", b".lock/"])
-        && !text.ends_with(b".");
-    let is_partial = is_tag && text != b"@".as_slice();
-    let is_full = is_partial && may_stand(text);
-    Ok([is_tag, is_partial, is_full, is_full && text != BRANCH_HEAD])
+    for byte in text {
+        if is_bad(*byte) {
+            return Ok(0);
+        }
+    }
+    if contains_one(&pieces, &[b"*", b"//", b"/.", b"..", b"@{", b".lock/"])
+        || text.ends_with(b".")
+    {
+        return Ok(0);
+    }
+    Ok(if text == b"@".as_slice() {
+        1
+    } else if !may_stand(text) {
+        2
+    } else if text == b"refs/heads/HEAD".as_slice() {
+        3
+    } else {
+        4
+    })
 }
 
-/// The error of a submodule name, one of whose parts is `..`. The slashes around it end its parts.
-pub(crate) fn of_submodule(alloc: Global, text: &[u8]) -> Result<Verdict, AllocError> {
+/// What the error of a submodule name prints, one of whose parts is `..`. The slashes around it end
+/// its parts.
+pub(crate) fn of_submodule(alloc: Global, text: &[u8]) -> Result<&'static [u8], AllocError> {
     let parts = joined(alloc, b"/", text, b"/")?;
     Ok(if text.is_empty() {
-        Verdict::Empty
+        b"Submodule names cannot be empty"
     } else if contains_one(&parts, &[b"/../", b"/..\\", b"\\../", b"\\..\\"]) {
-        Verdict::ParentComponent
+        b"Submodules names must not contains '..'"
     } else {
-        Verdict::Valid
+        b""
     })
 }

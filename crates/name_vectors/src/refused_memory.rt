@@ -5,9 +5,8 @@
 //! allocations of its own that this one is the one that fails. In the last test none of the calls'
 //! allocations fails.
 
-use crate::expect::holds;
-use crate::worked::{join_components, join_names};
 use bstr::{BStr, BString};
+use examples::literals::{release_tag, workflow};
 use gix_validate::reference::name_partial_or_sanitize;
 use std::alloc::{AllocError, Global};
 use std::process::Abort;
@@ -17,8 +16,8 @@ use std::test::Fail;
 const CALLS: [(&str, &[u8]); 4] = [
     ("sanitize_nothing", b"-"),
     ("sanitize_pieces", b"refs/heads/-/x/-y-"),
-    ("reference_join", b"@/v1.0"),
-    ("path_join", b"src/.github/a.rs"),
+    ("reference_join", b"refs/tags/v1.0"),
+    ("path_join", b".github/workflows/ci.yml"),
 ];
 
 /// What the call at this index returns. Each allocates once.
@@ -26,8 +25,8 @@ fn given(alloc: Global, call: usize) -> Result<BString, AllocError> {
     match call {
         0 => name_partial_or_sanitize(alloc, BStr::new(b"")),
         1 => name_partial_or_sanitize(alloc, BStr::new(b"refs//heads/../x.lock.lock/.y*")),
-        2 => join_names(alloc, b"@", b"v1.0"),
-        _ => join_components(alloc, &[b"src", b".github", b"a.rs"]),
+        2 => release_tag(alloc),
+        _ => workflow(alloc),
     }
 }
 
@@ -57,7 +56,7 @@ fn check_with_refused<R: Abort + AllocGlobal + Print>(rt: &R, request: usize) ->
                 is_right(rt.alloc(), call, wanted)?
             }
         };
-        holds(rt, right);
+        assert!(rt; right);
         say(rt, name, "answered")?;
     }
     Ok(())

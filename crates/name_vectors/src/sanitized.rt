@@ -39,14 +39,14 @@ fn cleaned(alloc: Global, piece: &[u8]) -> Result<Vec<u8>, AllocError> {
 
 /// What the first byte of a run gives, depending on what is before it in the piece.
 fn cleaned_byte(before: &[u8], byte: u8) -> u8 {
-    if byte == b'.' && before.is_empty()
-        || byte == b'{' && before.ends_with(b"@")
-        || byte == b'*'
-        || is_bad(byte)
-    {
-        b'-'
-    } else {
-        byte
+    if is_bad(byte) {
+        return b'-';
+    }
+    match byte {
+        b'*' => b'-',
+        b'.' if before.is_empty() => b'-',
+        b'{' if before.ends_with(b"@") => b'-',
+        _ => byte,
     }
 }
 

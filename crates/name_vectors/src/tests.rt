@@ -1,11 +1,9 @@
 //! The functions of the library, compared with the second implementation on many names.
 
-mod single;
-mod tables;
-
 use crate::agree::check;
-use crate::expect::counted;
-use crate::text::joined;
+use crate::component::{DEVICES, NAMES_OF_MODULES};
+use crate::text::{before_first, joined, spelled};
+use crate::units::{IGNORED_CHARACTERS, ROWS};
 use std::alloc::{AllocError, Global};
 use std::process::Abort;
 
@@ -22,140 +20,277 @@ const MARKS: &[&[u8]] = &[b".", b"/", b"@", b"{", b"a", b"*"];
 /// The suffix that Git reserves for its own files, among the special bytes of the other rules.
 const SUFFIXES: &[&[u8]] = &[b".lock", b"/", b".", b"a", b"@", b"{"];
 
-/// Checks each name of the front and at most `most` parts, and that there are so many.
-fn check_parts<R: Abort + AllocGlobal>(
-    rt: &R,
-    front: &[u8],
-    (parts, most): (&[&[u8]], usize),
-    want: usize,
+/// Checks all names of at most five parts whose number is below the end.
+fn check_numbered(
+    rt: &impl Abort,
+    alloc: Global,
+    parts: &[&[u8]],
+    end: usize,
 ) -> Result<(), AllocError> {
-    let mut checked: usize = 0;
-    for count in 0..most.saturating_add(1) {
-        let mut numbers: usize = 1;
-        for _ in 0..count {
-            numbers = numbers.saturating_mul(parts.len());
-        }
-        for number in 0..numbers {
-            let back = text_of(rt.alloc(), parts, count, number)?;
-            check(rt, rt.alloc(), &joined(rt.alloc(), front, &back, b"")?)?;
-            checked = checked.saturating_add(1);
-        }
+    for number in 0..end {
+        check(rt, alloc, &numbered(alloc, parts, number)?)?;
     }
-    counted(rt, checked, want);
     Ok(())
 }
 
-/// `count` parts, one after the other. Their indices are the digits of `number`, in the base of how
-/// many parts there are.
-fn text_of(
-    alloc: Global,
-    parts: &[&[u8]],
-    count: usize,
-    mut number: usize,
-) -> Result<Vec<u8>, AllocError> {
+/// The name of at most five parts with this number. Shorter names have the lower numbers: 0 is the
+/// empty name, and with N parts those of one part are 1 to N.
+fn numbered(alloc: Global, parts: &[&[u8]], number: usize) -> Result<Vec<u8>, AllocError> {
     let mut text = Vec::new(alloc);
-    if !parts.is_empty() {
-        for _ in 0..count {
-            text.extend_from_slice(parts[number % parts.len()])?;
-            number /= parts.len();
+    let mut left = number;
+    for _ in 0..5 {
+        if left > 0 && !parts.is_empty() {
+            left -= 1;
+            text.extend_from_slice(parts[left % parts.len()])?;
+            left /= parts.len();
         }
     }
     Ok(text)
 }
 
 #[test]
-fn answers_texts_of_five_marks_from_dots(rt: HostRuntime) -> Result<(), AllocError> {
-    check(&rt, rt.alloc(), b"")?;
-    check_parts(&rt, b".", (MARKS, 4), 1_555)?;
-    check_parts(&rt, b"/", (MARKS, 4), 1_555)
+fn agrees_on_names_of_five_marks(rt: HostRuntime) -> Result<(), AllocError> {
+    check_numbered(&rt, rt.alloc(), MARKS, 1 + 6 + 36 + 216 + 1_296 + 7_776)
 }
 
 #[test]
-fn answers_texts_of_five_marks_from_ats(rt: HostRuntime) -> Result<(), AllocError> {
-    check_parts(&rt, b"@", (MARKS, 4), 1_555)?;
-    check_parts(&rt, b"{", (MARKS, 4), 1_555)
+fn agrees_on_names_of_four_marks_and_suffixes(rt: HostRuntime) -> Result<(), AllocError> {
+    check_numbered(&rt, rt.alloc(), SUFFIXES, 1 + 6 + 36 + 216 + 1_296)
 }
 
 #[test]
-fn answers_texts_of_five_marks_from_letters(rt: HostRuntime) -> Result<(), AllocError> {
-    check_parts(&rt, b"a", (MARKS, 4), 1_555)?;
-    check_parts(&rt, b"*", (MARKS, 4), 1_555)
+fn agrees_on_names_of_three_tokens(rt: HostRuntime) -> Result<(), AllocError> {
+    check_numbered(&rt, rt.alloc(), TOKENS, 1 + 16 + 256 + 4_096)
 }
 
-#[test]
-fn answers_all_texts_of_four_marks_and_suffixes(rt: HostRuntime) -> Result<(), AllocError> {
-    check_parts(&rt, b"", (SUFFIXES, 4), 1_555)
-}
+/// What is around each byte: in a name of one piece, in one of several, and after the first two
+/// bytes of an ignored character.
+const AROUND: &[(&[u8], &[u8])] = &[
+    (b"a", b"b"),
+    (b"refs/heads/a", b"b"),
+    (b".g\xE2\x80", b"it"),
+    (b".g\xE2\x81", b"it"),
+    (b".g\xEF\xBB", b"it"),
+];
 
-#[test]
-fn answers_texts_of_three_tokens_from_words(rt: HostRuntime) -> Result<(), AllocError> {
-    check(&rt, rt.alloc(), b"")?;
-    for front in TOKENS.get(..8).unwrap_or(TOKENS) {
-        check_parts(&rt, front, (TOKENS, 2), 273)?;
+/// Checks the byte within names.
+fn check_around(rt: &impl Abort, alloc: Global, byte: u8) -> Result<(), AllocError> {
+    for (front, back) in AROUND {
+        check(rt, alloc, &joined(alloc, front, &[byte], back)?)?;
     }
     Ok(())
 }
 
-#[test]
-fn answers_texts_of_three_tokens_from_others(rt: HostRuntime) -> Result<(), AllocError> {
-    for front in TOKENS.get(8..).unwrap_or(TOKENS) {
-        check_parts(&rt, front, (TOKENS, 2), 273)?;
-    }
-    Ok(())
-}
-
-/// Checks each name of one or two bytes whose first is between these: 32 of them.
-fn check_pairs<R: Abort + AllocGlobal>(rt: &R, least: u8, greatest: u8) -> Result<(), AllocError> {
-    let mut checked: usize = 0;
+/// Checks these bytes within names, and each name of one or two bytes whose first is one of them.
+fn check_bytes(rt: &impl Abort, alloc: Global, least: u8, greatest: u8) -> Result<(), AllocError> {
     for first in least..=greatest {
-        check(rt, rt.alloc(), &[first])?;
-        checked = checked.saturating_add(1);
+        check_around(rt, alloc, first)?;
+        check(rt, alloc, &[first])?;
         for second in 0..=u8::MAX {
-            check(rt, rt.alloc(), &[first, second])?;
-            checked = checked.saturating_add(1);
+            check(rt, alloc, &[first, second])?;
         }
     }
-    counted(rt, checked, 32 * 257);
     Ok(())
 }
 
 #[test]
-fn answers_texts_of_two_bytes_from_00(rt: HostRuntime) -> Result<(), AllocError> {
-    check(&rt, rt.alloc(), b"")?;
-    check_pairs(&rt, 0x00, 0x1F)
+fn agrees_on_names_of_two_bytes_from_00(rt: HostRuntime) -> Result<(), AllocError> {
+    check_bytes(&rt, rt.alloc(), 0x00, 0x3F)
 }
 
 #[test]
-fn answers_texts_of_two_bytes_from_20(rt: HostRuntime) -> Result<(), AllocError> {
-    check_pairs(&rt, 0x20, 0x3F)
+fn agrees_on_names_of_two_bytes_from_40(rt: HostRuntime) -> Result<(), AllocError> {
+    check_bytes(&rt, rt.alloc(), 0x40, 0x7F)
 }
 
 #[test]
-fn answers_texts_of_two_bytes_from_40(rt: HostRuntime) -> Result<(), AllocError> {
-    check_pairs(&rt, 0x40, 0x5F)
+fn agrees_on_names_of_two_bytes_from_80(rt: HostRuntime) -> Result<(), AllocError> {
+    check_bytes(&rt, rt.alloc(), 0x80, 0xBF)
 }
 
 #[test]
-fn answers_texts_of_two_bytes_from_60(rt: HostRuntime) -> Result<(), AllocError> {
-    check_pairs(&rt, 0x60, 0x7F)
+fn agrees_on_names_of_two_bytes_from_c0(rt: HostRuntime) -> Result<(), AllocError> {
+    check_bytes(&rt, rt.alloc(), 0xC0, 0xFF)
+}
+
+/// Checks each word between these two. Returns how many names that were.
+fn check_between(
+    rt: &impl Abort,
+    alloc: Global,
+    (front, back): (&[u8], &[u8]),
+    words: &[&[u8]],
+) -> Result<usize, AllocError> {
+    let mut checked: usize = 0;
+    for word in words {
+        check(rt, alloc, &joined(alloc, front, word, back)?)?;
+        checked = checked.saturating_add(1);
+    }
+    Ok(checked)
+}
+
+/// Checks the name with each word at each offset, in place of a byte or, if `len` is 0, between two.
+/// Returns how many names that were.
+fn check_changed(
+    rt: &impl Abort,
+    alloc: Global,
+    (name, len): (&[u8], usize),
+    words: &[&[u8]],
+) -> Result<usize, AllocError> {
+    let mut checked: usize = 0;
+    for offset in 0..name.len() + 1 {
+        let back = name.get(offset.saturating_add(len)..).unwrap_or(b"");
+        let more = check_between(rt, alloc, (&name[..offset], back), words)?;
+        checked = checked.saturating_add(more);
+    }
+    Ok(checked)
+}
+
+/// Whether the letters at even and at odd offsets are uppercase: all, none, or every other one.
+const SPELLINGS: &[(bool, bool)] = &[(true, true), (false, false), (true, false)];
+
+/// Checks the name in three spellings, with each word at each offset, as `check_changed` does.
+fn check_spelled(
+    rt: &impl Abort,
+    alloc: Global,
+    (name, len): (&[u8], usize),
+    words: &[&[u8]],
+) -> Result<usize, AllocError> {
+    let mut checked: usize = 0;
+    for (even, odd) in SPELLINGS {
+        let name = spelled(alloc, name, (*even, *odd))?;
+        let more = check_changed(rt, alloc, (&name, len), words)?;
+        checked = checked.saturating_add(more);
+    }
+    Ok(checked)
+}
+
+/// Words beside a device.
+const TAILS: &[&[u8]] = &[b"", b".x", b" :x", b"x"];
+
+/// The digits, the bytes next to them, and nothing.
+#[rattlefmt::skip]
+const DIGITS: &[&[u8]] = &[
+    b"", b"/", b"0", b"1", b"2", b"3", b"4", b"5", b"6", b"7", b"8", b"9", b":",
+];
+
+/// The names for `.git` and `.gitmodules`. So each short name is checked by the length of its prefix,
+/// and with each digit.
+#[rattlefmt::skip]
+const SHORT_NAMES: &[&[u8]] = &[
+    b".git", b"git~1", b".gitmodules", b"gitmod~1", b"~1000000", b"g~100000", b"gi~10000",
+    b"gi7~1000", b"gi7e~100", b"gi7eb~10", b"gi7eba~1",
+];
+
+/// Names for which the ignored characters are ignored.
+const HFS_NAMES: &[&[u8]] = &[b".git", b".GitModules"];
+
+/// The elements of the tables of component names, and their neighbours. If a table of the library
+/// lacks an element, this fails.
+#[test]
+fn agrees_on_each_element_of_tables(rt: HostRuntime) -> Result<(), AllocError> {
+    let alloc = rt.alloc();
+    let mut checked: usize = 0;
+    for device in DEVICES {
+        checked = checked.saturating_add(check_spelled(&rt, alloc, (device, 0), TAILS)?);
+    }
+    for name in SHORT_NAMES {
+        checked = checked.saturating_add(check_spelled(&rt, alloc, (name, 1), DIGITS)?);
+    }
+    for name in HFS_NAMES {
+        checked = checked.saturating_add(check_changed(&rt, alloc, (name, 0), IGNORED_CHARACTERS)?);
+    }
+    assert_eq!(rt; checked, 3 * 126 * 4 + 3 * 95 * 13 + (5 + 12) * 16);
+    Ok(())
+}
+
+/// The edges of the table of whole sequences, and the bytes next to them.
+#[rattlefmt::skip]
+const EDGES: &[&[u8]] = &[
+    b"\x00", b"\x01", b"\x7E", b"\x7F", b"\x80", b"\x81", b"\x8F", b"\x90", b"\x9F", b"\xA0",
+    b"\xBF", b"\xC0", b"\xC1", b"\xC2", b"\xDF", b"\xE0", b"\xE1", b"\xEC", b"\xED", b"\xEE",
+    b"\xEF", b"\xF0", b"\xF1", b"\xF3", b"\xF4", b"\xF5", b"\xFF",
+];
+
+/// The least and the greatest sequence of each row, whole and truncated, before a colon, with each
+/// edge at each offset.
+#[test]
+fn agrees_on_each_edge_of_a_sequence(rt: HostRuntime) -> Result<(), AllocError> {
+    let mut checked: usize = 0;
+    for (least, greatest) in ROWS {
+        for sequence in [least, greatest] {
+            for end in 0..sequence.len() {
+                let name = joined(rt.alloc(), &sequence[..end + 1], b":", b"")?;
+                let more = check_changed(&rt, rt.alloc(), (&name, 1), EDGES)?;
+                checked = checked.saturating_add(more);
+            }
+        }
+    }
+    assert_eq!(rt; checked, 224 * 27);
+    Ok(())
+}
+
+/// The names in the rows of `gix_validate` (its folder `proofs/Rows`) that no other test checks. In
+/// the rows, the definitions give the results. A comma follows each.
+const NAMES_OF_ROWS: &[u8] = b"\
+    *.lock,.../a\\b,..\\x,.a b,.lock/x,/.lock.lock/..@{,/a//b/,A-B,FETCH_HEAD,HEAD,HEAD1,\
+    a\tb@{c,a b.lock,a b/c~,a..b,a./b,a.LOCK,a.lock.lock/..lock,a.lock/*,a.lock//b,\
+    a.lock/b.lock,a.lockx,a/.../b,a/./b,a/.b,a/.lock/b,a//b,a@{b,a\\..,a\\b/c,main,\
+    refs//heads/../x.lock.lock/.y*,refs/heads/,refs/heads/HEAD,refs/heads/HEAD/x,\
+    refs/heads/head,refs/heads/main,refs/lower,some-name,v1.2.3,vendor/package,x.lock..,\
+    x.lock..lock/,x.lock.lock/..,x/../y,. .:x,..a ,.GiT\\x,.GitModules,.git. .:x,.git...,\
+    .git:a\\b,.git:x,.git\\x,.gitmodules .:,.gitmodules\\x,.gitx,.gitx\\y,COM0,COM10,CON  .,\
+    CONIN,GI7EBA~1. :y,GIT~1 ..,NUL?,a/b:,ab:,aux:x,com1 .txt,con in$,conout$ .y,gi7eba~10,\
+    gitmod~4:x,git~1 \\a:b,git~10,git~1:,gi~99999,gx~99999,lpt0:,nul\t,src,~0234567,~123456,\
+    ~1234567.\\y,.GIT\xE2\x81\xAA,.gitmodules\xE2\x80\x8D,.git\xE2\x80\x8B,\
+    .git\xF0\x90\xE2\x80\x8C,.g\xE2\x80\xE2\x80\x8C\x8Cit,.g\xEF\xBBit,COM\xC2\xB9,\
+    a\xE2\x80\x8C\xE2\x80\x8D\xE2\x80\x8E\xE2\x80\x8F\xE2\x80\xAA\xE2\x80\xAB\xE2\x80\xAC\xE2\x80\xAD\xE2\x80\xAE\xE2\x81\xAA\xE2\x81\xAB\xE2\x81\xAC\xE2\x81\xAD\xE2\x81\xAE\xE2\x81\xAF\xEF\xBB\xBFb,\
+    \xE2\x80\x8B\xE2\x80\xA9\xE2\x80\xAF\xE2\x81\xA9\xE2\x81\xB0,\xED\xA0\x80,\xEF\xBB\xBF,\
+    \xEF\xBB\xBF.git\xE2\x81\xAF,\xF0\x9F\x98\x80:,\xF0\x9F\x98\x80a,\xE2\x82:,\x80\x80:,\
+    \xC3\xA9:,\xE2\xE2\x80\x8C\x80\x8D,\xF0\x90\xE2\x80\x8C,\xC0:,\xE0\x80:,\
+    .g\xE2\xE2\x80\x8C\x80\x8Dit";
+
+/// Long names: what each begins with, and what is there a thousand times, once, and again a thousand
+/// times.
+#[rattlefmt::skip]
+const LONG_NAMES: &[(&[u8], &[u8], &[u8], &[u8])] = &[
+    (b"a", b".lock", b"", b""),
+    (b"", b".", b"", b""),
+    (b"a", b".", b"b", b""),
+    (b"", b"/", b"", b""),
+    (b"", b"\xE2\x80\x8C", b".git", b"\xE2\x80\x8C"),
+];
+
+/// The front, the word a thousand times, and the end.
+fn long(alloc: Global, front: &[u8], word: &[u8], end: &[u8]) -> Result<Vec<u8>, AllocError> {
+    let mut text = joined(alloc, front, b"", b"")?;
+    for _ in 0..1000 {
+        text.extend_from_slice(word)?;
+    }
+    text.extend_from_slice(end)?;
+    Ok(text)
 }
 
 #[test]
-fn answers_texts_of_two_bytes_from_80(rt: HostRuntime) -> Result<(), AllocError> {
-    check_pairs(&rt, 0x80, 0x9F)
+fn agrees_on_long_names(rt: HostRuntime) -> Result<(), AllocError> {
+    for (front, word, middle, again) in LONG_NAMES {
+        let name = long(rt.alloc(), front, word, middle)?;
+        check(&rt, rt.alloc(), &long(rt.alloc(), &name, again, b"")?)?;
+    }
+    let mut name = Vec::new(rt.alloc());
+    for byte in 0x80..=0xFF {
+        name.extend_from_slice(&[byte])?;
+    }
+    check(&rt, rt.alloc(), &name)
 }
 
 #[test]
-fn answers_texts_of_two_bytes_from_a0(rt: HostRuntime) -> Result<(), AllocError> {
-    check_pairs(&rt, 0xA0, 0xBF)
-}
-
-#[test]
-fn answers_texts_of_two_bytes_from_c0(rt: HostRuntime) -> Result<(), AllocError> {
-    check_pairs(&rt, 0xC0, 0xDF)
-}
-
-#[test]
-fn answers_texts_of_two_bytes_from_e0(rt: HostRuntime) -> Result<(), AllocError> {
-    check_pairs(&rt, 0xE0, 0xFF)
+fn agrees_on_names_of_rows(rt: HostRuntime) -> Result<(), AllocError> {
+    let mut rest = NAMES_OF_ROWS;
+    for _ in 0..106 {
+        let name = before_first(rest, b",");
+        check(&rt, rt.alloc(), name)?;
+        rest = rest.get(name.len().saturating_add(1)..).unwrap_or(b"");
+    }
+    assert!(rt; rest.is_empty());
+    Ok(())
 }

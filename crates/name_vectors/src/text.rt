@@ -7,21 +7,13 @@ pub(crate) fn is_bad(byte: u8) -> bool {
     byte < 0x20 || b"\x7f :?[\\^~".contains(&byte)
 }
 
-/// Whether the word is anywhere in the byte string.
-pub(crate) fn contains(text: &[u8], word: &[u8]) -> bool {
-    for offset in 0..text.len() {
-        if text[offset..].starts_with(word) {
-            return true;
-        }
-    }
-    false
-}
-
 /// Whether one of the words is anywhere in the byte string.
 pub(crate) fn contains_one(text: &[u8], words: &[&[u8]]) -> bool {
-    for word in words {
-        if contains(text, word) {
-            return true;
+    for offset in 0..text.len() {
+        for word in words {
+            if text[offset..].starts_with(word) {
+                return true;
+            }
         }
     }
     false
@@ -75,22 +67,20 @@ pub(crate) fn joined(
     Ok(text)
 }
 
-/// The word with uppercase letters at even or odd offsets if that is wanted, and lowercase ones otherwise.
+/// The word with uppercase letters at even or odd offsets if that is wanted, and lowercase ones
+/// otherwise.
 pub(crate) fn spelled(
     alloc: Global,
     word: &[u8],
-    even: bool,
-    odd: bool,
+    (even, odd): (bool, bool),
 ) -> Result<Vec<u8>, AllocError> {
     let mut text = Vec::new(alloc);
-    let (mut is_upper, mut is_next_upper) = (even, odd);
-    for byte in word {
-        text.push(if is_upper {
-            byte.to_ascii_uppercase()
+    for offset in 0..word.len() {
+        text.push(if offset % 2 == 0 && even || offset % 2 == 1 && odd {
+            word[offset].to_ascii_uppercase()
         } else {
-            byte.to_ascii_lowercase()
+            word[offset].to_ascii_lowercase()
         })?;
-        (is_upper, is_next_upper) = (is_next_upper, is_upper);
     }
     Ok(text)
 }

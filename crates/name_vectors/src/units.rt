@@ -52,45 +52,16 @@ pub(crate) fn first_unit(text: &[u8]) -> &[u8] {
     unit
 }
 
-/// The units of a name, without the ignored characters if they are to be left out. A mark follows
-/// each.
-pub(crate) fn units(
-    alloc: Global,
-    text: &[u8],
-    mark: &[u8],
-    all: bool,
-) -> Result<Vec<u8>, AllocError> {
-    let mut units = Vec::new(alloc);
+/// The HFS form: the units of the name, without the ignored characters.
+pub(crate) fn hfs_form(alloc: Global, text: &[u8]) -> Result<Vec<u8>, AllocError> {
+    let mut form = Vec::new(alloc);
     let mut rest = text;
     for _ in 0..text.len() {
         let unit = first_unit(rest);
-        if !unit.is_empty() && (all || !is_ignored(unit)) {
-            units.extend_from_slice(unit)?;
-            units.extend_from_slice(mark)?;
+        if !IGNORED_CHARACTERS.contains(&unit) {
+            form.extend_from_slice(unit)?;
         }
         rest = rest.get(unit.len()..).unwrap_or(b"");
-    }
-    Ok(units)
-}
-
-/// Whether the unit is an ignored character.
-fn is_ignored(unit: &[u8]) -> bool {
-    IGNORED_CHARACTERS.contains(&unit)
-}
-
-/// The HFS form: the name without the ignored characters, all deleted at once. (No two overlap.)
-pub(crate) fn hfs_form(alloc: Global, text: &[u8]) -> Result<Vec<u8>, AllocError> {
-    let mut form = Vec::new(alloc);
-    let mut ignored: usize = 0;
-    for offset in 0..text.len() {
-        if is_ignored(text[offset..].get(..3).unwrap_or(b"")) {
-            ignored = 3;
-        }
-        if ignored == 0 {
-            form.push(text[offset])?;
-        } else {
-            ignored -= 1;
-        }
     }
     Ok(form)
 }

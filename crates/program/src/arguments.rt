@@ -127,7 +127,9 @@ fn after_first(alloc: Global, args: Args) -> Result<Vec<String>, AllocError>
 /// # Errors
 ///
 /// [`ArgumentError`] with the first argument that is wrong.
-pub fn request_of<'a, O: Options<'a>>(arguments: &'a [String]) -> Result<Request<O>, ArgumentError<'a>>
+pub fn request_of<'a, O: Options<'a>>(
+    arguments: &'a [String],
+) -> Result<Request<O>, ArgumentError<'a>>
     ensures request { result_map_both (task_of O.view) wrong_argument result
         ≡ request_of O.rule O.start (map string_bytes arguments.now) }
 {

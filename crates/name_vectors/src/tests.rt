@@ -173,12 +173,12 @@ const DIGITS: &[&[u8]] = &[
     b"", b"/", b"0", b"1", b"2", b"3", b"4", b"5", b"6", b"7", b"8", b"9", b":",
 ];
 
-/// The names for `.git` and `.gitmodules`. So each short name is checked by the length of its prefix,
-/// and with each digit.
+/// The names for `.git` and `.gitmodules`, and two devices. So each short name is checked by the
+/// length of its prefix, and each with each digit.
 #[rattlefmt::skip]
 const SHORT_NAMES: &[&[u8]] = &[
     b".git", b"git~1", b".gitmodules", b"gitmod~1", b"~1000000", b"g~100000", b"gi~10000",
-    b"gi7~1000", b"gi7e~100", b"gi7eb~10", b"gi7eba~1",
+    b"gi7~1000", b"gi7e~100", b"gi7eb~10", b"gi7eba~1", b"com1", b"lpt1",
 ];
 
 /// Names for which the ignored characters are ignored.
@@ -199,7 +199,7 @@ fn agrees_on_each_element_of_tables(rt: HostRuntime) -> Result<(), AllocError> {
     for name in HFS_NAMES {
         checked = checked.saturating_add(check_changed(&rt, alloc, (name, 0), IGNORED_CHARACTERS)?);
     }
-    assert_eq!(rt; checked, 3 * 126 * 4 + 3 * 95 * 13 + (5 + 12) * 16);
+    assert_eq!(rt; checked, 3 * 126 * 4 + 3 * 105 * 13 + (5 + 12) * 16);
     Ok(())
 }
 

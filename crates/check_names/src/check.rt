@@ -16,11 +16,11 @@ use gix_validate::{path, reference, submodule};
 use memchr::memchr;
 pub use program::outcome::RunError;
 use program::output::write_all;
-use program::text::split_once;
 use std::alloc::{AllocError, Global};
 use std::fmt::{Display, Write as _};
 use std::io::{Read, Write};
 use std::{fmt, io};
+use streams::text::split_once;
 use typed_names::{Component, FullName, PartialName, TagName};
 
 const UNKNOWN_KIND: &[u8] = b"unknown kind";

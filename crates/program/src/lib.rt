@@ -11,7 +11,6 @@ use std::process::ExitCode;
 pub mod arguments;
 pub mod outcome;
 pub mod output;
-pub mod text;
 
 /// The version of the library and of the programs, which `--version` prints.
 pub const VERSION: &str = "2.1.0";

@@ -11,7 +11,6 @@ use Rattle.std.specs.Prelude.{IfSome}
 use Rattle.std.specs.List.{AllByRecursion}
 use Rattle.memchr.specs.Find.{is_byte, IsFirstByte}
 use Rattle.streams.specs.Texts.{split_once}
-pub use Rattle.program.proofs.SplitTexts.{split_found, split_nowhere, split_searched}
 
 -- ---- so many bytes of two texts, one after the other
 
@@ -30,6 +29,16 @@ drop_both a b rest n is = grind (arith, append_assoc a b rest, drop_at (a ++ b) 
 -- ---- a text up to a byte
 
 module _ (separator : ℕ) where
+  pub split_found : (front rest : List ℕ) → All (λ b. b ≢ separator) front → split_once separator (front ++ separator ∷ rest) ≡ Some (front, rest)
+  split_found [] rest none = grind (arith, nat_tests)
+  split_found (b ∷ front) rest none =
+      grind (arith, nat_tests, All-head (λ c. c ≢ separator) b front none, split_found front rest (All-tail (λ c. c ≢ separator) b front none))
+
+  pub split_nowhere : (text : List ℕ) → All (λ b. b ≢ separator) text → split_once separator text ≡ None
+  split_nowhere [] none = grind (arith, nat_tests)
+  split_nowhere (b ∷ text) none =
+      grind (arith, nat_tests, All-head (λ c. c ≢ separator) b text none, split_nowhere text (All-tail (λ c. c ≢ separator) b text none))
+
   -- a text of so many bytes
   pub split_within : (front rest : List ℕ) (n : ℕ) → All (λ b. b ≢ separator) front → length front < n
       → split_once separator (take n (front ++ separator ∷ rest)) ≡ Some (front, take (n - length front - 1) rest)
@@ -40,6 +49,17 @@ module _ (separator : ℕ) where
 
   pub split_long : (front rest : List ℕ) (n : ℕ) → All (λ b. b ≢ separator) front → length front ≡ n → split_once separator (take n (front ++ rest)) ≡ None
   split_long front rest n none long = grind (arith, take_at, split_nowhere front none)
+
+  -- what a search for the byte says
+  pub split_searched : (text : List ℕ) (r : Option ℕ) → IsFirstByte (is_byte separator) text r
+      → split_once separator text ≡ option_map (λ k. (take k text, drop (k + 1) text)) r
+  split_searched text None nowhere =
+      split_nowhere text (All-from_get_or (λ b. b ≢ separator) text 0 (λ k below e. nowhere k (omega arith) below (eq-eqb _ _ e)))
+  split_searched text (Some k) found =
+      let cut : text ≡ take k text ++ separator ∷ drop (k + 1) text = grind (arith, common_steps, nat_tests) in
+      let none : All (λ b. b ≢ separator) (take k text) =
+      All-from_get_or (λ b. b ≢ separator) (take k text) 0 (λ j below e. grind (arith, nat_tests, length-take, get_or-take, found.0.before j)) in
+      ap (split_once separator) cut ∙ split_found (take k text) (drop (k + 1) text) none
 
 -- ---- from the other side
 
@@ -60,3 +80,5 @@ whole separator text front seen n e =
     ap (drop (length front + 1)) all ∙ drop_at (front ++ separator ∷ []) (seen ++ drop n text) (length front + 1) (grind (arith, length-append)) in
     let long : length (take n text) ≡ length (front ++ separator ∷ seen) = ap length e in
     (grind (arith, append_assoc), grind (arith, length-take, length-append))
+
+pub ruleset searched = (split_searched, take_rest)

@@ -1,4 +1,4 @@
--- The first line of a text, by the offset of its first line end.
+-- The first line of a text, by the place of its first line end.
 use Rattle.std.proofs.Common.{◌≡◌, ◌≢◌, ℕ, ◌+◌, ◌<◌, false, List, [], ◌∷◌, ◌==◌, Some, None, length, take, drop, refl, ap, ◌∙◌, arith}
 use Rattle.std.specs.List.{All, slice_split, position_or_len, before_first, after_first}
 use Rattle.std.proofs.lemmas.Bool.{false_from_ne_true}
@@ -15,8 +15,8 @@ module _ (sep : ℕ) (text : List ℕ) where
   none_passes : IsFirstByte (is_byte sep) text None → All (λ b. (b == sep) ≡ false) text
   none_passes nowhere = All-from_get_or (λ b. (b == sep) ≡ false) text 0 (λ k below. false_from_ne_true _ (nowhere k (omega arith) below))
 
-  offset_of_first : (k : ℕ) → IsFirstByte (is_byte sep) text (Some k) → position_or_len (λ b. b == sep) text ≡ k
-  offset_of_first k (first, here) =
+  place_of_first : (k : ℕ) → IsFirstByte (is_byte sep) text (Some k) → position_or_len (λ b. b == sep) text ≡ k
+  place_of_first k (first, here) =
       position_or_len_is (λ b. b == sep) text k 0 (omega (arith, first.high)) (λ j below. false_from_ne_true _ (first.before j (omega arith) below)) (λ _. here)
 
 -- ---- the first line
@@ -29,7 +29,7 @@ less_empty_last-cons part parts hh1 = grind (arith, nat_tests)
 pub lines-cut : (text : List ℕ) (k : ℕ) → IsFirstByte (is_byte line_end) text (Some k) → lines text ≡ take k text ∷ lines (drop (k + 1) text)
 unfolding lines
 lines-cut text k (first, here) =
-    let at : position_or_len (λ b. b == line_end) text ≡ k = offset_of_first line_end text k (first, here) in
+    let at : position_or_len (λ b. b == line_end) text ≡ k = place_of_first line_end text k (first, here) in
     let cut : slice_split (λ b. b == line_end) text
     ≡ before_first (λ b. b == line_end) text ∷ slice_split (λ b. b == line_end) (after_first (λ b. b == line_end) text) =
     slice_split_first (λ b. b == line_end) text 0 (rw at first.high) in

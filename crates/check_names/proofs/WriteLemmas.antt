@@ -1,10 +1,10 @@
--- What a writer of text holds after some writes, where each appends its text.
+-- What stands in a writer of text after some writes, where each appends its text.
 use Rattle.std.proofs.Common.{◌≡◌, ℕ, List, [], ◌∷◌, ◌++◌, sym, ap, ◌∙◌, append_assoc, append-nil, subst, Option, Some, None, IfSome}
 use Rattle.std.specs.List.{FoldsTo, concat}
 use Rattle.std.specs.Fmt.{WritesInCalls, WritesText, option_append}
 
 module _ {W N : Type 0} (name : W → N) (contents : W → List ℕ) where
-  -- the writer keeps its name, and the text follows what it held
+  -- the writer keeps its name, and the text stands behind what it held
   abbrev Took : W → List ℕ → W → Type 0
   Took before text after = (name after ≡ name before) × (contents after ≡ contents before ++ text)
 
@@ -18,7 +18,7 @@ module _ {W N : Type 0} (name : W → N) (contents : W → List ℕ) where
       → (name after ≡ name before) × (contents after ≡ contents before ++ text)
   took_writes before text after written = subst (λ all. Took before all after) written.whole (took_calls before written.parts after written.calls)
 
-  -- what it holds after a format with some text in front of a value that may not say what it prints
+  -- the same of a format with some text in front of a value that may not say what it prints
   pub took_format : (before : W) (front : List ℕ) (text : Option (List ℕ)) (after : W)
       → WritesText (λ s xs t. (name t ≡ name s) × (contents t ≡ contents s ++ xs)) before (option_append (Some front) text) after
       → IfSome text (λ printed. (name after ≡ name before) × (contents after ≡ contents before ++ front ++ printed))

@@ -1,13 +1,12 @@
 //! The results for the lines of the input.
 
-ghost use Rattle.std.specs.Prelude.{◌≡◌, ◌≢◌, ◌+◌, ◌<◌, [], ◌∷◌, ◌++◌, ℕ, List, codes, length, vec_len, vec_capacity, Some, None, Err, IsOk, IsOkUnless};
-ghost use Rattle.std.specs.Prelude.{IfErr, IfOk, OnOk, OnErr, IfSome, MatchOption, MatchResult};
+ghost use Rattle.std.specs.Prelude.{◌≡◌, ◌≢◌, ◌+◌, ◌<◌, [], ◌∷◌, ◌++◌, ℕ, List, codes, length, vec_len, vec_capacity, Some, None, Err, IsOk, IsOkUnless, IfErr, IfOk, OnOk, OnErr, IfSome, MatchOption, MatchResult};
 ghost use Rattle.std.specs.Io.KnownBytes.{Appends, IsAtEnd};
 ghost use Rattle.program.specs.Writes.{AppendsPrefixOf, IsWriteError};
 ghost use Rattle.bstr.specs.BStr.{bstr_bytes};
 ghost use Rattle.gix_validate.specs.Component.{all_protections, fault_of, text_of as component_text};
 ghost use Rattle.gix_validate.specs.Sanitized.{sanitized};
-ghost use Rattle.check_names.specs.Answers.{answer_by, answer_of, answers, device_answer, kinds, unknown_kind, verdict};
+ghost use Rattle.check_names.specs.Answers.{answer_of, answers, device_answer, unknown_kind, verdict};
 ghost use Rattle.check_names.specs.Lines.{lines, request_of};
 
 use bstr::BStr;
@@ -20,7 +19,6 @@ use std::alloc::{AllocError, Global};
 use std::fmt::{Display, Write as _};
 use std::io::{Read, Write};
 use std::{fmt, io};
-use streams::text::split_once;
 use typed_names::{Component, FullName, PartialName, TagName};
 
 const UNKNOWN_KIND: &[u8] = b"unknown kind";
@@ -124,52 +122,44 @@ fn first_line(text: &[u8]) -> Option<(&[u8], &[u8])>
     }
 }
 
-/// Appends the result for one line.
-#[tactic(auto, unfolding(crate::specs::Answers::answer_of))]
+/// Appends the result for one line. Each kind takes a comparison for every kind before it, and full
+/// reference names come first.
 fn push_answer(alloc: Global, line: &[u8], answers: &mut Vec<u8>) -> Result<(), AllocError>
     ensures ok { OnOk result (answers.new.items ≡ answers.old.items ++ answer_of line.now) }
     ensures full { request_of line.now ≡ None → OnErr result
         (vec_capacity answers.old < vec_len answers.old + length unknown_kind) }
 {
-    match split_once(b' ', line) {
-        Some((kind, name)) => push_result(alloc, kind, BStr::new(name), answers),
-        None => answers.extend_from_slice(UNKNOWN_KIND),
-    }
-}
-
-/// Appends the result for a name of this kind. Each kind takes a comparison for every kind before it,
-/// and full reference names come first.
-#[tactic(auto, unfolding(crate::specs::Answers::kinds), using(crate::proofs::AnswerLemmas::verdict_of_validator, crate::proofs::AnswerLemmas::verdict_of_kept))]
-fn push_result(
-    alloc: Global,
-    kind: &[u8],
-    name: BStr<'_>,
-    answers: &mut Vec<u8>,
-) -> Result<(), AllocError>
-    ensures { OnOk result (answers.new.items
-        ≡ answers.old.items ++ answer_by kinds kind.now (bstr_bytes name.entry)) }
-{
-    if kind == b"ref".as_slice() {
+    if let Some(name) = name_behind(b"ref ", line) {
         push_verdict(FullName::new(name), answers)
-    } else if kind == b"tag".as_slice() {
+    } else if let Some(name) = name_behind(b"tag ", line) {
         push_verdict(TagName::new(name), answers)
-    } else if kind == b"partial".as_slice() {
+    } else if let Some(name) = name_behind(b"partial ", line) {
         push_verdict(PartialName::new(name), answers)
-    } else if kind == b"branch".as_slice() {
+    } else if let Some(name) = name_behind(b"branch ", line) {
         push_verdict(reference::branch_name(name), answers)
-    } else if kind == b"submodule".as_slice() {
+    } else if let Some(name) = name_behind(b"submodule ", line) {
         push_verdict(submodule::name(name), answers)
-    } else if kind == b"path".as_slice() {
+    } else if let Some(name) = name_behind(b"path ", line) {
         push_component(name, None, answers)
-    } else if kind == b"symlink".as_slice() {
+    } else if let Some(name) = name_behind(b"symlink ", line) {
         push_component(name, Some(ComponentMode::Symlink), answers)
-    } else if kind == b"device".as_slice() {
+    } else if let Some(name) = name_behind(b"device ", line) {
         push_device(name, answers)
-    } else if kind == b"sanitize".as_slice() {
+    } else if let Some(name) = name_behind(b"sanitize ", line) {
         push_sanitized(alloc, name, answers)
     } else {
         answers.extend_from_slice(UNKNOWN_KIND)
     }
+}
+
+/// The name of a line that begins with this kind and its space.
+fn name_behind<'a>(kind_and_space: &[u8], line: &'a [u8]) -> Option<BStr<'a>>
+    ensures { MatchOption result
+        ((name : List ℕ) → line.now ≢ kind_and_space.now ++ name)
+        (λ name. line.now ≡ kind_and_space.now ++ bstr_bytes name) }
+{
+    let name = line.strip_prefix(kind_and_space)?;
+    Some(BStr::new(name))
 }
 
 /// Appends the result for the name as a path component with this mode and the default options.

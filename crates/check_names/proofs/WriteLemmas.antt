@@ -4,7 +4,7 @@ use Rattle.std.specs.List.{FoldsTo, concat}
 use Rattle.std.specs.Fmt.{WritesInCalls, WritesText, option_append}
 
 module _ {W N : Type 0} (name : W → N) (contents : W → List ℕ) where
-  -- the writer keeps its name, and the text stands behind what it held
+  -- the writer keeps its name, and the text stands after what it held
   abbrev Took : W → List ℕ → W → Type 0
   Took before text after = (name after ≡ name before) × (contents after ≡ contents before ++ text)
 

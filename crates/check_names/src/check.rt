@@ -129,23 +129,23 @@ fn push_answer(alloc: Global, line: &[u8], answers: &mut Vec<u8>) -> Result<(), 
     ensures full { request_of line.now ≡ None → OnErr result
         (vec_capacity answers.old < vec_len answers.old + length unknown_kind) }
 {
-    if let Some(name) = name_behind(b"ref ", line) {
+    if let Some(name) = name_after(b"ref ", line) {
         push_verdict(FullName::new(name), answers)
-    } else if let Some(name) = name_behind(b"tag ", line) {
+    } else if let Some(name) = name_after(b"tag ", line) {
         push_verdict(TagName::new(name), answers)
-    } else if let Some(name) = name_behind(b"partial ", line) {
+    } else if let Some(name) = name_after(b"partial ", line) {
         push_verdict(PartialName::new(name), answers)
-    } else if let Some(name) = name_behind(b"branch ", line) {
+    } else if let Some(name) = name_after(b"branch ", line) {
         push_verdict(reference::branch_name(name), answers)
-    } else if let Some(name) = name_behind(b"submodule ", line) {
+    } else if let Some(name) = name_after(b"submodule ", line) {
         push_verdict(submodule::name(name), answers)
-    } else if let Some(name) = name_behind(b"path ", line) {
+    } else if let Some(name) = name_after(b"path ", line) {
         push_component(name, None, answers)
-    } else if let Some(name) = name_behind(b"symlink ", line) {
+    } else if let Some(name) = name_after(b"symlink ", line) {
         push_component(name, Some(ComponentMode::Symlink), answers)
-    } else if let Some(name) = name_behind(b"device ", line) {
+    } else if let Some(name) = name_after(b"device ", line) {
         push_device(name, answers)
-    } else if let Some(name) = name_behind(b"sanitize ", line) {
+    } else if let Some(name) = name_after(b"sanitize ", line) {
         push_sanitized(alloc, name, answers)
     } else {
         answers.extend_from_slice(UNKNOWN_KIND)
@@ -153,7 +153,7 @@ fn push_answer(alloc: Global, line: &[u8], answers: &mut Vec<u8>) -> Result<(), 
 }
 
 /// The name of a line that begins with this kind and its space.
-fn name_behind<'a>(kind_and_space: &[u8], line: &'a [u8]) -> Option<BStr<'a>>
+fn name_after<'a>(kind_and_space: &[u8], line: &'a [u8]) -> Option<BStr<'a>>
     ensures { MatchOption result
         ((name : List ℕ) → line.now ≢ kind_and_space.now ++ name)
         (λ name. line.now ≡ kind_and_space.now ++ bstr_bytes name) }

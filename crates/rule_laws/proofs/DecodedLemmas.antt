@@ -1,4 +1,4 @@
--- The first unit of a text is as long as what `bstr` decodes first: for both, the first byte says in which ranges the bytes behind it have to be.
+-- The first unit of a text is as long as what `bstr` decodes first: for both, the first byte says in which ranges the bytes after it have to be.
 use Rattle.std.proofs.Common.{◌≡◌, ℕ, ◌+◌, max, Bool, true, false, cond, ◌&&◌, not, nat_lt, None, unwrap_or, List, [], ◌∷◌, refl, sym, ◌∙◌, arith}
 use Rattle.std.specs.Bool.{◌==◌}
 use Rattle.std.proofs.lemmas.Bool.{false≢true}
@@ -7,11 +7,11 @@ use Rattle.bstr.specs.Utf8.{second, decoded}
 use Rattle.gix_validate.specs.Units.{is_within, fitting_len, whole_len, begun_len, first_unit_len, whole_sequences}
 use Rattle.rule_laws.specs.Decoded.{FirstUnitIsDecoded}
 
--- the ranges behind the byte in the row that begins with it
-abbrev behind : List (List (ℕ × ℕ)) → ℕ → List (ℕ × ℕ)
-behind [] b = []
-behind ([] ∷ rows) b = []
-behind ((range ∷ row) ∷ rows) b = cond (is_within range b) row (behind rows b)
+-- the ranges after the byte in the row that begins with it
+abbrev after : List (List (ℕ × ℕ)) → ℕ → List (ℕ × ℕ)
+after [] b = []
+after ([] ∷ rows) b = []
+after ((range ∷ row) ∷ rows) b = cond (is_within range b) row (after rows b)
 
 -- no row begins with the byte
 abbrev begins_none : List (List (ℕ × ℕ)) → ℕ → Bool
@@ -31,7 +31,7 @@ none_fits ([] ∷ rows) b x none = absurd (false≢true none)
 none_fits ((range ∷ row) ∷ rows) b x none = (grind (arith, none_fits rows b x), grind (arith, none_fits rows b x))
 
 unit_by_rows : (rows : List (List (ℕ × ℕ))) (b : ℕ) (x : List ℕ) → begins_one rows b ≡ true
-    → unwrap_or (whole_len rows (b ∷ x)) (max 1 (begun_len rows (b ∷ x))) ≡ 1 + fitting_len (behind rows b) x
+    → unwrap_or (whole_len rows (b ∷ x)) (max 1 (begun_len rows (b ∷ x))) ≡ 1 + fitting_len (after rows b) x
 unit_by_rows [] b x one = refl
 unit_by_rows ([] ∷ rows) b x one = grind arith
 unit_by_rows ((range ∷ row) ∷ rows) b x one = grind (arith, unit_by_rows rows b x, none_fits rows b x)
@@ -49,7 +49,7 @@ ranges b =
     cond (nat_lt b 0xC2) [] (cond (nat_lt 0xF4 b) [] (
     second_range b ∷ cond (nat_lt b 0xE0) [] ((0x80, 0xBF) ∷ cond (nat_lt b 0xF0) [] ((0x80, 0xBF) ∷ []))))
 
-same_ranges : (b : ℕ) → behind whole_sequences b ≡ ranges b
+same_ranges : (b : ℕ) → after whole_sequences b ≡ ranges b
 unfolding whole_sequences
 same_ranges b = grind (arith, nat_tests)
 

@@ -19,65 +19,65 @@ returns-in-Some-clause-ok c = rw (asked_ref _ _ c.in-Some.ensures)
 pub returns-in-Some-clause-full : goal.returns-in-Some-clause-full
 returns-in-Some-clause-full c = λ none. absurd (asks_something (ap request_of c.in-Some.ensures) none)
 
-pub returns-in-Some-name_behind-clause-ok : goal.returns-in-Some-name_behind-clause-ok
-returns-in-Some-name_behind-clause-ok c = rw (asked_tag _ _ c.in-Some-name_behind.ensures)
-    (on_ok_weaker _ (verdict-of_kept name_text Tag.fault_of _ c.in-Some-name_behind.name _ _ _ c.new-in-Some-name_behind.ensures.answer)
-    c.push_verdict-in-Some-name_behind.ensures.ok)
+pub returns-in-Some-name_after-clause-ok : goal.returns-in-Some-name_after-clause-ok
+returns-in-Some-name_after-clause-ok c = rw (asked_tag _ _ c.in-Some-name_after.ensures)
+    (on_ok_weaker _ (verdict-of_kept name_text Tag.fault_of _ c.in-Some-name_after.name _ _ _ c.new-in-Some-name_after.ensures.answer)
+    c.push_verdict-in-Some-name_after.ensures.ok)
 
-pub returns-in-Some-name_behind-clause-full : goal.returns-in-Some-name_behind-clause-full
-returns-in-Some-name_behind-clause-full c = λ none. absurd (asks_something (ap request_of c.in-Some-name_behind.ensures) none)
+pub returns-in-Some-name_after-clause-full : goal.returns-in-Some-name_after-clause-full
+returns-in-Some-name_after-clause-full c = λ none. absurd (asks_something (ap request_of c.in-Some-name_after.ensures) none)
 
-pub returns-in-Some-name_behind-2-clause-ok : goal.returns-in-Some-name_behind-2-clause-ok
-returns-in-Some-name_behind-2-clause-ok c = rw (asked_partial _ _ c.in-Some-name_behind-2.ensures)
-    (on_ok_weaker _ (verdict-of_kept name_text Reference.partial_fault_of _ c.in-Some-name_behind-2.name _ _ _ c.new-in-Some-name_behind-2.ensures.answer)
-    c.push_verdict-in-Some-name_behind-2.ensures.ok)
+pub returns-in-Some-name_after-2-clause-ok : goal.returns-in-Some-name_after-2-clause-ok
+returns-in-Some-name_after-2-clause-ok c = rw (asked_partial _ _ c.in-Some-name_after-2.ensures)
+    (on_ok_weaker _ (verdict-of_kept name_text Reference.partial_fault_of _ c.in-Some-name_after-2.name _ _ _ c.new-in-Some-name_after-2.ensures.answer)
+    c.push_verdict-in-Some-name_after-2.ensures.ok)
 
-pub returns-in-Some-name_behind-2-clause-full : goal.returns-in-Some-name_behind-2-clause-full
-returns-in-Some-name_behind-2-clause-full c = λ none. absurd (asks_something (ap request_of c.in-Some-name_behind-2.ensures) none)
+pub returns-in-Some-name_after-2-clause-full : goal.returns-in-Some-name_after-2-clause-full
+returns-in-Some-name_after-2-clause-full c = λ none. absurd (asks_something (ap request_of c.in-Some-name_after-2.ensures) none)
 
-pub returns-in-Some-name_behind-3-clause-ok : goal.returns-in-Some-name_behind-3-clause-ok
-returns-in-Some-name_behind-3-clause-ok c = rw (asked_branch _ _ c.in-Some-name_behind-3.ensures)
-    (on_ok_weaker _ (verdict-of_validator Reference.branch_fault_of _ (bstr_bytes c.in-Some-name_behind-3.name) _ _ _ c.branch_name.ensures.answer)
-    c.push_verdict-in-Some-name_behind-3.ensures.ok)
+pub returns-in-Some-name_after-3-clause-ok : goal.returns-in-Some-name_after-3-clause-ok
+returns-in-Some-name_after-3-clause-ok c = rw (asked_branch _ _ c.in-Some-name_after-3.ensures)
+    (on_ok_weaker _ (verdict-of_validator Reference.branch_fault_of _ (bstr_bytes c.in-Some-name_after-3.name) _ _ _ c.branch_name.ensures.answer)
+    c.push_verdict-in-Some-name_after-3.ensures.ok)
 
-pub returns-in-Some-name_behind-3-clause-full : goal.returns-in-Some-name_behind-3-clause-full
-returns-in-Some-name_behind-3-clause-full c = λ none. absurd (asks_something (ap request_of c.in-Some-name_behind-3.ensures) none)
+pub returns-in-Some-name_after-3-clause-full : goal.returns-in-Some-name_after-3-clause-full
+returns-in-Some-name_after-3-clause-full c = λ none. absurd (asks_something (ap request_of c.in-Some-name_after-3.ensures) none)
 
-pub returns-in-Some-name_behind-4-clause-ok : goal.returns-in-Some-name_behind-4-clause-ok
-returns-in-Some-name_behind-4-clause-ok c = rw (asked_submodule _ _ c.in-Some-name_behind-4.ensures)
-    (on_ok_weaker _ (verdict-of_validator Submodule.fault_of _ (bstr_bytes c.in-Some-name_behind-4.name) _ _ _ c.name.ensures.answer)
-    c.push_verdict-in-Some-name_behind-4.ensures.ok)
+pub returns-in-Some-name_after-4-clause-ok : goal.returns-in-Some-name_after-4-clause-ok
+returns-in-Some-name_after-4-clause-ok c = rw (asked_submodule _ _ c.in-Some-name_after-4.ensures)
+    (on_ok_weaker _ (verdict-of_validator Submodule.fault_of _ (bstr_bytes c.in-Some-name_after-4.name) _ _ _ c.name.ensures.answer)
+    c.push_verdict-in-Some-name_after-4.ensures.ok)
 
-pub returns-in-Some-name_behind-4-clause-full : goal.returns-in-Some-name_behind-4-clause-full
-returns-in-Some-name_behind-4-clause-full c = λ none. absurd (asks_something (ap request_of c.in-Some-name_behind-4.ensures) none)
+pub returns-in-Some-name_after-4-clause-full : goal.returns-in-Some-name_after-4-clause-full
+returns-in-Some-name_after-4-clause-full c = λ none. absurd (asks_something (ap request_of c.in-Some-name_after-4.ensures) none)
 
-pub returns-in-Some-name_behind-5-clause-ok : goal.returns-in-Some-name_behind-5-clause-ok
-returns-in-Some-name_behind-5-clause-ok c = rw (asked_path _ _ c.in-Some-name_behind-5.ensures) c.push_component.ensures.ok
+pub returns-in-Some-name_after-5-clause-ok : goal.returns-in-Some-name_after-5-clause-ok
+returns-in-Some-name_after-5-clause-ok c = rw (asked_path _ _ c.in-Some-name_after-5.ensures) c.push_component.ensures.ok
 
-pub returns-in-Some-name_behind-5-clause-full : goal.returns-in-Some-name_behind-5-clause-full
-returns-in-Some-name_behind-5-clause-full c = λ none. absurd (asks_something (ap request_of c.in-Some-name_behind-5.ensures) none)
+pub returns-in-Some-name_after-5-clause-full : goal.returns-in-Some-name_after-5-clause-full
+returns-in-Some-name_after-5-clause-full c = λ none. absurd (asks_something (ap request_of c.in-Some-name_after-5.ensures) none)
 
-pub returns-in-Some-name_behind-6-clause-ok : goal.returns-in-Some-name_behind-6-clause-ok
-returns-in-Some-name_behind-6-clause-ok c = rw (asked_symlink _ _ c.in-Some-name_behind-6.ensures) c.push_component-in-Some-name_behind-6.ensures.ok
+pub returns-in-Some-name_after-6-clause-ok : goal.returns-in-Some-name_after-6-clause-ok
+returns-in-Some-name_after-6-clause-ok c = rw (asked_symlink _ _ c.in-Some-name_after-6.ensures) c.push_component-in-Some-name_after-6.ensures.ok
 
-pub returns-in-Some-name_behind-6-clause-full : goal.returns-in-Some-name_behind-6-clause-full
-returns-in-Some-name_behind-6-clause-full c = λ none. absurd (asks_something (ap request_of c.in-Some-name_behind-6.ensures) none)
+pub returns-in-Some-name_after-6-clause-full : goal.returns-in-Some-name_after-6-clause-full
+returns-in-Some-name_after-6-clause-full c = λ none. absurd (asks_something (ap request_of c.in-Some-name_after-6.ensures) none)
 
-pub returns-in-Some-name_behind-7-clause-ok : goal.returns-in-Some-name_behind-7-clause-ok
-returns-in-Some-name_behind-7-clause-ok c = rw (asked_device _ _ c.in-Some-name_behind-7.ensures) c.push_device.ensures
+pub returns-in-Some-name_after-7-clause-ok : goal.returns-in-Some-name_after-7-clause-ok
+returns-in-Some-name_after-7-clause-ok c = rw (asked_device _ _ c.in-Some-name_after-7.ensures) c.push_device.ensures
 
-pub returns-in-Some-name_behind-7-clause-full : goal.returns-in-Some-name_behind-7-clause-full
-returns-in-Some-name_behind-7-clause-full c = λ none. absurd (asks_something (ap request_of c.in-Some-name_behind-7.ensures) none)
+pub returns-in-Some-name_after-7-clause-full : goal.returns-in-Some-name_after-7-clause-full
+returns-in-Some-name_after-7-clause-full c = λ none. absurd (asks_something (ap request_of c.in-Some-name_after-7.ensures) none)
 
-pub returns-in-Some-name_behind-8-clause-ok : goal.returns-in-Some-name_behind-8-clause-ok
-returns-in-Some-name_behind-8-clause-ok c = rw (asked_sanitize _ _ c.in-Some-name_behind-8.ensures) c.push_sanitized.ensures
+pub returns-in-Some-name_after-8-clause-ok : goal.returns-in-Some-name_after-8-clause-ok
+returns-in-Some-name_after-8-clause-ok c = rw (asked_sanitize _ _ c.in-Some-name_after-8.ensures) c.push_sanitized.ensures
 
-pub returns-in-Some-name_behind-8-clause-full : goal.returns-in-Some-name_behind-8-clause-full
-returns-in-Some-name_behind-8-clause-full c = λ none. absurd (asks_something (ap request_of c.in-Some-name_behind-8.ensures) none)
+pub returns-in-Some-name_after-8-clause-full : goal.returns-in-Some-name_after-8-clause-full
+returns-in-Some-name_after-8-clause-full c = λ none. absurd (asks_something (ap request_of c.in-Some-name_after-8.ensures) none)
 
-pub returns-in_default-name_behind-8-clause-ok : goal.returns-in_default-name_behind-8-clause-ok
-returns-in_default-name_behind-8-clause-ok c =
-    let answer = asked_otherwise c.args.line.now c.in_default.ensures c.in_default-name_behind.ensures c.in_default-name_behind-2.ensures
-    c.in_default-name_behind-3.ensures c.in_default-name_behind-4.ensures c.in_default-name_behind-5.ensures c.in_default-name_behind-6.ensures
-    c.in_default-name_behind-7.ensures c.in_default-name_behind-8.ensures in
+pub returns-in_default-name_after-8-clause-ok : goal.returns-in_default-name_after-8-clause-ok
+returns-in_default-name_after-8-clause-ok c =
+    let answer = asked_otherwise c.args.line.now c.in_default.ensures c.in_default-name_after.ensures c.in_default-name_after-2.ensures
+    c.in_default-name_after-3.ensures c.in_default-name_after-4.ensures c.in_default-name_after-5.ensures c.in_default-name_after-6.ensures
+    c.in_default-name_after-7.ensures c.in_default-name_after-8.ensures in
     rw answer (search rules)

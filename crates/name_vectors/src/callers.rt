@@ -14,7 +14,7 @@ use std::test::Fail;
 use typed_names::FullName;
 
 #[test]
-fn calls_succeed(rt: HostRuntime) -> Result<(), Fail> {
+fn makes_names(rt: HostRuntime) -> Result<(), Fail> {
     let alloc = rt.alloc();
     let main = full_branch_name(alloc, BStr::from("main"))?;
     let name = FullName::new(main.as_bstr())?;
@@ -25,9 +25,21 @@ fn calls_succeed(rt: HostRuntime) -> Result<(), Fail> {
         tracked.as_bstr(),
         BStr::from("refs/remotes/origin/topic/a")
     );
+    Ok(())
+}
+
+#[test]
+fn walks_down_a_tree(rt: HostRuntime) -> Result<(), Fail> {
+    let alloc = rt.alloc();
     let mut place = Place::top(alloc, ComponentOptions::default());
     place.enter(BStr::from(".gitmodules"), None)?;
     assert_eq!(rt; place.path(alloc)?.as_bstr(), BStr::from(".gitmodules"));
+    Ok(())
+}
+
+#[test]
+fn repairs_and_reads_names(rt: HostRuntime) -> Result<(), Fail> {
+    let alloc = rt.alloc();
     let mut name = Vec::new(alloc);
     repair(&mut name)?;
     assert_eq!(rt; BStr::new(&name), BStr::from("-"));

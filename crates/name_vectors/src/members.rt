@@ -4,17 +4,16 @@
 
 ghost use Rattle.std.specs.Prelude.{◌≡◌, ◌↔◌, [], ◌∷◌, map, IfOk, IsTrue, MatchOption, string_bytes, encode_utf8_all};
 ghost use Rattle.bstr.specs.BStr.{bstr_bytes};
-ghost use Rattle.bstr.specs.Owned.{bstring_bytes};
 ghost use Rattle.bstr.specs.Utf8.{lossy_chars};
 ghost use Rattle.gix_validate.specs.Component.{all_protections, text_of as component_text_of};
-ghost use Rattle.gix_validate.specs.Pieces.{joined, pieces as pieces_of};
+ghost use Rattle.gix_validate.specs.Pieces.{pieces as pieces_of};
 ghost use Rattle.gix_validate.specs.Reference.{carried, text_of as reference_text_of};
 ghost use Rattle.gix_validate.specs.Submodule.{text_of as submodule_text_of};
 ghost use Rattle.gix_validate.specs.Tag.{text_of as tag_text_of};
-ghost use Rattle.typed_names.specs.Names.{name_bytes, name_text, component_bytes, component_text};
+ghost use Rattle.typed_names.specs.Names.{name_bytes, name_text, component_bytes};
 
-use bstr::{BStr, BString};
-use gix_validate::path::{self, ComponentError, ComponentMode, ComponentOptions};
+use bstr::BStr;
+use gix_validate::path::{ComponentError, ComponentMode, ComponentOptions};
 use gix_validate::{reference, submodule, tag};
 use std::alloc::{AllocError, Global};
 use std::convert::AsSlice;
@@ -189,14 +188,6 @@ fn slice_of_component<'b>(name: &'b Component<'_>) -> &'b [u8]
     name.as_slice()
 }
 
-/// Joins two components. What a `Component` keeps is all that the join requires of its parts.
-fn path_of(alloc: Global, folder: Component<'_>, name: Component<'_>) -> Result<BString, AllocError>
-    ensures { IfOk result (λ path. bstring_bytes path ≡ joined
-        (bstr_bytes (component_text folder.entry) ∷ bstr_bytes (component_text name.entry) ∷ [])) }
-{
-    path::join(alloc, &[folder.as_bstr(), name.as_bstr()])
-}
-
 /// The pieces of the name, and what follows its first slash. The `TagName` itself lives only here.
 fn parts_of(text: &[u8]) -> Result<(Pieces<'_>, Option<TagName<'_>>), Fail> {
     let name = TagName::new(BStr::new(text))?;
@@ -231,11 +222,6 @@ fn parts_outlive_the_name_that_gave_them(rt: HostRuntime) -> Result<(), Fail> {
         2
     );
     let name = Component::new(BStr::new(b"caf\xC3\xA9 \xFF"), None, default_options())?;
-    let path = path_of(rt.alloc(), name, name)?;
-    assert_eq!(rt;
-        path.as_bytes(),
-        b"caf\xC3\xA9 \xFF/caf\xC3\xA9 \xFF".as_slice()
-    );
     let text = printed_component(rt.alloc(), &name)?;
     assert_eq!(rt; text.as_bytes(), b"caf\xC3\xA9 \xEF\xBF\xBD".as_slice());
     Ok(())

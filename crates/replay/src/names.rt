@@ -16,19 +16,19 @@ const AFTER: &[u8] = b"x/.lock\xA5";
 /// The results for a name. Functions for the same question have to agree: those of the library and
 /// of the typed names, and the two sanitisers.
 pub fn answers(alloc: Global, name: BStr<'_>) -> Result<Vec<String>, AllocError> {
-    Ok(vec![in alloc;
-        verdict(alloc, tag::name(name), TagName::new(name))?,
-        verdict(alloc, reference::name_partial(name), PartialName::new(name))?,
-        verdict(alloc, reference::name(name), FullName::new(name))?,
-        verdict(alloc, reference::branch_name(name), BranchName::new(name))?,
-        verdict(alloc, submodule::name(name), SubmoduleName::new(name))?,
-        device(alloc, name)?,
-        agreed(
-            alloc,
-            sanitized(alloc, name)?,
-            sanitized_in_place(alloc, name.as_bytes())?
-        )?,
-    ]?)
+    let mut answers = Vec::with_capacity(alloc, ANSWERS)?;
+    answers.push(verdict(alloc, tag::name(name), TagName::new(name))?)?;
+    answers.push(verdict(alloc, reference::name_partial(name), PartialName::new(name))?)?;
+    answers.push(verdict(alloc, reference::name(name), FullName::new(name))?)?;
+    answers.push(verdict(alloc, reference::branch_name(name), BranchName::new(name))?)?;
+    answers.push(verdict(alloc, submodule::name(name), SubmoduleName::new(name))?)?;
+    answers.push(device(alloc, name)?)?;
+    answers.push(agreed(
+        alloc,
+        sanitized(alloc, name)?,
+        sanitized_in_place(alloc, name.as_bytes())?,
+    )?)?;
+    Ok(answers)
 }
 
 /// An error that the record has a word for.

@@ -15,6 +15,7 @@ use Rattle.gix_validate.specs.Sanitized.{sanitized}
 use Rattle.bstr.specs.declared.bstr.BStr.{BStr}
 use Rattle.bstr.specs.BStr.{bstr_bytes}
 use Rattle.typed_names.specs.Names.{NewChecks}
+use Rattle.gix_validate.specs.Pieces.{names_in}
 use Rattle.check_names.specs.Lines.{line_end, lines, request_of}
 use Rattle.check_names.specs.Answers.{answer_of, answer_to, answers, device_answer, kinds, unknown_kind, verdict}
 use Rattle.std.proofs.lemmas.Bool.Decides.{nat_tests}
@@ -130,7 +131,7 @@ verdict-of_kept kept fault text_of text = verdict-of (λ passed. kept passed ≡
 
 -- The empty text has no answers.
 pub answers_nil : answers [] ≡ []
-unfolding answers lines
+unfolding answers names_in
 answers_nil = refl
 
 -- The answers of a text are the answer of its first line with an end, and then the answers of what follows that line.

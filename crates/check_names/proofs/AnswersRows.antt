@@ -3,6 +3,7 @@ use Rattle.std.proofs.Common.{refl, [], ◌∷◌, Some, None}
 use Rattle.std.specs.Prelude.{codes}
 use Rattle.gix_validate.proofs.OnLiterals.{names_on_literals, components_on_literals}
 use Rattle.gix_validate.proofs.Rows.Tables.{Gives}
+use Rattle.gix_validate.specs.Pieces.{names_in}
 use Rattle.check_names.specs.Lines.{lines, request_of}
 use Rattle.check_names.specs.Answers.{answer_of, answers, kinds}
 
@@ -16,7 +17,7 @@ lines_of_texts : Gives lines
     ∷ (codes "a\n\nb", codes "a" ∷ [] ∷ codes "b" ∷ [])  -- last without end
     ∷ (codes "a\r\nb\r", codes "a\r" ∷ codes "b\r" ∷ [])  -- carriage return stays
     ∷ [])
-unfolding lines
+unfolding names_in
 lines_of_texts = refl
 
 -- lines, and what they ask for
@@ -70,5 +71,5 @@ answers_to_texts : Gives answers
     ∷ ([], [])  -- no answers
     ∷ (codes "\n", codes "unknown kind\n")  -- answer of empty line
     ∷ [])
-unfolding answers lines kinds answer_of names_on_literals
+unfolding answers names_in kinds answer_of names_on_literals
 answers_to_texts = refl

@@ -1,4 +1,3 @@
-pub mod LineLemmas
 pub mod AnswerLemmas
 pub mod WriteLemmas
 pub mod AnswersRows

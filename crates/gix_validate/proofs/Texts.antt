@@ -5,4 +5,4 @@ pub mod Pieces
 pub mod Joined
 pub mod LetterCase
 pub mod Words
-pub mod Escapes
+pub mod NamesIn

@@ -2,6 +2,7 @@ pub mod Bytes
 pub mod Pieces
 pub mod Faults
 pub mod Quoted
+pub mod Printed
 pub mod Tag
 pub mod Reference
 pub mod Submodule

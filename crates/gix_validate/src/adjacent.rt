@@ -61,22 +61,10 @@ const AFTER_DOT: u8 = AFTER_SLASH | LETTER;
 /// The classes that a byte with this low nibble may have.
 #[rattlefmt::skip]
 const CLASSES_BY_LOW_NIBBLE: [u8; 16] = [
-    CONTROL | SUSPECT_2X, // 00
-    CONTROL, // 01
-    CONTROL, // 02
-    CONTROL, // 03
-    CONTROL, // 04
-    CONTROL, // 05
-    CONTROL, // 06
-    CONTROL, // 07
-    CONTROL, // 08
-    CONTROL, // 09
-    CONTROL | SUSPECT_2X | SUSPECT_3X, // 0A
-    CONTROL | SUSPECT_5X | SUSPECT_7X, // 0B
-    CONTROL | LETTER | SUSPECT_5X, // 0C
-    CONTROL, // 0D
-    BREAK | CONTROL | SUSPECT_5X | SUSPECT_7X, // 0E
-    BREAK | CONTROL | SUSPECT_3X | SUSPECT_7X, // 0F
+    CONTROL | SUSPECT_2X, CONTROL, CONTROL, CONTROL, // 00
+    CONTROL, CONTROL, CONTROL, CONTROL, // 04
+    CONTROL, CONTROL, CONTROL | SUSPECT_2X | SUSPECT_3X, CONTROL | SUSPECT_5X | SUSPECT_7X, // 08
+    CONTROL | LETTER | SUSPECT_5X, CONTROL, BREAK | CONTROL | SUSPECT_5X | SUSPECT_7X, BREAK | CONTROL | SUSPECT_3X | SUSPECT_7X, // 0C
 ];
 
 /// The classes that a byte with this high nibble may have. What both tables have for a byte is its
@@ -107,7 +95,7 @@ pub(crate) fn is_clear(text: &[u8]) -> bool
     if text.is_empty() || may_be_faulty(text[0]) || ends_in_break(text) {
         return false;
     }
-    first_suspect(text).is_none()
+    scan::first_pair::<Suspect>(text).is_none()
 }
 
 /// The offset from which on a walk finds the first fault of a tag name, if a byte is one. If the first
@@ -120,7 +108,7 @@ pub(crate) fn first_to_walk(text: &[u8]) -> usize
     if text.is_empty() || may_be_faulty(text[0]) {
         return 0;
     }
-    match first_suspect(text) {
+    match scan::first_pair::<Suspect>(text) {
         Some(offset) => offset + 1,
         None => text.len(),
     }
@@ -132,15 +120,6 @@ fn ends_in_break(text: &[u8]) -> bool
     ensures { result ≡ (ends text.now (codes ".") || ends text.now (codes "/")) }
 {
     matches!(text.last(), Some(b'.' | b'/'))
-}
-
-/// The first offset before a suspect byte.
-#[inline(always)]
-fn first_suspect(text: &[u8]) -> Option<usize>
-    requires { 1 ≤ length text.now }
-    ensures { Finds (at_pair is_suspect text.now) (length text.now - 1) (length text.now - 1) result }
-{
-    scan::first_pair::<Suspect>(text)
 }
 
 /// A byte that is suspect after the one before it.

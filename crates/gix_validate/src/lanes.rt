@@ -87,22 +87,3 @@ pub(crate) fn first_lane(lanes: u64) -> usize
 {
     lanes.trailing_zeros() as usize
 }
-
-/// Whether one of the two bytes is one of the sixteen bytes from this offset on.
-#[inline(always)]
-#[tactic(auto, using(crate::proofs::Blocks::Lanes::any_of_two))]
-pub(crate) fn block_contains_either(text: &[u8], at: usize, one: u8, other: u8) -> bool
-    requires { at + LANES ≤ length text.now }
-    ensures { result ≡ list_any (λ b. b == one || b == other) (chunk at LANES text.now) }
-{
-    let block = u8x16::from_slice(&text[at..]);
-    lanes_contain(block, one) | lanes_contain(block, other)
-}
-
-/// Whether the byte is in one of the lanes.
-#[inline(always)]
-fn lanes_contain(lanes: u8x16, byte: u8) -> bool
-    ensures { result ≡ list_any (λ b. b == byte) lanes }
-{
-    lanes.simd_eq(u8x16::splat(byte)).to_bitmask() != 0
-}

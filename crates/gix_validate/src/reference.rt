@@ -8,25 +8,28 @@
 //! `name_partial`, `name` and `branch_name` don't allocate. On `Ok` each returns the value that it
 //! was passed.
 
-ghost use Rattle.std.specs.Prelude.{◌≡◌, ◌==◌, ◌≢◌, ◌↔◌, ◌⊎◌, ◌+◌, ◌≤◌, [], ◌∷◌, ◌++◌, length, codes, All, Contains, IsOk, IfOk, IsTrue, MatchResult, vec_len, vec_capacity};
+ghost use Rattle.std.specs.Prelude.{◌≡◌, ◌==◌, ◌≢◌, ◌↔◌, ◌⊎◌, ◌+◌, ◌≤◌, [], ◌∷◌, ◌++◌, length, codes, All, Contains, IsOk, IfOk, IsTrue, MatchResult, vec_len, vec_capacity, Some};
 ghost use Rattle.std.specs.List.{list_all};
 ghost use Rattle.std.specs.Str.{byte};
 ghost use Rattle.bstr.specs.BStr.{bstr_bytes};
 ghost use Rattle.bstr.specs.Owned.{bstring_bytes};
 ghost use Rattle.gix_validate.specs.Faults.{Validates};
+ghost use Rattle.gix_validate.specs.Printed.{printed};
 ghost use Rattle.gix_validate.specs.Pieces.{joined};
-ghost use Rattle.gix_validate.specs.Reference.{is_standalone_byte, has_slash_or_stands_alone, is_partial_name, is_full_name, is_branch_name, reserved as reserved_fault, partial_fault_of, full_fault_of, branch_fault_of};
+ghost use Rattle.gix_validate.specs.Reference.{is_standalone_byte, has_slash_or_stands_alone, is_partial_name, is_full_name, is_branch_name, reserved as reserved_fault, partial_fault_of, full_fault_of, branch_fault_of, text_of};
 ghost use Rattle.gix_validate.specs.Tag.{is_tag_name};
 
-use crate::quoted::Quoted;
+use crate::path::joining::joined;
 use crate::scan::{self, Pattern};
 use crate::tag;
+use crate::text::Text;
 use arrayvec::ArrayVec;
 use bstr::{BStr, BString};
 use std::alloc::{AllocError, Global};
 use std::error::Error;
 use std::fmt;
 use std::simd::prelude::*;
+use std::slice::from_ref;
 
 mod sanitize;
 
@@ -55,39 +58,42 @@ pub enum NameError {
     Reserved { name: ArrayVec<u8, 15> },
 }
 
-/// docs/RULES.md, "Printed texts", has what each prints.
-impl fmt::Display for NameError {
-    ghost use Rattle.std.specs.Prelude.{Some};
-    ghost use Rattle.gix_validate.specs.Reference.{text_of};
+impl NameError {
+    /// What it prints (docs/RULES.md, "Printed texts"). It doesn't allocate.
+    pub fn text(&self) -> Text<'_>
+        ensures text { printed result ≡ text_of self.now }
+    {
+        match self {
+            Self::InvalidByte { byte } => Text {
+                words: "Reference name contains invalid byte: ",
+                quoted: Some(from_ref(byte)),
+            },
+            Self::StartsWithSlash => Text::plain("Reference name cannot start with a slash"),
+            Self::RepeatedSlash => { Text::plain("Reference name cannot contain repeated slashes") }
+            Self::RepeatedDot => Text::plain("Reference name cannot contain repeated dots"),
+            Self::LockFileSuffix => Text::plain("Reference name cannot end with '.lock'"),
+            Self::ReflogPortion => Text::plain("Reference name cannot contain '@{'"),
+            Self::Asterisk => Text::plain("Reference name cannot contain '*'"),
+            Self::StartsWithDot => Text::plain("Reference name cannot start with a dot"),
+            Self::EndsWithDot => Text::plain("Reference name cannot end with a dot"),
+            Self::EndsWithSlash => Text::plain("Reference name cannot end with a slash"),
+            Self::Empty => Text::plain("Reference name cannot be empty"),
+            Self::SomeLowercase => {
+                Text::plain("Standalone references must be all uppercased, like 'HEAD'")
+            }
+            Self::Reserved { name } => Text {
+                words: "Reference name is reserved and cannot be used: ",
+                quoted: Some(name.as_slice()),
+            },
+        }
+    }
+}
 
+impl fmt::Display for NameError {
     ghost output = { λ e. Some (text_of e) };
 
     fn fmt<W: fmt::Write>(&self, f: &mut fmt::Formatter<W>) -> fmt::Result {
-        match self {
-            NameError::InvalidByte { byte } => {
-                f.write_str("Reference name contains invalid byte: ")?;
-                Quoted(&[*byte]).fmt(f)
-            }
-            NameError::StartsWithSlash => f.write_str("Reference name cannot start with a slash"),
-            NameError::RepeatedSlash => {
-                f.write_str("Reference name cannot contain repeated slashes")
-            }
-            NameError::RepeatedDot => f.write_str("Reference name cannot contain repeated dots"),
-            NameError::LockFileSuffix => f.write_str("Reference name cannot end with '.lock'"),
-            NameError::ReflogPortion => f.write_str("Reference name cannot contain '@{'"),
-            NameError::Asterisk => f.write_str("Reference name cannot contain '*'"),
-            NameError::StartsWithDot => f.write_str("Reference name cannot start with a dot"),
-            NameError::EndsWithDot => f.write_str("Reference name cannot end with a dot"),
-            NameError::EndsWithSlash => f.write_str("Reference name cannot end with a slash"),
-            NameError::Empty => f.write_str("Reference name cannot be empty"),
-            NameError::SomeLowercase => {
-                f.write_str("Standalone references must be all uppercased, like 'HEAD'")
-            }
-            NameError::Reserved { name } => {
-                f.write_str("Reference name is reserved and cannot be used: ")?;
-                Quoted(name.as_slice()).fmt(f)
-            }
-        }
+        self.text().fmt(f)
     }
 }
 
@@ -219,11 +225,7 @@ pub fn join(alloc: Global, a: BStr<'_>, b: BStr<'_>) -> Result<BString, AllocErr
         ≡ joined (bstr_bytes a.entry ∷ bstr_bytes b.entry ∷ [])) }
     ensures valid { IfOk result (λ name. IsTrue (is_full_name (bstring_bytes name))) }
 {
-    let (a, b) = (a.as_bytes(), b.as_bytes());
-    let with_slash = a.len().checked_add(1).ok_or(AllocError)?;
-    let len = with_slash.checked_add(b.len()).ok_or(AllocError)?;
-    let name = write_joined(Vec::with_capacity(alloc, len)?, a, b)?;
-    Ok(BString::new(name))
+    joined(alloc, &[a, b])
 }
 
 /// Returns any name except the reserved one, for which the error has room.
@@ -243,7 +245,7 @@ fn unless_reserved<'a>(name: BStr<'a>, reserved: &[u8]) -> Result<BStr<'a>, Name
 }
 
 /// A slash.
-enum Slash {}
+pub(crate) enum Slash {}
 
 impl Pattern for Slash {
     ghost hit = { λ a b. a == byte "/" };
@@ -269,16 +271,4 @@ fn stands_alone(bytes: &[u8]) -> bool
 {
     !matches!(bytes.first(), Some(b'a'..=b'z'))
         && bytes.iter().all(|byte| matches!(*byte, b'A'..=b'Z' | b'_'))
-}
-
-/// What follows the allocation, which is for the join and no byte more. So it succeeds.
-fn write_joined(mut buffer: Vec<u8>, a: &[u8], b: &[u8]) -> Result<Vec<u8>, AllocError>
-    requires room { vec_capacity buffer ≡ vec_len buffer + length (joined (a.now ∷ b.now ∷ [])) }
-    ensures bytes { IfOk result (λ name. name.items ≡ buffer.items ++ joined (a.now ∷ b.now ∷ [])) }
-    ensures succeeds { IsOk result }
-{
-    buffer.extend_from_slice(a)?;
-    buffer.push(b'/')?;
-    buffer.extend_from_slice(b)?;
-    Ok(buffer)
 }

@@ -5,14 +5,16 @@
 //! A name is never split. Most names have no two adjacent dots; in the others each offset from the
 //! first two dots on is checked.
 
-ghost use Rattle.std.specs.Prelude.{◌≡◌, ◌↔◌, ◌||◌, ◌&&◌, ◌==◌, ℕ, ◌+◌, ◌-◌, ◌≤◌, ◌<◌, false, length, slice_index, IsOk, IfOk, IsTrue};
+ghost use Rattle.std.specs.Prelude.{◌≡◌, ◌↔◌, ◌||◌, ◌&&◌, ◌==◌, ℕ, ◌+◌, ◌-◌, ◌≤◌, ◌<◌, false, length, slice_index, IsOk, IfOk, IsTrue, Some};
 ghost use Rattle.std.specs.Str.{byte};
 ghost use Rattle.bstr.specs.BStr.{bstr_bytes};
 ghost use Rattle.gix_validate.specs.Private.Parents.{is_parent_at, NoParentBelow};
 ghost use Rattle.gix_validate.specs.Faults.{Validates};
-ghost use Rattle.gix_validate.specs.Submodule.{fault_of, has_parent_part, is_separator, is_submodule_name};
+ghost use Rattle.gix_validate.specs.Printed.{printed};
+ghost use Rattle.gix_validate.specs.Submodule.{fault_of, has_parent_part, is_separator, is_submodule_name, text_of};
 
 use crate::scan::{self, Pattern};
+use crate::text::Text;
 use bstr::BStr;
 use std::error::Error;
 use std::fmt;
@@ -27,18 +29,23 @@ pub enum NameError {
     ParentComponent,
 }
 
-/// docs/RULES.md, "Printed texts", has what each prints.
-impl fmt::Display for NameError {
-    ghost use Rattle.std.specs.Prelude.{Some};
-    ghost use Rattle.gix_validate.specs.Submodule.{text_of};
+impl NameError {
+    /// What it prints (docs/RULES.md, "Printed texts"). It doesn't allocate.
+    pub fn text(&self) -> Text<'_>
+        ensures text { printed result ≡ text_of self.now }
+    {
+        match self {
+            Self::Empty => Text::plain("Submodule names cannot be empty"),
+            Self::ParentComponent => Text::plain("Submodules names must not contains '..'"),
+        }
+    }
+}
 
+impl fmt::Display for NameError {
     ghost output = { λ e. Some (text_of e) };
 
     fn fmt<W: fmt::Write>(&self, f: &mut fmt::Formatter<W>) -> fmt::Result {
-        match self {
-            NameError::Empty => f.write_str("Submodule names cannot be empty"),
-            NameError::ParentComponent => f.write_str("Submodules names must not contains '..'"),
-        }
+        self.text().fmt(f)
     }
 }
 
@@ -91,13 +98,13 @@ impl Pattern for TwoDots {
 
 /// Whether some part is `..`. Most names have no two dots in a row.
 #[inline(always)]
-#[tactic(auto, using(crate::proofs::Submodules::without_two_dots, crate::proofs::Submodules::no_parent))]
+#[tactic(auto, using(crate::proofs::Submodules::without_two_dots, crate::proofs::Submodules::some_parent, crate::proofs::Submodules::no_parent))]
 fn has_parent_part(bytes: &[u8]) -> bool
     requires { 1 ≤ length bytes.now }
     ensures { result ≡ has_parent_part bytes.now }
 {
     match scan::first_pair::<TwoDots>(bytes) {
-        Some(offset) => has_parent_from(bytes, offset),
+        Some(offset) => is_parent_at(bytes, offset) || has_parent_from(bytes, offset),
         None => false,
     }
 }

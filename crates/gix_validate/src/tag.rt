@@ -4,15 +4,17 @@ ghost use Rattle.std.specs.Prelude.{◌≡◌, ◌↔◌, ◌<◌, ◌≤◌, �
 ghost use Rattle.bstr.specs.BStr.{bstr_bytes};
 ghost use Rattle.gix_validate.specs.Bytes.{ends};
 ghost use Rattle.gix_validate.specs.Faults.{Validates, first_of, at_first_offset};
+ghost use Rattle.gix_validate.specs.Printed.{printed};
 ghost use Rattle.gix_validate.specs.Private.TagWalk.{fault_of_byte, first_fault_between, may_be_faulty};
-ghost use Rattle.gix_validate.specs.Tag.{fault_of, faults_at, is_tag_name};
+ghost use Rattle.gix_validate.specs.Tag.{fault_of, faults_at, is_tag_name, text_of};
 
 use crate::adjacent::{first_to_walk, is_clear};
 use crate::bytes::may_be_faulty;
-use crate::quoted::Quoted;
+use crate::text::Text;
 use bstr::BStr;
 use std::error::Error;
 use std::fmt;
+use std::slice::from_ref;
 
 /// Why a name is not a valid tag name. docs/RULES.md, "Printed texts", has what each prints.
 #[derive(Debug, Drop)]
@@ -42,36 +44,43 @@ pub enum NameError {
     Empty,
 }
 
-impl fmt::Display for NameError {
-    ghost use Rattle.gix_validate.specs.Tag.{text_of};
+impl NameError {
+    /// What it prints (docs/RULES.md, "Printed texts"). It doesn't allocate.
+    pub fn text(&self) -> Text<'_>
+        ensures text { printed result ≡ text_of self.now }
+    {
+        match self {
+            Self::InvalidByte { byte } => Text {
+                words: "A ref must not contain invalid bytes or ascii control characters: ",
+                quoted: Some(from_ref(byte)),
+            },
+            Self::StartsWithSlash => {
+                Text::plain("A reference name must not start with a slash '/'")
+            }
+            Self::RepeatedSlash => Text::plain(
+                "Multiple slashes in a row are not allowed as they may change the reference's meaning",
+            ),
+            Self::RepeatedDot => {
+                Text::plain("A ref must not contain '..' as it may be mistaken for a range")
+            }
+            Self::LockFileSuffix => Text::plain("A ref must not end with '.lock'"),
+            Self::ReflogPortion => {
+                Text::plain("A ref must not contain '@{' which is a part of a ref-log")
+            }
+            Self::Asterisk => Text::plain("A ref must not contain '*' character"),
+            Self::StartsWithDot => Text::plain("A ref must not start with a '.'"),
+            Self::EndsWithDot => Text::plain("A ref must not end with a '.'"),
+            Self::EndsWithSlash => Text::plain("A ref must not end with a '/'"),
+            Self::Empty => Text::plain("A ref must not be empty"),
+        }
+    }
+}
 
+impl fmt::Display for NameError {
     ghost output = { λ e. Some (text_of e) };
 
     fn fmt<W: fmt::Write>(&self, f: &mut fmt::Formatter<W>) -> fmt::Result {
-        match self {
-            NameError::InvalidByte { byte } => {
-                f.write_str("A ref must not contain invalid bytes or ascii control characters: ")?;
-                Quoted(&[*byte]).fmt(f)
-            }
-            NameError::StartsWithSlash => {
-                f.write_str("A reference name must not start with a slash '/'")
-            }
-            NameError::RepeatedSlash => f.write_str(
-                "Multiple slashes in a row are not allowed as they may change the reference's meaning",
-            ),
-            NameError::RepeatedDot => {
-                f.write_str("A ref must not contain '..' as it may be mistaken for a range")
-            }
-            NameError::LockFileSuffix => f.write_str("A ref must not end with '.lock'"),
-            NameError::ReflogPortion => {
-                f.write_str("A ref must not contain '@{' which is a part of a ref-log")
-            }
-            NameError::Asterisk => f.write_str("A ref must not contain '*' character"),
-            NameError::StartsWithDot => f.write_str("A ref must not start with a '.'"),
-            NameError::EndsWithDot => f.write_str("A ref must not end with a '.'"),
-            NameError::EndsWithSlash => f.write_str("A ref must not end with a '/'"),
-            NameError::Empty => f.write_str("A ref must not be empty"),
-        }
+        self.text().fmt(f)
     }
 }
 
@@ -109,7 +118,8 @@ pub fn name<'a>(input: BStr<'a>) -> Result<BStr<'a>, NameError>
     }
 }
 
-/// The result of `name`, found byte by byte. Most valid names are clear and don't get here.
+/// The result of `name` for a name that isn't clear. (As a part of `name` it would take four
+/// instructions more of clear names.)
 #[inline(always)]
 #[tactic(auto, using(crate::proofs::TagNames::Grammar::tag_grammar_law))]
 fn name_on_walk<'a>(input: BStr<'a>) -> Result<BStr<'a>, NameError>

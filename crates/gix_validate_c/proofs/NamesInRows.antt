@@ -3,7 +3,7 @@ use Rattle.std.proofs.Common.{refl, [], ◌∷◌}
 use Rattle.std.specs.Prelude.{codes}
 use Rattle.std.specs.Str.{byte}
 use Rattle.gix_validate.proofs.Rows.Tables.{Gives}
-use Rattle.gix_validate_c.specs.Many.{names_in}
+use Rattle.gix_validate.specs.Pieces.{names_in}
 
 -- buffers whose names end at a newline, and their names
 names_in_lines : Gives (names_in (byte "\n"))

@@ -1,4 +1,3 @@
 pub mod Numbers
 pub mod Flags
 pub mod Texts
-pub mod Many

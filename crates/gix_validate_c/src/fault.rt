@@ -1,13 +1,12 @@
 //! The number and the printed text of a fault.
 
-ghost use Rattle.std.specs.Prelude.{◌≡◌, ◌↔◌, ◌≤◌, ◌++◌, ℕ, List, length, IsOk, MatchOption, MatchResult};
-ghost use Rattle.gix_validate.specs.Quoted.{quoted};
+ghost use Rattle.std.specs.Prelude.{◌≡◌, ◌↔◌, ◌≤◌, ℕ, List, length, IsOk, MatchResult};
+ghost use Rattle.gix_validate.specs.Printed.{printed};
 
-use crate::printing::{Row, plain};
 use bstr::BStr;
 use gix_validate::path::ComponentError;
+use gix_validate::text::Text;
 use gix_validate::{reference, submodule, tag};
-use std::slice::from_ref;
 
 /// A fault that has a number and a text.
 pub(crate) trait Fault {
@@ -15,13 +14,16 @@ pub(crate) trait Fault {
 
     ghost text: { Self → List ℕ };
 
-    /// The number of the fault and its text (docs/RULES.md, "Printed texts"). A fault that several
-    /// types share has one number. The numbers never change, and a new fault takes the next one.
-    fn row(&self) -> Row<'_>
-        ensures number { result.number ≡ number self.now }
-        ensures text { MatchOption result.quoted (text self.now ≡ result.words.now)
-            (λ bytes. text self.now ≡ result.words.now ++ quoted bytes.now) }
-        ensures some { (1 ≤ result.number) × (1 ≤ length result.words.now) };
+    /// The number of the fault. A fault that several types share has one number. The numbers never
+    /// change, and a new fault takes the next one.
+    fn number(&self) -> u32
+        ensures number { result ≡ number self.now }
+        ensures some { 1 ≤ result };
+
+    /// Its text (docs/RULES.md, "Printed texts").
+    fn printed(&self) -> Text<'_>
+        ensures text { printed result ≡ text self.now }
+        ensures some { 1 ≤ length (text self.now) };
 }
 
 impl Fault for tag::NameError {
@@ -32,33 +34,24 @@ impl Fault for tag::NameError {
 
     ghost text = { text_of };
 
-    fn row(&self) -> Row<'_> {
+    fn number(&self) -> u32 {
         match self {
-            Self::InvalidByte { byte } => Row {
-                number: 1,
-                words: b"A ref must not contain invalid bytes or ascii control characters: ",
-                quoted: Some(from_ref(byte)),
-            },
-            Self::StartsWithSlash => plain(2, b"A reference name must not start with a slash '/'"),
-            Self::RepeatedSlash => plain(
-                3,
-                b"Multiple slashes in a row are not allowed as they may change the reference's meaning",
-            ),
-            Self::RepeatedDot => plain(
-                4,
-                b"A ref must not contain '..' as it may be mistaken for a range",
-            ),
-            Self::LockFileSuffix => plain(5, b"A ref must not end with '.lock'"),
-            Self::ReflogPortion => plain(
-                6,
-                b"A ref must not contain '@{' which is a part of a ref-log",
-            ),
-            Self::Asterisk => plain(7, b"A ref must not contain '*' character"),
-            Self::StartsWithDot => plain(8, b"A ref must not start with a '.'"),
-            Self::EndsWithDot => plain(9, b"A ref must not end with a '.'"),
-            Self::EndsWithSlash => plain(10, b"A ref must not end with a '/'"),
-            Self::Empty => plain(11, b"A ref must not be empty"),
+            Self::InvalidByte { .. } => 1,
+            Self::StartsWithSlash => 2,
+            Self::RepeatedSlash => 3,
+            Self::RepeatedDot => 4,
+            Self::LockFileSuffix => 5,
+            Self::ReflogPortion => 6,
+            Self::Asterisk => 7,
+            Self::StartsWithDot => 8,
+            Self::EndsWithDot => 9,
+            Self::EndsWithSlash => 10,
+            Self::Empty => 11,
         }
+    }
+
+    fn printed(&self) -> Text<'_> {
+        self.text()
     }
 }
 
@@ -70,33 +63,26 @@ impl Fault for reference::NameError {
 
     ghost text = { text_of };
 
-    fn row(&self) -> Row<'_> {
+    fn number(&self) -> u32 {
         match self {
-            Self::InvalidByte { byte } => Row {
-                number: 1,
-                words: b"Reference name contains invalid byte: ",
-                quoted: Some(from_ref(byte)),
-            },
-            Self::StartsWithSlash => plain(2, b"Reference name cannot start with a slash"),
-            Self::RepeatedSlash => plain(3, b"Reference name cannot contain repeated slashes"),
-            Self::RepeatedDot => plain(4, b"Reference name cannot contain repeated dots"),
-            Self::LockFileSuffix => plain(5, b"Reference name cannot end with '.lock'"),
-            Self::ReflogPortion => plain(6, b"Reference name cannot contain '@{'"),
-            Self::Asterisk => plain(7, b"Reference name cannot contain '*'"),
-            Self::StartsWithDot => plain(8, b"Reference name cannot start with a dot"),
-            Self::EndsWithDot => plain(9, b"Reference name cannot end with a dot"),
-            Self::EndsWithSlash => plain(10, b"Reference name cannot end with a slash"),
-            Self::Empty => plain(11, b"Reference name cannot be empty"),
-            Self::SomeLowercase => plain(
-                12,
-                b"Standalone references must be all uppercased, like 'HEAD'",
-            ),
-            Self::Reserved { name } => Row {
-                number: 13,
-                words: b"Reference name is reserved and cannot be used: ",
-                quoted: Some(name.as_slice()),
-            },
+            Self::InvalidByte { .. } => 1,
+            Self::StartsWithSlash => 2,
+            Self::RepeatedSlash => 3,
+            Self::RepeatedDot => 4,
+            Self::LockFileSuffix => 5,
+            Self::ReflogPortion => 6,
+            Self::Asterisk => 7,
+            Self::StartsWithDot => 8,
+            Self::EndsWithDot => 9,
+            Self::EndsWithSlash => 10,
+            Self::Empty => 11,
+            Self::SomeLowercase => 12,
+            Self::Reserved { .. } => 13,
         }
+    }
+
+    fn printed(&self) -> Text<'_> {
+        self.text()
     }
 }
 
@@ -108,11 +94,15 @@ impl Fault for submodule::NameError {
 
     ghost text = { text_of };
 
-    fn row(&self) -> Row<'_> {
+    fn number(&self) -> u32 {
         match self {
-            Self::Empty => plain(11, b"Submodule names cannot be empty"),
-            Self::ParentComponent => plain(14, b"Submodules names must not contains '..'"),
+            Self::Empty => 11,
+            Self::ParentComponent => 14,
         }
+    }
+
+    fn printed(&self) -> Text<'_> {
+        self.text()
     }
 }
 
@@ -124,23 +114,21 @@ impl Fault for ComponentError {
 
     ghost text = { text_of };
 
-    fn row(&self) -> Row<'_> {
+    fn number(&self) -> u32 {
         match self {
-            Self::Empty => plain(11, b"A path component must not be empty"),
-            Self::PathSeparator => plain(15, b"Path separators like / or \\ are not allowed"),
-            Self::WindowsPathPrefix => plain(16, b"Windows path prefixes are not allowed"),
-            Self::WindowsReservedName => plain(
-                17,
-                b"Windows device-names may have side-effects and are not allowed",
-            ),
-            Self::WindowsIllegalCharacter => plain(
-                18,
-                b"Trailing spaces or dots, and the following characters anywhere, are forbidden in Windows paths, along with non-printable ones: <>:\"|?*",
-            ),
-            Self::DotGitDir => plain(19, b"The .git name may never be used"),
-            Self::SymlinkedGitModules => plain(20, b"The .gitmodules file must not be a symlink"),
-            Self::Relative => plain(21, b"Relative components '.' and '..' are disallowed"),
+            Self::Empty => 11,
+            Self::PathSeparator => 15,
+            Self::WindowsPathPrefix => 16,
+            Self::WindowsReservedName => 17,
+            Self::WindowsIllegalCharacter => 18,
+            Self::DotGitDir => 19,
+            Self::SymlinkedGitModules => 20,
+            Self::Relative => 21,
         }
+    }
+
+    fn printed(&self) -> Text<'_> {
+        self.text()
     }
 }
 
@@ -151,6 +139,6 @@ pub(crate) fn code<E: Fault + Drop>(answer: Result<BStr<'_>, E>) -> u32
 {
     match answer {
         Ok(_) => 0,
-        Err(fault) => fault.row().number,
+        Err(fault) => fault.number(),
     }
 }

@@ -18,7 +18,6 @@ mod fault;
 mod flags;
 pub mod many;
 pub mod names;
-mod printing;
 pub mod sanitize;
 pub mod texts;
 pub mod version;

@@ -18,7 +18,7 @@ ghost use Rattle.gix_validate.specs.Tag as tag;
 ghost use Rattle.gix_validate.specs.Reference.{partial_fault_of, full_fault_of, branch_fault_of};
 ghost use Rattle.gix_validate.specs.Submodule as submodule;
 ghost use Rattle.gix_validate_c.specs.Numbers.{code_by, tag_number, reference_number, submodule_number};
-ghost use Rattle.gix_validate_c.specs.Many.{names_in};
+ghost use Rattle.gix_validate.specs.Pieces.{names_in};
 
 use crate::fault::code;
 use bstr::BStr;

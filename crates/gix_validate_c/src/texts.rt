@@ -11,6 +11,7 @@
 ghost use Rattle.std.specs.Prelude.{◌≡◌, ◌↔◌, ◌≤◌, length, IsOk, IsTrue, MatchResult};
 ghost use Rattle.gix_validate.specs.Tag as tag;
 ghost use Rattle.gix_validate.specs.Reference.{text_of, partial_fault_of, full_fault_of, branch_fault_of, is_partial_name, is_full_name, is_branch_name};
+ghost use Rattle.gix_validate.specs.Printed.{printed};
 ghost use Rattle.gix_validate.specs.Submodule as submodule;
 ghost use Rattle.gix_validate.specs.Component as component;
 ghost use Rattle.gix_validate_c.specs.Flags.{options_of, mode_of};
@@ -18,9 +19,10 @@ ghost use Rattle.gix_validate_c.specs.Texts.{text_by, with_text};
 
 use crate::fault::Fault;
 use crate::flags;
-pub use crate::printing::LONGEST_TEXT;
-use crate::printing::write_all;
+use arrayvec::ArrayString;
 use bstr::BStr;
+pub use gix_validate::text::LONGEST as LONGEST_TEXT;
+use gix_validate::text::{Text, escape};
 use gix_validate::{path, reference, submodule, tag};
 
 /// Writes the text of the fault of a tag name.
@@ -131,6 +133,33 @@ fn write_text<E: Fault + Drop>(answer: Result<BStr<'_>, E>, buffer: &mut [u8]) -
 {
     match answer {
         Ok(_) => 0,
-        Err(fault) => write_all(fault.row().text().as_slice(), buffer),
+        Err(fault) => write_all(rendered(fault.printed()).as_str().as_bytes(), buffer),
     }
+}
+
+/// The text in a buffer that holds the longest of them.
+fn rendered(text: Text<'_>) -> ArrayString<LONGEST_TEXT>
+    ensures { result.bytes ≡ printed text.entry }
+{
+    let mut shown = ArrayString::new();
+    shown.push_str(text.words);
+    if let Some(bytes) = text.quoted {
+        shown.push_str("\"");
+        for byte in bytes {
+            shown.push_str(escape(*byte).as_str());
+        }
+        shown.push_str("\"");
+    }
+    shown
+}
+
+/// Writes the text to the start of the buffer if all of it fits, and returns its length.
+fn write_all(text: &[u8], buffer: &mut [u8]) -> usize
+    ensures length { result ≡ length text.now }
+    ensures bytes { buffer.new ≡ with_text text.now buffer.old }
+{
+    if text.len() <= buffer.len() {
+        buffer[..text.len()].copy_from_slice(text);
+    }
+    text.len()
 }

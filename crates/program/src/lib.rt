@@ -15,6 +15,10 @@ pub mod output;
 /// The version of the library and of the programs, which `--version` prints.
 pub const VERSION: &str = "2.1.0";
 
+/// The most turns of a loop that reads or writes until it is done. An interrupted call is made again,
+/// so nothing else bounds the loop. No run takes so many.
+pub const TURNS: u64 = u64::MAX;
+
 /// Prints `what` on standard error, after the name of the program, and returns the status 2.
 pub fn fail(rt: &HostRuntime, name: &str, what: impl Display + Drop) -> ExitCode
     ensures status { exit_status result ≡ 2 }

@@ -4,6 +4,7 @@ ghost use Rattle.std.specs.Prelude.{IfErr, OnOk, OnErr};
 ghost use Rattle.std.specs.Io.KnownBytes.{Appends};
 ghost use Rattle.program.specs.Writes.{AppendsPrefixOf, IsWriteError};
 
+use crate::TURNS;
 use crate::outcome::RunError;
 use std::io::{ErrorKind, Write};
 
@@ -20,7 +21,7 @@ pub fn write_all<W: Write>(bytes: &[u8], output: &mut W) -> Result<(), RunError>
     ensures stop { IfErr result IsWriteError }
 {
     let mut written = 0;
-    for _ in 0..u64::MAX {
+    for _ in 0..TURNS {
         if written >= bytes.len() {
             return Ok(());
         }

@@ -6,6 +6,7 @@ ghost use Rattle.gix_validate.specs.Bytes.{is_empty};
 ghost use Rattle.streams.specs.Promises.{IsCutAt, ReadsBefore, ReadsNext, Part, ReadsExactly};
 
 use memchr::memchr;
+use program::TURNS;
 use program::outcome::RunError;
 use std::io::{BufRead, ErrorKind};
 
@@ -35,7 +36,7 @@ pub fn read_before<R: BufRead>(
     ensures { IfOk result (ReadsBefore byte limit (R.remaining input.old) (R.remaining input.new) front.new.items) }
 {
     front.clear();
-    for _ in 0..u64::MAX {
+    for _ in 0..TURNS {
         if front.len() >= limit {
             return Ok(Found::Limit);
         }
@@ -99,7 +100,7 @@ pub fn read_bytes<R: BufRead>(
     ensures { IfOk result (ReadsExactly count (R.remaining input.old) (R.remaining input.new) bytes.new.items) }
 {
     bytes.clear();
-    for _ in 0..u64::MAX {
+    for _ in 0..TURNS {
         if bytes.len() >= count {
             return Ok(true);
         }
@@ -144,7 +145,7 @@ pub fn skip<R: BufRead>(input: &mut R, count: u64) -> Result<bool, RunError>
         × ReadsExactly count (R.remaining input.old) (R.remaining input.new) bytes whole) }
 {
     let mut left = count;
-    for _ in 0..u64::MAX {
+    for _ in 0..TURNS {
         if left == 0 {
             return Ok(true);
         }
@@ -186,7 +187,7 @@ fn skip_part<R: BufRead>(input: &mut R, count: u64) -> Result<Option<u64>, RunEr
 pub fn read_byte<R: BufRead>(input: &mut R) -> Result<Option<u8>, RunError>
     ensures byte { IfOk result (λ byte. ReadsNext (R.remaining input.old) (R.remaining input.new) byte) }
 {
-    for _ in 0..u64::MAX {
+    for _ in 0..TURNS {
         if let Some(byte) = next_part(input)? {
             return Ok(byte);
         }
@@ -221,7 +222,7 @@ pub fn is_at_end<R: BufRead>(input: &mut R) -> Result<bool, RunError>
     ensures kept { IfOk result (λ ended. Consumes (R.remaining input.old) (R.remaining input.new) []) }
     ensures spent { IfOk result (λ ended. ended ≡ true → OnSome (R.remaining input.old) (IsAtEnd (R.remaining input.new))) }
 {
-    for _ in 0..u64::MAX {
+    for _ in 0..TURNS {
         if let Some(ended) = look(input)? {
             return Ok(ended);
         }

@@ -13,6 +13,7 @@ ghost use Rattle.streams.specs.Promises.{FollowsRule, ReadsUpTo, StopsWithin, is
 
 use crate::input::{Found, is_at_end, read_before};
 use crate::outcome::{Fault, Verdict};
+use program::TURNS;
 use program::outcome::RunError;
 use std::alloc::Global;
 use std::io::{BufRead, Write};
@@ -111,7 +112,7 @@ pub fn run<C: LineCheck, R: BufRead, W: Write>(
         lines: Vec::new(alloc),
     };
     let mut refused = false;
-    for before in 0..u64::MAX {
+    for before in 0..TURNS {
         let number = before + 1;
         let fault = match read_before(input, b'\n', LONGEST as usize, &mut line)? {
             Found::Byte => {

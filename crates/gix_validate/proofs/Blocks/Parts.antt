@@ -2,10 +2,13 @@
 use Rattle.std.proofs.Common.{◌≡◌, ℕ, zero, suc, ◌+◌, ◌-◌, ◌%◌, ◌<◌, ◌≤◌, ◌↔◌, Bool, true, false, ◌||◌, eqb, List, [], ◌∷◌, ◌++◌}
 use Rattle.std.proofs.Common.{length, take, drop, get_or, replicate, refl, sym, ap, ap₂, ◌∙◌, inl, inr, arith, take-add, eqb-true}
 use Rattle.std.proofs.Math.Nat.{mod-lt, mod-eq_of_lt}
-use Rattle.std.proofs.lemmas.Bool.{cases_lt, or_parts, agree_below, agree_below_at}
+use Rattle.std.proofs.lemmas.Bool.{cases_lt, or_parts, agree_below, agree_below_at, false_from_ne_true}
 use Rattle.std.proofs.lemmas.List.{get_or-map, get_or-replicate, get_or_append_left, get_or-append_right, drop-drop}
 use Rattle.std.specs.List.{list_any}
-use Rattle.std.proofs.lemmas.List.Folds.{list_any-append}
+use Rattle.std.specs.Prelude.{Option, Some, None, is_some}
+use Rattle.memchr.specs.Find.{IsFirstByte, is_byte2}
+use Rattle.gix_validate.specs.Bytes.{is_among}
+use Rattle.std.proofs.lemmas.List.Folds.{list_any_at, list_any-append}
 use Rattle.std.proofs.lemmas.Simd.{length-chunk, get_or-chunk}
 use lib.Lanes.{chunk, pick_l}
 use Rattle.gix_validate.specs.Private.Lanes.{offset_of, HasParts}
@@ -19,6 +22,15 @@ none_at p (b ∷ v) = (
   λ e. elim [ zero ↦ (λ h. (or_parts (p b) _ e).0) | suc k ↦ (λ h. (none_at p v).0 (or_parts (p b) _ e).1 k (omega arith)) ],
   λ none. ap₂ (λ s t. s || t) (none 0 (omega arith)) ((none_at p v).1 (λ k h. none (suc k) (omega arith))),
 )
+
+-- a search for two bytes says whether one is in the text
+either_among : (a b : ℕ) (x : List ℕ) → list_any (is_byte2 a b) x ≡ (is_among x a || is_among x b)
+either_among a b [] = refl
+either_among a b (c ∷ x) = grind (arith, nat_tests, either_among a b x)
+
+pub either_found : (a b : ℕ) (x : List ℕ) (found : Option ℕ) → IsFirstByte (is_byte2 a b) x found → is_some found ≡ (is_among x a || is_among x b)
+either_found a b x None none = sym ((none_at (is_byte2 a b) x).1 (λ k h. false_from_ne_true _ (none k (omega arith) h))) ∙ either_among a b x
+either_found a b x (Some k) first = sym (list_any_at (is_byte2 a b) x k 0 first.0.high first.1) ∙ either_among a b x
 
 same_none : (s t : Bool) → (s ≡ false → t ≡ false) → (t ≡ false → s ≡ false) → s ≡ t
 same_none s t one two = grind arith

@@ -1,5 +1,5 @@
 -- Ordinary names: no condition but the one on devices refuses one.
-use Rattle.std.proofs.Common.{◌≡◌, ℕ, zero, suc, ◌-◌, ◌<◌, ◌≤◌, Bool, true, false, not, ◌&&◌, ◌||◌, eqb, Option, None, List}
+use Rattle.std.proofs.Common.{◌≡◌, ℕ, zero, suc, ◌-◌, ◌<◌, ◌≤◌, Bool, true, false, not, ◌&&◌, ◌||◌, eqb, Option, None, Some, List}
 use Rattle.std.proofs.Common.{[], ◌∷◌, ◌++◌, length, get_or, refl, ◌∙◌, arith, codes}
 use Rattle.std.specs.Prelude.{slice_index}
 use Rattle.std.specs.Bool.{◌==◌}
@@ -7,7 +7,7 @@ use Rattle.std.specs.List.{list_any}
 use Rattle.std.specs.Str.{byte, bytes_eq}
 use Rattle.std.proofs.lemmas.Bool.{or_parts}
 use Rattle.std.proofs.lemmas.Slice.Eq.{bytes_eq-Decides}
-use Rattle.gix_validate.specs.declared.path.ComponentError.TheVariants.{WindowsReservedName}
+use Rattle.gix_validate.specs.declared.path.ComponentError.TheVariants.{WindowsReservedName, PathSeparator}
 use Rattle.gix_validate.specs.declared.path.ComponentOptions.{ComponentOptions}
 use Rattle.gix_validate.specs.declared.path.ComponentMode.{ComponentMode}
 use Rattle.gix_validate.specs.Bytes.{is_among, ends, lower}
@@ -116,6 +116,16 @@ pub ordinary_passes : (options : ComponentOptions) (mode : Option ComponentMode)
     → (is_device x || (bytes_eq (lower x) (codes ".git") || bytes_eq (lower x) (codes ".gitmodules"))) ≡ false
     → fault_of options mode x ≡ None
 ordinary_passes options mode x some classed end special = grind (arith, nat_tests, ordinary_by_looks, ordinary_fault)
+
+-- a name that has a slash is neither empty nor `.` or `..`, so no condition comes first
+slash_no_dots : (x : List ℕ) → is_among x (byte "/") ≡ true → (bytes_eq x (codes ".") || bytes_eq x (codes "..")) ≡ false
+slash_no_dots x has = grind (arith, bytes_eq-Decides)
+
+pub slash_fault : (options : ComponentOptions) (mode : Option ComponentMode) (x : List ℕ) → is_among x (byte "/") ≡ true
+    → fault_of options mode x ≡ Some PathSeparator
+unfolding fault_of conditions
+slash_fault options mode [] has = grind arith
+slash_fault options mode (b ∷ x) has = rw (slash_no_dots (b ∷ x) has, has) (grind arith)
 
 -- A name of one or two bytes is `.` or `..` if its first and its last are dots.
 pub relative_by_ends : (x : List ℕ) → 1 ≤ length x → length x < 3

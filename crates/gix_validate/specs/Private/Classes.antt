@@ -1,11 +1,9 @@
 -- The classes of the bytes of a name, a bit for each, and what they say about the name.
-use Rattle.std.specs.Prelude.{◌≡◌, ℕ, Bool, false, ◌==◌, ◌||◌, not, nat_lt, ◌≤◌, if◌then◌else◌, List, length, codes, map, bit_and}
+use Rattle.std.specs.Prelude.{◌≡◌, ℕ, Bool, false, ◌==◌, not, nat_lt, ◌≤◌, if◌then◌else◌, List, length, codes, map, bit_and}
 use Rattle.std.specs.List.{list_any}
 use Rattle.std.specs.Str.{byte}
 use Rattle.gix_validate.specs.declared.path.classes.TheConstants.{CONTROL, QUOTE_OR_STAR, COLON_ANGLE_OR_MARK, BACKSLASH, PIPE, LEAD, SLASH, TILDE}
 use Rattle.gix_validate.specs.declared.path.classes.TheConstants.{ILLEGAL, ANY, SHORT}
-use Rattle.gix_validate.specs.declared.path.classes.Sought.{Sought}
-use Rattle.gix_validate.specs.declared.path.classes.Sought.TheVariants.{Class, Slash, Separator}
 use Rattle.gix_validate.specs.Bytes.{is_among}
 use Rattle.gix_validate.specs.Windows.{is_illegal_byte}
 use Rattle.gix_validate.specs.Private.Ordinary.{is_lead, is_classed}
@@ -26,12 +24,6 @@ class_of b =
 -- the class of the byte has a bit of the mask
 abbrev pub has_class : ℕ → ℕ → Bool
 has_class mask b = not (bit_and (class_of b) mask == 0)
-
--- the byte is one that a long name is looked through for
-abbrev pub is_sought : Sought → ℕ → Bool
-is_sought (Class mask) b = has_class mask b
-is_sought Slash b = b == byte "/"
-is_sought Separator b = b == byte "/" || b == byte "\\"
 
 -- one of the classes has a bit of the mask
 unfoldable pub any_class : ℕ → List ℕ → Bool

@@ -3,15 +3,18 @@
 //! This is no `scan`: of a short name it says which of several classes of bytes it has, all at once,
 //! and a long name is read four blocks a turn.
 
-ghost use Rattle.std.specs.Prelude.{◌≡◌, ◌≤◌, ◌<◌, ◌+◌, ◌==◌, ◌&&◌, ◌||◌, not, length, map};
+ghost use Rattle.std.specs.Prelude.{◌≡◌, IsTrue, ◌≤◌, ◌<◌, ◌+◌, ◌&&◌, ◌||◌, not, length, map};
 ghost use Rattle.std.specs.Str.{byte};
 ghost use Rattle.gix_validate.specs.Bytes.{is_among};
 ghost use Rattle.std.specs.List.{list_any};
 ghost use Rattle.std.specs.Simd.Lanes.{chunk};
 ghost use Rattle.gix_validate.specs.Windows.{is_illegal_byte};
-ghost use Rattle.gix_validate.specs.Private.Classes.{has_class, any_class, class_of, is_sought, HaveClassesOf, Sees};
+ghost use Rattle.gix_validate.specs.Private.Classes.{has_class, any_class, class_of, HaveClassesOf, Sees};
 
-use crate::lanes::{LANES, block_contains_either, classify, halves, has_nonzero, pairs, quarters};
+use crate::lanes::{LANES, classify, halves, has_nonzero, pairs, quarters};
+use crate::reference::Slash;
+use crate::scan;
+use memchr::memchr2;
 use std::simd::prelude::*;
 
 /// The length of four blocks. A name of at most this length is checked in one go.
@@ -19,17 +22,6 @@ const SHORT: usize = 4 * LANES;
 
 /// The length of two blocks.
 const TWO: usize = 2 * LANES;
-
-/// What a name that isn't short is searched for.
-#[derive(Clone, Copy)]
-enum Sought {
-    /// A byte of one of the classes, a bit for each.
-    Class { mask: u8 },
-    /// A slash.
-    Slash,
-    /// A slash or a backslash.
-    Separator,
-}
 
 /// Which of the bytes that a condition looks for a name may have: their classes, a bit for each, in
 /// any of sixteen lanes. Of a short name they are exact. Any other may have all.
@@ -135,8 +127,18 @@ impl Seen {
         has_class(self.lanes, LEAD)
     }
 
+    /// Whether the name is short and has a slash.
+    #[inline(always)]
+    pub(super) fn shows_slash(&self, name: &[u8]) -> bool
+        requires { Sees self.now.lanes name.now }
+        ensures { IsTrue result → IsTrue (is_among name.now (byte "/")) }
+    {
+        !name.is_empty() && name.len() <= SHORT && has_class(self.lanes, SLASH)
+    }
+
     /// Whether the name has a slash, or, with Windows protection, a backslash.
     #[inline(always)]
+    #[tactic(auto, using(crate::proofs::References::slash_found, crate::proofs::Blocks::Parts::either_found))]
     pub(super) fn has_separator(&self, name: &[u8], windows: bool) -> bool
         requires some { 1 ≤ length name.now }
         requires seen { Sees self.now.lanes name.now }
@@ -144,9 +146,9 @@ impl Seen {
     {
         if name.len() > SHORT {
             return if windows {
-                blocks_have(name, Sought::Separator)
+                memchr2(b'/', b'\\', name).is_some()
             } else {
-                blocks_have(name, Sought::Slash)
+                scan::first::<Slash>(name, name).is_some()
             };
         }
         has_class(self.lanes, SLASH) || windows && has_class(self.lanes, BACKSLASH)
@@ -160,18 +162,9 @@ pub(super) fn has_illegal_byte(name: &[u8]) -> bool
     ensures { result ≡ list_any is_illegal_byte name.now }
 {
     if name.len() > SHORT {
-        return first_block_has(name, ILLEGAL) || blocks_have(name, Sought::Class { mask: ILLEGAL });
+        return blocks_have(name, ILLEGAL);
     }
     has_class(classes_of(name), ILLEGAL)
-}
-
-/// Whether one of the first sixteen bytes has a class of the mask.
-#[inline(always)]
-fn first_block_has(name: &[u8], mask: u8) -> bool
-    requires { LANES ≤ length name.now }
-    ensures { result ≡ list_any (has_class mask) (chunk 0 LANES name.now) }
-{
-    has_class(classes_in(u8x16::from_slice(name)), mask)
 }
 
 /// The classes of the bytes of a short name, in any of sixteen lanes. From eight bytes to two
@@ -200,58 +193,34 @@ fn classes_of(name: &[u8]) -> u8x16
     classes_in(u8x16::splat(name[0]))
 }
 
-/// Whether a name that isn't short has a byte that is searched for. The last four blocks overlap
-/// the ones before them.
+/// Whether a name that isn't short has a class of the mask. The last four blocks overlap the ones
+/// before them.
 #[inline(always)]
-fn blocks_have(name: &[u8], sought: Sought) -> bool
+fn blocks_have(name: &[u8], mask: u8) -> bool
     requires { SHORT < length name.now }
-    ensures { result ≡ list_any (is_sought sought) name.now }
+    ensures { result ≡ list_any (has_class mask) name.now }
 {
     let last = name.len() - SHORT;
     let mut at = 0;
     while at < last {
-        if four_have(name, at, sought) {
+        if four_have(name, at, mask) {
             return true;
         }
         at += SHORT;
     }
-    four_have(name, last, sought)
+    four_have(name, last, mask)
 }
 
-/// Whether four blocks of the name, from this offset on, have a byte that is searched for.
+/// Whether four blocks of the name, from this offset on, have a class of the mask.
 #[inline(always)]
-fn four_have(name: &[u8], at: usize, sought: Sought) -> bool
+fn four_have(name: &[u8], at: usize, mask: u8) -> bool
     requires { at + SHORT ≤ length name.now }
-    ensures { result ≡ list_any (is_sought sought) (chunk at SHORT name.now) }
+    ensures { result ≡ list_any (has_class mask) (chunk at SHORT name.now) }
 {
-    match sought {
-        Sought::Class { mask } => {
-            let first = classes_of_two(name, at);
-            let second = classes_of_two(name, at + TWO);
-            has_class(first | second, mask)
-        }
-        Sought::Slash => four_contain_either(name, at, b'/', b'/'),
-        Sought::Separator => four_contain_either(name, at, b'/', b'\\'),
-    }
-}
-
-/// Whether four blocks of the name, from this offset on, have one of the two bytes.
-#[inline(always)]
-fn four_contain_either(name: &[u8], at: usize, one: u8, other: u8) -> bool
-    requires { at + SHORT ≤ length name.now }
-    ensures { result ≡ list_any (λ b. b == one || b == other) (chunk at SHORT name.now) }
-{
-    two_contain_either(name, at, one, other) | two_contain_either(name, at + TWO, one, other)
-}
-
-/// Whether two blocks of the name, from this offset on, have one of the two bytes.
-#[inline(always)]
-fn two_contain_either(name: &[u8], at: usize, one: u8, other: u8) -> bool
-    requires { at + TWO ≤ length name.now }
-    ensures { result ≡ list_any (λ b. b == one || b == other) (chunk at TWO name.now) }
-{
-    block_contains_either(name, at, one, other)
-        | block_contains_either(name, at + LANES, one, other)
+    has_class(
+        classes_of_two(name, at) | classes_of_two(name, at + TWO),
+        mask,
+    )
 }
 
 /// The classes of the bytes of two blocks of the name, from this offset on.

@@ -39,6 +39,14 @@ pub fn join(alloc: Global, parts: &[BStr<'_>]) -> Result<BString, AllocError>
     // No piece is empty, `.`, `..`, or `.git` in any ASCII letter case.
     ensures basic { IfOk result (λ path. All IsBasicName (pieces (bstring_bytes path))) }
 {
+    joined(alloc, parts)
+}
+
+/// The parts with slashes between them.
+pub(crate) fn joined(alloc: Global, parts: &[BStr<'_>]) -> Result<BString, AllocError>
+    requires { 0 < length parts.now }
+    ensures { IfOk result (λ path. bstring_bytes path ≡ joined (map bstr_bytes parts.now)) }
+{
     let len = joined_len(parts).ok_or(AllocError)?;
     let path = write_joined(Vec::with_capacity(alloc, len)?, parts)?;
     Ok(BString::new(path))

@@ -1,10 +1,10 @@
-use Rattle.std.proofs.Common.{rules}
+use Rattle.std.proofs.Common.{rules, arith}
 use Rattle.std.proofs.lemmas.List.{take_rest}
-use Rattle.check_names.proofs.LineLemmas.{lines-cut, lines-last}
+use Rattle.gix_validate.proofs.Texts.NamesIn.{names_in-cut, names_in-last}
 use Rattle.check_names.proofs.check.first_line.Goals as goal
 
 pub returns-in-Some-clause-lines : goal.returns-in-Some-clause-lines
-returns-in-Some-clause-lines c = rw take_rest (lines-cut _ _ c.in-Some.ensures)
+returns-in-Some-clause-lines c = rw take_rest (names_in-cut _ _ _ c.in-Some.ensures.0.high (λ j below. c.in-Some.ensures.0.before j (omega arith) below) c.in-Some.ensures.1)
 
 pub returns-in-None-clause-lines : goal.returns-in-None-clause-lines
-returns-in-None-clause-lines c = lines-last _ (search rules) c.in-None.ensures
+returns-in-None-clause-lines c = names_in-last _ _ (search rules) (λ k below. c.in-None.ensures k (omega arith) below)

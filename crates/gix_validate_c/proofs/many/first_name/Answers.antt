@@ -1,13 +1,13 @@
-use Rattle.std.proofs.Common.{rules}
+use Rattle.std.proofs.Common.{rules, arith}
 use Rattle.std.proofs.lemmas.List.{take_rest}
-use Rattle.gix_validate_c.proofs.NamesIn.{names_in-cut, names_in-last, names_in-none}
+use Rattle.gix_validate.proofs.Texts.NamesIn.{names_in-cut, names_in-last, names_in-none}
 use Rattle.gix_validate_c.proofs.many.first_name.Goals as goal
 
 pub returns-in-Some-clause-names : goal.returns-in-Some-clause-names
-returns-in-Some-clause-names c = rw take_rest (names_in-cut _ _ _ c.in-Some.ensures)
+returns-in-Some-clause-names c = rw take_rest (names_in-cut _ _ _ c.in-Some.ensures.0.high (λ j below. c.in-Some.ensures.0.before j (omega arith) below) c.in-Some.ensures.1)
 
 pub returns-in-None-clause-names : goal.returns-in-None-clause-names
-returns-in-None-clause-names c = names_in-last _ _ (search rules) c.in-None.ensures
+returns-in-None-clause-names c = names_in-last _ _ (search rules) (λ k below. c.in-None.ensures k (omega arith) below)
 
 pub returns-then-is_empty-clause-names : goal.returns-then-is_empty-clause-names
 returns-then-is_empty-clause-names c = names_in-none _ _ (search rules)

@@ -1,5 +1,5 @@
 use Rattle.std.proofs.Common.{◌+◌, ◌≤◌, length}
-use Rattle.gix_validate_c.specs.Many.{names_in}
+use Rattle.gix_validate.specs.Pieces.{names_in}
 use Rattle.gix_validate_c.proofs.NumbersWritten.{Written}
 use Rattle.gix_validate_c.proofs.many.write_numbers.Given as goal
 

@@ -1,8 +1,0 @@
-use Rattle.std.proofs.Common.{◌||◌, eqb, sym, ap₂, ◌∙◌}
-use Rattle.gix_validate.proofs.Blocks.Parts.{any_two_chunks}
-use Rattle.gix_validate.proofs.path.classes.two_contain_either.Goals as goal
-
-pub returns : goal.returns
-returns c =
-    ap₂ (λ s t. s || t) c.block_contains_either.ensures c.block_contains_either-2.ensures
-    ∙ sym (any_two_chunks (λ b. eqb b c.args.one || eqb b c.args.other) c.args.name.now c.args.at 16)

@@ -1,0 +1,11 @@
+-- The words, the quote and the escapes of the bytes so far are written.
+use Rattle.std.proofs.Common.{◌++◌, take}
+use Rattle.std.specs.Fmt.{HasWritten, IsPlainFormatter}
+use Rattle.std.specs.Prelude.{codes, flat_map}
+use Rattle.gix_validate.specs.Quoted.{escape_of}
+use Rattle.gix_validate.proofs.text.TextDisplay.fmt.Given as goal
+
+abbrev pub invariant-loop-byte : goal.invariant-loop-byte
+invariant-loop-byte g l =
+    IsPlainFormatter l.fn.f → HasWritten g.W.Write.write_str_gives l.fn.f
+    (l.fn.self.words.now ++ codes "\"" ++ flat_map escape_of (take l.byte-index l.bytes)) l.f

@@ -61,10 +61,22 @@ const AFTER_DOT: u8 = AFTER_SLASH | LETTER;
 /// The classes that a byte with this low nibble may have.
 #[rattlefmt::skip]
 const CLASSES_BY_LOW_NIBBLE: [u8; 16] = [
-    CONTROL | SUSPECT_2X, CONTROL, CONTROL, CONTROL, // 00
-    CONTROL, CONTROL, CONTROL, CONTROL, // 04
-    CONTROL, CONTROL, CONTROL | SUSPECT_2X | SUSPECT_3X, CONTROL | SUSPECT_5X | SUSPECT_7X, // 08
-    CONTROL | LETTER | SUSPECT_5X, CONTROL, BREAK | CONTROL | SUSPECT_5X | SUSPECT_7X, BREAK | CONTROL | SUSPECT_3X | SUSPECT_7X, // 0C
+    CONTROL | SUSPECT_2X, // 00
+    CONTROL, // 01
+    CONTROL, // 02
+    CONTROL, // 03
+    CONTROL, // 04
+    CONTROL, // 05
+    CONTROL, // 06
+    CONTROL, // 07
+    CONTROL, // 08
+    CONTROL, // 09
+    CONTROL | SUSPECT_2X | SUSPECT_3X, // 0A
+    CONTROL | SUSPECT_5X | SUSPECT_7X, // 0B
+    CONTROL | LETTER | SUSPECT_5X, // 0C
+    CONTROL, // 0D
+    BREAK | CONTROL | SUSPECT_5X | SUSPECT_7X, // 0E
+    BREAK | CONTROL | SUSPECT_3X | SUSPECT_7X, // 0F
 ];
 
 /// The classes that a byte with this high nibble may have. What both tables have for a byte is its

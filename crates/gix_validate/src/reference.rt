@@ -69,7 +69,7 @@ impl NameError {
                 quoted: Some(from_ref(byte)),
             },
             Self::StartsWithSlash => Text::plain("Reference name cannot start with a slash"),
-            Self::RepeatedSlash => { Text::plain("Reference name cannot contain repeated slashes") }
+            Self::RepeatedSlash => Text::plain("Reference name cannot contain repeated slashes"),
             Self::RepeatedDot => Text::plain("Reference name cannot contain repeated dots"),
             Self::LockFileSuffix => Text::plain("Reference name cannot end with '.lock'"),
             Self::ReflogPortion => Text::plain("Reference name cannot contain '@{'"),

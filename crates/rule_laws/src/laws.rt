@@ -14,7 +14,7 @@ pub fn first_units_are_decoded()
     ensures { FirstUnitIsDecoded }
 {}
 
-/// At each place of a name at most one line of the table of faults applies, so their order says
+/// At each offset of a name at most one line of the table of faults applies, so their order says
 /// nothing, and slashes split a name into pieces in one way (docs/RULES.md, "Tag names").
 ///
 /// The function does nothing. Its contract holds for all byte strings.

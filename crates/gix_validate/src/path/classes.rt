@@ -1,7 +1,7 @@
 //! One look at the bytes of a name.
 //!
-//! This is no `scan`: of a short name it says which of several classes of bytes it has, all at once,
-//! and a long name is read four blocks a turn.
+//! This is no `scan`: of a short name it says which of several classes of bytes it has, all at once.
+//! A long name is searched for a separator first, and for illegal bytes four blocks a turn.
 
 ghost use Rattle.std.specs.Prelude.{◌≡◌, IsTrue, ◌≤◌, ◌<◌, ◌+◌, ◌&&◌, ◌||◌, not, length, map};
 ghost use Rattle.std.specs.Str.{byte};
@@ -131,7 +131,8 @@ impl Seen {
     #[inline(always)]
     pub(super) fn shows_slash(&self, name: &[u8]) -> bool
         requires { Sees self.now.lanes name.now }
-        ensures { IsTrue result → IsTrue (is_among name.now (byte "/")) }
+        ensures slash { IsTrue result → IsTrue (is_among name.now (byte "/")) }
+        ensures short { 1 ≤ length name.now → length name.now ≤ SHORT → result ≡ is_among name.now (byte "/") }
     {
         !name.is_empty() && name.len() <= SHORT && has_class(self.lanes, SLASH)
     }

@@ -14,7 +14,7 @@ pub const LONGEST: usize = 134;
 /// What an error prints (docs/RULES.md, "Printed texts"): at most [`LONGEST`] bytes.
 ///
 /// `Display` of the error prints it, too. A caller who can't use that, as one who writes to a buffer
-/// of a fixed length, appends the words and then each byte by [`escape`].
+/// of a fixed length, appends the words, and then, between double quotes, each byte by [`escape`].
 #[derive(Debug, Clone, Copy)]
 pub struct Text<'a> {
     /// The words.

@@ -1,4 +1,3 @@
-pub mod EntryFronts
 pub mod FirstEntry
 pub mod TreeEntries
 pub mod EntryReads

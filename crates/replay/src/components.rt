@@ -1,24 +1,24 @@
 //! What the function for path components returns, under each of the sixteen settings.
 
-use crate::questions::agreed;
+use crate::agreed;
 use bstr::BStr;
 use gix_validate::path::{self, ComponentError, ComponentMode, ComponentOptions};
 use std::alloc::{AllocError, Global};
 use typed_names::Component;
 
-/// How many results there are: one for each setting.
-pub const ANSWERS: usize = 16;
+/// How many settings there are.
+const SETTINGS: usize = 16;
 
 /// The letters for a component, one for each setting, in the order of the settings' numbers. Each
 /// is that of the library and of the typed name.
-pub fn answers(alloc: Global, name: BStr<'_>) -> Result<Vec<String>, AllocError> {
-    let mut letters = Vec::with_capacity(alloc, ANSWERS)?;
-    for setting in 0..ANSWERS {
+pub fn results(alloc: Global, name: BStr<'_>) -> Result<String, AllocError> {
+    let mut letters = String::new(alloc);
+    for setting in 0..SETTINGS {
         let (mode, options) = (mode_of(setting), options_of(setting));
-        letters.push(agreed(
+        letters.push_str(&agreed(
             alloc,
-            String::from_str(alloc, letter(path::component(name, mode, options)))?,
-            String::from_str(alloc, letter(Component::new(name, mode, options)))?,
+            letter(path::component(name, mode, options)),
+            letter(Component::new(name, mode, options)),
         )?)?;
     }
     Ok(letters)

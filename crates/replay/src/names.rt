@@ -1,34 +1,31 @@
 //! What the functions for whole names return.
 
-use crate::questions::agreed;
+use crate::agreed;
 use bstr::BStr;
 use gix_validate::{path, reference, submodule, tag};
 use std::alloc::{AllocError, Global};
 use std::fmt::Debug;
 use typed_names::{BranchName, FullName, PartialName, SubmoduleName, TagName};
 
-/// How many results there are.
-pub const ANSWERS: usize = 7;
-
 /// The bytes after the name while it is sanitised in place.
 const AFTER: &[u8] = b"x/.lock\xA5";
 
-/// The results for a name. Functions for the same question have to agree: those of the library and
-/// of the typed names, and the two sanitisers.
-pub fn answers(alloc: Global, name: BStr<'_>) -> Result<Vec<String>, AllocError> {
-    let mut answers = Vec::with_capacity(alloc, ANSWERS)?;
-    answers.push(verdict(alloc, tag::name(name), TagName::new(name))?)?;
-    answers.push(verdict(alloc, reference::name_partial(name), PartialName::new(name))?)?;
-    answers.push(verdict(alloc, reference::name(name), FullName::new(name))?)?;
-    answers.push(verdict(alloc, reference::branch_name(name), BranchName::new(name))?)?;
-    answers.push(verdict(alloc, submodule::name(name), SubmoduleName::new(name))?)?;
-    answers.push(device(alloc, name)?)?;
-    answers.push(agreed(
-        alloc,
-        sanitized(alloc, name)?,
-        sanitized_in_place(alloc, name.as_bytes())?,
-    )?)?;
-    Ok(answers)
+/// The results for a name, with a space between each two. Functions for the same question have to
+/// agree: those of the library and of the typed names, and the two sanitisers.
+pub fn results(alloc: Global, name: BStr<'_>) -> Result<String, AllocError> {
+    let tag = verdict(alloc, tag::name(name), TagName::new(name))?;
+    let partial = verdict(alloc, reference::name_partial(name), PartialName::new(name))?;
+    let full = verdict(alloc, reference::name(name), FullName::new(name))?;
+    let branch = verdict(alloc, reference::branch_name(name), BranchName::new(name))?;
+    let submodule = verdict(alloc, submodule::name(name), SubmoduleName::new(name))?;
+    let device = if path::component_is_windows_device(name) {
+        "yes"
+    } else {
+        "no"
+    };
+    let copied = sanitized(alloc, name)?;
+    let sanitized = agreed(alloc, &copied, &sanitized_in_place(alloc, name.as_bytes())?)?;
+    format!(in alloc; "{tag} {partial} {full} {branch} {submodule} {device} {sanitized}")
 }
 
 /// An error that the record has a word for.
@@ -72,7 +69,7 @@ fn verdict<T: Drop, N: Drop, F: Fault + Drop>(
     library: Result<T, F>,
     typed: Result<N, F>,
 ) -> Result<String, AllocError> {
-    agreed(alloc, word(alloc, library)?, word(alloc, typed)?)
+    agreed(alloc, &word(alloc, library)?, &word(alloc, typed)?)
 }
 
 /// `ok`, or the word of the error.
@@ -84,16 +81,6 @@ fn word<T: Drop, F: Fault + Drop>(
         Ok(_) => String::from_str(alloc, "ok"),
         Err(fault) => fault.word(alloc),
     }
-}
-
-/// Whether the name is a device on Windows.
-fn device(alloc: Global, name: BStr<'_>) -> Result<String, AllocError> {
-    let word = if path::component_is_windows_device(name) {
-        "yes"
-    } else {
-        "no"
-    };
-    String::from_str(alloc, word)
 }
 
 /// The sanitised name in hexadecimal, by the sanitiser that copies.

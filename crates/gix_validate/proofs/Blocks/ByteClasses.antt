@@ -2,20 +2,22 @@
 use Rattle.std.proofs.Common.{◌≡◌, ℕ, suc, ◌/◌, ◌%◌, ◌<◌, ◌≤◌, Bool, true, not, ◌||◌, eqb, List, [], ◌∷◌, map, length}
 use Rattle.std.proofs.Common.{get_or, replicate, bit_and, bit_or, refl, sym, ap, ap₂, ◌∙◌, arith, w8, Fits}
 use Rattle.std.specs.List.{list_any}
+use Rattle.std.specs.Str.{byte}
+use Rattle.memchr.specs.Find.{is_byte2}
 use Rattle.std.proofs.lemmas.Bool.{agree_below, agree_below_at, true≢false}
 use Rattle.std.proofs.lemmas.Nat.Bits.{bit_at_and, bit_at_or, same_from_bits}
 use Rattle.std.proofs.lemmas.Nat.{le_or_l}
 use Rattle.std.proofs.lemmas.Simd.{zip2_splat}
 use Rattle.std.proofs.lemmas.List.{length-map}
 use lib.Lanes.{zip2, Each1}
-use Rattle.gix_validate.proofs.Blocks.Parts.{AreAll, parts_cover, AreShort, both_cover}
+use Rattle.gix_validate.proofs.Blocks.Parts.{AreAll, parts_cover, AreShort, both_cover, either_among}
 use Rattle.gix_validate.specs.Private.Lanes.{HasParts, is_nonzero}
 use Rattle.gix_validate.proofs.Blocks.Lanes.{same_bytes}
 use Rattle.gix_validate.specs.declared.path.classes.TheConstants.{BY_LOW_NIBBLE, BY_HIGH_NIBBLE}
 use Rattle.gix_validate.specs.Windows.{is_illegal_byte}
 use Rattle.gix_validate.specs.Private.Ordinary.{is_classed}
 use Rattle.gix_validate.specs.Private.Classes.{class_of, any_class, has_class, HaveClassesOf, Sees}
-use Rattle.gix_validate.specs.declared.path.classes.TheConstants.{SLASH, BACKSLASH, ILLEGAL, LEAD, ANY}
+use Rattle.gix_validate.specs.declared.path.classes.TheConstants.{SLASH, SEPARATORS, ILLEGAL, LEAD, ANY}
 use Rattle.std.proofs.lemmas.Bool.Decides.{nat_tests}
 
 -- ---- the tables
@@ -94,7 +96,7 @@ classes_seen classes x some fit have = record {
   illegal = λ none. sym (tells ILLEGAL _ classes x fit have refl) ∙ none;
   lead = λ none. sym (tells LEAD _ classes x fit have refl) ∙ none;
   slash = λ _ _. tells SLASH _ classes x fit have refl;
-  backslash = λ _ _. tells BACKSLASH _ classes x fit have refl;
+  separator = λ _ _. tells SEPARATORS (is_byte2 (byte "/") (byte "\\")) classes x fit have refl ∙ either_among (byte "/") (byte "\\") x;
 }
 
 -- what is seen of a name that isn't short
@@ -106,7 +108,7 @@ nothing_seen x other = record {
   illegal = λ none. absurd (true≢false none);
   lead = λ none. absurd (true≢false none);
   slash = λ some short. absurd (other some short);
-  backslash = λ some short. absurd (other some short);
+  separator = λ some short. absurd (other some short);
 }
 
 pub illegal_is : (x : List ℕ) → ((i : ℕ) → Fits w8 (get_or x i 0)) → list_any (has_class ILLEGAL) x ≡ list_any is_illegal_byte x

@@ -24,7 +24,7 @@ none_at p (b ∷ v) = (
 )
 
 -- a search for two bytes says whether one is in the text
-either_among : (a b : ℕ) (x : List ℕ) → list_any (is_byte2 a b) x ≡ (is_among x a || is_among x b)
+pub either_among : (a b : ℕ) (x : List ℕ) → list_any (is_byte2 a b) x ≡ (is_among x a || is_among x b)
 either_among a b [] = refl
 either_among a b (c ∷ x) = grind (arith, nat_tests, either_among a b x)
 

@@ -117,15 +117,16 @@ pub ordinary_passes : (options : ComponentOptions) (mode : Option ComponentMode)
     → fault_of options mode x ≡ None
 ordinary_passes options mode x some classed end special = grind (arith, nat_tests, ordinary_by_looks, ordinary_fault)
 
--- a name that has a slash is neither empty nor `.` or `..`, so no condition comes first
-slash_no_dots : (x : List ℕ) → is_among x (byte "/") ≡ true → (bytes_eq x (codes ".") || bytes_eq x (codes "..")) ≡ false
-slash_no_dots x has = grind (arith, bytes_eq-Decides)
+-- a name that has a separator is neither empty nor `.` or `..`, so no condition comes first
+parted_no_dots : (windows : Bool) (x : List ℕ) → (is_among x (byte "/") || (windows && is_among x (byte "\\"))) ≡ true
+    → (bytes_eq x (codes ".") || bytes_eq x (codes "..")) ≡ false
+parted_no_dots windows x has = grind (arith, bytes_eq-Decides)
 
-pub slash_fault : (options : ComponentOptions) (mode : Option ComponentMode) (x : List ℕ) → is_among x (byte "/") ≡ true
-    → fault_of options mode x ≡ Some PathSeparator
+pub separator_fault : (options : ComponentOptions) (mode : Option ComponentMode) (x : List ℕ)
+    → (is_among x (byte "/") || (options.protect_windows && is_among x (byte "\\"))) ≡ true → fault_of options mode x ≡ Some PathSeparator
 unfolding fault_of conditions
-slash_fault options mode [] has = grind arith
-slash_fault options mode (b ∷ x) has = rw (slash_no_dots (b ∷ x) has, has) (grind arith)
+separator_fault options mode [] has = grind arith
+separator_fault options mode (b ∷ x) has = rw (parted_no_dots _ (b ∷ x) has, has) (grind arith)
 
 -- A name of one or two bytes is `.` or `..` if its first and its last are dots.
 pub relative_by_ends : (x : List ℕ) → 1 ≤ length x → length x < 3

@@ -1,9 +1,9 @@
 -- The classes of the bytes of a name, a bit for each, and what they say about the name.
-use Rattle.std.specs.Prelude.{◌≡◌, ℕ, Bool, false, ◌==◌, not, nat_lt, ◌≤◌, if◌then◌else◌, List, length, codes, map, bit_and}
+use Rattle.std.specs.Prelude.{◌≡◌, ℕ, Bool, false, ◌==◌, ◌||◌, not, nat_lt, ◌≤◌, if◌then◌else◌, List, length, codes, map, bit_and}
 use Rattle.std.specs.List.{list_any}
 use Rattle.std.specs.Str.{byte}
 use Rattle.gix_validate.specs.declared.path.classes.TheConstants.{CONTROL, QUOTE_OR_STAR, COLON_ANGLE_OR_MARK, BACKSLASH, PIPE, LEAD, SLASH, TILDE}
-use Rattle.gix_validate.specs.declared.path.classes.TheConstants.{ILLEGAL, ANY, SHORT}
+use Rattle.gix_validate.specs.declared.path.classes.TheConstants.{ILLEGAL, SEPARATORS, ANY, SHORT}
 use Rattle.gix_validate.specs.Bytes.{is_among}
 use Rattle.gix_validate.specs.Windows.{is_illegal_byte}
 use Rattle.gix_validate.specs.Private.Ordinary.{is_lead, is_classed}
@@ -40,4 +40,4 @@ pub record Sees (classes x : List ℕ) : Type 0 where
   pub illegal : any_class ILLEGAL classes ≡ false → list_any is_illegal_byte x ≡ false
   pub lead : any_class LEAD classes ≡ false → list_any is_lead x ≡ false
   pub slash : 1 ≤ length x → length x ≤ SHORT → any_class SLASH classes ≡ is_among x (byte "/")
-  pub backslash : 1 ≤ length x → length x ≤ SHORT → any_class BACKSLASH classes ≡ is_among x (byte "\\")
+  pub separator : 1 ≤ length x → length x ≤ SHORT → any_class SEPARATORS classes ≡ (is_among x (byte "/") || is_among x (byte "\\"))

@@ -35,30 +35,26 @@ pub(super) struct Seen {
 
 /// A byte below 0x20.
 const CONTROL: u8 = 0x01;
-
 /// `"` or `*`.
 const QUOTE_OR_STAR: u8 = 0x02;
-
 /// `:`, `<`, `>` or `?`.
 const COLON_ANGLE_OR_MARK: u8 = 0x04;
-
 /// A backslash.
 const BACKSLASH: u8 = 0x08;
-
 /// `|`.
 const PIPE: u8 = 0x10;
-
 /// 0xE2 or 0xEF.
 const LEAD: u8 = 0x20;
-
 /// A slash.
 const SLASH: u8 = 0x40;
-
 /// `~`.
 const TILDE: u8 = 0x80;
 
 /// The four classes that Windows forbids.
 const ILLEGAL: u8 = CONTROL | QUOTE_OR_STAR | COLON_ANGLE_OR_MARK | PIPE;
+
+/// The two classes that part components.
+const SEPARATORS: u8 = SLASH | BACKSLASH;
 
 /// All classes.
 const ANY: u8 = 0xFF;
@@ -127,14 +123,18 @@ impl Seen {
         has_class(self.lanes, LEAD)
     }
 
-    /// Whether the name is short and has a slash.
+    /// Whether the name is short and has a slash, or, with Windows protection, a backslash.
     #[inline(always)]
-    pub(super) fn shows_slash(&self, name: &[u8]) -> bool
+    pub(super) fn shows_separator(&self, name: &[u8], windows: bool) -> bool
         requires { Sees self.now.lanes name.now }
-        ensures slash { IsTrue result → IsTrue (is_among name.now (byte "/")) }
-        ensures short { 1 ≤ length name.now → length name.now ≤ SHORT → result ≡ is_among name.now (byte "/") }
+        ensures separator { IsTrue result → IsTrue (is_among name.now (byte "/") || (windows && is_among name.now (byte "\\"))) }
+        ensures short { 1 ≤ length name.now → length name.now ≤ SHORT
+            → result ≡ (is_among name.now (byte "/") || (windows && is_among name.now (byte "\\"))) }
     {
-        !name.is_empty() && name.len() <= SHORT && has_class(self.lanes, SLASH)
+        !name.is_empty()
+            && name.len() <= SHORT
+            && has_class(self.lanes, SEPARATORS)
+            && (windows || has_class(self.lanes, SLASH))
     }
 
     /// Whether the name has a slash, or, with Windows protection, a backslash. (`memchr`, faster than
@@ -153,7 +153,7 @@ impl Seen {
                 scan::first::<Slash>(name, name).is_some()
             };
         }
-        has_class(self.lanes, SLASH) || windows && has_class(self.lanes, BACKSLASH)
+        self.shows_separator(name, windows)
     }
 }
 

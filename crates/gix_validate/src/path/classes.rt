@@ -123,37 +123,33 @@ impl Seen {
         has_class(self.lanes, LEAD)
     }
 
-    /// Whether the name is short and has a slash, or, with Windows protection, a backslash.
+    /// Whether the name has a slash, or, with Windows protection, a backslash.
     #[inline(always)]
-    pub(super) fn shows_separator(&self, name: &[u8], windows: bool) -> bool
-        requires { Sees self.now.lanes name.now }
-        ensures separator { IsTrue result → IsTrue (is_among name.now (byte "/") || (windows && is_among name.now (byte "\\"))) }
-        ensures short { 1 ≤ length name.now → length name.now ≤ SHORT
-            → result ≡ (is_among name.now (byte "/") || (windows && is_among name.now (byte "\\"))) }
-    {
-        !name.is_empty()
-            && name.len() <= SHORT
-            && has_class(self.lanes, SEPARATORS)
-            && (windows || has_class(self.lanes, SLASH))
-    }
-
-    /// Whether the name has a slash, or, with Windows protection, a backslash. (`memchr`, faster than
-    /// `scan`, would with another caller no longer be inlined into a program's loop over lines.)
-    #[inline(always)]
-    #[tactic(auto, using(crate::proofs::References::slash_found, crate::proofs::Blocks::Parts::either_found))]
     pub(super) fn has_separator(&self, name: &[u8], windows: bool) -> bool
-        requires some { 1 ≤ length name.now }
-        requires seen { Sees self.now.lanes name.now }
+        requires { Sees self.now.lanes name.now }
         ensures { result ≡ (is_among name.now (byte "/") || (windows && is_among name.now (byte "\\"))) }
     {
         if name.len() > SHORT {
-            return if windows {
-                memchr2(b'/', b'\\', name).is_some()
-            } else {
-                scan::first::<Slash>(name, name).is_some()
-            };
+            return long_has_separator(name, windows);
         }
-        self.shows_separator(name, windows)
+        !name.is_empty()
+            && has_class(self.lanes, SEPARATORS)
+            && (windows || has_class(self.lanes, SLASH))
+    }
+}
+
+/// Whether a name that isn't short has a slash, or, with Windows protection, a backslash.
+/// (`memchr`, faster than `scan`, would with another caller no longer be inlined into a program's
+/// loop over lines.)
+#[inline(never)]
+#[tactic(auto, using(crate::proofs::References::slash_found, crate::proofs::Blocks::Parts::either_found))]
+fn long_has_separator(name: &[u8], windows: bool) -> bool
+    ensures { result ≡ (is_among name.now (byte "/") || (windows && is_among name.now (byte "\\"))) }
+{
+    if windows {
+        memchr2(b'/', b'\\', name).is_some()
+    } else {
+        scan::first::<Slash>(name, name).is_some()
     }
 }
 

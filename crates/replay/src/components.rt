@@ -10,10 +10,16 @@ use typed_names::Component;
 const SETTINGS: usize = 16;
 
 /// The letters for a component, one for each setting, in the order of the settings' numbers. Each
-/// is that of the library and of the typed name.
+/// is that of the library and of the typed name, or a dash for what is not recorded: since version
+/// 2, a backslash ends an NTFS name, too.
 pub fn results(alloc: Global, name: BStr<'_>) -> Result<String, AllocError> {
     let mut letters = String::new(alloc);
+    let is_changed = name.as_bytes().contains(&b'\\');
     for setting in 0..SETTINGS {
+        if is_changed && setting & 5 == 4 {
+            letters.push_str("-")?;
+            continue;
+        }
         let (mode, options) = (mode_of(setting), options_of(setting));
         letters.push_str(&agreed(
             alloc,

@@ -4,11 +4,16 @@
 
 ghost use Rattle.std.specs.Prelude.{◌≡◌, ◌<◌, ◌≤◌, ◌+◌, ◌-◌, ◌^◌, ℕ, Bool, if◌then◌else◌, length, slice_index};
 ghost use Rattle.std.specs.Int.{bit_at};
+ghost use Rattle.std.specs.List.{list_any};
+ghost use Rattle.std.specs.Simd.Lanes.{chunk};
 ghost use Rattle.gix_validate.specs.Private.Lanes.{HasParts};
 ghost use Rattle.gix_validate.specs.Private.Scan.{Finds, NoneBelow, at_both, at_pair};
 
 use crate::lanes::{LANES, first_lane, halves, pairs, quarters};
 use std::simd::prelude::*;
+
+/// The length of four blocks.
+pub(crate) const FOUR: usize = 4 * LANES;
 
 /// What is searched for.
 pub(crate) trait Pattern {
@@ -146,4 +151,44 @@ fn first_of_parts<P: Pattern>(
     } else {
         front.len() - size + (lane - size)
     })
+}
+
+/// Whether a byte of a text of more than four blocks is a hit. Four blocks are checked at a time. The
+/// last four overlap those before them.
+#[inline(always)]
+pub(crate) fn has<P: Pattern>(text: &[u8]) -> bool
+    requires { FOUR < length text.now }
+    ensures { result ≡ list_any (λ b. P.hit b b) text.now }
+{
+    let last = text.len() - FOUR;
+    let mut at = 0;
+    while at < last {
+        if four_have::<P>(text, at) {
+            return true;
+        }
+        at += FOUR;
+    }
+    four_have::<P>(text, last)
+}
+
+/// Whether a byte of the four blocks from this offset on is a hit.
+#[inline(always)]
+fn four_have<P: Pattern>(text: &[u8], at: usize) -> bool
+    requires { at + FOUR ≤ length text.now }
+    ensures { result ≡ list_any (λ b. P.hit b b) (chunk at FOUR text.now) }
+{
+    block_has::<P>(text, at)
+        | block_has::<P>(text, at + LANES)
+        | block_has::<P>(text, at + 2 * LANES)
+        | block_has::<P>(text, at + 3 * LANES)
+}
+
+/// Whether a byte of the block from this offset on is a hit.
+#[inline(always)]
+fn block_has<P: Pattern>(text: &[u8], at: usize) -> bool
+    requires { at + LANES ≤ length text.now }
+    ensures { result ≡ list_any (λ b. P.hit b b) (chunk at LANES text.now) }
+{
+    let block = u8x16::from_slice(&text[at..]);
+    P::hits(block, block) != 0
 }

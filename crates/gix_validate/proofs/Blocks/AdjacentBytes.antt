@@ -86,7 +86,7 @@ pub suspect_lane : (before bytes classes after : List ℕ) → IsBlock before �
     → (k : ℕ) → k < 16 → is_nonzero (get_or (zip2 bit_and classes after) k 0) ≡ is_suspect (get_or before k 0) (get_or bytes k 0)
 unfolding is_suspect suspect_if table_if
 suspect_lane before bytes classes after ba bb ek eb =
-    lane_of is_nonzero class classes_after bytes before classes after (bb.0, ba.0) ek eb (λ b a. is_suspect a b) (λ k.
+    lane_of bit_and is_nonzero class classes_after bytes before classes after (bb.0, ba.0) ek eb (λ b a. is_suspect a b) (λ k.
     suspect_tabled (get_or before k 0 == byte ".") (get_or before k 0 == byte "/") (get_or bytes k 0) (lane_fits bytes k bb.1))
 
 suspect_regrouped : (w s d l c : Bool) → (w || (s || (d || (l || (c || false))))) ≡ ((w || (s || (c || false)) || (true && (d || (l || false)))) || false)

@@ -1,23 +1,23 @@
 -- The classes of the bytes of a name: by two tables, by blocks that overlap, and what they say under each mask.
-use Rattle.std.proofs.Common.{◌≡◌, ℕ, suc, ◌/◌, ◌%◌, ◌<◌, ◌≤◌, Bool, true, not, ◌||◌, eqb, List, [], ◌∷◌, map, length}
+use Rattle.std.proofs.Common.{◌≡◌, ℕ, suc, ◌/◌, ◌%◌, ◌<◌, Bool, true, not, ◌||◌, eqb, List, [], ◌∷◌, map, length}
 use Rattle.std.proofs.Common.{get_or, replicate, bit_and, bit_or, refl, sym, ap, ap₂, ◌∙◌, arith, w8, Fits}
 use Rattle.std.specs.List.{list_any}
 use Rattle.std.specs.Str.{byte}
-use Rattle.memchr.specs.Find.{is_byte2}
-use Rattle.std.proofs.lemmas.Bool.{agree_below, agree_below_at, true≢false}
+use Rattle.std.proofs.lemmas.Bool.{agree_below, agree_below_at}
 use Rattle.std.proofs.lemmas.Nat.Bits.{bit_at_and, bit_at_or, same_from_bits}
 use Rattle.std.proofs.lemmas.Nat.{le_or_l}
 use Rattle.std.proofs.lemmas.Simd.{zip2_splat}
-use Rattle.std.proofs.lemmas.List.{length-map}
+use Rattle.std.proofs.lemmas.List.{get_or-map, length-map}
 use lib.Lanes.{zip2, Each1}
 use Rattle.gix_validate.proofs.Blocks.Parts.{AreAll, parts_cover, AreShort, both_cover, either_among}
 use Rattle.gix_validate.specs.Private.Lanes.{HasParts, is_nonzero}
 use Rattle.gix_validate.proofs.Blocks.Lanes.{same_bytes}
 use Rattle.gix_validate.specs.declared.path.classes.TheConstants.{BY_LOW_NIBBLE, BY_HIGH_NIBBLE}
 use Rattle.gix_validate.specs.Windows.{is_illegal_byte}
+use Rattle.gix_validate.specs.Bytes.{is_among}
 use Rattle.gix_validate.specs.Private.Ordinary.{is_classed}
-use Rattle.gix_validate.specs.Private.Classes.{class_of, any_class, has_class, HaveClassesOf, Sees}
-use Rattle.gix_validate.specs.declared.path.classes.TheConstants.{SLASH, SEPARATORS, ILLEGAL, LEAD, ANY}
+use Rattle.gix_validate.specs.Private.Classes.{class_of, any_class, has_class, HaveClassesOf}
+use Rattle.gix_validate.specs.declared.path.classes.TheConstants.{SLASH, SEPARATORS, ILLEGAL, ANY}
 use Rattle.std.proofs.lemmas.Bool.Decides.{nat_tests}
 
 -- ---- the tables
@@ -37,6 +37,15 @@ any_of_map p f (b ∷ x) = ap (λ v. p (f b) || v) (any_of_map p f x)
 pub mask_tested : (mask : ℕ) (v : List ℕ) → length v ≡ 16 → list_any is_nonzero (zip2 bit_and v (replicate 16 mask)) ≡ any_class mask v
 unfolding any_class
 mask_tested mask v long = ap (list_any is_nonzero) (zip2_splat bit_and v 16 mask long) ∙ any_of_map is_nonzero (λ c. bit_and c mask) v
+
+-- a mask of the class in a lane
+pub mask_lane : (mask : ℕ) (v classes : List ℕ) → length v ≡ 16 → classes ≡ map class_of v → (k : ℕ) → k < 16
+    → is_nonzero (get_or (zip2 bit_and classes (replicate 16 mask)) k 0) ≡ has_class mask (get_or v k 0)
+mask_lane mask v classes long are k small =
+    ap (λ l. is_nonzero (get_or l k 0))
+    (ap (λ l. zip2 bit_and l (replicate 16 mask)) are ∙ zip2_splat bit_and (map class_of v) 16 mask (length-map v class_of ∙ long))
+    ∙ ap is_nonzero (get_or-map (λ c. bit_and c mask) (map class_of v) k 0 0 (omega (arith, length-map v class_of))
+    ∙ ap (λ c. bit_and c mask) (get_or-map class_of v k 0 0 (omega arith)))
 
 pub any_is : (mask : ℕ) (x : List ℕ) → any_class mask (map class_of x) ≡ list_any (has_class mask) x
 unfolding any_class
@@ -88,27 +97,18 @@ tells : (mask : ℕ) (q : ℕ → Bool) (classes x : List ℕ) → ((i : ℕ) �
 tells mask q classes x fit have same =
     have mask ∙ any_is mask x ∙ bytes_alike (has_class mask) q x fit (λ b h. agree_below_at (has_class mask) q 256 b same h)
 
-pub classes_seen : (classes x : List ℕ) → 1 ≤ length x → ((i : ℕ) → Fits w8 (get_or x i 0)) → HaveClassesOf classes x → Sees classes x
-unfolding class_of is_illegal_byte is_classed
-classes_seen classes x some fit have = record {
-  some = λ _. some;
-  classed = λ none. sym (tells ANY _ classes x fit have refl) ∙ none;
-  illegal = λ none. sym (tells ILLEGAL _ classes x fit have refl) ∙ none;
-  lead = λ none. sym (tells LEAD _ classes x fit have refl) ∙ none;
-  slash = λ _ _. tells SLASH _ classes x fit have refl;
-  separator = λ _ _. tells SEPARATORS (is_byte2 (byte "/") (byte "\\")) classes x fit have refl ∙ either_among (byte "/") (byte "\\") x;
-}
+-- what the classes of a name say of it
+pub record Tell (classes x : List ℕ) : Type 0 where
+  pub classed : any_class ANY classes ≡ list_any is_classed x
+  pub slash : any_class SLASH classes ≡ is_among x (byte "/")
+  pub separator : any_class SEPARATORS classes ≡ (is_among x (byte "/") || is_among x (byte "\\"))
 
--- what is seen of a name that isn't short
-pub nothing_seen : (x : List ℕ) → (1 ≤ length x → length x ≤ 64 → ⊥) → Sees (replicate 16 ANY) x
-unfolding any_class
-nothing_seen x other = record {
-  some = λ none. absurd (true≢false none);
-  classed = λ none. absurd (true≢false none);
-  illegal = λ none. absurd (true≢false none);
-  lead = λ none. absurd (true≢false none);
-  slash = λ some short. absurd (other some short);
-  separator = λ some short. absurd (other some short);
+pub classes_tell : (classes x : List ℕ) → ((i : ℕ) → Fits w8 (get_or x i 0)) → HaveClassesOf classes x → Tell classes x
+unfolding class_of is_illegal_byte is_classed
+classes_tell classes x fit have = record {
+  classed = tells ANY _ classes x fit have refl;
+  slash = tells SLASH _ classes x fit have refl;
+  separator = tells SEPARATORS (λ b. eqb b (byte "/") || eqb b (byte "\\")) classes x fit have refl ∙ either_among (byte "/") (byte "\\") x;
 }
 
 pub illegal_is : (x : List ℕ) → ((i : ℕ) → Fits w8 (get_or x i 0)) → list_any (has_class ILLEGAL) x ≡ list_any is_illegal_byte x

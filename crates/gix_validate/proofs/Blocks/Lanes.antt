@@ -1,8 +1,9 @@
 -- Sixteen lanes: look-ups in a table of sixteen, and tests whether some lane passes.
-use Rattle.std.proofs.Common.{◌≡◌, ℕ, zero, suc, ◌+◌, ◌*◌, ◌/◌, ◌%◌, ◌^◌, ◌<◌, Bool, true, false, not, ◌&&◌, cond, eqb, List, [], ◌∷◌, map}
-use Rattle.std.proofs.Common.{length, get_or, replicate, bit_and, refl, sym, ap, ap₂, subst, ◌∙◌, arith, w8, Fits, eqb-true}
-use Rattle.std.proofs.lemmas.Bool.{agree_below, agree_below_at}
-use Rattle.std.proofs.lemmas.List.{get_or-map, length-map, ext_get_or}
+use Rattle.std.proofs.Common.{◌≡◌, ℕ, zero, suc, ◌+◌, ◌*◌, ◌/◌, ◌%◌, ◌^◌, ◌<◌, Bool, true, false, not, ◌&&◌, ◌||◌, cond, eqb, List, [], ◌∷◌, map}
+use Rattle.std.proofs.Common.{length, get_or, replicate, bit_and, bit_or, refl, sym, ap, ap₂, subst, ◌∙◌, inl, inr, arith, w8, Fits, eqb-true}
+use Rattle.std.proofs.lemmas.Bool.{agree_below, agree_below_at, cases_lt}
+use Rattle.std.proofs.lemmas.Nat.Bits.{bit_at_above, same_from_bits}
+use Rattle.std.proofs.lemmas.List.{get_or-map, get_or_past, length-map, ext_get_or}
 use Rattle.std.proofs.lemmas.Nat.{and_mask}
 use Rattle.std.proofs.lemmas.Simd.{Each1-from_get_or, get_or-zip2, zip2_splat, zip2-map, length-zip2, mask_l-lt, mask_l-mod, bit_mask_l, bitmask_splat}
 use Rattle.std.specs.Int.{bit_at}
@@ -79,10 +80,6 @@ some_lane : (t : ℕ → ℕ → Bool) (v : List ℕ) (b : ℕ) → length v ≡
     → not (eqb (mask_l (map (top 7) (zip2 (λ x y. cond (t x y) 255 0) v (replicate 16 b))) % 2 ^ 64) 0) ≡ list_any (λ x. t x b) v
 some_lane t v b long = ap (λ n. not (eqb n 0)) (bitmask_splat w8 t v 16 b long (omega arith)) ∙ any_bit (λ x. t x b) v
 
-pub equal_lane : (v : List ℕ) (b : ℕ) → length v ≡ 16
-    → not (eqb (mask_l (map (top 7) (zip2 (λ x y. cond (eqb x y) 255 0) v (replicate 16 b))) % 2 ^ 64) 0) ≡ list_any (λ x. eqb x b) v
-equal_lane = some_lane eqb
-
 pub nonzero_lane : (v : List ℕ) → length v ≡ 16
     → not (eqb (mask_l (map (top 7) (zip2 (λ x y. cond (not (eqb x y)) 255 0) v (replicate 16 0))) % 2 ^ 64) 0) ≡ list_any is_nonzero v
 nonzero_lane v = some_lane (λ x y. not (eqb x y)) v 0
@@ -99,38 +96,54 @@ lane_mask t v b long =
       λ k within. bit_mask_l (map test v) k ∙ ap (λ t. cond t 1 0) (get_or-map test v k 0 false (omega arith)),
     )
 
--- a test of two lanes by the bits that both have
-pub lane_of : (p : ℕ → Bool) (f g : ℕ → ℕ) (v w left right : List ℕ) → (length v ≡ 16) × (length w ≡ 16) → left ≡ map f v → right ≡ map g w
-    → (r : ℕ → ℕ → Bool) → ((k : ℕ) → p (bit_and (f (get_or v k 0)) (g (get_or w k 0))) ≡ r (get_or v k 0) (get_or w k 0))
-    → (k : ℕ) → k < 16 → p (get_or (zip2 bit_and left right) k 0) ≡ r (get_or v k 0) (get_or w k 0)
-lane_of p f g v w left right long el er r is k h =
+-- a mask that has a bit for each lane that passes
+pub any_marked : (p : ℕ → Bool) (v : List ℕ) (mask : ℕ) → length v ≡ 16 → mask < 2 ^ 16
+    → ((k : ℕ) → k < 16 → bit_at mask k ≡ cond (p (get_or v k 0)) 1 0) → not (eqb mask 0) ≡ list_any p v
+any_marked p v mask long few lanes = ap (λ m. not (eqb m 0)) (same_from_bits _ _ alike) ∙ any_bit p v
+  where
+    alike : (k : ℕ) → bit_at mask k ≡ bit_at (mask_l (map p v)) k
+    alike k = elim (cases_lt k 16) [
+      | inl below ↦ lanes k below ∙ ap (λ t. cond t 1 0) (sym (get_or-map p v k 0 false (omega arith))) ∙ sym (bit_mask_l (map p v) k)
+      | inr above ↦ bit_at_above mask 16 k few above
+          ∙ ap (λ t. cond t 1 0) (sym (get_or_past (map p v) k false (omega (arith, length-map v p)))) ∙ sym (bit_mask_l (map p v) k)
+    ]
+
+-- a test of two lanes by their bits
+pub lane_of : (op : ℕ → ℕ → ℕ) (p : ℕ → Bool) (f g : ℕ → ℕ) (v w left right : List ℕ) → (length v ≡ 16) × (length w ≡ 16) → left ≡ map f v → right ≡ map g w
+    → (r : ℕ → ℕ → Bool) → ((k : ℕ) → p (op (f (get_or v k 0)) (g (get_or w k 0))) ≡ r (get_or v k 0) (get_or w k 0))
+    → (k : ℕ) → k < 16 → p (get_or (zip2 op left right) k 0) ≡ r (get_or v k 0) (get_or w k 0)
+lane_of op p f g v w left right long el er r is k h =
     let ll : length left ≡ 16 = ap length el ∙ length-map v f ∙ long.0 in
     let lr : length right ≡ 16 = ap length er ∙ length-map w g ∙ long.1 in
-    ap p (get_or-zip2 bit_and left right k 0 0 0 (omega arith) (omega arith)
-    ∙ ap₂ bit_and (ap (λ l. get_or l k 0) el ∙ get_or-map f v k 0 0 (omega arith)) (ap (λ l. get_or l k 0) er ∙ get_or-map g w k 0 0 (omega arith))) ∙ is k
+    ap p (get_or-zip2 op left right k 0 0 0 (omega arith) (omega arith)
+    ∙ ap₂ op (ap (λ l. get_or l k 0) el ∙ get_or-map f v k 0 0 (omega arith)) (ap (λ l. get_or l k 0) er ∙ get_or-map g w k 0 0 (omega arith))) ∙ is k
 
--- The mask of the lanes that pass a test of each of two vectors.
-pub both_mask : (s t : ℕ → ℕ → Bool) (v w : List ℕ) (b c : ℕ) → length v ≡ 16 → length w ≡ 16
-    → let mask = mask_l (map (top 7) (zip2 bit_and (zip2 (λ x y. cond (s x y) 255 0) v (replicate 16 b))
+-- The mask of the lanes for which two tests, each of a vector, are joined: by the bits of both, or of either.
+pub both_mask : (op : ℕ → ℕ → ℕ) (joined : Bool → Bool → Bool) → ((u z : Bool) → top 7 (op (cond u 255 0) (cond z 255 0)) ≡ joined u z)
+    → (s t : ℕ → ℕ → Bool) (v w : List ℕ) (b c : ℕ) → length v ≡ 16 → length w ≡ 16
+    → let mask = mask_l (map (top 7) (zip2 op (zip2 (λ x y. cond (s x y) 255 0) v (replicate 16 b))
     (zip2 (λ x y. cond (t x y) 255 0) w (replicate 16 c)))) % 2 ^ 64 in
-    (mask < 2 ^ 16) × ((k : ℕ) → k < 16 → bit_at mask k ≡ cond (s (get_or v k 0) b && t (get_or w k 0) c) 1 0)
-both_mask s t v w b c lv lw =
+    (mask < 2 ^ 16) × ((k : ℕ) → k < 16 → bit_at mask k ≡ cond (joined (s (get_or v k 0) b) (t (get_or w k 0) c)) 1 0)
+both_mask op joined is s t v w b c lv lw =
     let left = zip2 (λ x y. cond (s x y) 255 0) v (replicate 16 b) in
     let right = zip2 (λ x y. cond (t x y) 255 0) w (replicate 16 c) in
     let el : left ≡ map (λ x. cond (s x b) 255 0) v = zip2_splat (λ x y. cond (s x y) 255 0) v 16 b lv in
     let er : right ≡ map (λ x. cond (t x c) 255 0) w = zip2_splat (λ x y. cond (t x y) 255 0) w 16 c lw in
     let ll : length left ≡ 16 = ap length el ∙ length-map v (λ x. cond (s x b) 255 0) ∙ lv in
     let lr : length right ≡ 16 = ap length er ∙ length-map w (λ x. cond (t x c) 255 0) ∙ lw in
-    let both : length (zip2 bit_and left right) ≡ 16 = length-zip2 bit_and left right (ll ∙ sym lr) ∙ ll in
-    let tops = map (top 7) (zip2 bit_and left right) in
-    let long : length tops ≡ 16 = length-map (zip2 bit_and left right) (top 7) ∙ both in
-    let lane = lane_of (top 7) (λ x. cond (s x b) 255 0) (λ x. cond (t x c) 255 0) v w left right (lv, lw) el er (λ x y. s x b && t y c)
-    (λ k. either (s (get_or v k 0) b) (t (get_or w k 0) c)) in
+    let both : length (zip2 op left right) ≡ 16 = length-zip2 op left right (ll ∙ sym lr) ∙ ll in
+    let tops = map (top 7) (zip2 op left right) in
+    let long : length tops ≡ 16 = length-map (zip2 op left right) (top 7) ∙ both in
+    let lane = lane_of op (top 7) (λ x. cond (s x b) 255 0) (λ x. cond (t x c) 255 0) v w left right (lv, lw) el er (λ x y. joined (s x b) (t y c))
+    (λ k. is (s (get_or v k 0) b) (t (get_or w k 0) c)) in
     rw (mask_l-mod tops 64 (omega arith)) (
       (rw long at (mask_l-lt tops)),
       λ k within. bit_mask_l tops k
-          ∙ ap (λ z. cond z 1 0) (get_or-map (top 7) (zip2 bit_and left right) k 0 false (omega arith) ∙ lane k within),
+          ∙ ap (λ z. cond z 1 0) (get_or-map (top 7) (zip2 op left right) k 0 false (omega arith) ∙ lane k within),
     )
-  where
-    either : (u z : Bool) → top 7 (bit_and (cond u 255 0) (cond z 255 0)) ≡ (u && z)
-    either u z = grind arith
+
+pub of_both : (u z : Bool) → top 7 (bit_and (cond u 255 0) (cond z 255 0)) ≡ (u && z)
+of_both u z = grind arith
+
+pub of_either : (u z : Bool) → top 7 (bit_or (cond u 255 0) (cond z 255 0)) ≡ (u || z)
+of_either u z = grind arith

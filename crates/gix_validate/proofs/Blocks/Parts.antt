@@ -2,13 +2,11 @@
 use Rattle.std.proofs.Common.{◌≡◌, ℕ, zero, suc, ◌+◌, ◌-◌, ◌%◌, ◌<◌, ◌≤◌, ◌↔◌, Bool, true, false, ◌||◌, eqb, List, [], ◌∷◌, ◌++◌}
 use Rattle.std.proofs.Common.{length, take, drop, get_or, replicate, refl, sym, ap, ap₂, ◌∙◌, inl, inr, arith, take-add, eqb-true}
 use Rattle.std.proofs.Math.Nat.{mod-lt, mod-eq_of_lt}
-use Rattle.std.proofs.lemmas.Bool.{cases_lt, or_parts, agree_below, agree_below_at, false_from_ne_true}
+use Rattle.std.proofs.lemmas.Bool.{cases_lt, or_parts, agree_below, agree_below_at}
 use Rattle.std.proofs.lemmas.List.{get_or-map, get_or-replicate, get_or_append_left, get_or-append_right, drop-drop}
 use Rattle.std.specs.List.{list_any}
-use Rattle.std.specs.Prelude.{Option, Some, None, is_some}
-use Rattle.memchr.specs.Find.{IsFirstByte, is_byte2}
 use Rattle.gix_validate.specs.Bytes.{is_among}
-use Rattle.std.proofs.lemmas.List.Folds.{list_any_at, list_any-append}
+use Rattle.std.proofs.lemmas.List.Folds.{list_any-append}
 use Rattle.std.proofs.lemmas.Simd.{length-chunk, get_or-chunk}
 use lib.Lanes.{chunk, pick_l}
 use Rattle.gix_validate.specs.Private.Lanes.{offset_of, HasParts}
@@ -24,13 +22,13 @@ none_at p (b ∷ v) = (
 )
 
 -- a search for two bytes says whether one is in the text
-pub either_among : (a b : ℕ) (x : List ℕ) → list_any (is_byte2 a b) x ≡ (is_among x a || is_among x b)
+pub either_among : (a b : ℕ) (x : List ℕ) → list_any (λ c. eqb c a || eqb c b) x ≡ (is_among x a || is_among x b)
 either_among a b [] = refl
 either_among a b (c ∷ x) = grind (arith, nat_tests, either_among a b x)
 
-pub either_found : (a b : ℕ) (x : List ℕ) (found : Option ℕ) → IsFirstByte (is_byte2 a b) x found → is_some found ≡ (is_among x a || is_among x b)
-either_found a b x None none = sym ((none_at (is_byte2 a b) x).1 (λ k h. false_from_ne_true _ (none k (omega arith) h))) ∙ either_among a b x
-either_found a b x (Some k) first = sym (list_any_at (is_byte2 a b) x k 0 first.0.high first.1) ∙ either_among a b x
+pub none_of_empty : (a : ℕ) (x : List ℕ) → length x ≡ 0 → is_among x a ≡ false
+none_of_empty a [] none = refl
+none_of_empty a (b ∷ x) none = absurd (omega arith)
 
 same_none : (s t : Bool) → (s ≡ false → t ≡ false) → (t ≡ false → s ≡ false) → s ≡ t
 same_none s t one two = grind arith
@@ -118,6 +116,18 @@ parts_cover n back x block all long parts p =
 -- a front, and the two parts after it
 pub any_two_chunks : (p : ℕ → Bool) (x : List ℕ) (i n : ℕ) → list_any p (chunk i (n + n) x) ≡ (list_any p (chunk i n x) || list_any p (chunk (i + n) n x))
 any_two_chunks p x i n = any_with_chunk p (drop i x) n n ∙ ap (λ y. list_any p (take n (drop i x)) || list_any p (take n y)) (drop-drop n i x)
+
+-- four parts side by side
+pub any_of_four : (p : ℕ → Bool) (x : List ℕ) (i : ℕ) (a b c d : Bool) → a ≡ list_any p (chunk i 16 x) → b ≡ list_any p (chunk (i + 16) 16 x)
+    → c ≡ list_any p (chunk (i + 32) 16 x) → d ≡ list_any p (chunk (i + 48) 16 x) → (((a || b) || c) || d) ≡ list_any p (chunk i 64 x)
+any_of_four p x i a b c d ea eb ec ed =
+    regrouped a b c d
+    ∙ ap₂ (λ s t. s || t) (ap₂ (λ s t. s || t) ea eb ∙ sym (any_two_chunks p x i 16))
+    (ap₂ (λ s t. s || t) ec (ed ∙ ap (λ k. list_any p (chunk k 16 x)) (omega arith)) ∙ sym (any_two_chunks p x (i + 32) 16))
+    ∙ sym (any_two_chunks p x i 32)
+  where
+    regrouped : (a b c d : Bool) → (((a || b) || c) || d) ≡ ((a || b) || (c || d))
+    regrouped a b c d = grind arith
 
 -- The offsets of four parts of eight bytes that together are all of a text of 8 to 32 bytes: the first eight, eight that follow or are the last,
 -- eight from sixteen before the end on, and the last eight.

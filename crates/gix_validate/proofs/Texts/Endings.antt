@@ -24,9 +24,6 @@ ends-no x back h f e = grind (arith, length-append, bytes_eq-Decides, drop_at)
 pub ends_read : (x : List ℕ) (c : ℕ) → 0 < length x → ends x (c ∷ []) ≡ eqb (get_or x (length x - 1) 0) c
 ends_read x c some = grind (arith, common_steps)
 
-pub ends_push_one : (y : List ℕ) (b c : ℕ) → ends (y ++ b ∷ []) (c ∷ []) ≡ eqb b c
-ends_push_one y b c = grind (arith, common_steps)
-
 -- where the bytes of `.lock` stand
 pub lock_read : (x : List ℕ) → ends x (codes ".lock") ≡ true
     → (5 ≤ length x) × (get_or x (length x - 5) 0 ≡ byte ".") × (get_or x (length x - 4) 0 ≡ byte "l") × (get_or x (length x - 1) 0 ≡ byte "k")

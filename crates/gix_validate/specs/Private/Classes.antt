@@ -1,12 +1,10 @@
 -- The classes of the bytes of a name, a bit for each, and what they say about the name.
-use Rattle.std.specs.Prelude.{◌≡◌, ℕ, Bool, false, ◌==◌, ◌||◌, not, nat_lt, ◌≤◌, if◌then◌else◌, List, length, codes, map, bit_and}
+use Rattle.std.specs.Prelude.{◌≡◌, ℕ, Bool, ◌==◌, not, nat_lt, if◌then◌else◌, List, codes, map, bit_and}
 use Rattle.std.specs.List.{list_any}
 use Rattle.std.specs.Str.{byte}
 use Rattle.gix_validate.specs.declared.path.classes.TheConstants.{CONTROL, QUOTE_OR_STAR, COLON_ANGLE_OR_MARK, BACKSLASH, PIPE, LEAD, SLASH, TILDE}
-use Rattle.gix_validate.specs.declared.path.classes.TheConstants.{ILLEGAL, SEPARATORS, ANY, SHORT}
 use Rattle.gix_validate.specs.Bytes.{is_among}
-use Rattle.gix_validate.specs.Windows.{is_illegal_byte}
-use Rattle.gix_validate.specs.Private.Ordinary.{is_lead, is_classed}
+use Rattle.gix_validate.specs.Private.Ordinary.{is_lead}
 
 -- The class of a byte. A byte for which no condition asks has none.
 unfoldable pub class_of : ℕ → ℕ
@@ -32,12 +30,3 @@ any_class mask classes = list_any (λ class. not (bit_and class mask == 0)) clas
 -- under each mask the classes say what those of the bytes of the text say
 abbrev pub HaveClassesOf : List ℕ → List ℕ → Type 0
 HaveClassesOf classes x = (mask : ℕ) → any_class mask classes ≡ any_class mask (map class_of x)
-
--- What the classes say about a name: what it doesn't have, and of a short one which separators it has.
-pub record Sees (classes x : List ℕ) : Type 0 where
-  pub some : any_class ANY classes ≡ false → 1 ≤ length x
-  pub classed : any_class ANY classes ≡ false → list_any is_classed x ≡ false
-  pub illegal : any_class ILLEGAL classes ≡ false → list_any is_illegal_byte x ≡ false
-  pub lead : any_class LEAD classes ≡ false → list_any is_lead x ≡ false
-  pub slash : 1 ≤ length x → length x ≤ SHORT → any_class SLASH classes ≡ is_among x (byte "/")
-  pub separator : 1 ≤ length x → length x ≤ SHORT → any_class SEPARATORS classes ≡ (is_among x (byte "/") || is_among x (byte "\\"))

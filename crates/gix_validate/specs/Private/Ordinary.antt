@@ -3,6 +3,11 @@ use Rattle.std.specs.Prelude.{ℕ, Bool, ◌==◌, ◌&&◌, ◌||◌, not, List
 use Rattle.std.specs.List.{list_any}
 use Rattle.gix_validate.specs.Bytes.{is_among, is_empty, ends}
 use Rattle.gix_validate.specs.Windows.{is_illegal_byte}
+use Rattle.gix_validate.specs.declared.path.ComponentOptions.{ComponentOptions}
+
+-- the options with these three switches
+abbrev pub switches : Bool → Bool → Bool → ComponentOptions
+switches windows hfs ntfs = record { protect_windows = windows; protect_hfs = hfs; protect_ntfs = ntfs }
 
 -- each of the characters that HFS+ ignores begins with one of these bytes
 abbrev pub is_lead : ℕ → Bool

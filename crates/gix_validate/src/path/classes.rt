@@ -1,34 +1,26 @@
 //! One look at the bytes of a name.
 //!
 //! This is no `scan`: of a short name it says which of several classes of bytes it has, all at once.
-//! A long name is searched for a separator first, and for illegal bytes four blocks a turn.
+//! A long name is searched by `scan` for each thing by itself.
 
-ghost use Rattle.std.specs.Prelude.{◌≡◌, IsTrue, ◌≤◌, ◌<◌, ◌+◌, ◌&&◌, ◌||◌, not, length, map};
+ghost use Rattle.std.specs.Prelude.{◌≡◌, ◌==◌, false, IsTrue, ◌≤◌, ◌<◌, ◌+◌, ◌&&◌, ◌||◌, not, length, map};
 ghost use Rattle.std.specs.Str.{byte};
 ghost use Rattle.gix_validate.specs.Bytes.{is_among};
 ghost use Rattle.std.specs.List.{list_any};
 ghost use Rattle.std.specs.Simd.Lanes.{chunk};
 ghost use Rattle.gix_validate.specs.Windows.{is_illegal_byte};
-ghost use Rattle.gix_validate.specs.Private.Classes.{has_class, any_class, class_of, HaveClassesOf, Sees};
+ghost use Rattle.gix_validate.specs.Private.Classes.{has_class, any_class, class_of, HaveClassesOf};
 
-use crate::lanes::{LANES, classify, halves, has_nonzero, pairs, quarters};
+use crate::lanes::{LANES, classify, halves, has_nonzero, nonzero_lanes, pairs, quarters};
 use crate::reference::Slash;
-use crate::scan;
-use memchr::memchr2;
+use crate::scan::{self, FOUR, Pattern};
 use std::simd::prelude::*;
 
 /// The length of four blocks. A name of at most this length is checked in one go.
-const SHORT: usize = 4 * LANES;
+pub(super) const SHORT: usize = FOUR;
 
 /// The length of two blocks.
 const TWO: usize = 2 * LANES;
-
-/// Which of the bytes that a condition looks for a name may have: their classes, a bit for each, in
-/// any of sixteen lanes. Of a short name they are exact. Any other may have all.
-#[derive(Clone, Copy)]
-pub(super) struct Seen {
-    lanes: u8x16,
-}
 
 // The classes of bytes, a bit for each. The bytes of a class have one high nibble, except the
 // control bytes, which have two.
@@ -46,7 +38,7 @@ const PIPE: u8 = 0x10;
 /// 0xE2 or 0xEF.
 const LEAD: u8 = 0x20;
 /// A slash.
-const SLASH: u8 = 0x40;
+pub(super) const SLASH: u8 = 0x40;
 /// `~`.
 const TILDE: u8 = 0x80;
 
@@ -54,10 +46,10 @@ const TILDE: u8 = 0x80;
 const ILLEGAL: u8 = CONTROL | QUOTE_OR_STAR | COLON_ANGLE_OR_MARK | PIPE;
 
 /// The two classes that part components.
-const SEPARATORS: u8 = SLASH | BACKSLASH;
+pub(super) const SEPARATORS: u8 = SLASH | BACKSLASH;
 
 /// All classes.
-const ANY: u8 = 0xFF;
+pub(super) const ANY: u8 = 0xFF;
 
 /// The classes that a byte with this low nibble may have.
 #[rattlefmt::skip]
@@ -83,73 +75,17 @@ const BY_HIGH_NIBBLE: [u8; 16] = [
     0, 0, LEAD, 0, // C to F
 ];
 
-impl Seen {
-    /// What one look at the name sees.
-    #[inline(always)]
-    pub(super) fn of(name: &[u8]) -> Seen
-        ensures { Sees result.lanes name.now }
-    {
-        if name.is_empty() || name.len() > SHORT {
-            return Seen {
-                lanes: u8x16::splat(ANY),
-            };
-        }
-        Seen {
-            lanes: classes_of(name),
-        }
-    }
+/// A byte that is illegal on Windows.
+enum Illegal {}
 
-    /// Whether the name has a byte, and none that a condition looks for.
-    #[inline(always)]
-    pub(super) fn is_nothing(&self) -> bool
-        ensures { result ≡ not (any_class ANY self.now.lanes) }
-    {
-        !has_class(self.lanes, ANY)
-    }
+impl Pattern for Illegal {
+    ghost use Rattle.gix_validate.specs.declared.path.classes.TheConstants.{ILLEGAL};
 
-    /// Whether the name may have a byte that is illegal on Windows.
-    #[inline(always)]
-    pub(super) fn may_be_illegal(&self) -> bool
-        ensures { result ≡ any_class ILLEGAL self.now.lanes }
-    {
-        has_class(self.lanes, ILLEGAL)
-    }
+    ghost hit = { λ a b. has_class ILLEGAL a };
 
-    /// Whether the name may have a byte that begins a character which HFS+ may ignore.
     #[inline(always)]
-    pub(super) fn may_have_lead(&self) -> bool
-        ensures { result ≡ any_class LEAD self.now.lanes }
-    {
-        has_class(self.lanes, LEAD)
-    }
-
-    /// Whether the name has a slash, or, with Windows protection, a backslash.
-    #[inline(always)]
-    pub(super) fn has_separator(&self, name: &[u8], windows: bool) -> bool
-        requires { Sees self.now.lanes name.now }
-        ensures { result ≡ (is_among name.now (byte "/") || (windows && is_among name.now (byte "\\"))) }
-    {
-        if name.len() > SHORT {
-            return long_has_separator(name, windows);
-        }
-        !name.is_empty()
-            && has_class(self.lanes, SEPARATORS)
-            && (windows || has_class(self.lanes, SLASH))
-    }
-}
-
-/// Whether a name that isn't short has a slash, or, with Windows protection, a backslash.
-/// (`memchr`, faster than `scan`, would with another caller no longer be inlined into a program's
-/// loop over lines.)
-#[inline(never)]
-#[tactic(auto, using(crate::proofs::References::slash_found, crate::proofs::Blocks::Parts::either_found))]
-fn long_has_separator(name: &[u8], windows: bool) -> bool
-    ensures { result ≡ (is_among name.now (byte "/") || (windows && is_among name.now (byte "\\"))) }
-{
-    if windows {
-        memchr2(b'/', b'\\', name).is_some()
-    } else {
-        scan::first::<Slash>(name, name).is_some()
+    fn hits(front: u8x16, _back: u8x16) -> u64 {
+        nonzero_lanes(classes_in(front) & u8x16::splat(ILLEGAL))
     }
 }
 
@@ -160,15 +96,44 @@ pub(super) fn has_illegal_byte(name: &[u8]) -> bool
     ensures { result ≡ list_any is_illegal_byte name.now }
 {
     if name.len() > SHORT {
-        return blocks_have(name, ILLEGAL);
+        scan::has::<Illegal>(name)
+    } else {
+        has_class(classes_of(name), ILLEGAL)
     }
-    has_class(classes_of(name), ILLEGAL)
+}
+
+/// A slash or a backslash.
+enum Separator {}
+
+impl Pattern for Separator {
+    ghost hit = { λ a b. a == byte "/" || a == byte "\\" };
+
+    #[inline(always)]
+    fn hits(front: u8x16, _back: u8x16) -> u64 {
+        let slashes = front.simd_eq(u8x16::splat(b'/'));
+        (slashes | front.simd_eq(u8x16::splat(b'\\'))).to_bitmask()
+    }
+}
+
+/// Whether a name that is empty or isn't short has a slash, or, with Windows protection, a backslash.
+#[inline(always)]
+pub(super) fn has_separator(name: &[u8], windows: bool) -> bool
+    requires { 1 ≤ length name.now → SHORT < length name.now }
+    ensures { result ≡ (is_among name.now (byte "/") || (windows && is_among name.now (byte "\\"))) }
+{
+    if name.is_empty() {
+        false
+    } else if windows {
+        scan::has::<Separator>(name)
+    } else {
+        scan::has::<Slash>(name)
+    }
 }
 
 /// The classes of the bytes of a short name, in any of sixteen lanes. From eight bytes to two
 /// blocks, all names are checked in the same way: a branch on the length would be mispredicted.
 #[inline(always)]
-fn classes_of(name: &[u8]) -> u8x16
+pub(super) fn classes_of(name: &[u8]) -> u8x16
     requires some { 1 ≤ length name.now }
     requires short { length name.now ≤ SHORT }
     ensures { HaveClassesOf result name.now }
@@ -189,36 +154,6 @@ fn classes_of(name: &[u8]) -> u8x16
         return classes_in(pairs(name, 0, name.len() - 2));
     }
     classes_in(u8x16::splat(name[0]))
-}
-
-/// Whether a name that isn't short has a class of the mask. The last four blocks overlap the ones
-/// before them.
-#[inline(always)]
-fn blocks_have(name: &[u8], mask: u8) -> bool
-    requires { SHORT < length name.now }
-    ensures { result ≡ list_any (has_class mask) name.now }
-{
-    let last = name.len() - SHORT;
-    let mut at = 0;
-    while at < last {
-        if four_have(name, at, mask) {
-            return true;
-        }
-        at += SHORT;
-    }
-    four_have(name, last, mask)
-}
-
-/// Whether four blocks of the name, from this offset on, have a class of the mask.
-#[inline(always)]
-fn four_have(name: &[u8], at: usize, mask: u8) -> bool
-    requires { at + SHORT ≤ length name.now }
-    ensures { result ≡ list_any (has_class mask) (chunk at SHORT name.now) }
-{
-    has_class(
-        classes_of_two(name, at) | classes_of_two(name, at + TWO),
-        mask,
-    )
 }
 
 /// The classes of the bytes of two blocks of the name, from this offset on.
@@ -245,7 +180,7 @@ fn classes_in(block: u8x16) -> u8x16
 /// Whether one of the classes has a bit of the mask.
 #[inline(always)]
 #[tactic(auto, using(crate::proofs::Blocks::ByteClasses::mask_tested))]
-fn has_class(classes: u8x16, mask: u8) -> bool
+pub(super) fn has_class(classes: u8x16, mask: u8) -> bool
     ensures { result ≡ any_class mask classes }
 {
     has_nonzero(classes & u8x16::splat(mask))

@@ -1,51 +1,32 @@
 //! How a name is read on HFS+, which ignores sixteen characters.
 
 ghost use Rattle.std.specs.Prelude.{◌≡◌, false, ◌<◌, ◌∷◌, [], MatchOption, codes, length, drop, slice_index};
-ghost use Rattle.std.specs.List.{list_any};
 ghost use Rattle.std.specs.Str.{bytes_eq};
 ghost use Rattle.gix_validate.specs.Bytes.{lower};
 ghost use Rattle.gix_validate.specs.Hfs.{hfs_form, is_ignored};
-ghost use Rattle.gix_validate.specs.Private.Ordinary.{is_lead};
 
-use crate::path::ascii_case::{bytes_eq_ignore_ascii_case, eq_ignore_ascii_case};
+use crate::path::ascii_case::bytes_eq_ignore_ascii_case;
 
 /// Whether the name is read as `.git`.
 #[tactic(auto, unfolding(crate::specs::Bytes::lower_byte))]
-pub(super) fn is_git(name: &[u8], may_have_lead: bool) -> bool
-    requires { may_have_lead ≡ false → list_any is_lead name.now ≡ false }
+pub(super) fn is_git(name: &[u8]) -> bool
     ensures { result ≡ bytes_eq (lower (hfs_form name.now)) (codes ".git") }
 {
-    reads_as(name, b".git", may_have_lead)
+    reads_as(name, b".git")
 }
 
 /// Whether the name is read as `.gitmodules`.
 #[tactic(auto, unfolding(crate::specs::Bytes::lower_byte))]
-pub(super) fn is_modules(name: &[u8], may_have_lead: bool) -> bool
-    requires { may_have_lead ≡ false → list_any is_lead name.now ≡ false }
+pub(super) fn is_modules(name: &[u8]) -> bool
     ensures { result ≡ bytes_eq (lower (hfs_form name.now)) (codes ".gitmodules") }
 {
-    reads_as(name, b".gitmodules", may_have_lead)
-}
-
-/// Whether the name is read as the word, in any ASCII case. It has ignored characters only if it
-/// has a byte that one begins with.
-#[tactic(auto, using(crate::proofs::Components::HfsForm::hfs_form_same))]
-#[inline(always)]
-fn reads_as(name: &[u8], word: &[u8], may_have_lead: bool) -> bool
-    requires { may_have_lead ≡ false → list_any is_lead name.now ≡ false }
-    ensures { result ≡ bytes_eq (lower (hfs_form name.now)) (lower word.now) }
-{
-    if may_have_lead {
-        kept_is(name, word)
-    } else {
-        eq_ignore_ascii_case(name, word)
-    }
+    reads_as(name, b".gitmodules")
 }
 
 /// Whether the name without the ignored characters is the word, in any ASCII case.
 #[tactic(auto, using(crate::proofs::Components::HfsForm::word_steps))]
 #[inline(always)]
-fn kept_is(name: &[u8], word: &[u8]) -> bool
+fn reads_as(name: &[u8], word: &[u8]) -> bool
     ensures { result ≡ bytes_eq (lower (hfs_form name.now)) (lower word.now) }
 {
     let mut rest = name;

@@ -16,13 +16,11 @@ ghost use Rattle.gix_validate.specs.Private.Forms.{stays_in_form};
 use crate::path::ascii_case::{eq_ignore_ascii_case, strip_prefix_ignore_ascii_case};
 use crate::path::units::first_unit_len;
 
-/// Whether a colon follows the first unit. A name without illegal bytes has no colon.
-#[tactic(auto, using(crate::proofs::Components::OrdinaryNames::legal_no_prefix))]
-pub(super) fn has_prefix(name: &[u8], may_be_illegal: bool) -> bool
-    requires { may_be_illegal ≡ false → list_any is_illegal_byte name.now ≡ false }
+/// Whether a colon follows the first unit.
+pub(super) fn has_prefix(name: &[u8]) -> bool
     ensures { result ≡ (slice_index name.now (first_unit_len name.now) == byte ":") }
 {
-    may_be_illegal && name.get(first_unit_len(name)) == Some(&b':')
+    name.get(first_unit_len(name)) == Some(&b':')
 }
 
 /// Whether the name ends with a dot or a space.

@@ -161,7 +161,7 @@ front_bits (a ∷ []) rest e = grind arith
 front_bits (a ∷ b ∷ []) rest e = grind arith
 front_bits (a ∷ b ∷ c ∷ x) rest e = let same = three_letters a b c x rest e in front_at a b c same.0 same.1 same.2
 
-same_length : (x word : List ℕ) → bytes_eq (lower x) word ≡ true → length x ≡ length word
+pub same_length : (x word : List ℕ) → bytes_eq (lower x) word ≡ true → length x ≡ length word
 same_length x word e = grind (arith, bytes_eq-Decides, length-map)
 
 pub git_bits : (x : List ℕ) → bits_of x ≡ 0 → bytes_eq (lower x) (codes ".git") ≡ false
@@ -170,14 +170,8 @@ git_bits x none = grind (arith, nat_tests, front_bits x (codes "t"))
 pub modules_bits : (x : List ℕ) → bits_of x ≡ 0 → bytes_eq (lower x) (codes ".gitmodules") ≡ false
 modules_bits x none = grind (arith, nat_tests, front_bits x (codes "tmodules"))
 
-pub no_tiny_git : (x : List ℕ) → length x < 3 → bytes_eq (lower x) (codes ".git") ≡ false
-no_tiny_git x tiny = grind (arith, nat_tests, same_length x (codes ".git"))
-
-pub no_tiny_modules : (x : List ℕ) → length x < 3 → bytes_eq (lower x) (codes ".gitmodules") ≡ false
-no_tiny_modules x tiny = grind (arith, nat_tests, same_length x (codes ".gitmodules"))
-
 -- what the tables say of a device, of `.git` and of `.gitmodules`
-pub ruleset special_bits = (nat_tests, device_short, no_stem, device_no_word, git_bits, modules_bits, no_tiny_git, no_tiny_modules)
+pub ruleset special_bits = (nat_tests, device_short, no_stem, device_no_word, git_bits, modules_bits, same_length)
 
 digit_first : (x set : List ℕ) → list_all is_digit set ≡ true
     → is_any (digits set) x ≡ (list_any (eqb (get_or x 0 0)) set && is_empty (device_form (drop 1 x)))

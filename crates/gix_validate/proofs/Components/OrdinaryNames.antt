@@ -1,13 +1,13 @@
 -- Ordinary names: no condition but the one on devices refuses one.
 use Rattle.std.proofs.Common.{◌≡◌, ℕ, zero, suc, ◌-◌, ◌<◌, ◌≤◌, Bool, true, false, not, ◌&&◌, ◌||◌, eqb, Option, None, Some, List}
 use Rattle.std.proofs.Common.{[], ◌∷◌, ◌++◌, length, get_or, refl, ◌∙◌, arith, codes}
-use Rattle.std.specs.Prelude.{slice_index}
+use Rattle.std.specs.Prelude.{slice_index, is_some}
 use Rattle.std.specs.Bool.{◌==◌}
 use Rattle.std.specs.List.{list_any}
 use Rattle.std.specs.Str.{byte, bytes_eq}
 use Rattle.std.proofs.lemmas.Bool.{or_parts}
 use Rattle.std.proofs.lemmas.Slice.Eq.{bytes_eq-Decides}
-use Rattle.gix_validate.specs.declared.path.ComponentError.TheVariants.{WindowsReservedName, PathSeparator}
+use Rattle.gix_validate.specs.declared.path.ComponentError.TheVariants.{WindowsReservedName, PathSeparator, DotGitDir, SymlinkedGitModules}
 use Rattle.gix_validate.specs.declared.path.ComponentOptions.{ComponentOptions}
 use Rattle.gix_validate.specs.declared.path.ComponentMode.{ComponentMode}
 use Rattle.gix_validate.specs.Bytes.{is_among, ends, lower, lower_byte}
@@ -18,6 +18,8 @@ use Rattle.gix_validate.specs.Ntfs.{ntfs_form, is_git_form, is_modules_form, is_
 use Rattle.gix_validate.specs.Windows.{is_device, is_illegal, is_illegal_byte}
 use Rattle.gix_validate.specs.Component.{conditions, fault_of}
 use Rattle.gix_validate.specs.Private.Ordinary.{is_lead, is_classed, has_ordinary_bytes}
+use Rattle.gix_validate.proofs.Components.Laws.{case_law}
+use Rattle.gix_validate.proofs.OnLiterals.{components_on_literals}
 use Rattle.gix_validate.proofs.Texts.LetterCase.{list_any-lower}
 use Rattle.gix_validate.proofs.Texts.Endings.{ends_read}
 use Rattle.gix_validate.proofs.Components.HfsForm.{hfs_form_same}
@@ -117,6 +119,19 @@ pub ordinary_passes : (options : ComponentOptions) (mode : Option ComponentMode)
     → (is_device x || (bytes_eq (lower x) (codes ".git") || bytes_eq (lower x) (codes ".gitmodules"))) ≡ false
     → fault_of options mode x ≡ None
 ordinary_passes options mode x some classed end special = grind (arith, nat_tests, ordinary_by_looks, ordinary_fault)
+
+-- `.git` and `.gitmodules` in any letter case
+pub git_fault : (options : ComponentOptions) (mode : Option ComponentMode) (x : List ℕ) → bytes_eq (lower x) (codes ".git") ≡ true
+    → fault_of options mode x ≡ Some DotGitDir
+unfolding components_on_literals
+git_fault options mode x git = grind (arith, case_law, bytes_eq-Decides)
+
+pub modules_fault : (options : ComponentOptions) (mode : Option ComponentMode) (x : List ℕ) → bytes_eq (lower x) (codes ".gitmodules") ≡ true
+    → fault_of options mode x ≡ when (is_some mode) SymlinkedGitModules
+unfolding components_on_literals
+modules_fault options mode x modules = grind (arith, case_law, bytes_eq-Decides)
+
+pub ruleset faults_of_ordinary = (ordinary_fault, git_fault, modules_fault)
 
 -- a name that has a separator is neither empty nor `.` or `..`, so no condition comes first
 parted_no_dots : (windows : Bool) (x : List ℕ) → (is_among x (byte "/") || (windows && is_among x (byte "\\"))) ≡ true

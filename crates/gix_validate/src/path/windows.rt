@@ -13,7 +13,7 @@ ghost use Rattle.gix_validate.specs.Ntfs.{is_digit};
 ghost use Rattle.gix_validate.specs.Windows.{device_form, is_device, is_illegal_byte};
 ghost use Rattle.gix_validate.specs.Private.Forms.{stays_in_form};
 
-use crate::path::ascii_case::{eq_ignore_ascii_case, strip_prefix_ignore_ascii_case};
+use crate::path::ascii_case::strip_prefix_ignore_ascii_case;
 use crate::path::units::first_unit_len;
 
 /// Whether a colon follows the first unit.
@@ -79,34 +79,29 @@ const BY_THIRD: [u8; 32] = [
 /// The words by letter, in one table.
 const BY_LETTER: [[u8; 32]; 3] = [BY_FIRST, BY_SECOND, BY_THIRD];
 
-/// Whether a name is a device, or is `.git` or `.gitmodules` in any ASCII case. Hardly any other name
-/// passes the test of its first three letters, which has no branch for each letter.
+/// Whether a name may be a device, `.git` or `.gitmodules` in any ASCII case. Hardly any other name
+/// passes this test of its first three letters, which has no branch for each letter, and its length.
 #[inline(always)]
 #[tactic(auto, using(crate::proofs::Components::Devices::special_bits), unfolding(crate::proofs::Components::Devices::bits, crate::specs::Bytes::lower_byte))]
-pub(super) fn is_special(name: &[u8]) -> bool
-    ensures { result ≡ (is_device name.now || (bytes_eq (lower name.now) (codes ".git") || bytes_eq (lower name.now) (codes ".gitmodules"))) }
+pub(super) fn may_be_special(name: &[u8]) -> bool
+    ensures { result ≡ false → (is_device name.now || (bytes_eq (lower name.now) (codes ".git") || bytes_eq (lower name.now) (codes ".gitmodules"))) ≡ false }
 {
     if name.len() < 3 {
         return false;
     }
     let words = words_with(name[0], name[1], name[2]);
     words != 0
-        && (words & DEVICES != 0 && is_device_by_letters(name)
-            || eq_ignore_ascii_case(name, b".git")
-            || eq_ignore_ascii_case(name, b".gitmodules"))
+        && (words & DEVICES != 0
+            || name.len() == b".git".len()
+            || name.len() == b".gitmodules".len())
 }
 
-/// Whether the name is a device. Hardly any other name passes the test of its first three letters,
-/// which has no branch for each letter.
+/// Whether the name is a device.
 #[inline(always)]
-#[tactic(auto, using(crate::proofs::Components::Devices::device_short, crate::proofs::Components::Devices::device_no_word), unfolding(crate::proofs::Components::Devices::bits))]
 pub(super) fn is_device(name: &[u8]) -> bool
     ensures { result ≡ is_device name.now }
 {
-    if name.len() < 3 {
-        return false;
-    }
-    words_with(name[0], name[1], name[2]) != 0 && is_device_by_letters(name)
+    may_be_special(name) && is_device_by_letters(name)
 }
 
 /// Which of the words may have these three letters, a bit for each.
@@ -123,7 +118,7 @@ fn words_with(first: u8, second: u8, third: u8) -> u8
 /// Whether the name is a device, by its first three letters and what follows them.
 #[inline(always)]
 #[tactic(auto, using(crate::proofs::Components::Devices::by_letters), unfolding(crate::proofs::Components::Devices::are_letters))]
-fn is_device_by_letters(name: &[u8]) -> bool
+pub(super) fn is_device_by_letters(name: &[u8]) -> bool
     ensures { result ≡ is_device name.now }
 {
     match name {

@@ -2,15 +2,23 @@
 use Rattle.std.proofs.Common.{arith}
 use Rattle.std.proofs.lemmas.Bool.Decides.{nat_tests}
 use Rattle.gix_validate.proofs.Blocks.ByteClasses.{classes_tell}
-use Rattle.gix_validate.proofs.Components.OrdinaryNames.{ordinary_passes, separator_fault, unprotected_fault}
+use Rattle.gix_validate.proofs.Components.OrdinaryNames.{ordinary_by_looks, ordinary_passes, separator_fault, unprotected_fault}
 use Rattle.gix_validate.proofs.path.first_fault.Goals as goal
 use Rattle.gix_validate.proofs.path.first_fault.Goals.{then-windows, else-windows, else-not-is_empty+else-has_separator}
 use Rattle.gix_validate.proofs.path.first_fault.Goals.{then-not-is_empty+then-name-le-SHORT+else-not-has_class+else-has_class}
 
-pub returns-then-not-is_special : goal.returns-then-not-is_special
-returns-then-not-is_special c =
+pub first_fault_of_ordinary-requires : goal.first_fault_of_ordinary-requires
+first_fault_of_ordinary-requires c =
+    let tell = classes_tell c.classes_of-classes.result c.args.name.now c.type_inv.name c.classes_of-classes.ensures in
+    grind (arith, nat_tests, tell.classed, ordinary_by_looks c.args.name.now)
+
+pub returns-then-not-may_be_special : goal.returns-then-not-may_be_special
+returns-then-not-may_be_special c =
     let tell = classes_tell c.classes_of-classes.result c.args.name.now c.type_inv.name c.classes_of-classes.ensures in
     grind (arith, nat_tests, tell.classed, ordinary_passes c.args.options c.args.mode c.args.name.now)
+
+pub returns-then-not-ends_illegally : goal.returns-then-not-ends_illegally
+returns-then-not-ends_illegally c = c.first_fault_of_ordinary.ensures c.args.options.protect_hfs
 
 pub returns-then-has_class : goal.returns-then-has_class
 returns-then-has_class c =

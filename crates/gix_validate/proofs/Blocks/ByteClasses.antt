@@ -79,11 +79,7 @@ classes_of_both mid start last x v w front back short long pv pw ev ew mask =
 -- the classes of two texts are those of a text that has what they have
 pub classes_joined : (u v x y z : List ℕ) → length u ≡ length v → HaveClassesOf u x → HaveClassesOf v y
     → ((p : ℕ → Bool) → (list_any p x || list_any p y) ≡ list_any p z) → HaveClassesOf (zip2 bit_or u v) z
-classes_joined u v x y z long eu ev all mask =
-    any_of_or mask u v long
-    ∙ ap₂ (λ s t. s || t) (eu mask ∙ any_is mask x) (ev mask ∙ any_is mask y)
-    ∙ all (has_class mask)
-    ∙ sym (any_is mask z)
+classes_joined u v x y z long eu ev all mask = grind (arith, nat_tests, any_of_or, any_is)
 
 -- ---- what the classes say
 

@@ -146,8 +146,7 @@ none_of_block p a b x block long parts none k small =
 -- a block of two parts of a text in which nothing is found
 none_in_block : (p : ℕ → Bool) (a b : ℕ) (x block : List ℕ) → length block ≡ 16 → HasParts 8 a b x block → a + 8 ≤ length x → b + 8 ≤ length x
     → list_any p x ≡ false → list_any p block ≡ false
-none_in_block p a b x block long parts fa fb none =
-    (none_at p block).1 (λ k h. ap p (parts k (omega arith)) ∙ (none_at p x).0 none (offset_of 8 a b k) (grind (arith, nat_tests, mod-lt)))
+none_in_block p a b x block long parts fa fb none = grind (arith, nat_tests, none_at, mod-lt)
 
 pub both_cover : (mid start last : ℕ) (x v w : List ℕ) → AreShort mid start last (length x) → (length v ≡ 16) × (length w ≡ 16)
     → HasParts 8 0 mid x v → HasParts 8 start last x w → (p : ℕ → Bool) → (list_any p v || list_any p w) ≡ list_any p x

@@ -135,8 +135,7 @@ no_word x l m n is none some = grind (arith, nat_tests)
 
 pub no_stem : (x : List ℕ) → bit_and (bits_of x) DEVICES ≡ 0 → is_device x ≡ false
 unfolding bits is_small
-no_stem x none =
-    grind (arith, device_by_letters, no_word)
+no_stem x none = grind (arith, nat_tests, device_by_letters, no_word)
 
 pub device_no_word : (x : List ℕ) → bits_of x ≡ 0 → is_device x ≡ false
 device_no_word x none = no_stem x (ap (λ n. bit_and n DEVICES) none)

@@ -10,7 +10,7 @@ use Rattle.std.proofs.lemmas.Slice.Eq.{bytes_eq-Decides}
 use Rattle.gix_validate.specs.declared.path.ComponentError.TheVariants.{WindowsReservedName, PathSeparator, DotGitDir, SymlinkedGitModules}
 use Rattle.gix_validate.specs.declared.path.ComponentOptions.{ComponentOptions}
 use Rattle.gix_validate.specs.declared.path.ComponentMode.{ComponentMode}
-use Rattle.gix_validate.specs.Bytes.{is_among, ends, lower, lower_byte}
+use Rattle.gix_validate.specs.Bytes.{is_among, ends, lower}
 use Rattle.std.proofs.lemmas.List.{length-map}
 use Rattle.gix_validate.specs.Faults.{when}
 use Rattle.gix_validate.specs.Units.{first_unit_len}
@@ -141,8 +141,7 @@ parted_no_dots windows x has = grind (arith, bytes_eq-Decides)
 pub separator_fault : (options : ComponentOptions) (mode : Option ComponentMode) (x : List ℕ)
     → (is_among x (byte "/") || (options.protect_windows && is_among x (byte "\\"))) ≡ true → fault_of options mode x ≡ Some PathSeparator
 unfolding fault_of conditions
-separator_fault options mode [] has = grind arith
-separator_fault options mode (b ∷ x) has = rw (parted_no_dots _ (b ∷ x) has, has) (grind arith)
+separator_fault options mode x has = grind (arith, nat_tests, parted_no_dots)
 
 longer : (x word : List ℕ) → length word < length x → bytes_eq x word ≡ false
 longer x word long = grind (arith, bytes_eq-Decides)
@@ -151,19 +150,7 @@ longer x word long = grind (arith, bytes_eq-Decides)
 pub unprotected_fault : (options : ComponentOptions) (mode : Option ComponentMode) (x : List ℕ) → options.protect_windows ≡ false
     → options.protect_hfs ≡ false → options.protect_ntfs ≡ false → 11 < length x → is_among x (byte "/") ≡ false → fault_of options mode x ≡ None
 unfolding fault_of conditions
-unprotected_fault options mode [] windows hfs ntfs long whole = absurd (omega arith)
-unprotected_fault options mode (b ∷ x) windows hfs ntfs long whole =
-    let size = length-map (b ∷ x) lower_byte in
-    rw (
-      windows,
-      hfs,
-      ntfs,
-      whole,
-      longer (b ∷ x) (codes ".") (omega arith),
-      longer (b ∷ x) (codes "..") (omega arith),
-      longer (lower (b ∷ x)) (codes ".git") (omega (arith, size)),
-      longer (lower (b ∷ x)) (codes ".gitmodules") (omega (arith, size)),
-    ) (grind arith)
+unprotected_fault options mode x windows hfs ntfs long whole = grind (arith, nat_tests, length-map, longer)
 
 -- A name of one or two bytes is `.` or `..` if its first and its last are dots.
 pub relative_by_ends : (x : List ℕ) → 1 ≤ length x → length x < 3

@@ -29,7 +29,8 @@ module _ (end : ℕ) (buffer : List ℕ) where
       ap less_empty_last (rw at at cut) ∙ less_empty_last-cons (take k buffer) texts some
 
 -- a buffer without such a byte is one name, unless it is empty
-pub names_in-last : (end : ℕ) (buffer : List ℕ) → buffer ≢ [] → ((k : ℕ) → k < length buffer → (get_or buffer k 0 == end) ≡ true → ⊥) → names_in end buffer ≡ buffer ∷ names_in end []
+pub names_in-last : (end : ℕ) (buffer : List ℕ) → buffer ≢ [] → ((k : ℕ) → k < length buffer → (get_or buffer k 0 == end) ≡ true → ⊥)
+    → names_in end buffer ≡ buffer ∷ names_in end []
 unfolding names_in
 names_in-last end [] some nowhere = absurd (some refl)
 names_in-last end (b ∷ buffer) some nowhere =

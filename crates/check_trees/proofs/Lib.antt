@@ -1,3 +1,4 @@
+pub mod EntryFronts
 pub mod FirstEntry
 pub mod TreeEntries
 pub mod EntryReads

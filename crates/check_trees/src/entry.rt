@@ -2,6 +2,7 @@
 
 ghost use Rattle.std.specs.Prelude.{◌≡◌};
 ghost use Rattle.std.specs.Option.{option_map};
+ghost use Rattle.std.specs.Str.{bytes_eq};
 ghost use Rattle.check_trees.specs.Entries.{is_file, kind_of, parsed_front};
 ghost use Rattle.check_trees.specs.Private.{as_front};
 
@@ -23,6 +24,15 @@ pub(crate) struct ModeAndName<'a> {
 pub(crate) fn front_of(front: &[u8]) -> Option<ModeAndName<'_>>
     ensures { option_map as_front result ≡ parsed_front front.now }
 {
+    // Most entries are files that are not executable.
+    if front.len() >= 7 && is_word(&front[..7], b"100644 ") {
+        return Some(ModeAndName {
+            mode: &front[..6],
+            kind: None,
+            is_file: true,
+            name: &front[7..],
+        });
+    }
     let (mode, name) = split_once(b' ', front)?;
     let number = number_of(8, mode)?;
     Some(ModeAndName {
@@ -31,6 +41,16 @@ pub(crate) fn front_of(front: &[u8]) -> Option<ModeAndName<'_>>
         is_file: is_file(number),
         name,
     })
+}
+
+/// Whether the bytes are the word. Its constant length makes this one comparison or two.
+fn is_word<const N: usize>(text: &[u8], word: &[u8; N]) -> bool
+    ensures { result ≡ bytes_eq text.now word.now }
+{
+    match <&[u8; N]>::try_from(text) {
+        Ok(text) => text == word,
+        Err(_) => false,
+    }
 }
 
 /// What a mode means for the name: the file type is in the bits from 12 on.

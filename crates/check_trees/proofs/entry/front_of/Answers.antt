@@ -1,0 +1,7 @@
+use Rattle.std.proofs.Common.{sym, rules}
+use Rattle.std.proofs.lemmas.List.{take_rest}
+use Rattle.check_trees.proofs.EntryFronts.{plain_file}
+use Rattle.check_trees.proofs.entry.front_of.Goals as goal
+
+pub returns-then-is_word : goal.returns-then-is_word
+returns-then-is_word c = rw take_rest (sym (plain_file c.args.front.now (search rules)))

@@ -1,15 +1,18 @@
 -- The laws of the rule of tag names.
-use Rattle.std.proofs.Common.{ℕ, List, sym, ap, ◌∙◌, arith}
+use Rattle.std.proofs.Common.{◌≡◌, ℕ, List, [], ◌∷◌, ◌++◌, eqb, sym, ap, ◌∙◌, arith}
 use Rattle.std.proofs.lemmas.List.Splits.{join_with_byte-slice_split}
 use Rattle.std.proofs.lemmas.Bool.Decides.{nat_tests}
 use Rattle.std.specs.Str.{byte}
-use Rattle.gix_validate.specs.Bytes.{is_bad}
+use Rattle.std.proofs.lemmas.Grind.{common_steps}
+use Rattle.gix_validate.specs.Bytes.{is_bad, ends}
 use Rattle.gix_validate.specs.Pieces.{pieces}
 use Rattle.gix_validate.specs.Tag.{fault_table, faults_at}
-use Rattle.gix_validate.proofs.Texts.Endings.{ends_push_one}
 use Rattle.gix_validate.proofs.Texts.Pieces.{pieces_some, pieces_apart, pieces-joined}
 use Rattle.gix_validate.proofs.TagNames.FaultTable.{lock_ends_in_k}
 use Rattle.rule_laws.specs.TagNames.{HasAtMostOneFaultPerOffset, PiecesAreTheOnlySplit}
+
+ends_push_one : (y : List ℕ) (b c : ℕ) → ends (y ++ b ∷ []) (c ∷ []) ≡ eqb b c
+ends_push_one y b c = grind (arith, common_steps)
 
 pub one_fault_a_place : (x : List ℕ) → HasAtMostOneFaultPerOffset x
 unfolding faults_at fault_table is_bad

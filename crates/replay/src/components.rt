@@ -1,31 +1,23 @@
 //! What the function for path components returns, under each of the sixteen settings.
 
-use crate::agreed;
 use bstr::BStr;
 use gix_validate::path::{self, ComponentError, ComponentMode, ComponentOptions};
 use std::alloc::{AllocError, Global};
-use typed_names::Component;
 
 /// How many settings there are.
 const SETTINGS: usize = 16;
 
-/// The letters for a component, one for each setting, in the order of the settings' numbers. Each
-/// is that of the library and of the typed name, or a dash for what is not recorded: since version
-/// 2, a backslash ends an NTFS name, too.
+/// The letters for a component, one for each setting, in the order of the settings' numbers, or a
+/// dash for what is not recorded: since version 2, a backslash ends an NTFS name, too.
 pub fn results(alloc: Global, name: BStr<'_>) -> Result<String, AllocError> {
     let mut letters = String::new(alloc);
     let is_changed = name.as_bytes().contains(&b'\\');
     for setting in 0..SETTINGS {
-        if is_changed && setting & 5 == 4 {
-            letters.push_str("-")?;
-            continue;
-        }
-        let (mode, options) = (mode_of(setting), options_of(setting));
-        letters.push_str(&agreed(
-            alloc,
-            letter(path::component(name, mode, options)),
-            letter(Component::new(name, mode, options)),
-        )?)?;
+        letters.push_str(if is_changed && setting & 5 == 4 {
+            "-"
+        } else {
+            letter(path::component(name, mode_of(setting), options_of(setting)))
+        })?;
     }
     Ok(letters)
 }
@@ -50,8 +42,8 @@ fn mode_of(setting: usize) -> Option<ComponentMode> {
 }
 
 /// The letter of a result.
-fn letter<T: Drop>(answer: Result<T, ComponentError>) -> &'static str {
-    match answer {
+fn letter(returned: Result<BStr<'_>, ComponentError>) -> &'static str {
+    match returned {
         Ok(_) => ".",
         Err(ComponentError::Empty) => "E",
         Err(ComponentError::Relative) => "R",

@@ -1,6 +1,7 @@
-/* Makes one call on each name of a file, one name a line, so that callgrind can count the instructions. With a number of
-   milliseconds it makes passes over all names for that long, and prints the nanoseconds a name of the best pass. The
-   call is one of libgix_validate_c.a, of the Rust crate (crate_, if it is linked in), or of libgit2 (libgit2_). */
+/* Makes one call on each name of a file, one name a line, so that callgrind can count the instructions: the call of
+   libgix_validate_c.a, and the same of the Rust crate and of libgit2, as far as they are linked in and have one. With a
+   number of milliseconds it makes passes over all names for that long with each library, and prints the nanoseconds a
+   name of the best pass of each, or a dash. */
 #include <stdbool.h>
 #include <stdint.h>
 #include <stdio.h>
@@ -12,7 +13,6 @@ uint32_t gix_validate_tag(const uint8_t *name, size_t len);
 uint32_t gix_validate_full(const uint8_t *name, size_t len);
 uint32_t gix_validate_submodule(const uint8_t *name, size_t len);
 uint32_t gix_validate_component(const uint8_t *name, size_t len, uint32_t flags);
-size_t gix_validate_full_many(const uint8_t *names, size_t len, uint8_t end, uint8_t *faults, size_t faults_len);
 size_t gix_validate_sanitize_in_place(uint8_t *buffer, size_t buffer_len, size_t len);
 size_t gix_validate_sanitize(const uint8_t *name, size_t len, uint8_t *buffer, size_t buffer_len);
 
@@ -34,8 +34,7 @@ struct name {
 
 static struct name *names;
 static size_t count;
-static uint8_t *buffer, *all;
-static size_t all_len;
+static uint8_t *buffer;
 
 /* So many calls, and the sum of their results, so that no call can be left out. */
 #define EACH(result)                                                                                                   \
@@ -54,16 +53,18 @@ static size_t submodule(void) EACH(gix_validate_submodule(bytes, len))
 static size_t component(void) EACH(gix_validate_component(bytes, len, 7))
 static size_t sanitize(void) EACH(gix_validate_sanitize(bytes, len, buffer, len + 1))
 static size_t in_place(void) EACH((memcpy(buffer, bytes, len), gix_validate_sanitize_in_place(buffer, len + 1, len)))
-/* All names, with the newlines between them, in one call. */
-static size_t full_many(void) { return gix_validate_full_many(all, all_len, '\n', buffer, count); }
 #ifdef CRATE
+#define OF_CRATE(pass) pass
 static size_t c_tag(void) EACH(crate_tag(bytes, len))
 static size_t c_full(void) EACH(crate_full(bytes, len))
 static size_t c_submodule(void) EACH(crate_submodule(bytes, len))
 static size_t c_component(void) EACH(crate_component(bytes, len, 7))
 static size_t c_sanitize(void) EACH(crate_sanitize(bytes, len, buffer))
+#else
+#define OF_CRATE(pass) NULL
 #endif
 #ifdef LIBGIT2
+#define OF_LIBGIT2(pass) pass
 static bool is_valid(int (*valid)(int *, const char *), const uint8_t *bytes)
 {
     int result = 0;
@@ -71,21 +72,21 @@ static bool is_valid(int (*valid)(int *, const char *), const uint8_t *bytes)
 }
 static size_t l_tag(void) EACH(((void)len, is_valid(git_tag_name_is_valid, bytes)))
 static size_t l_full(void) EACH(((void)len, is_valid(git_reference_name_is_valid, bytes)))
+#else
+#define OF_LIBGIT2(pass) NULL
 #endif
 
+enum { LIBRARIES = 3 };
 static const struct call {
     const char *name;
-    size_t (*pass)(void);
+    size_t (*passes[LIBRARIES])(void);
 } calls[] = {
-    {"tag", tag}, {"full", full}, {"full_many", full_many}, {"submodule", submodule}, {"component", component},
-    {"sanitize", sanitize}, {"sanitize_in_place", in_place},
-#ifdef CRATE
-    {"crate_tag", c_tag}, {"crate_full", c_full}, {"crate_submodule", c_submodule}, {"crate_component", c_component},
-    {"crate_sanitize", c_sanitize},
-#endif
-#ifdef LIBGIT2
-    {"libgit2_tag", l_tag}, {"libgit2_full", l_full},
-#endif
+    {"tag", {tag, OF_CRATE(c_tag), OF_LIBGIT2(l_tag)}},
+    {"full", {full, OF_CRATE(c_full), OF_LIBGIT2(l_full)}},
+    {"submodule", {submodule, OF_CRATE(c_submodule), NULL}},
+    {"component", {component, OF_CRATE(c_component), NULL}},
+    {"sanitize", {sanitize, OF_CRATE(c_sanitize), NULL}},
+    {"sanitize_in_place", {in_place, OF_CRATE(c_sanitize), NULL}},
 };
 
 static double now(void)
@@ -118,22 +119,27 @@ static void read_names(const char *path)
             perror("memory");
             exit(2);
         }
-        all = realloc(all, all_len + (size_t)len + 1);
-        if (!all) {
-            perror("memory");
-            exit(2);
-        }
         memcpy(names[count].bytes, line, (size_t)len);
-        memcpy(all + all_len, line, (size_t)len);
-        all_len += (size_t)len;
-        all[all_len++] = '\n';
         names[count].bytes[len] = 0;
         count++;
         longest = (size_t)len > longest ? (size_t)len : longest;
     }
     fclose(file);
     free(line);
-    buffer = malloc((longest > count ? longest : count) + 1);
+    buffer = malloc(longest + 1);
+}
+
+/* The nanoseconds a name of the best of the passes in so many milliseconds. */
+static double best_of(size_t (*pass)(void), double milliseconds)
+{
+    static volatile size_t sum;
+    double best = 1e300;
+    for (double start = now(), last = start, next; last < start + 1e6 * milliseconds; last = next) {
+        sum += pass();
+        next = now();
+        best = next - last < best ? next - last : best;
+    }
+    return best / (double)count;
 }
 
 int main(int argc, char **argv)
@@ -153,17 +159,13 @@ int main(int argc, char **argv)
 #ifdef LIBGIT2
     git_libgit2_init();
 #endif
-    if (argc == 3) {
-        printf("%zu\n", call->pass());
-        return 0;
+    for (int i = 0; i < LIBRARIES; i++) {
+        if (argc == 3 && call->passes[i])
+            printf("%zu\n", call->passes[i]());
+        else if (call->passes[i])
+            printf("%.2f\n", best_of(call->passes[i], atof(argv[3])));
+        else if (argc > 3)
+            printf("-\n");
     }
-    double best = 1e300;
-    size_t sum = 0;
-    for (double start = now(), last = start, next; last < start + 1e6 * atof(argv[3]); last = next) {
-        sum += call->pass();
-        next = now();
-        best = next - last < best ? next - last : best;
-    }
-    printf("%.2f\n", best / (double)count);
-    return sum == 1;
+    return 0;
 }

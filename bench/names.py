@@ -47,16 +47,16 @@ def made(start, of, count=5000):
     return [of(n) for n in range(count)]
 
 
-def filled(part, size=SIZE):
-    return (part * (size // len(part) + 1))[:size]
+def filled(part, end=""):
+    """1 MiB of the part again and again, with this end."""
+    return (part * (SIZE // len(part) + 1))[:SIZE - len(end)] + end
 
 
 def write(folder):
-    """Writes each list, one name a line; the last ones have one name of 1 MiB, or up to 64 names of one length."""
+    """Writes each list, one name a line. The last lists have one name of 1 MiB each, without a newline."""
     refs = made(1, lambda _: reference(False))
     hostile = [it.replace("o", "..").replace("e", ".lock/").replace("a", "*") for it in refs]
     whole = "/".join(refs)
-    # (a line ends after each name, but for the names of 1 MiB)
     lists = {
         "refs": refs, "hostile": hostile, "full_refs": made(1, lambda _: reference(True)), "files": made(4, lambda _: file()),
         "one_fault": made(7, lambda n: with_fault(refs[n])),
@@ -81,17 +81,13 @@ def write(folder):
         lists[f"length_{length}"] = [f"r/a{whole[it:it + length]}"[:length - 1] + "x" for it in starts]
         lists[f"length_file_{length}"] = [it.replace("/", "-") for it in lists[f"length_{length}"]]
 
-    def joined(more=0, names=refs):
-        """The names joined by slashes, again and again, to 1 MiB less so many bytes, the last an `x`."""
-        return filled("/".join([*names, ""]), SIZE - more - 1) + "x"
-
+    joined, joined_hostile = ("/".join([*it, ""]) for it in (refs, hostile))
     long = {
-        "long": joined(), "late": "main\n" + joined(), "long_hostile": joined(0, hostile), "long_file": joined().replace("/", "-"),
-        "slash_at_start": "src/" + joined().replace("/", "-"), "fault_at_end": joined(2) + "~x", "k_at_end": joined(2) + "k/x",
-        "parent_at_end": joined(3) + "/..", "parent_near_end": joined(5) + "/../x", "slashes": filled("/"), "braces": filled("{"),
-        "dot_slashes": filled("./"), "k_dot_slashes": filled("k./"), "two_dots": filled("..x/"), "last_dots": filled("x../"),
-        "dot_l": filled(".lo"), "backslashes": filled("\\"),
+        "long": filled(joined, "x"), "late": "main\n" + filled(joined, "x"), "long_hostile": filled(joined_hostile, "x"),
+        "long_file": filled(joined.replace("/", "-"), "x"), "slash_at_start": "src/" + filled(joined.replace("/", "-"), "x"),
+        "fault_at_end": filled(joined, "x~x"), "parent_at_end": filled(joined, "x/.."), "braces": filled("{"),
+        "k_dot_slashes": filled("k./"), "two_dots": filled("..x/"), "last_dots": filled("x../"), "dot_l": filled(".lo"),
+        "backslashes": filled("\\"),
     }
     for name, text in {**{it: "".join(f"{name}\n" for name in names) for it, names in lists.items()}, **long}.items():
-        with open(f"{folder}/{name}", "w", encoding="ascii") as to:
-            to.write(text)
+        (folder / name).write_text(text)

@@ -5,8 +5,8 @@
    DEVICES_READ=N      reads fail once N bytes were read
    DEVICES_WRITE=N     writes fail once N bytes were written
    DEVICES_IDLE=1      where a write would fail, it takes no byte and says that nothing is wrong
-   DEVICES_MEMORY=N    the Nth request for memory is refused. Descriptor 3 gets a line `refused` then, and a line `kept`
-                       at the end of a program that has not given back all that it was given */
+   DEVICES_MEMORY=N    the Nth request for memory is refused. Standard error gets a line `refused` then, and a line
+                       `kept` at the end of a program that has not given back all that it was given */
 #define _DEFAULT_SOURCE
 #include <errno.h>
 #include <stdlib.h>
@@ -100,7 +100,7 @@ ssize_t write(int descriptor, const void *bytes, size_t count)
 
 static void note(const char *line, size_t length)
 {
-    syscall(SYS_write, 3, line, length);
+    syscall(SYS_write, 2, line, length);
 }
 
 static int is_refused(void)

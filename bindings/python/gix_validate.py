@@ -38,7 +38,7 @@ import ctypes
 import enum
 import os
 from pathlib import Path
-from typing import Any, Dict, Iterable, List, Optional, Tuple, Union
+from typing import Any, Iterable, List, Optional, Tuple, Union
 
 __all__ = [
     "Fault", "InvalidName", "Kind",
@@ -100,23 +100,18 @@ class Kind(enum.Enum):
 
 
 class InvalidName(ValueError):
-    """A name that is invalid.
+    """A name that is invalid: the name, its first fault, the text of the fault, in English, and if the fault is
+    INVALID_BYTE the invalid byte, otherwise None.
 
     str() of it is the name, of which it shows 200 bytes at most, and the text of the fault.
     """
 
-    name: bytes
-    """The name that was checked."""
-    fault: Fault
-    """Its first fault."""
-    text: str
-    """The text of the fault, in English."""
-    byte: Optional[int]
-    """The invalid byte if the fault is INVALID_BYTE, otherwise None."""
-
     def __init__(self, name: bytes, fault: Fault, text: str, byte: Optional[int] = None) -> None:
         super().__init__(name, fault, text, byte)
-        self.name, self.fault, self.text, self.byte = name, fault, text, byte
+        self.name = name
+        self.fault = fault
+        self.text = text
+        self.byte = byte
 
     def __str__(self) -> str:
         return f"{self.name[:200]!r}{'..' if len(self.name) > 200 else ''}: {self.text}"
@@ -135,10 +130,9 @@ def _library() -> ctypes.CDLL:
         ) from error
     found = _version_of(library)
     if found[0] != _VERSION[0] or found < _VERSION:
-        wanted, given = (".".join(map(str, version)) for version in (_VERSION, found))
         raise ImportError(
-            f"gix_validate {wanted} needs a shared object of the same major version that isn't older: "
-            f"{path} has {given}."
+            f"gix_validate {__version__} needs a shared object of the same major version that isn't older: "
+            f"{path} has {'.'.join(map(str, found))}."
         )
     return library
 
@@ -151,26 +145,25 @@ def _version_of(library: ctypes.CDLL) -> Tuple[int, int, int]:
 
 
 _loaded = _library()
-_BYTES = ctypes.c_char_p, ctypes.c_size_t
+_NAME = ctypes.c_char_p, ctypes.c_size_t
+_FLAGS = {"component": [ctypes.c_uint32]}
+_KINDS = [*(kind.value for kind in Kind), *_FLAGS]
 
 
 def _function(name: str, result: Any, *more: Any) -> Any:
     """A function of the library that takes the bytes of a name, their number, and `more`."""
     function = _loaded[f"gix_validate_{name}"]
-    function.argtypes = [*_BYTES, *more]
-    function.restype = result
+    function.argtypes, function.restype = [*_NAME, *more], result
     return function
 
 
-# What each kind of name takes beside its bytes, and its functions: the number of a fault, its text, and many numbers.
-_kinds: Dict[str, List[Any]] = {kind.value: [] for kind in Kind}
-_kinds["component"] = [ctypes.c_uint32]
-_code = {kind: _function(kind, ctypes.c_uint32, *more) for kind, more in _kinds.items()}
-_text = {kind: _function(f"{kind}_text", ctypes.c_size_t, *more, *_BYTES) for kind, more in _kinds.items()}
-_many = {kind: _function(f"{kind.value}_many", ctypes.c_size_t, ctypes.c_uint8, *_BYTES) for kind in Kind}
+# For each kind of name: the number of a fault, its text, and the numbers of many names.
+_code = {kind: _function(kind, ctypes.c_uint32, *_FLAGS.get(kind, [])) for kind in _KINDS}
+_text = {kind: _function(f"{kind}_text", ctypes.c_size_t, *_FLAGS.get(kind, []), *_NAME) for kind in _KINDS}
+_many = {kind: _function(f"{kind.value}_many", ctypes.c_size_t, ctypes.c_uint8, *_NAME) for kind in Kind}
 _invalid_byte = _function("invalid_byte", ctypes.c_uint32)
 _is_windows_device = _function("is_windows_device", ctypes.c_bool)
-_sanitize = _function("sanitize", ctypes.c_size_t, *_BYTES)
+_sanitize = _function("sanitize", ctypes.c_size_t, *_NAME)
 _fault_of: List[Optional[Fault]] = [None, *Fault]
 
 
@@ -255,8 +248,7 @@ def is_valid_path_component(
 
 def is_windows_device(name: Bytes) -> bool:
     """Whether Windows takes `name` for a device, such as b"NUL" or b"com1.txt"."""
-    result: bool = _is_windows_device(*_given(name))
-    return result
+    return bool(_is_windows_device(*_given(name)))
 
 
 def sanitize(name: Bytes) -> bytes:
@@ -277,21 +269,20 @@ def fault_numbers(buffer: Bytes, kind: Kind, end: bytes = b"\n") -> bytes:
     end, ends = _given(end, "the end of a name")
     if ends != 1:
         raise ValueError(f"the end of a name has to be one byte, not {ends}")
-    return _numbers(_checked(kind), buffer, length, bytes.__getitem__(end, 0), length // 8 + 1)
+    return _numbers(kind, buffer, length, bytes.__getitem__(end, 0))
 
 
 def faults(names: Iterable[Bytes], kind: Kind) -> List[Optional[Fault]]:
     """Checks many names: returns None for each that is valid, and the fault of each that isn't, in order."""
     numbers = _numbers_of_each(names, kind)
-    if numbers == bytes(len(numbers)):
-        return [None] * len(numbers)
-    return [_fault_of[number] for number in numbers]
+    return [_fault_of[number] for number in numbers] if numbers.lstrip(b"\0") else [None] * len(numbers)
 
 
 def first_invalid(names: Iterable[Bytes], kind: Kind) -> Optional[int]:
     """Checks many names: returns the index of the first that is invalid, and None if all are valid."""
     numbers = _numbers_of_each(names, kind)
-    return None if numbers == bytes(len(numbers)) else len(numbers) - len(numbers.lstrip(b"\0"))
+    index = len(numbers) - len(numbers.lstrip(b"\0"))
+    return index if index < len(numbers) else None
 
 
 def version() -> Tuple[int, int, int]:
@@ -312,29 +303,22 @@ def _flags(windows: bool, hfs: bool, ntfs: bool, symlink: bool) -> int:
     return bool(windows) | bool(hfs) << 1 | bool(ntfs) << 2 | bool(symlink) << 3
 
 
-def _checked(kind: Kind) -> Kind:
+def _numbers(kind: Kind, buffer: bytes, length: int, end: int) -> bytes:
+    """The number of each name of the buffer, which has at most as many as bytes."""
     if not isinstance(kind, Kind):
         raise TypeError(f"a kind has to be a Kind, not {type(kind).__name__}")
-    return kind
-
-
-def _numbers(kind: Kind, buffer: bytes, length: int, end: int, room: int) -> bytes:
-    """The number of each name of the buffer. `room` is how many there may be."""
-    numbers = ctypes.create_string_buffer(room)
-    count = _many[kind](buffer, length, end, numbers, room)
-    return ctypes.string_at(numbers, count) if count <= room else _numbers(kind, buffer, length, end, count)
+    numbers = ctypes.create_string_buffer(length)
+    return ctypes.string_at(numbers, _many[kind](buffer, length, end, numbers, len(numbers)))
 
 
 def _numbers_of_each(names: Iterable[Bytes], kind: Kind) -> bytes:
     """The number of each name. A name that holds a NUL can't be in a buffer in which NUL ends each name."""
-    code_of = _code[_checked(kind).value]
-    parts = names if type(names) is list else [*names]
-    if list(map(type, parts)).count(bytes) == len(parts):
-        buffer = b"\0".join(parts) + b"\0"
-        numbers = _numbers(kind, buffer, len(buffer), 0, len(parts))
-        if len(numbers) == len(parts):
-            return numbers
-    return bytes([code_of(*_given(name)) for name in parts])
+    parts = [*names]
+    if list(map(type, parts)).count(bytes) < len(parts):
+        parts = [_given(name)[0] for name in parts]
+    buffer = b"\0".join(parts) + b"\0"
+    numbers = _numbers(kind, buffer, len(buffer), 0)
+    return numbers if len(numbers) == len(parts) else bytes([_code[kind.value](*_given(name)) for name in parts])
 
 
 def _accepted(name: Bytes, kind: str, *flags: int) -> bytes:

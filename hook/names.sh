@@ -1,4 +1,4 @@
-# shellcheck shell=sh disable=SC2154,SC2034
+# shellcheck shell=sh disable=SC2034,SC2086,SC2154
 # What pre-receive and scan share. Both set `here`, the folder of the programs; `outcome`, the words with which a
 # failure begins; and how many lines of names are shown at most, and how much of each: `most` and `longest`.
 #
@@ -13,15 +13,13 @@
 # - The shell passes ids as arguments. It writes no file and uses no here-document, so the hook needs no TMPDIR.
 # - What Git says on standard error can have names of the pusher's choice, as they are, so it isn't shown.
 {
-    export LC_ALL=C
+    export LC_ALL=C GIT_NO_LAZY_FETCH=1
     export GIT_NO_REPLACE_OBJECTS=1 # the objects as they are, not what refs/replace/ shows in their place
-    export GIT_NO_LAZY_FETCH=1
     nl='
 '
     IFS=$nl
     set -f
     refused=0
-    wrong=''
 
     # Prints a message that can have words of Git or of the caller: in one line, and no byte that isn't printable ASCII.
     say() {
@@ -55,14 +53,15 @@
         [ $ended -le 1 ] || fail 'git config failed'
     }
 
-    # Sets `wrong` to what check_trees says of the list `protect`: nothing, if it is a list of file systems.
+    # Returns 1 if `protect` is no list of file systems, and sets `wrong` to what check_trees says of it.
     check_list() {
         wrong=$("$here/check_trees" --protect "$protect" 2>&1 < /dev/null; echo "ended $?")
         case $wrong in
-        'ended 0') wrong='' ;;
+        'ended 0') ;;
         'check_trees: '*"${nl}ended 2")
             wrong=${wrong#*: }
             wrong=${wrong%"$nl"*}
+            return 1
             ;;
         *'ended '*) fail "check_trees failed (status ${wrong##*ended })" ;;
         *) fail 'check_trees did not finish' ;;
@@ -82,53 +81,45 @@
     # Checks the names of submodules in blobs, whose ids have spaces between them.
     submodules() {
         IFS=' '
-        # shellcheck disable=SC2086
         { printf '%s\n' $1 && echo ..end; } | git cat-file --batch --buffer 2> /dev/null | "$here/check_submodules" --end
         echo "ended $?"
     }
 
-    # For awk: what the programs print, with the lines of names cut; then a line `modules` with the blobs to look into,
-    # each once; and a last line with the status and the number of names.
+    # For awk: what a program prints, with the lines of names cut; then a line `modules` with the blobs to look into, each
+    # once; and a last line with the status and the number of names.
     summary='
         /^[0-9a-f]+$/ { next } # a new id
         /^modules / { if (!seen[$2]++) blob[++blobs] = $2; next }
         /^ended / { status = $2; next }
-        ++names <= most {
-            if (length($0) > longest)
-                $0 = substr($0, 1, longest - 3) "..."
-            print
-        }
+        ++names <= most { print(length($0) > longest ? substr($0, 1, longest - 3) "..." : $0) }
         END {
-            for (n = 1; n <= blobs; n++)
-                printf "%s %s", (n == 1 ? "modules" : ""), blob[n]
-            if (blobs)
-                print ""
-            if (status != "")
-                print "ended " status " " names + 0
+            printf "modules"
+            for (n = 1; n <= blobs; n++) printf " %s", blob[n]
+            print ""
+            if (status != "") print "ended " status " " names + 0
         }'
 
-    # Shows the lines of names in $2, the summary of what the program $1 printed, and counts the names. Sets `blobs`.
+    # Runs a command in which the program $1 checks names. Shows the names that are refused, counts them, sets `blobs`.
     take() {
-        ended='' blobs=''
-        for line in $2; do
+        program=$1 ended='' blobs=''
+        shift
+        for line in $("$@" | awk -v most=$((most - refused)) -v longest="$longest" "$summary"); do
             case $line in
-            'modules '*) blobs=${line#modules } ;;
+            modules*) blobs=${line#modules} ;;
             'ended '*) ended=${line#ended } ;;
             *) printf '%s\n' "$line" ;;
             esac
         done
         case $ended in
-        '0 0' | 'all 0') ;;
-        '1 '[1-9]* | 'all '[1-9]*) refused=$((refused + ${ended#* })) ;;
-        '') fail "$1 did not finish" ;;
-        *) fail "$1 failed (status ${ended% *})" ;;
+        '0 0' | '1 '[1-9]* | 'all '[0-9]*) refused=$((refused + ${ended#* })) ;;
+        '') fail "$program did not finish" ;;
+        *) fail "$program failed (status ${ended% *})" ;;
         esac
     }
 
     # The names in the trees that git rev-list lists for these arguments, and in the .gitmodules files in those trees.
     objects() {
-        take check_trees "$(trees "$@" | awk -v most=$((most - refused)) -v longest="$longest" "$summary")"
-        [ -z "$blobs" ] ||
-            take check_submodules "$(submodules "$blobs" | awk -v most=$((most - refused)) -v longest="$longest" "$summary")"
+        take check_trees trees "$@"
+        [ -z "$blobs" ] || take check_submodules submodules "$blobs"
     }
 }

@@ -14,10 +14,7 @@
 mapfile -t cases < <(sed -n 's/^\(test_[a-z0-9_]*\)() {$/\1/p' "$0")
 chosen=()
 while [[ ${1-} == --list || ${1-} == --case ]]; do
-    if [[ $1 == --list ]]; then
-        printf '%s\n' "${cases[@]}"
-        exit
-    fi
+    [[ $1 != --list ]] || { printf '%s\n' "${cases[@]}"; exit; }
     if [[ " ${cases[*]} " != *" ${2:-no name} "* ]]; then
         echo "$suite: there is no case '${2-}'; --list prints their names" >&2
         exit 2
@@ -28,42 +25,26 @@ done
 ((${#chosen[@]} > 0)) || chosen=("${cases[@]}")
 due=("${chosen[@]}")
 
-# A folder for the script, which goes when it ends.
+# A folder for the script, which goes when it ends, and the file of checks. The script ends by `leave`, or it fails.
 room=$(mktemp -d)
 tally=$(mktemp)
-started=()
 current=
-is_whole=
-trap 'ended $?' EXIT
+trap 'rm -rf -- "$room" "$tally"; echo "$suite: FAILED: it stopped before its end"; exit 1' EXIT
 
-ended() {
-    rm -rf -- "$room" "$tally"
-    [[ -n $is_whole ]] && exit "$1"
-    echo "$suite: FAILED: it stopped before its end"
-    exit 1
-}
-
-# Ends the script before it has run a case. leave STATUS
+# Ends the script. leave STATUS
 leave() {
-    is_whole=1
+    trap 'rm -rf -- "$room" "$tally"' EXIT
     exit "$1"
 }
 
-pass() {
-    echo "pass $current" >> "$tally"
-}
-
-# no WHAT: a check failed. A script can have a function `show`, which prints what the check saw.
+# The line of a check. pass; no WHAT: a check failed. A script can have a function `show`, which prints what the check saw.
+pass() { echo "pass $current" >> "$tally"; }
 no() {
     echo "fail $current" >> "$tally"
     echo "FAILED: ${current:+$current: }${1:0:500}"
     [[ -z $current ]] || ! declare -F show > /dev/null || show | cat -v | sed 's/^/    /' || true
 }
-
-# check WHAT COMMAND..
-check() {
-    if "${@:2}"; then pass; else no "$1"; fi
-}
+check() { if "${@:2}"; then pass; else no "$1"; fi; } # WHAT COMMAND..
 
 # Some cases can't run here. not_run WHY CASE..
 not_run() {
@@ -80,22 +61,20 @@ try() {
 }
 
 # Runs a command in a process of its own, once less than so many run. part MOST COMMAND..
+begun=0
 part() {
     while (($(jobs -rp | wc -l) >= $1)); do
         wait -n || true
     done
-    started+=("${*:2}")
-    { "${@:2}"; echo "end ${*:2}" >> "$tally"; } > "$room/part ${#started[@]}" 2>&1 &
+    begun=$((begun + 1))
+    { "${@:2}"; echo end >> "$tally"; } > "$room/part $begun" 2>&1 &
 }
 
 # Waits for all parts, and shows what they printed.
 end_parts() {
-    local number
     wait
-    for number in "${!started[@]}"; do
-        cat -- "$room/part $((number + 1))"
-        grep -q -x -F -e "end ${started[number]}" -- "$tally" || no "it stopped before its end: ${started[number]}"
-    done
+    cat -- "$room/part "*
+    (($(grep -c -x end -- "$tally") == begun)) || no 'a part stopped before its end'
 }
 
 # Prints the last line. The status is 0 if each check passed.

@@ -93,9 +93,8 @@
         /^ended / { status = $2; next }
         ++names <= most { print(length($0) > longest ? substr($0, 1, longest - 3) "..." : $0) }
         END {
-            printf "modules"
-            for (n = 1; n <= blobs; n++) printf " %s", blob[n]
-            print ""
+            for (n = 1; n <= blobs; n++) printf "%s %s", (n == 1 ? "modules" : ""), blob[n]
+            if (blobs) print ""
             if (status != "") print "ended " status " " names + 0
         }'
 
@@ -105,7 +104,7 @@
         shift
         for line in $("$@" | awk -v most=$((most - refused)) -v longest="$longest" "$summary"); do
             case $line in
-            modules*) blobs=${line#modules} ;;
+            'modules '*) blobs=${line#modules } ;;
             'ended '*) ended=${line#ended } ;;
             *) printf '%s\n' "$line" ;;
             esac

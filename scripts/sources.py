@@ -1,15 +1,18 @@
-"""What the scripts share that read the sources: files, crates, must-fail edits, and how files are written again."""
-import os
+"""What the scripts share that read the sources: files, crates, clauses, must-fail edits, and how files are written."""
+import argparse
 import re
-import sys
-from glob import glob
+from collections import namedtuple
+from pathlib import Path
 
-ROOT = os.path.dirname(os.path.dirname(os.path.realpath(__file__)))
-EDIT = re.compile(r"(?:file: .*\n(?:old: .*\nnew:.*\n)+)+refused: \S+ .*\n")
-# What begins a function, a type or the like: its margin, `pub`, what it is, of an impl the trait, its name.
-HEAD = (r"(?P<margin>    )?(?P<pub>pub )?(?:pub\([\w ]+\) )?(?:const )?(?:extern \"C\" )?"
-        r"(?P<kind>fn|struct|enum|trait|type|const|static|impl)\b(?:<[^>]*>)? "
-        r"(?:(?:\w+::)*(?P<trait>\w+).* for )?(?P<name>\w+(?:::\w+)*)")
+ROOT = Path(__file__).resolve().parent.parent
+PAIRS = r"file: (.*)\n((?:old: .*\nnew:.*\n)+)"
+EDIT = re.compile(rf"(?:{PAIRS})+refused: ([\w:]+(?: \w+)+(?:, [\w:]+(?: \w+)+)*)\n")
+# What begins a function, a type or the like, or one of their clauses.
+BEGIN = re.compile(r"""(?mx)^(?P<margin>[ ]{4})? (?P<pub>pub[ ])? (?:pub\([\w ]+\)[ ])? (?:const[ ]|extern[ ]"C"[ ])* (?:
+    (?P<kind>fn|struct|enum|trait|type|const|static|impl)\b (?:<[^>]*>)?[ ] (?:.*[ ]for[ ])? (?P<name>[\w:]*\w)
+    |[ ]*(?P<member>ghost|ensures)(?:[ ](?P<clause>\w+))?(?::|[ ]=)?[ ]\{)""")
+Item = namedtuple("Item", "offset kind path clause is_public")
+Edit = namedtuple("Edit", "crate file name pairs refused")
 
 
 class Fault(Exception):
@@ -17,33 +20,27 @@ class Fault(Exception):
 
 
 def read(path):
-    with open(f"{ROOT}/{path}", encoding="utf-8") as file:
-        return file.read()
+    return (ROOT / path).read_text("utf-8")
 
 
 def crates():
     """The crates, in the order of crates.txt."""
-    found = re.findall(r"(?m)^(\w+)(?: staticlib)?:", read("crates.txt"))
-    return [it for it in found if os.path.isdir(f"{ROOT}/crates/{it}/src")]
+    return re.findall(r"(?m)^(\w+)(?: staticlib)?:", read("crates.txt"))
 
 
 def write_or_check(doc, derive):
     """Runs a script that writes the files that `derive` gives, or with --check says which differ from that."""
-    who, words = os.path.basename(sys.argv[0]), sys.argv[1:]
-    if words not in ([], ["--check"]):
-        print(doc, file=sys.stderr)
-        sys.exit(2)
+    parser = argparse.ArgumentParser(description=doc)
+    parser.add_argument("--check", action="store_true")
+    is_check = parser.parse_args().check
     try:
         differ = {path: text for path, text in derive().items() if read(path) != text}
-        for path, text in differ.items():
-            print(f"{who}: {path} {f'differs: run scripts/{who}' if words else 'is written'}", file=sys.stderr)
-            if not words:
-                with open(f"{ROOT}/{path}", "w", encoding="utf-8") as file:
-                    file.write(text)
-        sys.exit(1 if words and differ else 0)
+        for path, text in () if is_check else differ.items():
+            (ROOT / path).write_text(text, "utf-8")
+        end = f"differs: run scripts/{parser.prog}" if is_check else "is written"
+        parser.exit(bool(is_check and differ), "".join(f"{parser.prog}: {path} {end}\n" for path in differ))
     except (Fault, OSError) as fault:
-        print(f"{who}: {fault}", file=sys.stderr)
-        sys.exit(1)
+        parser.exit(1, f"{parser.prog}: {fault}\n")
 
 
 def between(places):
@@ -59,32 +56,38 @@ def between(places):
     return texts
 
 
-class Edit:
-    """A must-fail edit: pairs of texts, and the functions and their clauses that refuse it."""
-
-    def __init__(self, crate, file):
-        self.crate, self.file, self.name = crate, file, os.path.basename(file).removesuffix(".edit")
-        text = read(file)
-        if not EDIT.fullmatch(text):
-            raise Fault(f"{file} is no edit: its lines are file:, old:, new:, the last 'refused: FUNCTION CLAUSE..'")
-        self.pairs = []
-        for path, rest in re.findall(r"file: (.*)\n((?:old: .*\nnew:.*\n)+)", text):
-            self.pairs += [(path, old, new) for old, new in re.findall(r"old: (.*)\nnew: ?(.*)\n", rest)]
-        said = text.rpartition("\nrefused: ")[2].split(", ")
-        self.refused = [(function, clauses) for function, *clauses in map(str.split, said)]
-
-    def texts(self, before=()):
-        """The files that it changes, as they are with it, and those of `before`, which it changes further."""
-        found = dict(before)
-        for path, old, new in self.pairs:
-            text = found.get(path) or read(f"crates/{self.crate}/{path}")
-            if text.count(old) != 1:
-                raise Fault(f"{self.file} no longer applies: {path} does not have this once: {old}")
-            found[path] = text.replace(old, new)
-        return found
+def items(files):
+    """Yields what begins in sources: its offset, what it is, the path of its function or type (a ghost member of an impl
+    is one of its type), and for a clause its name and whether that is public."""
+    for file in sorted(ROOT.glob(files)):
+        text, modules = file.read_text("utf-8"), file.relative_to(ROOT).with_suffix("").parts[3:]
+        for it in BEGIN.finditer(text):
+            kind, name = it["kind"] or it["member"], it["name"]
+            if it["kind"] and not it["margin"]:
+                top, owner = kind, "" if kind == "fn" else "".join(word[0].upper() + word[1:] for word in name.split("::"))
+                # (`main` calls the functions beside it.)
+                is_shown = kind == "fn" and file.name == "main.rt" or re.search(rf"(?m)^pub \w+ {name}\b", text)
+            if kind == "fn":
+                names, is_public = (owner, name), it["pub"] or is_shown and top in ("fn", "trait")
+            elif kind != "ensures":
+                names, is_public = (owner,), is_shown and top != "trait"
+            path = "::".join(it for it in (*modules, *names) if it not in ("lib", "main", ""))
+            clause = it["member"] and (it["clause"] or "answer")
+            yield Item(it.start(), kind, path, clause, bool(clause and is_public))
 
 
 def edits(crate):
-    """The edits of a crate: those that `scripts/edit` alone tries, and those that rt tries, too."""
-    folders = (f"crates/{crate}/{it}/*.edit" for it in ("edits", "must-fail"))
-    return [Edit(crate, it) for folder in folders for it in sorted(glob(folder, root_dir=ROOT))]
+    """The must-fail edits of a crate, those that rt tries too last: what each replaces (a file, a text and another), and
+    what refuses it (functions, with their clauses)."""
+    folders = (ROOT / "crates" / crate / it for it in ("edits", "must-fail"))
+    for path in (it for folder in folders for it in sorted(folder.glob("*.edit"))):
+        file, text = str(path.relative_to(ROOT)), path.read_text("utf-8")
+        if not EDIT.fullmatch(text):
+            raise Fault(f"{file} is no edit: its lines are file:, old:, new:, the last 'refused: FUNCTION CLAUSE..'")
+        pairs = [(f"crates/{crate}/{name}", old, new) for name, rest in re.findall(PAIRS, text)
+                 for old, new in re.findall(r"old: (.*)\nnew: ?(.*)\n", rest)]
+        for name, old, _ in pairs:
+            if read(name).count(old) != 1:
+                raise Fault(f"{file} no longer applies: {name} does not have this once: {old}")
+        refused = {function: clauses for function, *clauses in map(str.split, EDIT.fullmatch(text)[3].split(", "))}
+        yield Edit(crate, file, path.stem, pairs, refused)

@@ -11,7 +11,7 @@ EDIT = re.compile(rf"(?:{PAIRS})+refused: ([\w:]+(?: \w+)+(?:, [\w:]+(?: \w+)+)*
 BEGIN = re.compile(r"""(?mx)^(?P<margin>[ ]{4})? (?P<pub>pub[ ])? (?:pub\([\w ]+\)[ ])? (?:const[ ]|extern[ ]"C"[ ])* (?:
     (?P<kind>fn|struct|enum|trait|type|const|static|impl)\b (?:<[^>]*>)?[ ] (?:.*[ ]for[ ])? (?P<name>[\w:]*\w)
     |[ ]*(?P<member>ghost|ensures)(?:[ ](?P<clause>\w+))?(?::|[ ]=)?[ ]\{)""")
-Item = namedtuple("Item", "offset kind path clause is_public")
+Item = namedtuple("Item", "offset path clause is_public")
 Edit = namedtuple("Edit", "crate file name pairs refused")
 
 
@@ -57,8 +57,8 @@ def between(places):
 
 
 def items(files):
-    """Yields what begins in sources: its offset, what it is, the path of its function or type (a ghost member of an impl
-    is one of its type), and for a clause its name and whether that is public."""
+    """Yields what begins in sources: its offset, the path of its function or type (a ghost member of an impl is one of its
+    type), and for a clause its name and whether that is public."""
     for file in sorted(ROOT.glob(files)):
         text, modules = file.read_text("utf-8"), file.relative_to(ROOT).with_suffix("").parts[3:]
         for it in BEGIN.finditer(text):
@@ -73,14 +73,13 @@ def items(files):
                 names, is_public = (owner,), is_shown and top != "trait"
             path = "::".join(it for it in (*modules, *names) if it not in ("lib", "main", ""))
             clause = it["member"] and (it["clause"] or "answer")
-            yield Item(it.start(), kind, path, clause, bool(clause and is_public))
+            yield Item(it.start(), path, clause, bool(clause and is_public))
 
 
 def edits(crate):
-    """The must-fail edits of a crate, those that rt tries too last: what each replaces (a file, a text and another), and
-    what refuses it (functions, with their clauses)."""
-    folders = (ROOT / "crates" / crate / it for it in ("edits", "must-fail"))
-    for path in (it for folder in folders for it in sorted(folder.glob("*.edit"))):
+    """The must-fail edits of a crate: what each replaces (a file, a text and another), and what refuses it (functions, with
+    their clauses)."""
+    for path in sorted((ROOT / "crates" / crate).glob("*/*.edit")):
         file, text = str(path.relative_to(ROOT)), path.read_text("utf-8")
         if not EDIT.fullmatch(text):
             raise Fault(f"{file} is no edit: its lines are file:, old:, new:, the last 'refused: FUNCTION CLAUSE..'")

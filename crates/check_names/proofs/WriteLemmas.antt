@@ -1,10 +1,10 @@
--- What stands in a writer of text after some writes, where each appends its text.
+-- What a writer of text has after some writes, if each appends its text.
 use Rattle.std.proofs.Common.{◌≡◌, ℕ, List, [], ◌∷◌, ◌++◌, sym, ap, ◌∙◌, append_assoc, append-nil, subst, Option, Some, None, IfSome}
 use Rattle.std.specs.List.{FoldsTo, concat}
 use Rattle.std.specs.Fmt.{WritesInCalls, WritesText, option_append}
 
 module _ {W N : Type 0} (name : W → N) (contents : W → List ℕ) where
-  -- the writer keeps its name, and the text stands after what it held
+  -- the writer keeps its name, and the text follows what it had
   abbrev Took : W → List ℕ → W → Type 0
   Took before text after = (name after ≡ name before) × (contents after ≡ contents before ++ text)
 

@@ -27,7 +27,7 @@ may_stand x h = grind (arith, Any-from_list_any, AllPass-from_list_all)
 pub may_not_stand : (x : List ℕ) → has_slash_or_stands_alone x ≡ false → ¬ (Contains x (byte "/") ⊎ All (λ b. IsTrue (is_standalone_byte b)) x)
 may_not_stand x h t = grind (arith, list_any_at, list_all-from_AllPass)
 
--- what a name may stand as
+-- which names may stand alone
 pub ruleset standing = (may_stand, may_not_stand)
 
 -- what a comparison with a reserved name takes

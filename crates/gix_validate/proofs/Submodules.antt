@@ -1,4 +1,4 @@
--- A part that is `..` stands between two offsets, each the text's end or a separator's.
+-- A part that is `..` is between two offsets, each the text's end or a separator's.
 use Rattle.std.proofs.Common.{◌≡◌, ℕ, zero, suc, ◌+◌, ◌-◌, ◌<◌, ◌↔◌, Bool, true, false, ◌&&◌, ◌||◌, eqb, List, [], ◌∷◌, length, get_or, drop, refl, sym}
 use Rattle.std.proofs.Common.{ap, ap₂, ◌∙◌, inl, inr, ◌⊎◌, arith}
 use Rattle.std.proofs.lemmas.Bool.{cases_eq, false_from_ne_true, true≢false, cases_lt}

@@ -4,7 +4,7 @@ use crate::text::{contains_one, is_bad, joined};
 use std::alloc::{AllocError, Global};
 
 /// An error of a name: what `tag::NameError` prints, what `reference::NameError` prints, and what
-/// stands quoted after that, if anything does. Of a valid name all are empty.
+/// is quoted after that, if anything is. Of a valid name all are empty.
 pub(crate) type Fault<'a> = [&'a [u8]; 3];
 
 const VALID: Fault<'static> = [b"", b"", b""];

@@ -81,7 +81,7 @@ suspect_tabled true slash b small = agree_below_at (table_if true true) (suspect
 suspect_tabled false true b small = agree_below_at (table_if false true) (suspect_if false true) 256 b refl small
 suspect_tabled false false b small = agree_below_at (table_if false false) (suspect_if false false) 256 b refl small
 
--- In a lane the class of the byte is among those that are suspect after the byte before it, exactly where the byte is suspect.
+-- In a lane the class of the byte is among those that are suspect after the byte before it, if and only if the byte is suspect.
 pub suspect_lane : (before bytes classes after : List ℕ) → IsBlock before → IsBlock bytes → classes ≡ map class bytes → after ≡ map classes_after before
     → (k : ℕ) → k < 16 → is_nonzero (get_or (zip2 bit_and classes after) k 0) ≡ is_suspect (get_or before k 0) (get_or bytes k 0)
 unfolding is_suspect suspect_if table_if

@@ -13,7 +13,7 @@ use Rattle.gix_validate.specs.Private.Lanes.{offset_of, HasParts}
 use Rattle.std.proofs.lemmas.Grind.{common_steps}
 use Rattle.std.proofs.lemmas.Bool.Decides.{nat_tests}
 
--- no element passes exactly where none does at its offset
+-- no element passes if and only if none does at its offset
 pub none_at : (p : ℕ → Bool) (v : List ℕ) → (list_any p v ≡ false) ↔ ((k : ℕ) → k < length v → p (get_or v k 0) ≡ false)
 none_at p [] = (λ _ k h. absurd (omega arith), λ _. refl)
 none_at p (b ∷ v) = (

@@ -17,7 +17,7 @@ marked : (b : ℕ) (t : Bool) → b ≡ cond t 1 0 → (b ≡ 0 → t ≡ false)
 marked b true e = (λ z. absurd (omega arith), λ _. refl)
 marked b false e = (λ _. refl, λ z. absurd (omega arith))
 
--- of the offsets that the lanes stand for, the mask has a bit for each hit
+-- of the offsets of the lanes, the mask has a bit for each hit
 pub record Marks (hit : ℕ → Bool) (offset : ℕ → ℕ) (mask : ℕ) : Type 0 where
   pub few : mask < 2 ^ 16
   pub lanes : (k : ℕ) → k < 16 → bit_at mask k ≡ cond (hit (offset k)) 1 0

@@ -13,7 +13,7 @@ use Rattle.gix_validate.specs.Private.Ordinary.{is_lead}
 use Rattle.gix_validate.specs.Units.{is_within, fitting_len, whole_len, begun_len, whole_sequences, first_unit_len, units_within}
 use Rattle.gix_validate.proofs.Texts.LetterCase.{lower_byte-is}
 
--- a byte that stands second or later in a whole sequence
+-- a byte that is second or later in a whole sequence
 abbrev pub is_next : ℕ → Bool
 is_next b = is_within (0x80, 0xBF) b
 

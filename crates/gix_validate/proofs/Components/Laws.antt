@@ -88,7 +88,7 @@ all_none-first_of [] = refl
 all_none-first_of (None ∷ lines) = all_none-first_of lines
 all_none-first_of (Some fault ∷ lines) = refl
 
--- A text is a component exactly where it has no fault.
+-- A text is a component if and only if it has no fault.
 pub component_grammar_law : (options : ComponentOptions) (mode : Option ComponentMode) (x : List ℕ)
     → is_component options mode x ≡ is_none (fault_of options mode x)
 unfolding is_component fault_of

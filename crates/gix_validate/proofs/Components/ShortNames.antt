@@ -82,7 +82,7 @@ list_all-lower p skips (b ∷ x) = rw (test-lower_byte p skips b, list_all-lower
 eight_long : (x : List ℕ) → eqb (lower_byte (get_or x 0 0)) (byte ".") ≡ false → is_modules_form (lower (ntfs_form x)) ≡ true → length (ntfs_form x) ≡ 8
 eight_long x other modules = grind (arith, common_steps, other_is_plain, ntfs_form-none, ntfs_other)
 
--- A name that begins with no dot stands for `.gitmodules` exactly where its first eight bytes do, and the form ends after them.
+-- A name that begins with no dot stands for `.gitmodules` if and only if its first eight bytes do, and the form ends after them.
 pub modules_elsewhere : (x : List ℕ) → eqb (lower_byte (get_or x 0 0)) (byte ".") ≡ false → 8 ≤ length x
     → is_modules_form (lower (ntfs_form x)) ≡ (is_modules_form (lower (take 8 x)) && is_empty (ntfs_form (drop 8 x)))
 modules_elsewhere x other long = bool_same _ _ forward back
@@ -109,7 +109,7 @@ dot_or_none : (x : List ℕ) → (lower (ntfs_form (byte "." ∷ x)) ≡ []) ⊎
 unfolding lower_byte
 dot_or_none x = grind (arith, ntfs_form-at)
 
--- A name that begins with a dot does exactly where the form of what follows is `gitmodules`.
+-- A name that begins with a dot does if and only if the form of what follows is `gitmodules`.
 pub modules_at_dot : (x : List ℕ) → get_or x 0 0 ≡ byte "."
     → is_modules_form (lower (ntfs_form x)) ≡ bytes_eq (lower (ntfs_form (drop 1 x))) (codes "gitmodules")
 modules_at_dot [] at = grind arith
@@ -127,7 +127,7 @@ hashed_name k w eight few =
     let letters = take-map lower_byte k (codes "gi7eba") in
     rw (short_by_parts k (lower w), length-map w lower_byte, eight, take-map lower_byte k w, drop-map lower_byte k w, number_lower (drop k w), ← letters) refl
 
--- Eight bytes stand for `.gitmodules` exactly where they are one of its short names, of either kind.
+-- Eight bytes stand for `.gitmodules` if and only if they are one of its short names, of either kind.
 pub eight_is_short : (w : List ℕ) → length w ≡ 8
     → is_modules_form (lower w) ≡ (list_any (λ digit. bytes_eq (lower w) (codes "gitmod~" ++ digit ∷ [])) (codes "1234")
     || list_any (λ k. is_short_name k (lower w)) (range_with_len 0 7))

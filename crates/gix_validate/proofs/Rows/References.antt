@@ -40,11 +40,11 @@ unfolding names_on_literals
 faults_of_tag_names = (refl, refl)
 
 stand_alone : Gives has_slash_or_stands_alone
-    ((codes "HEAD", true)  -- head stands
-    ∷ (codes "FETCH_HEAD", true)  -- underscore stands
-    ∷ (codes "V1", false)  -- digit does not stand
-    ∷ (codes "A-B", false)  -- hyphen does not stand
-    ∷ (codes "a/b", true)  -- lower stands in a folder
+    ((codes "HEAD", true)  -- HEAD may stand alone
+    ∷ (codes "FETCH_HEAD", true)  -- an underscore, too
+    ∷ (codes "V1", false)  -- not a digit
+    ∷ (codes "A-B", false)  -- not a hyphen
+    ∷ (codes "a/b", true)  -- a lowercase letter in a folder
     ∷ [])
 stand_alone = refl
 

@@ -8,7 +8,7 @@ use Rattle.std.proofs.lemmas.List.{take_at, take-take}
 use Rattle.std.proofs.lemmas.Slice.Eq.{bytes_eq-Decides}
 use Rattle.gix_validate.specs.Sanitized.{cut, is_locks}
 
--- After `.lock`s stand more of them.
+-- More `.lock`s follow `.lock`s.
 is_locks-append : (x r : List ℕ) → is_locks r ≡ true → is_locks (x ++ r) ≡ is_locks x
 is_locks-append [] r h = h
 is_locks-append (a ∷ []) r h = grind arith

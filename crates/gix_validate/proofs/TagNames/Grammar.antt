@@ -1,4 +1,4 @@
--- A text is a tag name exactly where it has no fault.
+-- A text is a tag name if and only if it has no fault.
 use Rattle.std.proofs.Common.{◌≡◌, ℕ, Bool, true, false, not, ◌&&◌, ◌||◌, cond, eqb, List, [], ◌∷◌, ◌++◌, refl}
 use Rattle.std.proofs.lemmas.List.{append-nil, append_assoc}
 use Rattle.std.specs.Prelude.{codes, is_none, ◌==◌}
@@ -39,7 +39,7 @@ list_any_push : (f : ℕ → Bool) (p : List ℕ) (b : ℕ) → list_any f (p ++
 list_any_push f [] b = grind arith
 list_any_push f (a ∷ p) b = grind (arith, list_any_push f p b)
 
--- a part of two bytes stands in the text already, or comes with the new byte
+-- a part of two bytes is in the text already, or comes with the new byte
 holds_push : (p : List ℕ) (b a c : ℕ) → holds (p ++ b ∷ []) (a ∷ c ∷ []) ≡ (holds p (a ∷ c ∷ []) || (ends p (a ∷ []) && eqb c b))
 holds_push [] b a c = grind arith
 holds_push (x ∷ []) b a c = grind arith
@@ -91,7 +91,7 @@ law_begun : (b : ℕ) (x : List ℕ) → is_tag_name (b ∷ x) ≡ is_none (faul
 unfolding is_tag_name may_end
 law_begun b x = grind (arith, nat_tests, begun_good, is_none-parts, slash_last, ends_last_piece (codes ".lock") refl (b ∷ x))
 
--- the grammar, and the table with its order: a text is a tag name exactly where it has no fault
+-- the grammar, and the table with its order: a text is a tag name if and only if it has no fault
 pub tag_grammar_law : (x : List ℕ) → is_tag_name x ≡ is_none (fault_of x)
 unfolding is_tag_name fault_of is_good_piece
 tag_grammar_law [] = refl

@@ -24,7 +24,7 @@ ends-no x back h f e = grind (arith, length-append, bytes_eq-Decides, drop_at)
 pub ends_read : (x : List ℕ) (c : ℕ) → 0 < length x → ends x (c ∷ []) ≡ eqb (get_or x (length x - 1) 0) c
 ends_read x c some = grind (arith, common_steps)
 
--- where the bytes of `.lock` stand
+-- the offsets of the bytes of `.lock`
 pub lock_read : (x : List ℕ) → ends x (codes ".lock") ≡ true
     → (5 ≤ length x) × (get_or x (length x - 5) 0 ≡ byte ".") × (get_or x (length x - 4) 0 ≡ byte "l") × (get_or x (length x - 1) 0 ≡ byte "k")
 lock_read x h = let e : x ≡ take (length x - 5) x ++ codes ".lock" = ends-true x (codes ".lock") h in grind (arith, common_steps)
@@ -63,7 +63,7 @@ unfolding last_piece
 ends_last_piece f apart [] = refl
 ends_last_piece f apart (b ∷ y) = grind (arith, ends_after_slash, ends_last_piece f apart y)
 
--- In a text that has begun, a slash stands last where the last piece is empty.
+-- In a text that has begun, a slash is last if the last piece is empty.
 pub slash_last : (y : List ℕ) → is_empty y ≡ false → ends y (codes "/") ≡ is_empty (last_piece y)
 unfolding last_piece
 slash_last [] some = grind arith

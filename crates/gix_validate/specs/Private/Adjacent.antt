@@ -1,4 +1,4 @@
--- Clear texts, recognised by bytes that stand side by side and by the end: each is a tag name, and most tag names are
+-- Clear texts, recognised by each two adjacent bytes and by the end: each is a tag name, and most tag names are
 -- clear.
 use Rattle.std.specs.Prelude.{◌≡◌, ℕ, ◌-◌, ◌<◌, Bool, false, ◌==◌, ◌&&◌, ◌||◌, List, length, slice_index, codes}
 use Rattle.std.specs.Str.{byte}

@@ -1,13 +1,14 @@
 -- A part that is `..` is between two offsets, each the text's end or a separator's.
-use Rattle.std.proofs.Common.{◌≡◌, ℕ, zero, suc, ◌+◌, ◌-◌, ◌<◌, ◌↔◌, Bool, true, false, ◌&&◌, ◌||◌, eqb, List, [], ◌∷◌, length, get_or, drop, refl, sym}
+use Rattle.std.proofs.Common.{◌≡◌, ℕ, zero, suc, ◌+◌, ◌-◌, ◌<◌, ◌≤◌, ◌↔◌, Bool, true, false, ◌&&◌, ◌||◌, eqb, List, [], ◌∷◌, length, get_or, drop, refl, sym}
 use Rattle.std.proofs.Common.{ap, ap₂, ◌∙◌, inl, inr, ◌⊎◌, arith}
-use Rattle.std.proofs.lemmas.Bool.{cases_eq, false_from_ne_true, true≢false, cases_lt}
-use Rattle.std.specs.Prelude.{codes}
+use Rattle.std.proofs.lemmas.Bool.{cases_eq, false_from_ne_true, or_parts, true≢false, cases_lt}
+use Rattle.std.specs.Prelude.{codes, ◌==◌}
 use Rattle.std.specs.List.{list_any}
 use Rattle.std.specs.Str.{byte, bytes_eq}
 use Rattle.gix_validate.specs.Submodule.{is_separator, parts, has_parent_part}
 use Rattle.gix_validate.specs.Private.Parents.{is_parent_at, NoParentBelow}
 use Rattle.gix_validate.specs.Private.Scan.{at_pair}
+use Rattle.std.proofs.lemmas.Bool.Decides.{nat_tests}
 use Rattle.std.proofs.lemmas.Grind.{common_steps}
 
 abbrev is_parent : List ℕ → Bool
@@ -100,20 +101,40 @@ none_and_next x n none next k small = elim (cases_lt k n) [
   | inr late ↦ let here : k ≡ n = omega arith in ap (is_parent_at x) here ∙ next
 ]
 
--- None begins at a offset after a dot.
-none_after_dot : (x : List ℕ) (k : ℕ) → get_or x k 0 ≡ byte "." → is_parent_at x (k + 1) ≡ false
-none_after_dot x k dot = grind (arith, common_steps, dot)
+-- after what isn't a separator none begins
+none_alone : (x : List ℕ) (k : ℕ) → is_separator (get_or x k 0) ≡ false → is_parent_at x (k + 1) ≡ false
+none_alone x k inside = false_from_ne_true _ (λ t. elim (parent_begins x (k + 1) t).1 [
+  | inl start ↦ absurd (omega arith)
+  | inr alone ↦ true≢false (sym alone ∙ ap (λ j. is_separator (get_or x j 0)) (omega arith) ∙ inside)
+])
 
--- Where no dot follows a offset, none begins there or at the next.
-pub none_and_two : (x : List ℕ) (n : ℕ) → NoParentBelow x n → (get_or x (n + 1) 0 ≡ byte "." → ⊥) → NoParentBelow x (n + 2)
-none_and_two x n none other =
-    let here = false_from_ne_true _ (λ t. other ((parent_begins x n t).0.second)) in
-    let next = false_from_ne_true _ (λ t. other ((parent_begins x (n + 1) t).0.first)) in
-    λ k small. none_and_next x (n + 1) (none_and_next x n none here) next k (omega arith)
+-- The end or a separator: none begins at the next two offsets.
+pub none_and_end : (x : List ℕ) (n : ℕ) → NoParentBelow x n → is_parent_at x n ≡ false → (n + 2 == length x || is_separator (get_or x (n + 2) 0)) ≡ true
+    → NoParentBelow x (n + 3)
+none_and_end x n none here end =
+    let other : get_or x (n + 2) 0 ≡ byte "." → ⊥ = λ dot. grind (arith, end, dot, dot_inside x (n + 2) dot) in
+    let second = false_from_ne_true _ (λ t. other (ap (λ j. get_or x j 0) (omega arith) ∙ (parent_begins x (n + 1) t).0.second)) in
+    let third = false_from_ne_true _ (λ t. other ((parent_begins x (n + 2) t).0.first)) in
+    λ k small. none_and_next x (n + 2) (λ j less. none_and_next x (n + 1) (none_and_next x n none here) second j (omega arith)) third k (omega arith)
 
--- Where two dots are no part, no part begins up to the offset after them.
-pub none_and_three : (x : List ℕ) (n : ℕ) → NoParentBelow x n → is_parent_at x n ≡ false
-    → get_or x n 0 ≡ byte "." → get_or x (n + 1) 0 ≡ byte "." → NoParentBelow x (n + 3)
-none_and_three x n none here first second =
-    let two = none_and_next x (n + 1) (none_and_next x n none here) (none_after_dot x n first) in
-    λ k small. none_and_next x (n + 1 + 1) two (none_after_dot x (n + 1) second) k (omega arith)
+-- No end: none begins there.
+pub none_unended : (x : List ℕ) (n : ℕ) → (n + 2 == length x || is_separator (get_or x (n + 2) 0)) ≡ false → is_parent_at x n ≡ false
+none_unended x n end = grind (arith, common_steps, end)
+
+pub unended_within : (x : List ℕ) (n : ℕ) → n + 2 ≤ length x → (n + 2 == length x || is_separator (get_or x (n + 2) 0)) ≡ false → n + 2 < length x
+unended_within x n within end = grind (arith, nat_tests, (or_parts (n + 2 == length x) _ end).0)
+
+-- No end, and if it is a dot, neither of the two bytes before it is a separator: none begins there or at the next three offsets.
+pub none_and_other : (x : List ℕ) (n : ℕ) → NoParentBelow x n → (n + 2 == length x || is_separator (get_or x (n + 2) 0)) ≡ false
+    → (get_or x (n + 2) 0 ≡ byte "." → (is_separator (get_or x n 0) || is_separator (get_or x (n + 1) 0)) ≡ false) → NoParentBelow x (n + 4)
+none_and_other x n none end dot =
+    let inside = (or_parts _ _ end).1 in
+    let second : is_parent_at x (n + 1) ≡ false = false_from_ne_true _ (λ t.
+    let both = or_parts _ _ (dot (ap (λ j. get_or x j 0) (omega arith) ∙ (parent_begins x (n + 1) t).0.second)) in
+    true≢false (sym t ∙ none_alone x n both.0)) in
+    let third : is_parent_at x (n + 2) ≡ false = false_from_ne_true _ (λ t.
+    let both = or_parts _ _ (dot ((parent_begins x (n + 2) t).0.first)) in
+    true≢false (sym t ∙ ap (is_parent_at x) (omega arith) ∙ none_alone x (n + 1) both.1)) in
+    let two = none_and_next x (n + 1) (none_and_next x n none (none_unended x n end)) second in
+    let three = none_and_next x (n + 2) (λ j less. two j (omega arith)) third in
+    λ k small. none_and_next x (n + 3) (λ j less. three j (omega arith)) (ap (is_parent_at x) (omega arith) ∙ none_alone x (n + 2) inside) k (omega arith)

@@ -110,14 +110,14 @@ pub(crate) fn is_clear(text: &[u8]) -> bool
     scan::first_pair::<Suspect>(text).is_none()
 }
 
-/// The offset from which on a walk finds the first fault of a tag name, if a byte is one. If the first
-/// byte may be, this needs no scan.
+/// The offset from which on a walk finds the first fault of a tag name, if a byte is one. A name that
+/// is short, or whose first byte may be a fault, needs no scan.
 #[inline(always)]
 #[tactic(auto, using(crate::proofs::TagNames::Offsets::none_before_suspect, crate::proofs::TagNames::Offsets::none_without_suspect))]
 pub(crate) fn first_to_walk(text: &[u8]) -> usize
     ensures { CanWalkFrom text.now result }
 {
-    if text.is_empty() || may_be_faulty(text[0]) {
+    if text.len() < 8 || may_be_faulty(text[0]) {
         return 0;
     }
     match scan::first_pair::<Suspect>(text) {

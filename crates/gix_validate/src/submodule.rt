@@ -2,8 +2,7 @@
 //!
 //! Nothing else is refused: `/etc` is a submodule name.
 //!
-//! A name is never split. Most names have no two adjacent dots; in the others each offset from the
-//! first two dots on is checked.
+//! A name is never split: the offsets at which a part may begin are checked.
 
 ghost use Rattle.std.specs.Prelude.{◌≡◌, ◌↔◌, ◌||◌, ◌&&◌, ◌==◌, ℕ, ◌+◌, ◌-◌, ◌≤◌, ◌<◌, false, length, slice_index, IsOk, IfOk, IsTrue, Some};
 ghost use Rattle.std.specs.Str.{byte};
@@ -96,38 +95,30 @@ impl Pattern for TwoDots {
     }
 }
 
-/// Whether some part is `..`. Most names have no two dots in a row.
+/// Whether some part is `..`. Most names have no two dots in a row. The others, and short ones, are
+/// walked: the third byte from an offset says at how many offsets from there on no part `..` begins.
 #[inline(always)]
 #[tactic(auto, using(crate::proofs::Submodules::without_two_dots, crate::proofs::Submodules::some_parent, crate::proofs::Submodules::no_parent))]
 fn has_parent_part(bytes: &[u8]) -> bool
     requires { 1 ≤ length bytes.now }
     ensures { result ≡ has_parent_part bytes.now }
 {
-    match scan::first_pair::<TwoDots>(bytes) {
-        Some(offset) => is_parent_at(bytes, offset) || has_parent_from(bytes, offset),
-        None => false,
+    if bytes.len() >= 8 && scan::first_pair::<TwoDots>(bytes).is_none() {
+        return false;
     }
-}
-
-/// Whether some part from this offset on is `..`. After a dot none begins, so two dots that aren't a
-/// part are skipped with the byte after them.
-#[inline(never)]
-#[tactic(auto, using(crate::proofs::Submodules::some_parent, crate::proofs::Submodules::no_parent))]
-fn has_parent_from(bytes: &[u8], offset: usize) -> bool
-    requires within { offset + 1 < length bytes.now }
-    requires none { NoParentBelow bytes.now offset }
-    ensures { result ≡ has_parent_part bytes.now }
-{
-    let mut at = offset;
-    while at < bytes.len() - 1 {
-        if bytes[at + 1] != b'.' {
-            at += 2;
-        } else if bytes[at] != b'.' {
-            at += 1;
-        } else if is_parent_at(bytes, at) {
-            return true;
-        } else {
+    let mut at = 0;
+    while at + 2 <= bytes.len() {
+        if ends_part(bytes, at + 2) {
+            if is_parent_at(bytes, at) {
+                return true;
+            }
             at += 3;
+        } else if bytes[at + 2] == b'.'
+            && (is_separator(bytes[at]) || is_separator(bytes[at + 1]))
+        {
+            at += 1;
+        } else {
+            at += 4;
         }
     }
     false
@@ -142,7 +133,16 @@ fn is_parent_at(bytes: &[u8], at: usize) -> bool
     bytes[at] == b'.'
         && bytes[at + 1] == b'.'
         && (at == 0 || is_separator(bytes[at - 1]))
-        && (at + 2 == bytes.len() || is_separator(bytes[at + 2]))
+        && ends_part(bytes, at + 2)
+}
+
+/// Whether a part ends before this offset.
+#[inline(always)]
+fn ends_part(bytes: &[u8], at: usize) -> bool
+    requires { at ≤ length bytes.now }
+    ensures { result ≡ (at == length bytes.now || is_separator (slice_index bytes.now at)) }
+{
+    at == bytes.len() || is_separator(bytes[at])
 }
 
 /// Whether the byte ends a part.

@@ -1,15 +1,15 @@
 -- The classes of the bytes of a name: by two tables, by blocks that overlap, and what they say under each mask.
-use Rattle.std.proofs.Common.{◌≡◌, ℕ, suc, ◌/◌, ◌%◌, ◌<◌, Bool, true, not, ◌||◌, eqb, List, [], ◌∷◌, map, length}
+use Rattle.std.proofs.Common.{◌≡◌, ℕ, suc, ◌+◌, ◌/◌, ◌%◌, ◌<◌, ◌≤◌, Bool, true, not, ◌||◌, eqb, List, [], ◌∷◌, map, length}
 use Rattle.std.proofs.Common.{get_or, replicate, bit_and, bit_or, refl, sym, ap, ap₂, ◌∙◌, arith, w8, Fits}
 use Rattle.std.specs.List.{list_any}
 use Rattle.std.specs.Str.{byte}
 use Rattle.std.proofs.lemmas.Bool.{agree_below, agree_below_at}
 use Rattle.std.proofs.lemmas.Nat.Bits.{bit_at_and, bit_at_or, same_from_bits}
 use Rattle.std.proofs.lemmas.Nat.{le_or_l}
-use Rattle.std.proofs.lemmas.Simd.{zip2_splat}
+use Rattle.std.proofs.lemmas.Simd.{length-chunk, length-zip2, zip2_splat}
 use Rattle.std.proofs.lemmas.List.{get_or-map, length-map}
-use lib.Lanes.{zip2, Each1}
-use Rattle.gix_validate.proofs.Blocks.Parts.{AreAll, parts_cover, AreShort, both_cover, either_among}
+use lib.Lanes.{chunk, zip2, Each1}
+use Rattle.gix_validate.proofs.Blocks.Parts.{AreAll, parts_cover, AreShort, both_cover, either_among, any_overlap, any_two_chunks, whole_chunk}
 use Rattle.gix_validate.specs.Private.Lanes.{HasParts, is_nonzero}
 use Rattle.gix_validate.proofs.Blocks.Lanes.{same_bytes}
 use Rattle.gix_validate.specs.declared.path.classes.TheConstants.{BY_LOW_NIBBLE, BY_HIGH_NIBBLE}
@@ -76,10 +76,38 @@ classes_of_both mid start last x v w front back short long pv pw ev ew mask =
     ∙ both_cover mid start last x v w short long pv pw (has_class mask)
     ∙ sym (any_is mask x)
 
--- the classes of two texts are those of a text that has what they have
-pub classes_joined : (u v x y z : List ℕ) → length u ≡ length v → HaveClassesOf u x → HaveClassesOf v y
-    → ((p : ℕ → Bool) → (list_any p x || list_any p y) ≡ list_any p z) → HaveClassesOf (zip2 bit_or u v) z
-classes_joined u v x y z long eu ev all mask = grind (arith, nat_tests, any_of_or, any_is)
+-- four blocks of which two are the front of a text and two its back
+pub classes_of_four : (x : List ℕ) (last : ℕ) (a b c d : List ℕ) → last + 32 ≡ length x → length x ≤ 64 → a ≡ map class_of (chunk 0 16 x)
+    → b ≡ map class_of (chunk 16 16 x) → c ≡ map class_of (chunk last 16 x) → d ≡ map class_of (chunk (last + 16) 16 x)
+    → HaveClassesOf (zip2 bit_or (zip2 bit_or (zip2 bit_or a b) c) d) x
+classes_of_four x last a b c d all short ea eb ec ed mask =
+    grind (
+      arith,
+      any_of_or,
+      length-zip2,
+      long a 0,
+      long b 16,
+      long c last,
+      long d (last + 16),
+      said a 0,
+      said b 16,
+      said c last,
+      said d (last + 16),
+      any_is mask x,
+      any_two_chunks p x 0 16,
+      any_two_chunks p x last 16,
+      whole_chunk last 32 x all,
+      any_overlap p x last 32 (omega arith),
+    )
+  where
+    p : ℕ → Bool
+    p = has_class mask
+
+    long : (v : List ℕ) (at : ℕ) → at + 16 ≤ length x → v ≡ map class_of (chunk at 16 x) → length v ≡ 16
+    long v at room is = ap length is ∙ length-map (chunk at 16 x) class_of ∙ length-chunk at 16 x room
+
+    said : (v : List ℕ) (at : ℕ) → v ≡ map class_of (chunk at 16 x) → any_class mask v ≡ list_any p (chunk at 16 x)
+    said v at is = ap (any_class mask) is ∙ any_is mask (chunk at 16 x)
 
 -- ---- what the classes say
 

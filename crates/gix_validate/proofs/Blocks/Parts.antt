@@ -121,13 +121,8 @@ any_two_chunks p x i n = any_with_chunk p (drop i x) n n ∙ ap (λ y. list_any 
 pub any_of_four : (p : ℕ → Bool) (x : List ℕ) (i : ℕ) (a b c d : Bool) → a ≡ list_any p (chunk i 16 x) → b ≡ list_any p (chunk (i + 16) 16 x)
     → c ≡ list_any p (chunk (i + 32) 16 x) → d ≡ list_any p (chunk (i + 48) 16 x) → (((a || b) || c) || d) ≡ list_any p (chunk i 64 x)
 any_of_four p x i a b c d ea eb ec ed =
-    regrouped a b c d
-    ∙ ap₂ (λ s t. s || t) (ap₂ (λ s t. s || t) ea eb ∙ sym (any_two_chunks p x i 16))
-    (ap₂ (λ s t. s || t) ec (ed ∙ ap (λ k. list_any p (chunk k 16 x)) (omega arith)) ∙ sym (any_two_chunks p x (i + 32) 16))
-    ∙ sym (any_two_chunks p x i 32)
-  where
-    regrouped : (a b c d : Bool) → (((a || b) || c) || d) ≡ ((a || b) || (c || d))
-    regrouped a b c d = grind arith
+    let last : chunk (i + 32 + 16) 16 x ≡ chunk (i + 48) 16 x = ap (λ k. chunk k 16 x) (omega arith) in
+    grind (arith, ea, eb, ec, ed, last, any_two_chunks p x i 16, any_two_chunks p x (i + 32) 16, any_two_chunks p x i 32)
 
 -- The offsets of four parts of eight bytes that together are all of a text of 8 to 32 bytes: the first eight, eight that follow or are the last,
 -- eight from sixteen before the end on, and the last eight.

@@ -7,7 +7,7 @@ use Rattle.std.specs.List.{list_any}
 use Rattle.std.specs.Str.{byte, bytes_eq}
 use Rattle.std.proofs.lemmas.Bool.{or_parts}
 use Rattle.std.proofs.lemmas.Slice.Eq.{bytes_eq-Decides}
-use Rattle.gix_validate.specs.declared.path.ComponentError.TheVariants.{WindowsReservedName, PathSeparator, DotGitDir, SymlinkedGitModules}
+use Rattle.gix_validate.specs.declared.path.ComponentError.TheVariants.{WindowsReservedName, PathSeparator, DotGitDir, SymlinkedGitModules, Relative}
 use Rattle.gix_validate.specs.declared.path.ComponentOptions.{ComponentOptions}
 use Rattle.gix_validate.specs.declared.path.ComponentMode.{ComponentMode}
 use Rattle.gix_validate.specs.Bytes.{is_among, ends, lower}
@@ -130,6 +130,11 @@ pub modules_fault : (options : ComponentOptions) (mode : Option ComponentMode) (
     → fault_of options mode x ≡ when (is_some mode) SymlinkedGitModules
 unfolding components_on_literals
 modules_fault options mode x modules = grind (arith, case_law, bytes_eq-Decides)
+
+pub relative_fault : (options : ComponentOptions) (mode : Option ComponentMode) (x : List ℕ) → (bytes_eq x (codes ".") || bytes_eq x (codes "..")) ≡ true
+    → fault_of options mode x ≡ Some Relative
+unfolding components_on_literals
+relative_fault options mode x dots = grind (arith, bytes_eq-Decides)
 
 pub ruleset faults_of_ordinary = (ordinary_fault, git_fault, modules_fault)
 

@@ -145,7 +145,11 @@ pub(super) fn classes_of(name: &[u8]) -> u8x16
         return classes_in(front) | classes_in(back);
     }
     if name.len() > TWO {
-        return classes_of_two(name, 0) | classes_of_two(name, name.len() - TWO);
+        let last = name.len() - TWO;
+        return classes_at(name, 0)
+            | classes_at(name, LANES)
+            | classes_at(name, last)
+            | classes_at(name, last + LANES);
     }
     if name.len() >= 4 {
         return classes_in(quarters(name, 0, name.len() - 4));
@@ -156,16 +160,13 @@ pub(super) fn classes_of(name: &[u8]) -> u8x16
     classes_in(u8x16::splat(name[0]))
 }
 
-/// The classes of the bytes of two blocks of the name, from this offset on.
+/// The classes of the bytes of the block from this offset on.
 #[inline(always)]
-fn classes_of_two(name: &[u8], at: usize) -> u8x16
-    requires { at + TWO ≤ length name.now }
-    ensures classes { HaveClassesOf result (chunk at TWO name.now) }
-    ensures lanes { length result ≡ LANES }
+fn classes_at(name: &[u8], at: usize) -> u8x16
+    requires { at + LANES ≤ length name.now }
+    ensures { result ≡ map class_of (chunk at LANES name.now) }
 {
-    let first = classes_in(u8x16::from_slice(&name[at..]));
-    let second = classes_in(u8x16::from_slice(&name[at + LANES..]));
-    first | second
+    classes_in(u8x16::from_slice(&name[at..]))
 }
 
 /// The classes of the bytes of a block.

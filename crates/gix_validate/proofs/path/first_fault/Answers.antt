@@ -5,7 +5,7 @@ use Rattle.gix_validate.proofs.Blocks.ByteClasses.{classes_tell}
 use Rattle.gix_validate.proofs.Components.OrdinaryNames.{ordinary_by_looks, ordinary_passes, separator_fault, unprotected_fault}
 use Rattle.gix_validate.proofs.path.first_fault.Goals as goal
 use Rattle.gix_validate.proofs.path.first_fault.Goals.{then-windows, else-windows, else-not-is_empty+else-has_separator}
-use Rattle.gix_validate.proofs.path.first_fault.Goals.{then-not-is_empty+then-name-le-SHORT+else-not-has_class+else-has_class}
+use Rattle.gix_validate.proofs.path.first_fault.Goals.{then-not-is_empty+then-name-le-SHORT+else-is_relative+else-not-has_class+else-has_class}
 
 pub first_fault_of_ordinary-requires : goal.first_fault_of_ordinary-requires
 first_fault_of_ordinary-requires c =
@@ -32,7 +32,7 @@ pub returns-then-name-gt11 : goal.returns-then-name-gt11
 returns-then-name-gt11 c =
     let law = unprotected_fault c.args.options c.args.mode c.args.name.now in
     elim c.if-not-is_empty.branch [
-      | then-not-is_empty+then-name-le-SHORT+else-not-has_class+else-has_class w ↦
+      | then-not-is_empty+then-name-le-SHORT+else-is_relative+else-not-has_class+else-has_class w ↦
           let tell = classes_tell w.classes_of-classes.result c.args.name.now c.type_inv.name w.classes_of-classes.ensures in
           elim w.if-windows.branch [
             | then-windows w' ↦ grind (arith, w'.if-windows)
@@ -43,7 +43,7 @@ returns-then-name-gt11 c =
 
 pub first_fault_in_order-requires : goal.first_fault_in_order-requires
 first_fault_in_order-requires c = elim c.if-not-is_empty.branch [
-  | then-not-is_empty+then-name-le-SHORT+else-not-has_class+else-has_class w ↦
+  | then-not-is_empty+then-name-le-SHORT+else-is_relative+else-not-has_class+else-has_class w ↦
       let tell = classes_tell w.classes_of-classes.result c.args.name.now c.type_inv.name w.classes_of-classes.ensures in
       elim w.if-windows.branch [
         | then-windows w' ↦ grind (arith, tell.separator, w'.if-windows, w'.has_class-is)

@@ -1,18 +1,12 @@
 -- A short name is its front and its back.
-use Rattle.std.proofs.Common.{◌-◌, ◌||◌, length, take, replicate, get_or, sym, ap, ◌∙◌, arith}
-use Rattle.std.specs.List.{list_any}
-use lib.Lanes.{chunk}
-use Rattle.gix_validate.proofs.Blocks.Parts.{one_covers, any_overlap, whole_chunk}
-use Rattle.gix_validate.proofs.Blocks.ByteClasses.{classes_of_parts, classes_of_both, classes_joined}
+use Rattle.std.proofs.Common.{◌-◌, length, replicate, get_or, arith}
+use Rattle.gix_validate.proofs.Blocks.Parts.{one_covers}
+use Rattle.gix_validate.proofs.Blocks.ByteClasses.{classes_of_parts, classes_of_both, classes_of_four}
 use Rattle.gix_validate.proofs.path.classes.classes_of.Goals as goal
 
 pub returns-then-name-gt-TWO : goal.returns-then-name-gt-TWO
-returns-then-name-gt-TWO c =
-    let x = c.args.name.now in
-    let last = length x - 32 in
-    classes_joined _ _ (chunk 0 32 x) (chunk last 32 x) x (c.classes_of_two.ensures.lanes ∙ sym c.classes_of_two-then-name-gt-TWO.ensures.lanes)
-    c.classes_of_two.ensures.classes c.classes_of_two-then-name-gt-TWO.ensures.classes
-    (λ p. ap (λ y. list_any p (take 32 x) || list_any p y) (whole_chunk last 32 x (omega arith)) ∙ any_overlap p x last 32 (omega arith))
+returns-then-name-gt-TWO c = classes_of_four c.args.name.now (length c.args.name.now - 32) _ _ _ _ (omega arith) (omega arith)
+    c.classes_at.ensures c.classes_at-then-name-gt-TWO.ensures c.classes_at-then-name-gt-TWO-2.ensures c.classes_at-then-name-gt-TWO-3.ensures
 
 pub returns-then-name-le-TWO : goal.returns-then-name-le-TWO
 returns-then-name-le-TWO c =

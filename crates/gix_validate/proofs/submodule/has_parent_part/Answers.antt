@@ -1,0 +1,38 @@
+use Rattle.std.proofs.Common.{sym, ◌∙◌, arith}
+use Rattle.gix_validate.proofs.Submodules.{none_and_end, none_and_next, none_and_other, none_unended, unended_within}
+use Rattle.gix_validate.proofs.submodule.has_parent_part.Goals as goal
+use Rattle.gix_validate.proofs.submodule.has_parent_part.Goals.{then-is_separator, else-is_separator}
+use Rattle.gix_validate.proofs.submodule.has_parent_part.Goals.{else-bytes-at-eq46-via-then-bytes-at-eq46+else-is_separator-2, else-bytes-at-eq46-via-else-bytes-at-eq46}
+
+pub loop-at-preserved-then-ends_part : goal.loop-at-preserved-then-ends_part
+loop-at-preserved-then-ends_part c = record {
+  within = omega arith;
+  none = none_and_end c.args.bytes.now c.loop-at.at c.loop-at.invariant.none (sym c.is_parent_at.ensures ∙ c.if-is_parent_at.false)
+      (sym c.ends_part.ensures ∙ c.if-ends_part.true);
+}
+
+pub loop-at-preserved-then-is_separator-2 : goal.loop-at-preserved-then-is_separator-2
+loop-at-preserved-then-is_separator-2 c =
+    let unended = none_unended c.args.bytes.now c.loop-at.at (sym c.ends_part.ensures ∙ c.if-ends_part.false) in
+    record { within = omega arith; none = none_and_next c.args.bytes.now c.loop-at.at c.loop-at.invariant.none unended }
+
+pub loop-at-preserved : goal.loop-at-preserved
+loop-at-preserved c =
+    let end = sym c.ends_part.ensures ∙ c.if-ends_part.false in
+    record {
+      within = omega (arith, unended_within c.args.bytes.now c.loop-at.at c.loop-at-test.true end);
+      none = none_and_other c.args.bytes.now c.loop-at.at c.loop-at.invariant.none end (λ dot. elim c.else-bytes-at-eq46.branch [
+        | else-bytes-at-eq46-via-then-bytes-at-eq46+else-is_separator-2 w ↦ elim w.if-is_separator.branch [
+          | then-is_separator w' ↦ grind (arith, w.if-is_separator-2.false, w'.value-is)
+          | else-is_separator w' ↦ grind (
+            arith,
+            w.if-is_separator-2.false,
+            w'.value-is,
+            w.is_separator.ensures,
+            w'.if-is_separator,
+            w'.is_separator-else-is_separator.ensures,
+          )
+        ]
+        | else-bytes-at-eq46-via-else-bytes-at-eq46 w ↦ absurd (w.if-bytes-at-eq46.false dot)
+      ]);
+    }

@@ -33,14 +33,10 @@ record ParentBegins (x : List ℕ) (i : ℕ) : Type 0 where
   ends : (length x ≡ i + 2) ⊎ (is_separator (get_or x (i + 2) 0) ≡ true)
 
 first_is_parent : (x : List ℕ) → first_is (codes "..") (parts x) ≡ true → ParentBegins x 0
-first_is_parent [] h = grind arith
-first_is_parent (c ∷ []) h = grind arith
-first_is_parent (c ∷ d ∷ x) h = grind (arith, common_steps)
+first_is_parent x h = grind (arith, nat_tests, common_steps)
 
 parent_begins_first : (x : List ℕ) → ParentBegins x 0 → first_is (codes "..") (parts x) ≡ true
-parent_begins_first [] b = grind arith
-parent_begins_first (c ∷ []) b = grind arith
-parent_begins_first (c ∷ d ∷ x) b = grind (arith, common_steps)
+parent_begins_first x b = grind (arith, nat_tests, common_steps)
 
 -- the same of the text after its first byte
 parent_begins_after : (c : ℕ) (x : List ℕ) (i : ℕ) → ParentBegins (c ∷ x) (suc i) ↔ ParentBegins x i

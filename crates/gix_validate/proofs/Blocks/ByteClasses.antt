@@ -81,33 +81,23 @@ pub classes_of_four : (x : List ℕ) (last : ℕ) (a b c d : List ℕ) → last 
     → b ≡ map class_of (chunk 16 16 x) → c ≡ map class_of (chunk last 16 x) → d ≡ map class_of (chunk (last + 16) 16 x)
     → HaveClassesOf (zip2 bit_or (zip2 bit_or (zip2 bit_or a b) c) d) x
 classes_of_four x last a b c d all short ea eb ec ed mask =
-    grind (
-      arith,
-      any_of_or,
-      length-zip2,
-      long a 0,
-      long b 16,
-      long c last,
-      long d (last + 16),
-      said a 0,
-      said b 16,
-      said c last,
-      said d (last + 16),
-      any_is mask x,
-      any_two_chunks p x 0 16,
-      any_two_chunks p x last 16,
-      whole_chunk last 32 x all,
-      any_overlap p x last 32 (omega arith),
-    )
+    let pa = part a 0 (omega arith) ea in
+    let pb = part b 16 (omega arith) eb in
+    let pc = part c last (omega arith) ec in
+    let pd = part d (last + 16) (omega arith) ed in
+    let back = whole_chunk last 32 x all in
+    let whole = any_overlap p x last 32 (omega arith) in
+    grind (arith, any_of_or, length-zip2, pa, pb, pc, pd, any_two_chunks p x 0 16, any_two_chunks p x last 16, back, whole, any_is mask x)
   where
     p : ℕ → Bool
     p = has_class mask
 
-    long : (v : List ℕ) (at : ℕ) → at + 16 ≤ length x → v ≡ map class_of (chunk at 16 x) → length v ≡ 16
-    long v at room is = ap length is ∙ length-map (chunk at 16 x) class_of ∙ length-chunk at 16 x room
-
-    said : (v : List ℕ) (at : ℕ) → v ≡ map class_of (chunk at 16 x) → any_class mask v ≡ list_any p (chunk at 16 x)
-    said v at is = ap (any_class mask) is ∙ any_is mask (chunk at 16 x)
+    part : (v : List ℕ) (at : ℕ) → at + 16 ≤ length x → v ≡ map class_of (chunk at 16 x)
+        → (length v ≡ 16) × (any_class mask v ≡ list_any p (chunk at 16 x))
+    part v at room is = (
+      ap length is ∙ length-map (chunk at 16 x) class_of ∙ length-chunk at 16 x room,
+      ap (any_class mask) is ∙ any_is mask (chunk at 16 x),
+    )
 
 -- ---- what the classes say
 

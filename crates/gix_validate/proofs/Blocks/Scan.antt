@@ -1,6 +1,6 @@
 -- What the lanes of a scan say of offsets.
-use Rattle.std.proofs.Common.{◌≡◌, ℕ, ◌+◌, ◌-◌, ◌%◌, ◌^◌, ◌<◌, ◌≤◌, Bool, true, false, cond, List, length, take, get_or, Option, None, Some, refl}
-use Rattle.std.proofs.Common.{sym, ap, ap₂, ◌∙◌, inl, inr, arith}
+use Rattle.std.proofs.Common.{◌≡◌, ℕ, ◌+◌, ◌-◌, ◌%◌, ◌^◌, ◌<◌, ◌≤◌, Bool, true, false, cond, List, length, take, get_or, Option}
+use Rattle.std.proofs.Common.{ap, ap₂, ◌∙◌, inl, inr, arith}
 use Rattle.std.specs.Int.{bit_at}
 use Rattle.std.proofs.lemmas.Bool.{cases_lt}
 use Rattle.std.proofs.Math.Nat.{mod-lt, mod-eq_of_lt}
@@ -14,8 +14,7 @@ use Rattle.gix_validate.specs.Private.Scan.{NoneBelow, IsFirst, Finds, at_both, 
 use Rattle.gix_validate.proofs.Blocks.Parts.{AreAll, all_offsets}
 
 marked : (b : ℕ) (t : Bool) → b ≡ cond t 1 0 → (b ≡ 0 → t ≡ false) × (b ≡ 1 → t ≡ true)
-marked b true e = (λ z. absurd (omega arith), λ _. refl)
-marked b false e = (λ _. refl, λ z. absurd (omega arith))
+marked b t e = grind (arith, nat_tests)
 
 -- of the offsets of the lanes, the mask has a bit for each hit
 pub record Marks (hit : ℕ → Bool) (offset : ℕ → ℕ) (mask : ℕ) : Type 0 where
@@ -79,10 +78,7 @@ first_in_block hit offsets at mask lane m room first none =
 pub parts_marks : (hit : ℕ → ℕ → Bool) (x y v w : List ℕ) (n back mask : ℕ) → mask < 2 ^ 16 → HasParts n 0 back x v → HasParts n 0 back y w
     → ((k : ℕ) → k < 16 → bit_at mask k ≡ cond (hit (get_or v k 0) (get_or w k 0)) 1 0)
     → Marks (at_both hit x y) (offset_of n 0 back) mask
-parts_marks hit x y v w n back mask few px py lanes = record {
-  few = few;
-  lanes = λ k small. lanes k small ∙ ap (λ t. cond t 1 0) (ap₂ hit (px k small) (py k small));
-}
+parts_marks hit x y v w n back mask few px py lanes = grind (arith, nat_tests)
 
 pub none_in_parts : (hit : ℕ → Bool) (offsets n back mask : ℕ) → AreAll n back offsets
     → Marks hit (offset_of n 0 back) mask → mask ≡ 0 → NoneBelow hit offsets
@@ -113,18 +109,8 @@ first_in_parts hit offsets n back mask lane all m first =
 
 -- the same found by a condition that is the same at each offset
 alike : (p q : ℕ → Bool) (m n : ℕ) (found : Option ℕ) → m ≡ n → ((k : ℕ) → k < m → p k ≡ q k) → Finds p m m found → Finds q n n found
-alike p q m n None long same none = λ k small. sym (same k (omega arith)) ∙ none k (omega arith)
-alike p q m n (Some i) long same first = record {
-  within = omega (arith, long, first.within);
-  here = sym (same i first.within) ∙ first.here;
-  none = λ k small. sym (same k (omega (arith, first.within))) ∙ first.none k small;
-}
+alike p q m n found long same finds = grind (arith, nat_tests)
 
 pub pairs_found : (hit : ℕ → ℕ → Bool) (x : List ℕ) (n : ℕ) (found : Option ℕ) → n + 1 ≡ length x
     → Finds (at_both hit (take n x) (chunk 1 n x)) (length (take n x)) (length (take n x)) found → Finds (at_pair hit x) n n found
-pairs_found hit x n found long finds =
-    alike (at_both hit (take n x) (chunk 1 n x)) (at_pair hit x) (length (take n x)) n found all
-    (λ k small. ap₂ hit (get_or-take n x k 0 (omega (arith, all))) (get_or-chunk 1 n x k 0 (omega (arith, all)) ∙ ap (λ j. get_or x j 0) (omega arith))) finds
-  where
-    all : length (take n x) ≡ n
-    all = length-take-le n x (omega arith)
+pairs_found hit x n found long finds = grind (arith, nat_tests, alike, get_or-take, get_or-chunk, length-take-le)

@@ -26,8 +26,7 @@ done
 due=("${chosen[@]}")
 
 # A folder for the script, which goes when it ends, and the file of checks. The script ends by `leave`, or it fails.
-room=$(mktemp -d)
-tally=$(mktemp)
+room=$(mktemp -d) && tally=$(mktemp) || exit
 current=
 trap 'rm -rf -- "$room" "$tally"; echo "$suite: FAILED: it stopped before its end"; exit 1' EXIT
 

@@ -36,10 +36,11 @@ leave() {
     exit "$1"
 }
 
-# The line of a check. pass; no WHAT: a check failed. A script can have a function `show`, which prints what the check saw.
-pass() { echo "pass $current" >> "$tally"; }
+# The line of a check, without which the script stops. pass; no WHAT: a check failed. A script can have a function `show`,
+# which prints what the check saw.
+pass() { echo "pass $current" >> "$tally" || kill $$; }
 no() {
-    echo "fail $current" >> "$tally"
+    echo "fail $current" >> "$tally" || kill $$
     echo "FAILED: ${current:+$current: }${1:0:500}"
     [[ -z $current ]] || ! declare -F show > /dev/null || show | cat -v | sed 's/^/    /' || true
 }
@@ -84,6 +85,6 @@ finish() {
     done
     passed=$(grep -c '^pass' -- "$tally") || true
     count=$(grep -c '^fail' -- "$tally") || true
-    echo "$suite: $passed passed, $count failed"
-    leave $((count > 0 || passed == 0))
+    echo "$suite: $passed passed, $count failed" && [[ $count == 0 && $passed -gt 0 ]] || leave 1
+    leave 0
 }

@@ -115,9 +115,10 @@ pub(crate) fn is_clear(text: &[u8]) -> bool
 #[inline(always)]
 #[tactic(auto, using(crate::proofs::TagNames::Offsets::none_before_suspect, crate::proofs::TagNames::Offsets::none_without_suspect))]
 pub(crate) fn first_to_walk(text: &[u8]) -> usize
+    requires { 1 ≤ length text.now }
     ensures { CanWalkFrom text.now result }
 {
-    if text.len() < 8 || may_be_faulty(text[0]) {
+    if may_be_faulty(text[0]) || text.len() < 8 {
         return 0;
     }
     match scan::first_pair::<Suspect>(text) {

@@ -95,18 +95,22 @@ impl Pattern for TwoDots {
     }
 }
 
-/// Whether some part is `..`. Most names have no two dots in a row. The others, and short ones, are
-/// walked: the third byte from an offset says at how many offsets from there on no part `..` begins.
+/// Whether some part is `..`. Most names have no two dots in a row. The others are walked from the first
+/// two on, and short ones from the start: the third byte from an offset says at how many offsets from
+/// there on no part `..` begins. (A scan of names of five to eight bytes would make long ones slower.)
 #[inline(always)]
 #[tactic(auto, using(crate::proofs::Submodules::without_two_dots, crate::proofs::Submodules::some_parent, crate::proofs::Submodules::no_parent))]
 fn has_parent_part(bytes: &[u8]) -> bool
     requires { 1 ≤ length bytes.now }
     ensures { result ≡ has_parent_part bytes.now }
 {
-    if bytes.len() >= 8 && scan::first_pair::<TwoDots>(bytes).is_none() {
-        return false;
-    }
     let mut at = 0;
+    if bytes.len() > 8 {
+        match scan::first_pair::<TwoDots>(bytes) {
+            Some(offset) => at = offset,
+            None => return false,
+        }
+    }
     while at + 2 <= bytes.len() {
         if ends_part(bytes, at + 2) {
             if is_parent_at(bytes, at) {

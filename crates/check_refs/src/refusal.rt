@@ -9,7 +9,7 @@ use gix_validate::reference::NameError;
 use std::fmt;
 
 /// Why a reference name is refused (docs/RULES.md, "The report of references").
-#[derive(Debug, Drop)]
+#[derive(Drop)]
 pub enum Refusal {
     /// The name is invalid.
     Name(NameError),

@@ -15,7 +15,7 @@ use std::io::Write;
 use streams::output::push_quoted;
 
 /// The options of a run.
-#[derive(Debug, Clone, Copy, PartialEq, Eq)]
+#[derive(Clone, Copy)]
 pub struct Options {
     /// Whether a line is printed for each new id.
     pub lists_ids: bool,

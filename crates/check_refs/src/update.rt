@@ -8,7 +8,7 @@ ghost use Rattle.check_refs.specs.Spelled.{IsReadAsSpelled};
 use streams::text::{is_id, split_once};
 
 /// An update of a reference, as Git passes it to a pre-receive hook. It borrows its line.
-#[derive(Debug, Clone, Copy)]
+#[derive(Clone, Copy)]
 pub struct Update<'a> {
     /// The id that the reference had, or zeros if it is new.
     pub old_id: &'a [u8],

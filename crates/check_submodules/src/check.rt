@@ -31,7 +31,7 @@ use streams::runs::Check;
 const LARGEST: u64 = 16_777_216;
 
 /// How the input is checked.
-#[derive(Debug, Clone, Copy, PartialEq, Eq)]
+#[derive(Clone, Copy)]
 pub struct Options {
     /// Whether the input has to be whole (`--end`): no object is missing, and the line `..end
     /// missing` ends it.

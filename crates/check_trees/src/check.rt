@@ -34,7 +34,7 @@ use streams::outcome::{Fault, Verdict};
 use streams::runs::Check;
 
 /// How the input is checked.
-#[derive(Debug, Clone, Copy)]
+#[derive(Clone, Copy)]
 pub struct CheckOptions<'a> {
     /// The file systems to protect.
     pub protections: ComponentOptions,
@@ -214,7 +214,7 @@ fn check_entry<R: BufRead, W: Write>(
 }
 
 /// The result for an entry.
-#[derive(Debug, Drop)]
+#[derive(Drop)]
 enum Finding {
     /// Accepted, and not listed.
     Accepted,

@@ -11,7 +11,7 @@ use streams::text::{number_of, split_once};
 
 /// The part of an entry that is before the NUL: the mode, what it means for the name, whether it is
 /// that of a file, and the name.
-#[derive(Debug, Clone, Copy)]
+#[derive(Clone, Copy)]
 pub(crate) struct ModeAndName<'a> {
     pub(crate) mode: &'a [u8],
     pub(crate) kind: Option<ComponentMode>,

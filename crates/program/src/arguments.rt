@@ -20,7 +20,7 @@ use std::process::ExitCode;
 use std::{env, fmt};
 
 /// What a program has to do.
-#[derive(Debug, Clone, Copy)]
+#[derive(Drop)]
 pub enum Request<O> {
     /// To check standard input with these options.
     Check(O),
@@ -31,7 +31,7 @@ pub enum Request<O> {
 }
 
 /// What an option does.
-#[derive(Debug, Clone, Copy)]
+#[derive(Drop)]
 pub enum Setting<'a, O> {
     /// There is no such option.
     Unknown,

@@ -10,7 +10,7 @@ ghost use Rattle.std.specs.Str.{byte};
 use crate::text::{is_id, number_of, split_once};
 
 /// The type of an object.
-#[derive(Debug, Clone, Copy, PartialEq, Eq)]
+#[derive(Clone, Copy, PartialEq, Eq)]
 pub enum Kind {
     Blob,
     Tree,
@@ -19,7 +19,7 @@ pub enum Kind {
 }
 
 /// What a header line says of the object that follows.
-#[derive(Debug, Clone, Copy)]
+#[derive(Clone, Copy)]
 pub struct Object<'a> {
     /// Its id, in hexadecimal digits.
     pub id: &'a [u8],
@@ -32,7 +32,7 @@ pub struct Object<'a> {
 }
 
 /// What a header line says.
-#[derive(Debug, Clone, Copy)]
+#[derive(Clone, Copy)]
 pub enum Header<'a> {
     /// The object is missing.
     Missing,

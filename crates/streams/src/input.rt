@@ -11,7 +11,7 @@ use program::outcome::RunError;
 use std::io::{BufRead, ErrorKind};
 
 /// Why [`read_before`] stopped.
-#[derive(Debug, Clone, Copy, PartialEq, Eq)]
+#[derive(Clone, Copy)]
 pub enum Found {
     /// It read the byte.
     Byte,

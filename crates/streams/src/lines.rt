@@ -26,7 +26,7 @@ pub const LONGEST: u64 = 65_536;
 const END: &[u8; 13] = b"..end missing";
 
 /// Where an input has to end.
-#[derive(Debug, Clone, Copy, PartialEq, Eq)]
+#[derive(Clone, Copy, PartialEq, Eq)]
 pub enum Ending {
     /// After any line and the bytes that belong to it.
     Anywhere,

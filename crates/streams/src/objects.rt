@@ -34,7 +34,7 @@ pub trait ObjectCheck: Copy {
 }
 
 /// The rule by which each line is the header of an object.
-#[derive(Debug, Clone, Copy)]
+#[derive(Clone, Copy)]
 pub struct Objects<C> {
     check: C,
     whole: bool,

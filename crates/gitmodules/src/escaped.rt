@@ -11,7 +11,7 @@ use std::marker::Model;
 ///
 /// In contracts it is the bytes of the name, without the backslashes that escape. It borrows the
 /// bytes of the file. [`Sections`](crate::Sections) makes it.
-#[derive(Drop)]
+#[derive(Clone, Debug, Drop)]
 pub struct EscapedName<'a> {
     /// The bytes between the double quotes.
     bytes: &'a [u8],

@@ -12,7 +12,7 @@ use std::iter::FusedIterator;
 use std::marker::Model;
 
 /// A section of a submodule (docs/RULES.md, "The names in a .gitmodules file").
-#[derive(Drop)]
+#[derive(Clone, Debug, Drop)]
 pub struct Section<'a> {
     /// The offset of the `[` in the file, in bytes.
     pub offset: usize,
@@ -25,7 +25,7 @@ pub struct Section<'a> {
 ///
 /// In contracts it is the list of the sections that are left: the offset of each, and its name or
 /// `None`.
-#[derive(Drop)]
+#[derive(Debug, Drop)]
 pub struct Sections<'a> {
     file: &'a [u8],
     /// The offset from which on the next section is searched for.

@@ -132,10 +132,7 @@ none_under_fewer options fewer mode other part less x none = grind (arith, git_f
 pub fewer_law : (options : ComponentOptions) (mode : Option ComponentMode) (x : List ℕ) → fault_of options mode x ≡ None
     → IsValidUnderFewerSwitches options mode x
 unfolding fault_of
-fewer_law options mode x none =
-    let lines = AllNone-from_first (conditions options mode x) none in
-    let under = none_under_fewer options in
-    λ fewer part. (under fewer mode mode part (λ on. on) x lines, under fewer mode None part (λ on. absurd (false≢true on)) x lines)
+fewer_law options mode x none = grind (arith, nat_tests, AllNone-from_first, none_under_fewer, false≢true)
 
 has_no_slash-from_none : (x : List ℕ) → is_among x (byte "/") ≡ false → has_no_slash x ≡ true
 has_no_slash-from_none [] none = grind arith

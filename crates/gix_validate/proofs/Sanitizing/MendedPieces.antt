@@ -11,7 +11,7 @@ use Rattle.std.proofs.lemmas.List.Folds.{list_all-append}
 use Rattle.gix_validate.specs.Bytes.{is_bad, is_empty, ends, holds, begins}
 use Rattle.gix_validate.specs.Tag.{is_good_piece}
 use Rattle.gix_validate.specs.Pieces.{is_slash, has_no_slash}
-use Rattle.gix_validate.specs.Sanitized.{Dots, Other, dot_before, runs, byte_of, bytes_of, allowed, cleaned, cut, is_locks, dash_last}
+use Rattle.gix_validate.specs.Sanitized.{Dots, Other, dot_before, runs, byte_of, bytes_of, allowed, cleaned, cut, dash_last}
 use Rattle.gix_validate.proofs.Texts.Endings.{ends-false, ends-no}
 use Rattle.gix_validate.proofs.TagNames.Grammar.{is_refused}
 use Rattle.gix_validate.proofs.Sanitizing.LockSuffixes.{cut_front, cut_open, cut-own, length-cut}
@@ -41,8 +41,7 @@ each_after a (b ∷ p) = grind (arith, may_follow_regrouped, each_after b p)
 
 pub is_good_piece-bytes : (p : List ℕ) → is_good_piece p ≡ (not (is_empty p) && (each_may_follow None p && not (ends p (codes ".lock"))))
 unfolding is_good_piece is_refused
-is_good_piece-bytes [] = grind arith
-is_good_piece-bytes (b ∷ p) = grind (arith, may_begin_regrouped, each_after)
+is_good_piece-bytes p = grind (arith, nat_tests, may_begin_regrouped, each_after)
 
 -- A front of such a text is one too.
 pub each_may_follow-front : (before : Option ℕ) (f r : List ℕ) → each_may_follow before (f ++ r) ≡ true → each_may_follow before f ≡ true
@@ -76,8 +75,7 @@ written_by last (b ∷ p) =
     if b == byte "." && dot_first p then written_by last p else written_for last b ∷ written_by (Some (written_for last b)) p
 
 dot_before-runs : (p : List ℕ) → dot_before (runs p) ≡ (if dot_first p then runs p else Dots ∷ runs p)
-dot_before-runs [] = grind arith
-dot_before-runs (b ∷ p) = grind arith
+dot_before-runs p = grind (arith, nat_tests)
 
 -- `@` is written for `@` alone, and a dot for none but a dot
 marks_kept : (last : Option ℕ) (b : ℕ)
@@ -107,12 +105,10 @@ length-written last (b ∷ p) = grind (arith, length-written last p, length-writ
 
 written_for-own : (last : Option ℕ) (b : ℕ) → may_follow last b ≡ true → written_for last b ≡ b
 unfolding written_for is_refused
-written_for-own None b h = grind (arith, nat_tests)
-written_for-own (Some a) b h = grind (arith, nat_tests)
+written_for-own last b h = grind (arith, nat_tests)
 
 not_dots : (b : ℕ) (p : List ℕ) → each_may_follow (Some b) p ≡ true → (b == byte "." && dot_first p) ≡ false
-not_dots b [] h = grind arith
-not_dots b (c ∷ p) h = grind arith
+not_dots b p h = grind (arith, nat_tests)
 
 -- A piece whose bytes may each follow the one before stays as it is.
 pub written-own : (last : Option ℕ) (p : List ℕ) → each_may_follow last p ≡ true → written_by last p ≡ p
@@ -151,9 +147,7 @@ is_good_piece-empty = refl
 -- A cut leaves something of a text that is not empty and whose bytes may each follow the one before.
 cut_some : (t : List ℕ) → is_empty t ≡ false → each_may_follow None t ≡ true → is_empty (cut t) ≡ false
 unfolding cut
-cut_some [] some follows = grind arith
-cut_some (b ∷ t) some follows = cond_both (is_locks (b ∷ t)) [] (b ∷ cut t) (λ v. is_empty v ≡ false)
-    (λ locks. let first = (and_parts (may_follow None b) (each_may_follow (Some b) t) follows).0 in grind arith) (λ _. refl)
+cut_some t h e = grind (arith, nat_tests, cond_both, and_parts)
 
 is_good_piece-from : (p : List ℕ) → is_empty p ≡ false → each_may_follow None p ≡ true → ((f : List ℕ) → p ≢ f ++ codes ".lock") → is_good_piece p ≡ true
 is_good_piece-from p some follows other = grind (arith, is_good_piece-bytes, ends-false p (codes ".lock") other)

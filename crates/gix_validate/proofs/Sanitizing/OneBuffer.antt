@@ -14,6 +14,7 @@ use Rattle.gix_validate.specs.Sanitized.{cut, mended_pieces, repaired_dot, repai
 use Rattle.gix_validate.proofs.Sanitizing.MendedPieces.{dot_first}
 use Rattle.gix_validate.proofs.Sanitizing.WrittenPiece.{added, closed, GivesWhole, GivesWhole-start, GivesWhole-slash, GivesWhole-dots}
 use Rattle.gix_validate.proofs.Sanitizing.WrittenPiece.{GivesWhole-byte, GivesWhole-end}
+use Rattle.std.proofs.lemmas.Grind.{common_steps}
 
 take-add : (m n : ℕ) (xs : List ℕ) → take (m + n) xs ≡ take m xs ++ take n (drop m xs)
 take-add m n xs = grind (arith, take-append-drop m (take (m + n) xs), take-take, drop-take)
@@ -61,8 +62,7 @@ pub MendedUpTo-start : (text : List ℕ) → MendedUpTo text text 0 0 0
 MendedUpTo-start text = record { in_order = omega arith; written = omega arith; long = refl; gives = GivesWhole-start text }
 
 first_dot : (text : List ℕ) → dot_first text ≡ (get_or text 0 0 == byte ".")
-first_dot [] = refl
-first_dot (b ∷ text) = refl
+first_dot text = grind (arith, nat_tests)
 
 dot_next : (text : List ℕ) (n : ℕ) → dot_first (drop n text) ≡ (get_or text n 0 == byte ".")
 dot_next text n = grind (arith, first_dot (drop n text), get_or-drop)
@@ -79,23 +79,17 @@ pub MendedUpTo-byte : (whole text : List ℕ) (start end read w : ℕ) → Mende
     → is_slash (get_or text read 0) ≡ false → ((get_or text read 0 == byte ".") ≡ true → (get_or text (read + 1) 0 == byte ".") ≡ false)
     → w ≡ added (slice_range text start end) (get_or text read 0) → MendedUpTo whole (set text end w) start (end + 1) (read + 1)
 MendedUpTo-byte whole text start end read w so_far room slash single e =
-    let gives : GivesWhole whole (take start text) (slice_range text start end ++ w ∷ []) (drop (read + 1) text) =
-    grind (arith, GivesWhole-byte, drop_more text read 0 room, dot_next) in
-    let here = drop-set-lt (end + 1) text end w (omega arith) in
-    MendedUpTo-later whole text (set text end w) start end read start (end + 1) so_far room (length-set text end w) here
-    (omega arith) (omega arith) (grind (arith, slice_more, take-set-le))
+    grind (arith, nat_tests, GivesWhole, GivesWhole-byte, drop_more, dot_next, drop-set-lt, MendedUpTo-later, length-set, slice_more, take-set-le)
 
 -- A plain byte is written as it is.
 pub MendedUpTo-plain : (whole text : List ℕ) (start end read : ℕ) → MendedUpTo whole text start end read → read < length text
     → may_be_faulty (get_or text read 0) ≡ false → MendedUpTo whole (set text end (get_or text read 0)) start (end + 1) (read + 1)
-MendedUpTo-plain whole text start end read so_far room plain =
-    MendedUpTo-byte whole text start end read (get_or text read 0) so_far room (grind arith) (λ dot. grind arith) (grind arith)
+MendedUpTo-plain whole text start end read so_far room plain = grind (arith, common_steps, MendedUpTo-byte)
 
 -- A dot before another one is left out.
 pub MendedUpTo-dots : (whole text : List ℕ) (start end read : ℕ) → MendedUpTo whole text start end read → read < length text
     → get_or text read 0 ≡ byte "." → get_or text (read + 1) 0 ≡ byte "." → MendedUpTo whole text start end (read + 1)
-MendedUpTo-dots whole text start end read so_far room first second =
-    grind (arith, nat_tests, MendedUpTo-later, GivesWhole-dots, drop_more text read 0 room, dot_next)
+MendedUpTo-dots whole text start end read so_far room first second = grind (arith, nat_tests, MendedUpTo-later, GivesWhole-dots, drop_more, dot_next)
 
 -- A slash closes the piece.
 pub MendedUpTo-slash : (whole text new : List ℕ) (start end read n : ℕ) → MendedUpTo whole text start end read → read < length text
@@ -103,10 +97,7 @@ pub MendedUpTo-slash : (whole text new : List ℕ) (start end read n : ℕ) → 
     → take n new ≡ (if start == end then take end text else take start text ++ (cut (slice_range text start end) ++ codes "/"))
     → drop (end + 1) new ≡ drop (end + 1) text → MendedUpTo whole new n n (read + 1)
 MendedUpTo-slash whole text new start end read n so_far room slash same within written rest =
-    let gives : GivesWhole whole (closed (take start text) (slice_range text start end)) [] (drop (read + 1) text) =
-    grind (arith, GivesWhole-slash, drop_more text read 0 room) in
-    let now : take n new ≡ closed (take start text) (slice_range text start end) = grind (arith, is_empty-slice) in
-    MendedUpTo-later whole text new start end read n n so_far room same rest (omega arith) (omega arith) (rw (now, no_slice new n) gives)
+    grind (arith, nat_tests, GivesWhole, closed, GivesWhole-slash, drop_more, is_empty-slice, MendedUpTo-later, no_slice)
 
 -- At the end of the text the last piece ends.
 pub mended_text : (whole text written : List ℕ) (start end read : ℕ) → MendedUpTo whole text start end read → length text ≤ read

@@ -11,6 +11,7 @@ use Rattle.gix_validate.specs.Sanitized.{allowed, cut, mended_pieces}
 use Rattle.gix_validate.proofs.Sanitizing.MendedPieces.{is_after, dot_first, written_for, written_by, written_some, cleaned-written}
 use Rattle.gix_validate.proofs.Sanitizing.Laws.{mended_of}
 use Rattle.gix_validate.proofs.Texts.Pieces.{joined-push}
+use Rattle.std.proofs.lemmas.Bool.Decides.{nat_tests}
 
 -- what a byte adds to its piece
 abbrev pub added : List ℕ → ℕ → ℕ
@@ -39,17 +40,13 @@ mended_from texts piece last [] = texts ++ kept piece
 mended_from texts piece last (p ∷ ps) = texts ++ (kept (piece ++ written_by last p) ++ mended_of ps)
 
 closed-slashed : (texts : List (List ℕ)) (piece : List ℕ) → closed (slashed texts) piece ≡ slashed (texts ++ kept piece)
-closed-slashed [] piece = grind arith
-closed-slashed (q ∷ ps) piece = grind (arith, append-nil, append_assoc, joined-push)
+closed-slashed texts piece = grind (arith, nat_tests, append-nil, append_assoc, joined-push)
 
 finished-slashed : (texts : List (List ℕ)) (piece : List ℕ) → finished (slashed texts) piece ≡ joined (texts ++ kept piece)
-finished-slashed [] piece = grind arith
-finished-slashed (q ∷ ps) piece = grind (arith, append-nil, append_assoc, joined-push, take_at, length-append)
+finished-slashed texts piece = grind (arith, nat_tests, append-nil, append_assoc, joined-push, take_at, length-append)
 
 mended_from-start : (texts ps : List (List ℕ)) → mended_from texts [] None ps ≡ texts ++ mended_of ps
-mended_from-start texts [] = refl
-mended_from-start texts ([] ∷ ps) = refl
-mended_from-start texts ((b ∷ p) ∷ ps) = grind (arith, cleaned-written (b ∷ p), written_some None (b ∷ p) refl)
+mended_from-start texts ps = grind (arith, nat_tests, cleaned-written, written_some)
 
 mended_from-next : (texts : List (List ℕ)) (piece : List ℕ) (last : Option ℕ) (ps : List (List ℕ))
     → mended_from texts piece last ([] ∷ ps) ≡ mended_from (texts ++ kept piece) [] None ps
@@ -59,8 +56,7 @@ mended_from-byte : (texts : List (List ℕ)) (piece : List ℕ) (last : Option �
     → mended_from texts piece last (pieces (b ∷ rest)) ≡ (if b == byte "." && dot_first rest
     then mended_from texts piece last (pieces rest)
     else mended_from texts (piece ++ written_for last b ∷ []) (Some (written_for last b)) (pieces rest))
-mended_from-byte texts piece last b [] other = grind (arith, append_assoc, append-nil)
-mended_from-byte texts piece last b (c ∷ rest) other = grind (arith, append_assoc, append-nil)
+mended_from-byte texts piece last b rest h = grind (arith, nat_tests, append_assoc, append-nil)
 
 -- With these pieces done, each with its slash, and this piece written, the rest still gives what the whole gives.
 pub record GivesWhole (whole done piece rest : List ℕ) : Type 0 where

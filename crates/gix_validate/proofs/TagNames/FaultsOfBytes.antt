@@ -1,5 +1,5 @@
 -- The faults of tag names along a text: the lines of the table that look back alone, and the last line apart.
-use Rattle.std.proofs.Common.{◌≡◌, ℕ, zero, suc, ◌+◌, ◌<◌, ◌≤◌, Bool, false, not, ◌&&◌, List, [], ◌∷◌, ◌++◌, length, take, drop, get_or, refl, arith}
+use Rattle.std.proofs.Common.{◌≡◌, ℕ, zero, suc, ◌+◌, ◌<◌, ◌≤◌, Bool, false, not, ◌&&◌, List, [], ◌∷◌, ◌++◌, length, take, drop, get_or, arith}
 use Rattle.std.proofs.Common.{Option, None}
 use Rattle.std.proofs.lemmas.List.{append-nil, append_assoc, take_all, take_more, drop_all, length-drop}
 use Rattle.std.specs.Prelude.{codes}
@@ -11,6 +11,7 @@ use Rattle.gix_validate.specs.Faults.{when, first_of, ◌orelse◌, at_first_off
 use Rattle.gix_validate.specs.Tag.{fault_table, faults_at}
 use Rattle.gix_validate.specs.Private.TagWalk.{fault_of_byte, fault_of_byte_at}
 use Rattle.gix_validate.proofs.Texts.Offsets.{orelse_assoc, at_first_offset_more, at_first_offset_none, at_first_offset_same}
+use Rattle.std.proofs.lemmas.Bool.Decides.{nat_tests}
 
 -- the text ends in `.lock`, and isn't that alone
 abbrev pub has_lock_suffix : List ℕ → Bool
@@ -22,8 +23,7 @@ first_of-more t1 t2 t3 t4 t5 t6 t7 t8 = grind arith
 
 fault_inside : (before : List ℕ) (b : ℕ) (after : List ℕ) → 0 < length after → first_of (fault_table before b after) ≡ fault_of_byte before b
 unfolding fault_of_byte fault_table
-fault_inside before b [] some = absurd (omega arith)
-fault_inside before b (c ∷ after) some = refl
+fault_inside before b after h = grind (arith, nat_tests)
 
 -- at the end of the text the last line comes after them
 fault_at_end : (before : List ℕ) (b : ℕ)

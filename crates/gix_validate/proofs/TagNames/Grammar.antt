@@ -94,5 +94,4 @@ law_begun b x = grind (arith, nat_tests, begun_good, is_none-parts, slash_last, 
 -- the grammar, and the table with its order: a text is a tag name if and only if it has no fault
 pub tag_grammar_law : (x : List ℕ) → is_tag_name x ≡ is_none (fault_of x)
 unfolding is_tag_name fault_of is_good_piece
-tag_grammar_law [] = refl
-tag_grammar_law (b ∷ x) = law_begun b x
+tag_grammar_law x = grind (arith, nat_tests, law_begun)

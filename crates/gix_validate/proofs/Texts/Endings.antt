@@ -1,15 +1,16 @@
 -- How a text ends: as an equation, by its bytes, and by its last piece.
-use Rattle.std.proofs.Common.{◌≡◌, ◌≢◌, ℕ, suc, ◌-◌, ◌<◌, ◌≤◌, true, false, cond, eqb, List, [], ◌∷◌, ◌++◌, length, take, drop, get_or, refl, ap, ◌∙◌, arith}
+use Rattle.std.proofs.Common.{◌≡◌, ◌≢◌, ℕ, ◌-◌, ◌<◌, ◌≤◌, true, false, cond, eqb, List, [], ◌∷◌, ◌++◌, length, take, get_or, refl, ◌∙◌, arith}
 use Rattle.std.proofs.Common.{length-append}
 use Rattle.std.proofs.lemmas.Slice.Eq.{bytes_eq-Decides}
 use Rattle.std.proofs.lemmas.List.{take-append-drop, drop_at}
 use Rattle.std.proofs.lemmas.List.Folds.{list_all-append}
 use Rattle.std.proofs.lemmas.Bool.{false_from_ne_true}
 use Rattle.std.specs.Prelude.{codes}
-use Rattle.std.specs.Str.{byte, bytes_eq}
+use Rattle.std.specs.Str.{byte}
 use Rattle.gix_validate.specs.Bytes.{is_empty, ends}
 use Rattle.gix_validate.specs.Pieces.{is_slash, has_no_slash}
 use Rattle.std.proofs.lemmas.Grind.{common_steps}
+use Rattle.std.proofs.lemmas.Bool.Decides.{nat_tests}
 
 pub ends-true : (x back : List ℕ) → ends x back ≡ true → x ≡ take (length x - length back) x ++ back
 ends-true x back h = grind (arith, bytes_eq-Decides, take-append-drop)
@@ -50,9 +51,7 @@ last_piece_apart (b ∷ y) = grind (arith, last_piece_apart y)
 
 -- where the text is long enough, its first byte has no say in how it ends
 pub ends_cons : (f : List ℕ) (b : ℕ) (y : List ℕ) → length f ≤ length y → ends (b ∷ y) f ≡ ends y f
-ends_cons f b y h =
-    let e : length (b ∷ y) - length f ≡ suc (length y - length f) = omega arith in
-    ap (λ k. bytes_eq f (drop k (b ∷ y))) e
+ends_cons f b y h = grind (arith, nat_tests)
 
 ends_after_slash : (f : List ℕ) → has_no_slash f ≡ true → (b : ℕ) (y : List ℕ) → has_no_slash (b ∷ y) ≡ false → ends (b ∷ y) f ≡ ends y f
 ends_after_slash f apart b y slash = grind (arith, bytes_eq-Decides)

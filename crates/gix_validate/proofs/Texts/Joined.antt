@@ -9,6 +9,7 @@ use Rattle.gix_validate.specs.Pieces.{joined, has_no_slash}
 use Rattle.gix_validate.specs.Tag.{is_good_piece}
 use Rattle.gix_validate.specs.Sanitized.{dash_last, dash_last_of}
 use Rattle.gix_validate.proofs.Sanitizing.MendedPieces.{dash_last-good, dash_last-apart, is_good_piece-empty}
+use Rattle.std.proofs.lemmas.Bool.Decides.{nat_tests}
 
 -- Good pieces stay good with a dash for the last byte of the last of them.
 pub dash_last_of-good : (ps : List (List ℕ)) → list_all is_good_piece ps ≡ true → list_all is_good_piece (dash_last_of ps) ≡ true
@@ -33,12 +34,10 @@ dash_after s t some =
     ap (λ v. take v (s ++ t) ++ codes "-") n ∙ grind (arith, take-append-add, append_assoc)
 
 joined_some : (p : List ℕ) (ps : List (List ℕ)) → is_empty p ≡ false → 0 < length (joined (p ∷ ps))
-joined_some [] ps some = grind arith
-joined_some (b ∷ p) [] some = omega arith
-joined_some (b ∷ p) (q ∷ ps) some = omega arith
+joined_some p ps h = grind (arith, nat_tests)
 
 pub good_nonempty : (p : List ℕ) → is_good_piece p ≡ true → is_empty p ≡ false
-good_nonempty p hh1 = grind (arith, is_good_piece-empty)
+good_nonempty p h = grind (arith, is_good_piece-empty)
 
 pub dash_last_of-cons : (q : List ℕ) (ps : List (List ℕ)) → (r : List ℕ) × (rs : List (List ℕ)) × (dash_last_of (q ∷ ps) ≡ r ∷ rs)
 dash_last_of-cons q [] = (_, _, refl)

@@ -120,6 +120,13 @@ none_unended x n end = grind (arith, common_steps, end)
 pub unended_within : (x : List ℕ) (n : ℕ) → n + 2 ≤ length x → (n + 2 == length x || is_separator (get_or x (n + 2) 0)) ≡ false → n + 2 < length x
 unended_within x n within end = grind (arith, nat_tests, (or_parts (n + 2 == length x) _ end).0)
 
+-- A separator at the next offset: none begins there.
+pub none_and_separator : (x : List ℕ) (n : ℕ) → NoParentBelow x n → is_parent_at x n ≡ false → is_separator (get_or x (n + 1) 0) ≡ true
+    → NoParentBelow x (n + 2)
+none_and_separator x n none here alone =
+    let second = false_from_ne_true _ (λ t. grind (arith, alone, (parent_begins x (n + 1) t).0.first)) in
+    λ k small. none_and_next x (n + 1) (none_and_next x n none here) second k (omega arith)
+
 -- No end, and if it is a dot, neither of the two bytes before it is a separator: none begins there or at the next three offsets.
 pub none_and_other : (x : List ℕ) (n : ℕ) → NoParentBelow x n → (n + 2 == length x || is_separator (get_or x (n + 2) 0)) ≡ false
     → (get_or x (n + 2) 0 ≡ byte "." → (is_separator (get_or x n 0) || is_separator (get_or x (n + 1) 0)) ≡ false) → NoParentBelow x (n + 4)

@@ -121,7 +121,7 @@ fn has_parent_part(bytes: &[u8]) -> bool
         } else if bytes[at + 2] == b'.'
             && (is_separator(bytes[at]) || is_separator(bytes[at + 1]))
         {
-            at += 1;
+            at += if is_separator(bytes[at + 1]) { 2 } else { 1 };
         } else {
             at += 4;
         }

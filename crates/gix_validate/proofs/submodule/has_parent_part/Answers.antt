@@ -2,7 +2,8 @@ use Rattle.std.proofs.Common.{sym, ◌∙◌, arith}
 use Rattle.gix_validate.proofs.Submodules.{none_and_end, none_and_next, none_and_other, none_and_separator, none_unended, unended_within}
 use Rattle.gix_validate.proofs.submodule.has_parent_part.Goals as goal
 use Rattle.gix_validate.proofs.submodule.has_parent_part.Goals.{then-is_separator, else-is_separator, then-is_separator-3, else-is_separator-3}
-use Rattle.gix_validate.proofs.submodule.has_parent_part.Goals.{else-bytes-at-eq46-via-then-bytes-at-eq46+else-is_separator-2, else-bytes-at-eq46-via-else-bytes-at-eq46}
+use Rattle.gix_validate.proofs.submodule.has_parent_part.Goals.{else-bytes-at-eq46-via-then-bytes-at-eq46+else-is_separator-2}
+use Rattle.gix_validate.proofs.submodule.has_parent_part.Goals.{else-bytes-at-eq46-via-else-bytes-at-eq46}
 
 pub loop-at-preserved-then-ends_part : goal.loop-at-preserved-then-ends_part
 loop-at-preserved-then-ends_part c = record {

@@ -1,0 +1,209 @@
+// Validation of the names that Git uses, and the repair of a bad reference name, for Node, browsers, workers and bundlers.
+//
+// Each function calls a proved function of the Rattle crate gix_validate_c, compiled to WebAssembly. gix_validate.d.ts says
+// what each does, docs/RULES.md the rules, docs/ASSURANCE.md what is proved and what is not.
+import wasm from "./gix_validate_wasm.mjs";
+
+/** The faults by their numbers, which are stable, and those of gix_validate.h. That of a valid name, 0, is null. */
+export const FAULTS = Object.freeze([null, "InvalidByte", "StartsWithSlash", "RepeatedSlash", "RepeatedDot", "LockFileSuffix",
+    "ReflogPortion", "Asterisk", "StartsWithDot", "EndsWithDot", "EndsWithSlash", "Empty", "SomeLowercase", "Reserved",
+    "ParentComponent", "PathSeparator", "WindowsPathPrefix", "WindowsReservedName", "WindowsIllegalCharacter", "DotGitDir",
+    "SymlinkedGitModules", "Relative"]);
+const INVALID_BYTE = 1;
+const TEXT_MAX = 134;
+const SHOWN_MAX = 200;
+const PAGE = 65536;
+const PROTECT_ALL = 7;
+
+const binary = Uint8Array.from(atob(wasm), (character) => character.charCodeAt(0));
+const { instance: { exports: proved } } = await WebAssembly.instantiate(binary);
+
+// The module has no allocator, and its stack and constants end at __heap_base. From there on the memory is this file's: the
+// text of a fault is at TEXT, the name at NAME, and a name that is longer than what is left lets the memory grow.
+const TEXT = proved.__heap_base.value;
+const NAME = TEXT + BigInt(TEXT_MAX);
+const start = Number(NAME);
+let memory = new Uint8Array(proved.memory.buffer);
+let room = memory.subarray(start);
+
+const encoder = new TextEncoder();
+const decoder = new TextDecoder("utf-8", { ignoreBOM: true });
+// (what an array of another window is, too, and whatever a subclass says)
+const typed = Object.getPrototypeOf(Uint8Array.prototype);
+const typeOf = Object.getOwnPropertyDescriptor(typed, Symbol.toStringTag).get;
+const lengthOf = Object.getOwnPropertyDescriptor(typed, "length").get;
+
+/** A name that is invalid. */
+export class InvalidName extends Error {
+    constructor(message, input, fault, text, byte) {
+        super(message);
+        Object.assign(this, { input, fault, text, byte });
+    }
+}
+Object.defineProperty(InvalidName.prototype, "name", { value: "InvalidName", configurable: true, writable: true });
+
+/** Makes room for so many bytes from NAME on. */
+function reserve(length) {
+    const missing = start + length - memory.length;
+    if (missing > 0) {
+        proved.memory.grow(Math.ceil(missing / PAGE)); // a RangeError, if there is no such memory
+        memory = new Uint8Array(proved.memory.buffer);
+        room = memory.subarray(start);
+    }
+}
+
+/** Copies a name into the module's memory, and returns how many bytes it has. */
+function put(name, what = "a name") {
+    if (typeof name === "string") {
+        reserve(3 * name.length);
+        const { written } = encoder.encodeInto(name, room);
+        if (written !== name.length && /\p{Surrogate}/u.test(name)) {
+            throw new TypeError(`${what} that is a string has to be well-formed: this has half of a surrogate pair`);
+        }
+        return written;
+    }
+    if (typeOf.call(name) !== "Uint8Array") {
+        throw new TypeError(`${what} has to be a string or a Uint8Array, not ${name === null ? "null" : typeof name}`);
+    }
+    const length = lengthOf.call(name);
+    reserve(length);
+    room.set(name); // a TypeError, if its buffer is detached
+    return length;
+}
+
+/** What is at NAME, in quotes and ASCII. */
+function quoted(length) {
+    const shown = JSON.stringify(decoder.decode(room.slice(0, Math.min(length, SHOWN_MAX))));
+    const printable = shown.replace(/[^ -~]/g, (it) => `\\u${it.charCodeAt(0).toString(16).padStart(4, "0")}`);
+    return length > SHOWN_MAX ? `${printable}..` : printable;
+}
+
+/** What the settings of a path component turn on. */
+function flagsOf(options) {
+    if (options === undefined) {
+        return PROTECT_ALL;
+    }
+    if (typeof options !== "object" || options === null) {
+        throw new TypeError("the options of a path component have to be an object");
+    }
+    const { windows = true, hfs = true, ntfs = true, symlink = false, ...others } = options;
+    for (const [name, value] of Object.entries({ windows, hfs, ntfs, symlink, ...others })) {
+        if (typeof value !== "boolean" || Object.hasOwn(others, name)) {
+            throw new TypeError(`the options of a path component are windows, hfs, ntfs and symlink, true or false: ${name}`);
+        }
+    }
+    return (windows ? 1 : 0) | (hfs ? 2 : 0) | (ntfs ? 4 : 0) | (symlink ? 8 : 0);
+}
+
+/** The proved functions of each kind of name, and the settings that they take. */
+const kinds = new Map(["tag", "partial", "full", "branch", "submodule", "component"].map((kind) => [kind, {
+    codeOf: proved[`gix_validate_${kind}`],
+    textOf: proved[`gix_validate_${kind}_text`],
+    manyOf: proved[`gix_validate_${kind}_many`],
+    flagsOf: kind === "component" ? flagsOf : () => 0,
+    settings: kind === "component" ? (flags) => [flags] : () => [],
+}]));
+
+function kindOf(kind) {
+    const found = kinds.get(kind);
+    if (found === undefined) {
+        throw new TypeError(`a kind has to be one of ${[...kinds.keys()].join(", ")}`);
+    }
+    return found;
+}
+
+/** The function that returns a name of this kind, and the one that says whether it is one. */
+function calls(kind) {
+    const { codeOf, textOf, flagsOf, settings } = kindOf(kind);
+    const accepted = (name, options) => {
+        const flags = flagsOf(options);
+        const length = put(name);
+        const code = codeOf(NAME, BigInt(length), flags);
+        if (code === 0) {
+            return name;
+        }
+        const written = textOf(NAME, BigInt(length), ...settings(flags), TEXT, BigInt(TEXT_MAX));
+        const text = decoder.decode(memory.slice(Number(TEXT), Number(TEXT + written)));
+        const byte = code === INVALID_BYTE ? proved.gix_validate_invalid_byte(NAME, BigInt(length)) : null;
+        throw new InvalidName(`${quoted(length)}: ${text}`, name, FAULTS[code], text, byte);
+    };
+    const whether = (name, options) => {
+        const flags = flagsOf(options);
+        return codeOf(NAME, BigInt(put(name)), flags) === 0;
+    };
+    return [accepted, whether];
+}
+
+export const [tagName, isValidTagName] = calls("tag");
+export const [partialName, isValidPartialName] = calls("partial");
+export const [fullName, isValidFullName] = calls("full");
+export const [branchName, isValidBranchName] = calls("branch");
+export const [submoduleName, isValidSubmoduleName] = calls("submodule");
+export const [pathComponent, isValidPathComponent] = calls("component");
+
+export function isWindowsDevice(name) {
+    return proved.gix_validate_is_windows_device(NAME, BigInt(put(name))) !== 0;
+}
+
+export function sanitize(name) {
+    const length = put(name);
+    if (proved.gix_validate_partial(NAME, BigInt(length)) === 0) {
+        return name;
+    }
+    const size = Math.max(1, length);
+    reserve(size);
+    const repaired = room.slice(0, Number(proved.gix_validate_sanitize_in_place(NAME, BigInt(size), BigInt(length))));
+    return typeof name === "string" ? decoder.decode(repaired) : repaired;
+}
+
+/** The number of each name in a buffer, which has at most as many as bytes. */
+function numbersOf({ manyOf }, buffer, end, what) {
+    const length = put(buffer, what);
+    reserve(2 * length);
+    const count = Number(manyOf(NAME, BigInt(length), end, NAME + BigInt(length), BigInt(length)));
+    return room.slice(length, length + count);
+}
+
+export function faultNumbers(buffer, kind, end = 10) {
+    const checked = kindOf(kind);
+    if (checked.manyOf === undefined) {
+        throw new TypeError(`names of the kind ${kind} can't be checked in a buffer`);
+    }
+    if (!Number.isInteger(end)) {
+        throw new TypeError("the end of a name has to be the number of a byte");
+    }
+    if (end < 0 || end > 255) {
+        throw new RangeError("the end of a name has to be from 0 to 255");
+    }
+    return numbersOf(checked, buffer, end, "a buffer of names");
+}
+
+/** The number of each name. A name that holds a NUL can't be in a buffer in which NUL ends each name. */
+function numbersOfEach(names, kind, options) {
+    const checked = kindOf(kind);
+    const flags = checked.flagsOf(options);
+    if (typeof names === "string") {
+        throw new TypeError("the names have to be an iterable of names, not one string");
+    }
+    const listed = [...names];
+    if (checked.manyOf !== undefined && listed.every((name) => typeof name === "string")) {
+        const numbers = numbersOf(checked, `${listed.join("\0")}\0`, 0);
+        if (numbers.length === listed.length) {
+            return numbers;
+        }
+    }
+    return Uint8Array.from(listed, (name) => checked.codeOf(NAME, BigInt(put(name)), flags));
+}
+
+export function faults(names, kind, options) {
+    return Array.from(numbersOfEach(names, kind, options), (number) => FAULTS[number]);
+}
+
+export function firstInvalid(names, kind, options) {
+    return numbersOfEach(names, kind, options).findIndex((number) => number !== 0);
+}
+
+export function version() {
+    const number = proved.gix_validate_version();
+    return [Math.floor(number / 1000000), Math.floor(number / 1000) % 1000, number % 1000].join(".");
+}

@@ -104,12 +104,12 @@ export function sanitize(name: Name): Name;
 export function faultNumbers(buffer: Name, kind: BufferKind, end?: number): Uint8Array;
 
 /** Checks many names: returns null for each that is valid, and the fault of each that isn't, in order. */
-export function faults(names: Iterable<Name>, kind: BufferKind): (Fault | null)[];
-export function faults(names: Iterable<Name>, kind: Kind, options?: ComponentOptions): (Fault | null)[];
+export function faults(names: Iterable<Name>, kind: Kind): (Fault | null)[];
+export function faults(names: Iterable<Name>, kind: "component", options?: ComponentOptions): (Fault | null)[];
 
 /** Checks many names: returns the index of the first that is invalid, and -1 if all are valid. */
-export function firstInvalid(names: Iterable<Name>, kind: BufferKind): number;
-export function firstInvalid(names: Iterable<Name>, kind: Kind, options?: ComponentOptions): number;
+export function firstInvalid(names: Iterable<Name>, kind: Kind): number;
+export function firstInvalid(names: Iterable<Name>, kind: "component", options?: ComponentOptions): number;
 
 /** The version of the functions, such as "2.1.0". */
 export function version(): string;

@@ -160,10 +160,14 @@ async function page(file) {
 }
 
 async function picture(file, png) {
-    await send("Emulation.setDeviceMetricsOverride", { width: 760, height: 560, deviceScaleFactor: 1, mobile: false });
+    const metrics = { width: 620, height: 900, deviceScaleFactor: 1, mobile: true };
+    await send("Emulation.setDeviceMetricsOverride", metrics);
     await opened(pathToFileURL(resolve(file)).href);
     await value("globalThis.part_name = document.querySelector('#name'), 0");
-    await type("path", "docs/aux.txt");
+    await type("branch", "feature//login page.lock");
+    metrics.height = await value("Math.ceil(document.querySelector('footer').getBoundingClientRect().top)");
+    await send("Emulation.setDeviceMetricsOverride", metrics);
+    await value("new Promise(requestAnimationFrame)");
     const { data } = await send("Page.captureScreenshot", { format: "png" });
     writeFileSync(png, Buffer.from(data, "base64"));
 }

@@ -1,8 +1,8 @@
 // in_chromium.mjs WHAT..: tests in headless Chromium, by its debugging protocol:
 //
-//     rows VERSION FOLDER..    test_gix_validate.mjs of each folder
-//     page FILE                the page, from the disk: typed names, keyboard, what a screen reader gets, narrow, in the dark
-//     picture FILE PNG         a picture of the page
+//     rows VERSION (WHAT FOLDER)..    test_gix_validate.mjs of each folder
+//     page FILE                       the page, from the disk: typed names, keyboard, what a screen reader gets, narrow, in the dark
+//     picture FILE PNG                a picture of the page
 //
 // Chromium leaves its files in a folder in TMPDIR.
 import { spawn } from "node:child_process";
@@ -59,18 +59,20 @@ async function opened(url) {
     }
 }
 
-async function rows(version, ...folders) {
+async function rows(version, ...tested) {
+    const folders = tested.filter((_, at) => at % 2);
     const text = readFileSync(new URL("../../tests/rows", import.meta.url), "ascii");
     const server = createServer(({ url }, response) => {
         const type = url.endsWith(".mjs") ? "text/javascript" : "text/html";
-        response.writeHead(200, { "Content-Type": type });
+        // (with the last two a page may share buffers)
+        response.writeHead(200, { "Content-Type": type, "Cross-Origin-Opener-Policy": "same-origin", "Cross-Origin-Embedder-Policy": "require-corp" });
         response.end(type === "text/html" ? "" : readFileSync(join(folders[Number(url.split("/")[1])], url.split("/")[2])));
     }).listen(0, "127.0.0.1");
     await new Promise((done) => server.on("listening", done));
     await opened(`http://127.0.0.1:${server.address().port}/`);
-    for (const [at, folder] of folders.entries()) {
-        const module = `/${at}/test_gix_validate.mjs`;
-        console.log(`js, in Chromium, ${folder}: ${await value(`import("${module}").then((it) => it.run(${JSON.stringify(text)}, "${version}"))`)}`);
+    for (const at of folders.keys()) {
+        const call = `import("/${at}/test_gix_validate.mjs").then((it) => it.run(${JSON.stringify(text)}, "${version}"))`;
+        console.log(`js, in Chromium, ${tested[2 * at]}: ${await value(call)}`);
     }
     server.close();
 }

@@ -34,11 +34,13 @@
 #![tactic(auto)]
 
 pub use crate::component::Component;
+pub use crate::joining::join;
 pub use crate::name::{BranchName, FullName, Name, PartialName, SubmoduleName, TagName};
 pub use crate::pieces::Pieces;
 pub use crate::rule::{Branch, Full, Partial, Rule, Submodule, Tag};
 
 mod component;
+mod joining;
 mod name;
 mod pieces;
 mod rule;

@@ -8,16 +8,16 @@ use bstr::{BStr, BString};
 #[cfg(all(target_arch = "x86_64", target_pointer_width = "64"))]
 std::arch::global_asm!(include_str!("../native/x86_64.s"), options(att_syntax)); // in a clone, bindings/build makes this file
 
-#[cfg(all(target_arch = "aarch64", target_os = "linux", target_endian = "little"))]
+#[cfg(all(target_arch = "aarch64", target_pointer_width = "64", target_endian = "little"))]
 std::arch::global_asm!(include_str!("../native/aarch64.s")); // in a clone, release/aarch64 makes this file
 
 #[cfg(not(any(
     all(target_arch = "x86_64", target_pointer_width = "64"),
-    all(target_arch = "aarch64", target_os = "linux", target_endian = "little")
+    all(target_arch = "aarch64", target_pointer_width = "64", target_endian = "little")
 )))]
 compile_error!(
-    "the proved functions of gix-validate are there for x86-64, and for AArch64 on Linux, but not for this target; to \
-     build for it, take gix-validate out of [patch.crates-io]"
+    "the proved functions of gix-validate are there for x86-64 and AArch64, but not for this target; to build for it, \
+     take gix-validate out of [patch.crates-io]"
 );
 
 #[allow(non_camel_case_types)]

@@ -1,4 +1,4 @@
-"""The manual gix_validate(3), made of the header, and a page of each function that refers to it.
+"""The manual gix_validate(3), made of the header, and a link to it for each function.
 
     manual.py HEADER FOLDER VERSION DAY
 """
@@ -40,4 +40,4 @@ page += ".nh\n.ad l\n.SH SYNOPSIS\n.nf\n#include <gix_validate.h>\n.fi\n.SH DESC
 page += "".join(prose(comment) + code(behind) for comment, behind in zip(parts[1::2], parts[2::2]))
 (folder / "gix_validate.3").write_text(page, encoding="ascii")
 for name in declared:
-    (folder / f"{name}.3").write_text(".so man3/gix_validate.3\n", encoding="ascii")
+    (folder / f"{name}.3").symlink_to("gix_validate.3")

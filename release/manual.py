@@ -37,7 +37,7 @@ parts = re.split(r"(?ms)^/\*(.*?)\*/\n", header.read_text(encoding="ascii"))
 declared = re.findall(r"(?m)^(?:static inline )?\w[\w ]*[ *](gix_validate_\w+)\(", "".join(parts[::2]))
 page = f'.TH GIX_VALIDATE 3 "{day}" "gix-validate {version}"\n.SH NAME\n{", ".join(["gix_validate", *declared])} \\- names that Git uses\n'
 page += ".nh\n.ad l\n.SH SYNOPSIS\n.nf\n#include <gix_validate.h>\n.fi\n.SH DESCRIPTION\n"
-page += "".join(prose(comment) + code(behind) for comment, behind in zip(parts[1::2], parts[2::2]))
+page += "".join(prose(comment) + code(behind) for comment, behind in zip(parts[1::2], parts[2::2])).removeprefix(".PP\n")
 (folder / "gix_validate.3").write_text(page, encoding="ascii")
 for name in declared:
     (folder / f"{name}.3").symlink_to("gix_validate.3")

@@ -1,29 +1,63 @@
-"""wheel.py FOLDER OUT: packs a folder as a wheel, named by the folder and the tags of its file WHEEL.
+"""Packs a wheel. The same input gives the same bytes; the files' date is that of SOURCE_DATE_EPOCH.
 
-The same input gives the same bytes; the files' date is that of SOURCE_DATE_EPOCH.
+    wheel.py FOLDER OUT     packs a folder, and names the wheel by the folder and the tags of its file WHEEL
+
+In the source archive for Python this is what pip calls to build a wheel there: of the folder `wheel`, and of the block of
+machine code for the processor, which it makes a shared object by the C compiler.
 """
 import base64
 import hashlib
 import os
+import platform
+import shutil
+import subprocess
 import sys
+import sysconfig
+import tempfile
 import time
 import zipfile
 from pathlib import Path
 
-folder, out = Path(sys.argv[1]), Path(sys.argv[2])
-info = next(folder.glob("*.dist-info"))
-tags = [line.split("-")[-1] for line in (info / "WHEEL").read_text().splitlines() if line.startswith("Tag: ")]
-files = {str(path.relative_to(folder)): path.read_bytes() for path in sorted(folder.rglob("*")) if path.is_file()}
-record = f"{info.name}/RECORD"
-lines = ""
-for name, data in files.items():
-    digest = base64.urlsafe_b64encode(hashlib.sha256(data).digest()).rstrip(b"=").decode()
-    lines += f"{name},sha256={digest},{len(data)}\n"
-files[record] = f"{lines}{record},,\n".encode()
+BLOCKS = {"x86_64": "x86_64.s", "aarch64": "aarch64.s", "arm64": "aarch64.s"}
 
-with zipfile.ZipFile(out / f"{info.stem}-py3-none-{'.'.join(tags)}.whl", "w") as packed:
+
+def packed(folder, out):
+    """Packs a folder, and returns the name of the wheel."""
+    info = next(folder.glob("*.dist-info"))
+    tags = [line.split("-")[-1] for line in (info / "WHEEL").read_text().splitlines() if line.startswith("Tag: ")]
+    files = {str(path.relative_to(folder)): path.read_bytes() for path in sorted(folder.rglob("*")) if path.is_file()}
+    record = f"{info.name}/RECORD"
+    lines = ""
     for name, data in files.items():
-        entry = zipfile.ZipInfo(name, time.gmtime(int(os.environ["SOURCE_DATE_EPOCH"]))[:6])
-        entry.create_system = 3  # Unix, wherever this runs
-        entry.external_attr = (0o100755 if name.endswith(".so") else 0o100644) << 16
-        packed.writestr(entry, data)
+        digest = base64.urlsafe_b64encode(hashlib.sha256(data).digest()).rstrip(b"=").decode()
+        lines += f"{name},sha256={digest},{len(data)}\n"
+    files[record] = f"{lines}{record},,\n".encode()
+    name = f"{info.stem}-py3-none-{'.'.join(tags)}.whl"
+    with zipfile.ZipFile(out / name, "w") as wheel:
+        for path, data in files.items():
+            entry = zipfile.ZipInfo(path, time.gmtime(int(os.environ.get("SOURCE_DATE_EPOCH", 946684800)))[:6])
+            entry.create_system = 3  # Unix, wherever this runs
+            entry.external_attr = (0o100755 if path.endswith(".so") else 0o100644) << 16
+            wheel.writestr(entry, data)
+    return name
+
+
+def build_wheel(wheel_directory, config_settings=None, metadata_directory=None):  # (PEP 517 gives the names)
+    """Builds the wheel for this machine in the folder of the source archive."""
+    block = BLOCKS.get(platform.machine())
+    if not block or os.name != "posix":
+        sys.exit(f"gix-validate has no shared object for {platform.system()} on {platform.machine()}")
+    with tempfile.TemporaryDirectory() as room:
+        folder = Path(shutil.copytree("wheel", f"{room}/wheel"))
+        flags = ["-Wl,-z,noexecstack"] if platform.system() == "Linux" else []
+        library = folder / "gix_validate" / "libgix_validate_c.so"
+        subprocess.run([os.environ.get("CC", "cc"), "-shared", "-nostdlib", *flags, "-o", library, block], check=True)
+        tags = next(folder.glob("*.dist-info")) / "WHEEL"
+        kept = [line for line in tags.read_text().splitlines() if not line.startswith("Tag: ")]
+        system = sysconfig.get_platform().replace("-", "_").replace(".", "_")
+        tags.write_text("\n".join([*kept, f"Tag: py3-none-{system}", ""]))
+        return packed(folder, Path(wheel_directory))
+
+
+if __name__ == "__main__":
+    packed(Path(sys.argv[1]), Path(sys.argv[2]))

@@ -207,7 +207,7 @@ static void check_code(const struct question *asked, const char *call, struct by
     uint32_t code = code_of(asked, flags, name);
     const char *fault = gix_validate_fault_name(code);
     size_t word = strcspn(answer, ":");
-    EXPECT(fault != NULL && strlen(fault) == word && memcmp(fault, answer, word) == 0);
+    EXPECT(strlen(fault) == word && memcmp(fault, answer, word) == 0);
     if (asked->code == NULL) {
         EXPECT(gix_validate_component(name.start, name.length, flags | 0xFFFFFFF0u) == code);
     } else if (asked->code != gix_validate_submodule) {
@@ -236,10 +236,10 @@ static const struct question *question_of(const char *call, const char *behind) 
 static uint32_t number_of(const char *fault, size_t length) {
     uint32_t number = 0;
     const char *name = gix_validate_fault_name(number);
-    while (name != NULL && (strlen(name) != length || memcmp(name, fault, length) != 0)) {
+    while (number <= GIX_VALIDATE_RELATIVE && (strlen(name) != length || memcmp(name, fault, length) != 0)) {
         name = gix_validate_fault_name(++number);
     }
-    EXPECT(name != NULL);
+    EXPECT(number <= GIX_VALIDATE_RELATIVE);
     return number;
 }
 
@@ -415,7 +415,8 @@ static void check_helpers(void) {
     EXPECT(gix_validate_sanitize_str(empty) == 0 && *empty == '\0');
     EXPECT(gix_validate_component_text((const uint8_t *)"a.", 2, GIX_VALIDATE_PROTECT_ALL, NULL, 0) ==
            GIX_VALIDATE_TEXT_MAX);
-    EXPECT(gix_validate_fault_name(GIX_VALIDATE_RELATIVE + 1) == NULL);
+    EXPECT(strcmp(gix_validate_fault_name(GIX_VALIDATE_RELATIVE + 1), "Unknown") == 0);
+    EXPECT(strcmp(gix_validate_fault_name(UINT32_MAX), "Unknown") == 0);
     EXPECT(gix_validate_version() == GIX_VALIDATE_VERSION);
 }
 

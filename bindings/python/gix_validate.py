@@ -26,12 +26,14 @@ Many names are checked by one call, which is much faster than a call for each:
 >>> gix_validate.fault_numbers(b"refs/heads/main\nmain\n", Kind.FULL)
 b'\x00\x0c'
 
-A name is bytes of any values, or a bytearray or memoryview, which is copied; a str or None is a TypeError. The
-functions have no state and may be called from any thread.
+A name is bytes of any values, or a bytearray or memoryview, which is copied; a str or None is a TypeError, and
+os.fsencode makes bytes of the str that Python has for a file's name. The functions have no state and may be called from
+any thread.
 
 The shared object is the one beside this module, as the wheel has it, or that of bindings/out. The environment variable
 GIX_VALIDATE_LIBRARY may name another path.
-Its major version has to be that of this module, and it may not be older; otherwise the import is an ImportError.
+Its major version has to be that of this module, and it may not be older; otherwise the import is an ImportError, as it
+is for a library that isn't this one.
 """
 
 import ctypes
@@ -54,49 +56,60 @@ _TEXT_MAX = 134
 Bytes = Union[bytes, bytearray, memoryview]
 
 
-class Fault(enum.IntEnum):
-    """Why a name is invalid. The numbers are stable, and those of gix_validate.h.
+class Fault(enum.Enum):
+    """Why a name is invalid. The values are stable, and those of gix_validate.h.
 
-    str() and format() give the spelling of the Rust crate and of gix_validate_fault_name in C, as "RepeatedDot".
+    str() and format() give the spelling of the Rust crate and of gix_validate_fault_name in C, as "RepeatedDot", and
+    `text` what is wrong with such a name. The exception has the text that the Rust crate prints for its name.
     """
 
-    INVALID_BYTE = 1
-    STARTS_WITH_SLASH = 2
-    REPEATED_SLASH = 3
-    REPEATED_DOT = 4
-    LOCK_FILE_SUFFIX = 5
-    REFLOG_PORTION = 6
-    ASTERISK = 7
-    STARTS_WITH_DOT = 8
-    ENDS_WITH_DOT = 9
-    ENDS_WITH_SLASH = 10
-    EMPTY = 11
-    SOME_LOWERCASE = 12
-    RESERVED = 13
-    PARENT_COMPONENT = 14
-    PATH_SEPARATOR = 15
-    WINDOWS_PATH_PREFIX = 16
-    WINDOWS_RESERVED_NAME = 17
-    WINDOWS_ILLEGAL_CHARACTER = 18
-    DOT_GIT_DIR = 19
-    SYMLINKED_GIT_MODULES = 20
-    RELATIVE = 21
+    INVALID_BYTE = 1, "a byte below 0x20, DEL, a space, or one of : ? [ \\ ^ ~"
+    STARTS_WITH_SLASH = 2, "it starts with a slash"
+    REPEATED_SLASH = 3, "two slashes in a row"
+    REPEATED_DOT = 4, "two dots in a row"
+    LOCK_FILE_SUFFIX = 5, "a piece between slashes ends in .lock"
+    REFLOG_PORTION = 6, "it holds @{"
+    ASTERISK = 7, "it holds an asterisk"
+    STARTS_WITH_DOT = 8, "a piece between slashes starts with a dot"
+    ENDS_WITH_DOT = 9, "it ends with a dot"
+    ENDS_WITH_SLASH = 10, "it ends with a slash"
+    EMPTY = 11, "it is empty"
+    SOME_LOWERCASE = 12, "no slash, and a byte other than A to Z and _"
+    RESERVED = 13, "it is @, or, as a branch, refs/heads/HEAD"
+    PARENT_COMPONENT = 14, "a part of a submodule's name is .."
+    PATH_SEPARATOR = 15, "a slash, or with Windows a backslash"
+    WINDOWS_PATH_PREFIX = 16, "a colon behind the first character, as C:"
+    WINDOWS_RESERVED_NAME = 17, "a device, as NUL or com1.txt"
+    WINDOWS_ILLEGAL_CHARACTER = 18, 'one of < > : " | ? *, a byte below 0x20, or a dot or space last'
+    DOT_GIT_DIR = 19, "the file system may read it as .git"
+    SYMLINKED_GIT_MODULES = 20, "a symlink that the file system may read as .gitmodules"
+    RELATIVE = 21, "it is . or .."
+
+    text: str
+
+    def __new__(cls, number: int, text: str = "") -> "Fault":
+        fault = object.__new__(cls)
+        fault._value_, fault.text = number, text
+        return fault
+
+    def __index__(self) -> int:
+        return int(self.value)
 
     def __str__(self) -> str:
         return "".join(word.capitalize() for word in self.name.split("_"))
 
-    def __format__(self, specification: str) -> str:
-        return format(str(self), specification)
-
 
 class Kind(enum.Enum):
-    """A kind of name, for the functions that check many names."""
+    """A kind of name, for the functions that check many names. COMPONENT is checked as `path_component` does by default,
+    by a call for each name.
+    """
 
     TAG = "tag"
     PARTIAL = "partial"
     FULL = "full"
     BRANCH = "branch"
     SUBMODULE = "submodule"
+    COMPONENT = "component"
 
 
 class InvalidName(ValueError):
@@ -123,12 +136,12 @@ def _library() -> ctypes.CDLL:
     path = os.environ.get("GIX_VALIDATE_LIBRARY") or str(default)
     try:
         library = ctypes.CDLL(path)
-    except OSError as error:
+        found = _version_of(library)
+    except (OSError, AttributeError) as error:  # (another library lacks the function)
         raise ImportError(
             f"gix_validate needs its shared object: {error}. "
             "The wheel has it, and bindings/build builds it; GIX_VALIDATE_LIBRARY may name its path."
         ) from error
-    found = _version_of(library)
     if found[0] != _VERSION[0] or found < _VERSION:
         raise ImportError(
             f"gix_validate {__version__} needs a shared object of the same major version that isn't older: "
@@ -147,7 +160,7 @@ def _version_of(library: ctypes.CDLL) -> Tuple[int, int, int]:
 _loaded = _library()
 _NAME = ctypes.c_char_p, ctypes.c_size_t
 _FLAGS = {"component": [ctypes.c_uint32]}
-_KINDS = [*(kind.value for kind in Kind), *_FLAGS]
+_PROTECT_ALL = 7
 
 
 def _function(name: str, result: Any, *more: Any) -> Any:
@@ -158,9 +171,10 @@ def _function(name: str, result: Any, *more: Any) -> Any:
 
 
 # For each kind of name: the number of a fault, its text, and the numbers of many names.
+_KINDS = [kind.value for kind in Kind]
 _code = {kind: _function(kind, ctypes.c_uint32, *_FLAGS.get(kind, [])) for kind in _KINDS}
 _text = {kind: _function(f"{kind}_text", ctypes.c_size_t, *_FLAGS.get(kind, []), *_NAME) for kind in _KINDS}
-_many = {kind: _function(f"{kind.value}_many", ctypes.c_size_t, ctypes.c_uint8, *_NAME) for kind in Kind}
+_many = {kind: _function(f"{kind}_many", ctypes.c_size_t, ctypes.c_uint8, *_NAME) for kind in _KINDS if kind not in _FLAGS}
 _invalid_byte = _function("invalid_byte", ctypes.c_uint32)
 _is_windows_device = _function("is_windows_device", ctypes.c_bool)
 _sanitize = _function("sanitize", ctypes.c_size_t, *_NAME)
@@ -294,7 +308,8 @@ def _given(name: Bytes, what: str = "a name") -> Tuple[bytes, int]:
     """The name, and how many bytes it has, whatever the `__len__` of a subclass says."""
     if not isinstance(name, bytes):
         if not isinstance(name, (bytearray, memoryview)):
-            raise TypeError(f"{what} has to be bytes, not {type(name).__name__}")
+            hint = " (os.fsencode makes bytes of a file's name)" if isinstance(name, str) else ""
+            raise TypeError(f"{what} has to be bytes, not {type(name).__name__}{hint}")
         name = bytes(name)
     return name, bytes.__len__(name)
 
@@ -307,8 +322,17 @@ def _numbers(kind: Kind, buffer: bytes, length: int, end: int) -> bytes:
     """The number of each name of the buffer, which has at most as many as bytes."""
     if not isinstance(kind, Kind):
         raise TypeError(f"a kind has to be a Kind, not {type(kind).__name__}")
+    if kind is Kind.COMPONENT:
+        names = bytes.split(buffer, bytes([end]))
+        return _numbers_alone(kind, names if names[-1] else names[:-1])
     numbers = ctypes.create_string_buffer(length)
-    return ctypes.string_at(numbers, _many[kind](buffer, length, end, numbers, len(numbers)))
+    return ctypes.string_at(numbers, _many[kind.value](buffer, length, end, numbers, len(numbers)))
+
+
+def _numbers_alone(kind: Kind, names: List[bytes]) -> bytes:
+    """The number of each name, by a call for each."""
+    flags = [_PROTECT_ALL] if kind is Kind.COMPONENT else []
+    return bytes([_code[kind.value](*_given(name), *flags) for name in names])
 
 
 def _numbers_of_each(names: Iterable[Bytes], kind: Kind) -> bytes:
@@ -318,7 +342,7 @@ def _numbers_of_each(names: Iterable[Bytes], kind: Kind) -> bytes:
         parts = [_given(name)[0] for name in parts]
     buffer = b"\0".join(parts) + b"\0"
     numbers = _numbers(kind, buffer, len(buffer), 0)
-    return numbers if len(numbers) == len(parts) else bytes([_code[kind.value](*_given(name)) for name in parts])
+    return numbers if len(numbers) == len(parts) else _numbers_alone(kind, parts)
 
 
 def _accepted(name: Bytes, kind: str, *flags: int) -> bytes:

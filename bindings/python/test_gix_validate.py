@@ -1,5 +1,6 @@
 """Tests of gix_validate: the rows of tests/rows, and what no row says."""
 
+import ctypes.util
 import doctest
 import os
 import pickle
@@ -13,9 +14,10 @@ import gix_validate
 from gix_validate import Fault, InvalidName, Kind
 
 HERE = Path(__file__).resolve().parent
+HEADER = (HERE.parent / "c" / "gix_validate.h").read_text(encoding="ascii")
 ROWS = (HERE.parents[1] / "tests" / "rows").read_text(encoding="ascii")
 SETTINGS = {"w": "windows", "h": "hfs", "n": "ntfs", "s": "symlink"}
-CALLS = {kind.value: getattr(gix_validate, f"{kind.value}_name") for kind in Kind}
+CALLS = {kind.value: getattr(gix_validate, f"{kind.value}_name") for kind in Kind if kind is not Kind.COMPONENT}
 CALLS["component"] = gix_validate.path_component
 WHETHER = {kind: getattr(gix_validate, f"is_valid_{call.__name__}") for kind, call in CALLS.items()}
 MANY = (gix_validate.faults, gix_validate.first_invalid)
@@ -84,6 +86,7 @@ class Test(unittest.TestCase):
                     self.validate(call, {setting: letter in more for letter, setting in SETTINGS.items()}, name, answer)
                 else:
                     self.validate(call, {}, name, answer)
+                if call in CALLS and more == ("whn" if call == "component" else ""):
                     alone[Kind(call)][name] = fault_of(re.match(r"\w+", answer)[0])
         for kind, faults in alone.items():  # (some hold a NUL or a newline)
             self.assertEqual(gix_validate.faults([*faults], kind), [*faults.values()])
@@ -148,6 +151,10 @@ class Test(unittest.TestCase):
         self.assertEqual((copied.args, copied.text), ((error.name, error.fault, error.text, error.byte), error.text))
         self.assertEqual(f"{error.fault} {Fault.EMPTY:>6}", "InvalidByte  Empty")
         self.assertEqual([fault_of(str(fault)) for fault in Fault], [*Fault])
+        self.assertIs(pickle.loads(pickle.dumps(Fault.EMPTY)), Fault.EMPTY)
+        self.assertNotIsInstance(Fault.EMPTY, int)  # (msgpack would make it one, as a key of a dict)
+        told = re.findall(r"GIX_VALIDATE_(\w+) = (\d+),? +/\* (.*) \*/", HEADER.split("not a fault")[1].split("};")[0])
+        self.assertEqual([(fault.name, str(fault.value), fault.text) for fault in Fault], told)
         error = self.refused(gix_validate.tag_name, b"a" * 200 + b" ")
         self.assertEqual(str(error), f"{b'a' * 200!r}..: {error.text}")
 
@@ -170,6 +177,9 @@ class Test(unittest.TestCase):
             self.assertEqual(gix_validate._version_of(gix_validate._library()), found)
         with mock.patch.dict(os.environ, GIX_VALIDATE_LIBRARY="/none.so"):
             self.assertRaisesRegex(ImportError, "none.so.*bindings/build.*GIX_VALIDATE_LIBRARY", gix_validate._library)
+        for foreign in (ctypes.util.find_library("c"), __file__):
+            with mock.patch.dict(os.environ, GIX_VALIDATE_LIBRARY=foreign):
+                self.assertRaisesRegex(ImportError, "needs its shared object.*GIX_VALIDATE_LIBRARY", gix_validate._library)
 
 
 if __name__ == "__main__":

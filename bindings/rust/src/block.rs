@@ -8,16 +8,16 @@ use bstr::{BStr, BString};
 #[cfg(all(target_arch = "x86_64", target_pointer_width = "64"))]
 std::arch::global_asm!(include_str!("../native/x86_64.s"), options(att_syntax)); // in a clone, bindings/build makes this file
 
-#[cfg(all(target_arch = "aarch64", target_os = "linux", target_endian = "little"))]
+#[cfg(all(target_arch = "aarch64", target_pointer_width = "64", target_endian = "little"))]
 std::arch::global_asm!(include_str!("../native/aarch64.s")); // in a clone, release/aarch64 makes this file
 
 #[cfg(not(any(
     all(target_arch = "x86_64", target_pointer_width = "64"),
-    all(target_arch = "aarch64", target_os = "linux", target_endian = "little")
+    all(target_arch = "aarch64", target_pointer_width = "64", target_endian = "little")
 )))]
 compile_error!(
-    "the proved functions of gix-validate are there for x86-64, and for AArch64 on Linux, but not for this target; to \
-     build for it, take gix-validate out of [patch.crates-io]"
+    "the proved functions of gix-validate are there for x86-64 and AArch64, but not for this target; to build for it, \
+     take gix-validate out of [patch.crates-io]"
 );
 
 #[allow(non_camel_case_types)]
@@ -60,38 +60,38 @@ pub(crate) const ACCEPTED: Code = 0;
 // SAFETY, of each call below: pointer and length are those of a slice that is borrowed until the call returns, so
 // its bytes are readable and nobody writes them. The calls read nothing else, keep no pointer and have no state.
 
-#[inline]
-pub(crate) fn tag(name: &BStr) -> Code {
-    unsafe { gix_validate_tag(name.as_ptr(), name.len()) }
+macro_rules! checks {
+    ($($kind:ident: $function:ident($($flags:ident)?);)*) => {$(
+        #[inline]
+        pub(crate) fn $kind(name: &BStr $(, $flags: u32)?) -> Code {
+            check_processor();
+            unsafe { $function(name.as_ptr(), name.len() $(, $flags)?) }
+        }
+    )*};
 }
 
-#[inline]
-pub(crate) fn partial(name: &BStr) -> Code {
-    unsafe { gix_validate_partial(name.as_ptr(), name.len()) }
+checks! {
+    tag: gix_validate_tag();
+    partial: gix_validate_partial();
+    full: gix_validate_full();
+    branch: gix_validate_branch();
+    submodule: gix_validate_submodule();
+    component: gix_validate_component(flags);
 }
 
+/// Panics on a processor that lacks what the block needs, before that would be an illegal instruction.
 #[inline]
-pub(crate) fn full(name: &BStr) -> Code {
-    unsafe { gix_validate_full(name.as_ptr(), name.len()) }
-}
-
-#[inline]
-pub(crate) fn branch(name: &BStr) -> Code {
-    unsafe { gix_validate_branch(name.as_ptr(), name.len()) }
-}
-
-#[inline]
-pub(crate) fn submodule(name: &BStr) -> Code {
-    unsafe { gix_validate_submodule(name.as_ptr(), name.len()) }
-}
-
-#[inline]
-pub(crate) fn component(name: &BStr, flags: u32) -> Code {
-    unsafe { gix_validate_component(name.as_ptr(), name.len(), flags) }
+fn check_processor() {
+    #[cfg(target_arch = "x86_64")]
+    assert!(
+        std::is_x86_feature_detected!("sse4.2"),
+        "the proved functions of gix-validate need a processor with SSE 4.2 (x86-64-v2)"
+    );
 }
 
 #[inline]
 pub(crate) fn is_windows_device(name: &BStr) -> bool {
+    check_processor();
     unsafe { gix_validate_is_windows_device(name.as_ptr(), name.len()) }
 }
 
@@ -103,6 +103,7 @@ pub(crate) fn invalid_byte(name: &BStr) -> Option<u8> {
 
 /// The name repaired to a partial reference name.
 pub(crate) fn sanitized(name: &BStr) -> BString {
+    check_processor();
     let mut buffer = Vec::with_capacity(name.len().max(1));
     buffer.extend_from_slice(name);
     if buffer.is_empty() {

@@ -16,22 +16,40 @@ pub mod name {
 
     /// Why a text is not the name of a reference.
     #[derive(Debug)]
-    #[allow(missing_docs)]
     #[non_exhaustive]
     pub enum Error {
-        InvalidByte { byte: BString },
+        /// It has a byte below 0x20, DEL, a space, or one of `:` `?` `[` `\` `^` `~`.
+        InvalidByte {
+            /// The first such byte.
+            byte: BString,
+        },
+        /// It starts with a slash.
         StartsWithSlash,
+        /// It has two slashes in a row.
         RepeatedSlash,
+        /// It has two dots in a row.
         RepeatedDot,
+        /// A piece between slashes ends in `.lock`.
         LockFileSuffix,
+        /// It has `@{`.
         ReflogPortion,
+        /// It has an asterisk.
         Asterisk,
+        /// A piece between slashes starts with a dot.
         StartsWithDot,
+        /// It ends with a dot.
         EndsWithDot,
+        /// It ends with a slash.
         EndsWithSlash,
+        /// It is empty.
         Empty,
+        /// It has no slash, and a byte other than `A` to `Z` and `_`, as `main`.
         SomeLowercase,
-        Reserved { name: BString },
+        /// It is reserved: `@`, or, as a branch, `refs/heads/HEAD`.
+        Reserved {
+            /// The name.
+            name: BString,
+        },
     }
 
     impl fmt::Display for Error {

@@ -11,10 +11,11 @@ pub mod name {
 
     /// Why a text is not the name of a submodule.
     #[derive(Debug)]
-    #[allow(missing_docs)]
     #[non_exhaustive]
     pub enum Error {
+        /// It is empty.
         Empty,
+        /// A part of it is `..`. Both `/` and `\` separate parts.
         ParentComponent,
     }
 

@@ -12,19 +12,32 @@ pub mod name {
 
     /// Why a text is not the name of a tag.
     #[derive(Debug)]
-    #[allow(missing_docs)]
     #[non_exhaustive]
     pub enum Error {
-        InvalidByte { byte: BString },
+        /// It has a byte below 0x20, DEL, a space, or one of `:` `?` `[` `\` `^` `~`.
+        InvalidByte {
+            /// The first such byte.
+            byte: BString,
+        },
+        /// It starts with a slash.
         StartsWithSlash,
+        /// It has two slashes in a row.
         RepeatedSlash,
+        /// It has two dots in a row.
         RepeatedDot,
+        /// A piece between slashes ends in `.lock`.
         LockFileSuffix,
+        /// It has `@{`.
         ReflogPortion,
+        /// It has an asterisk.
         Asterisk,
+        /// A piece between slashes starts with a dot.
         StartsWithDot,
+        /// It ends with a dot.
         EndsWithDot,
+        /// It ends with a slash.
         EndsWithSlash,
+        /// It is empty.
         Empty,
     }
 

@@ -7,6 +7,7 @@
 //! | [`literals`] | calls on names that are written in the source |
 //! | [`ref_store`] | references and their targets, by full name |
 //! | [`branches`] | full names of a branch: `refs/heads/main`, `refs/remotes/origin/main` |
+//! | [`slices`] | whether each name of a slice is valid |
 //! | [`paths`] | the first component of a path that is invalid |
 //! | [`checkout`] | a walk down a working tree, and the path of a file |
 //! | [`settings`] | the names of the submodules in a `.gitmodules` file |
@@ -21,3 +22,4 @@ pub mod paths;
 pub mod ref_store;
 pub mod repair;
 pub mod settings;
+pub mod slices;

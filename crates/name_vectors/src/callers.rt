@@ -11,7 +11,7 @@ use gix_validate::path::{ComponentMode, ComponentOptions};
 use std::alloc::{AllocError, Global};
 use std::fmt::Display;
 use std::test::Fail;
-use typed_names::FullName;
+use typed_names::{Component, FullName, join};
 
 #[test]
 fn makes_names(rt: HostRuntime) -> Result<(), Fail> {
@@ -34,6 +34,17 @@ fn walks_down_a_tree(rt: HostRuntime) -> Result<(), Fail> {
     let mut place = Place::top(alloc, ComponentOptions::default());
     place.enter(BStr::from(".gitmodules"), None)?;
     assert_eq!(rt; place.path(alloc)?.as_bstr(), BStr::from(".gitmodules"));
+    Ok(())
+}
+
+#[test]
+fn joins_components(rt: HostRuntime) -> Result<(), Fail> {
+    let options = ComponentOptions::default();
+    let folder = Component::new(BStr::from("src"), None, options)?;
+    let hidden = Component::new(BStr::from(".github"), None, options)?;
+    let file = Component::new(BStr::from("a.rs"), None, options)?;
+    let path = join(rt.alloc(), &[folder, hidden, file])?;
+    assert_eq!(rt; path.as_bstr(), BStr::from("src/.github/a.rs"));
     Ok(())
 }
 

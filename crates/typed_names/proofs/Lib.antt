@@ -1,3 +1,4 @@
 pub mod SlashLemmas
 pub mod TagLemmas
+pub mod JoinLemmas
 mod NamesRows

@@ -1,0 +1,43 @@
+"""The manual gix_validate(3), made of the header, and a link to it for each function.
+
+    manual.py HEADER FOLDER VERSION DAY
+"""
+import re
+import sys
+from pathlib import Path
+
+header, folder, version, day = Path(sys.argv[1]), Path(sys.argv[2]), *sys.argv[3:]
+
+
+def literal(text):
+    """Text that troff prints as it is."""
+    return re.sub(r"(?m)^(?=[.'])", r"\\&", text.replace("\\", r"\e").replace("-", r"\-"))
+
+
+def code(text):
+    """Declarations, without the bodies of functions, and without what only the compiler needs."""
+    text = re.sub(r"(?ms)^static inline ([^{]*?) \{\n.*?^\}", r"\1;", text).replace(" GIX_VALIDATE_ABI", "")
+    text = re.sub(r'(?m)^(#(?!define GIX_VALIDATE_[NTV])|extern "C"|\}$).*\n', "", text).strip()
+    return f".PP\n.nf\n{literal(text)}\n.fi\n" if text else ""
+
+
+def prose(text):
+    """The paragraphs of a comment. What is indented in it is printed as it is."""
+    page = ""
+    for paragraph in re.split(r"\n\s*\n|\n(?= +- )", re.sub(r"(?m)^ ?\* ?|^   (?=\S)", "", text).strip("\n")):
+        if paragraph.startswith("    "):
+            page += f".PP\n.nf\n{literal(paragraph)}\n.fi\n"
+        else:
+            mark = '.IP \\(bu 2' if paragraph.lstrip().startswith("- ") else ".PP"
+            page += mark + "\n" + literal(" ".join(paragraph.split()).removeprefix("- ")) + "\n"
+    return page
+
+
+parts = re.split(r"(?ms)^/\*(.*?)\*/\n", header.read_text(encoding="ascii"))
+declared = re.findall(r"(?m)^(?:static inline )?\w[\w ]*[ *](gix_validate_\w+)\(", "".join(parts[::2]))
+page = f'.TH GIX_VALIDATE 3 "{day}" "gix-validate {version}"\n.SH NAME\n{", ".join(["gix_validate", *declared])} \\- names that Git uses\n'
+page += ".nh\n.ad l\n.SH SYNOPSIS\n.nf\n#include <gix_validate.h>\n.fi\n.SH DESCRIPTION\n"
+page += "".join(prose(comment) + code(behind) for comment, behind in zip(parts[1::2], parts[2::2])).removeprefix(".PP\n")
+(folder / "gix_validate.3").write_text(page, encoding="ascii")
+for name in declared:
+    (folder / f"{name}.3").symlink_to("gix_validate.3")

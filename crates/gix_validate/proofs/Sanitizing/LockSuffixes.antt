@@ -1,11 +1,13 @@
 -- Laws of the cut of a text: what it leaves is a front that does not end in `.lock`.
-use Rattle.std.proofs.Common.{◌≡◌, ◌≢◌, ℕ, ◌≤◌, true, List, [], ◌∷◌, ◌++◌, length, take, drop, refl, sym, ap, ◌∙◌, arith, length-append, append_assoc}
+use Rattle.std.proofs.Common.{◌≡◌, ◌≢◌, ℕ, ◌≤◌, true, false, List, [], ◌∷◌, ◌++◌, length, take, drop, refl, sym, ap, ◌∙◌, arith, length-append, append_assoc}
 use Rattle.std.proofs.Common.{append-nil}
 use Rattle.std.specs.Prelude.{codes, ◌&&◌}
-use Rattle.std.specs.Str.{bytes_eq}
-use Rattle.std.proofs.lemmas.Bool.{and_parts}
+use Rattle.std.specs.Str.{byte, bytes_eq}
+use Rattle.std.proofs.lemmas.Bool.{and_parts, false_from_ne_true}
 use Rattle.std.proofs.lemmas.List.{take_at, take-take}
 use Rattle.std.proofs.lemmas.Slice.Eq.{bytes_eq-Decides}
+use Rattle.std.proofs.lemmas.List.Folds.{list_all-append}
+use Rattle.gix_validate.specs.Pieces.{has_no_slash}
 use Rattle.gix_validate.specs.Sanitized.{cut, is_locks}
 
 -- More `.lock`s follow `.lock`s.
@@ -16,6 +18,14 @@ is_locks-append (a ∷ b ∷ []) r h = grind arith
 is_locks-append (a ∷ b ∷ c ∷ []) r h = grind arith
 is_locks-append (a ∷ b ∷ c ∷ d ∷ []) r h = grind arith
 is_locks-append (a ∷ b ∷ c ∷ d ∷ e ∷ t) r h = ap (λ v. bytes_eq (a ∷ b ∷ c ∷ d ∷ e ∷ []) (codes ".lock") && v) (is_locks-append t r h)
+
+is_locks-apart : (x : List ℕ) → is_locks x ≡ true → has_no_slash x ≡ true
+is_locks-apart [] h = refl
+is_locks-apart (a ∷ b ∷ c ∷ d ∷ e ∷ t) h = grind (arith, bytes_eq-Decides, and_parts, is_locks-apart t)
+is_locks-apart _ h = grind arith
+
+pub is_locks-slash : (x r : List ℕ) → is_locks (x ++ byte "/" ∷ r) ≡ false
+is_locks-slash x r = grind (arith, is_locks-apart (x ++ byte "/" ∷ r), list_all-append, false_from_ne_true)
 
 -- `.lock`s at the end are cut as well.
 pub cut-append : (t r : List ℕ) → is_locks r ≡ true → cut (t ++ r) ≡ cut t

@@ -110,9 +110,8 @@ pub(crate) fn is_clear(text: &[u8]) -> bool
 }
 
 /// How many bytes at the front of a name need no closer check: all of them if and only if the name is
-/// clear.
+/// clear. A walk over the others finds each fault, and each byte that a repair changes.
 #[inline(always)]
-#[tactic(auto, using(crate::proofs::Blocks::AdjacentBytes::quiet_by_looks))]
 pub(crate) fn clear_front(text: &[u8]) -> usize
     requires { 0 < length text.now }
     ensures within { result ≤ length text.now }
@@ -145,8 +144,9 @@ impl Pattern for Suspect {
 
     #[inline(always)]
     fn hits(front: u8x16, back: u8x16) -> u64 {
-        let suspect =
-            classify(CLASSES_BY_LOW_NIBBLE, CLASSES_BY_HIGH_NIBBLE, back) & suspect_after(front);
+        let suspect = classify(CLASSES_BY_LOW_NIBBLE, CLASSES_BY_HIGH_NIBBLE, back)
+            & suspect_after(front);
+        // LLVM makes one instruction of this test, and more of one of the mask.
         if suspect.reduce_or() == 0 {
             return 0;
         }

@@ -107,6 +107,7 @@ pub clear_by_looks : (x : List ℕ) → 0 < length x
     ↔ ((may_be_faulty (get_or x 0 0) ≡ false)
     × ((ends x (codes ".") || ends x (codes "/")) ≡ false) × NoneBelow (at_pair is_suspect x) (length x - 1))
 clear_by_looks x some =
-    let last : length x - 1 + 1 ≡ length x = omega arith in
-    (λ clear. (sym (first_look x) ∙ clear.quiet 0 some, clear.end, λ k below. rw (add-one k) (rw (add-one k) at (clear.quiet (k + 1) (omega arith)))),
-    λ looks. record { some = some; quiet = rw last at (quiet_by_looks x (length x - 1) looks.0 looks.2); end = looks.1 })
+    let last : length x - 1 + 1 ≡ length x = omega arith in (
+      λ clear. (sym (first_look x) ∙ clear.quiet 0 some, clear.end, λ k below. rw (add-one k) (rw (add-one k) at (clear.quiet (k + 1) (omega arith)))),
+      λ looks. record { some = some; quiet = rw last at (quiet_by_looks x (length x - 1) looks.0 looks.2); end = looks.1 },
+    )

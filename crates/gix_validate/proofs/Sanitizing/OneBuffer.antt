@@ -19,7 +19,6 @@ use Rattle.gix_validate.proofs.Sanitizing.LockSuffixes.{cut-own}
 use Rattle.gix_validate.proofs.Sanitizing.MendedPieces.{added}
 use Rattle.gix_validate.proofs.Sanitizing.WrittenPiece.{in_piece, closed, finished, GivesWhole, GivesWhole-start, GivesWhole-slash}
 use Rattle.gix_validate.proofs.Sanitizing.WrittenPiece.{GivesWhole-byte, GivesWhole-end}
-use Rattle.std.proofs.lemmas.Grind.{common_steps}
 
 -- The text is mended up to the offset `read`; this byte was before it.
 pub record MendedUpTo (whole text : List ℕ) (end read previous : ℕ) : Type 0 where

@@ -1,13 +1,12 @@
 -- What was written, and the rest that is not yet read, decide the mended pieces of the whole text.
 use Rattle.std.proofs.Common.{◌≡◌, ℕ, ◌-◌, true, false, cond, List, [], ◌∷◌, ◌++◌, length, take, refl, sym, ap, ◌∙◌, arith, length-append, append_assoc}
 use Rattle.std.proofs.Common.{append-nil}
-use Rattle.std.specs.Prelude.{codes, ◌||◌, ◌&&◌, ◌==◌, if◌then◌else◌, Option, Some, None, is_none}
+use Rattle.std.specs.Prelude.{codes, if◌then◌else◌, Option, Some, None}
 use Rattle.std.specs.Str.{byte}
-use Rattle.std.proofs.lemmas.Grind.{common_steps}
 use Rattle.std.proofs.lemmas.List.{take_at}
-use Rattle.gix_validate.specs.Bytes.{is_empty, ends}
+use Rattle.gix_validate.specs.Bytes.{is_empty}
 use Rattle.gix_validate.specs.Pieces.{is_slash, pieces, joined}
-use Rattle.gix_validate.specs.Sanitized.{allowed, cut, mended_pieces}
+use Rattle.gix_validate.specs.Sanitized.{cut, mended_pieces}
 use Rattle.gix_validate.proofs.Sanitizing.MendedPieces.{added, added_by, cleaned_some, cleaned-added}
 use Rattle.gix_validate.proofs.Sanitizing.LockSuffixes.{is_locks-slash}
 use Rattle.gix_validate.proofs.Sanitizing.Laws.{mended_of}

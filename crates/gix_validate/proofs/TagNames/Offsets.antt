@@ -1,5 +1,5 @@
 -- The faults of a part of a text, and of all of it from its first suspect byte on.
-use Rattle.std.proofs.Common.{◌≡◌, ℕ, ◌+◌, ◌-◌, ◌<◌, ◌≤◌, false, not, ◌&&◌, eqb, List, length, get_or, ap, ◌∙◌, arith, Some, None, inl, inr}
+use Rattle.std.proofs.Common.{◌≡◌, ℕ, ◌+◌, ◌-◌, ◌<◌, ◌≤◌, not, ◌&&◌, eqb, List, length, ap, ◌∙◌, arith, Some, None, inl, inr}
 use Rattle.std.proofs.lemmas.Bool.{cases_lt}
 use Rattle.gix_validate.specs.declared.tag.NameError.{NameError}
 use Rattle.gix_validate.specs.declared.tag.NameError.TheVariants.{LockFileSuffix}

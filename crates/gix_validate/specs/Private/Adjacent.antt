@@ -1,6 +1,6 @@
 -- Clear texts, recognised by each two adjacent bytes and by the end: each is a tag name, and most tag names are
 -- clear.
-use Rattle.std.specs.Prelude.{◌≡◌, ℕ, ◌<◌, Bool, false, ◌==◌, ◌&&◌, ◌||◌, List, ◌∷◌, length, slice_index, codes}
+use Rattle.std.specs.Prelude.{◌≡◌, ℕ, ◌<◌, Bool, false, ◌==◌, ◌&&◌, ◌||◌, List, ◌∷◌, length, codes}
 use Rattle.std.specs.Str.{byte}
 use Rattle.gix_validate.specs.Private.Scan.{NoneBelow, at_both}
 use Rattle.gix_validate.specs.Bytes.{is_bad, is_among, ends}

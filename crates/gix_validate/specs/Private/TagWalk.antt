@@ -1,5 +1,5 @@
 -- The walk over a text that may be a tag name: the fault of each byte by what is before it.
-use Rattle.std.specs.Prelude.{◌≡◌, ℕ, ◌+◌, ◌-◌, ◌<◌, ◌≤◌, Bool, ◌||◌, List, [], ◌∷◌, codes, length, take, slice_index, Option, None}
+use Rattle.std.specs.Prelude.{◌≡◌, ℕ, ◌+◌, ◌-◌, ◌<◌, ◌≤◌, Bool, ◌||◌, List, [], ◌∷◌, codes, take, slice_index, Option, None}
 use Rattle.gix_validate.specs.declared.tag.NameError.{NameError}
 use Rattle.gix_validate.specs.Bytes.{is_bad, is_among}
 use Rattle.gix_validate.specs.Faults.{first_of, at_first_offset}

@@ -1,6 +1,7 @@
 //! The repair of names that are not partial names.
 //!
-//! A clear name (see `adjacent`) stays as it is. Any other is walked once, in the buffer.
+//! A name is looked at once. A scan stops at the first byte that may have to change (see `adjacent`),
+//! and from there on a walk reads and writes in one buffer.
 
 ghost use Rattle.std.specs.Prelude.{◌≡◌, ◌≢◌, ℕ, false, ◌↔◌, ◌+◌, ◌-◌, ◌≤◌, ◌<◌, ◌==◌, ◌||◌, ◌&&◌, ◌++◌, [], ◌∷◌, max, if◌then◌else◌, length, take, drop, get_or, set, codes, IsTrue, IsOk, IfOk, Some, None, slice_range, vec_capacity};
 ghost use Rattle.bstr.specs.BStr.{bstr_bytes};
@@ -92,8 +93,9 @@ fn fill_sanitized(name: &mut Vec<u8>, path: &[u8]) -> Result<(), AllocError>
 /// sanitize_in_place(&mut buffer, 3); // 2, and the buffer begins with `-a` and ends in `zz`
 /// ```
 ///
-/// It never fails and doesn't allocate. It reads the name once, sixteen bytes at a time, and walks
-/// it once more if it isn't clear. Most valid partial names are clear.
+/// It never fails and doesn't allocate. It looks at the name once: at sixteen bytes at a time up to
+/// the first that may have to change, and from there on byte by byte. Most valid partial names have
+/// no such byte.
 pub fn sanitize_in_place(buf: &mut [u8], len: usize) -> usize
     requires some { 1 ≤ length buf.old }
     requires within { len ≤ length buf.old }
@@ -115,7 +117,8 @@ pub fn sanitize_in_place(buf: &mut [u8], len: usize) -> usize
 
 /// Writes the nonempty pieces of the name over it, each cleaned and cut, and returns how many bytes
 /// it wrote. The first `clear` bytes stay as they are. A byte is written at the offset of the byte
-/// just read, or before it.
+/// just read, or before it, so the byte before that is kept in a variable. Only the cuts look at
+/// what was written.
 fn mend_pieces(text: &mut [u8], clear: usize) -> usize
     requires within { clear ≤ length text.old }
     requires clear { NoneBelow (suspect_at text.old) clear }
@@ -152,7 +155,7 @@ fn mend_pieces(text: &mut [u8], clear: usize) -> usize
 fn mended_byte(previous: u8, next: u8) -> Option<u8>
     requires no_slash { next ≢ byte "/" }
     requires faulty { IsTrue (may_be_faulty next) }
-    ensures { let before = if is_slash previous then None else Some previous in
+    ensures adds { let before = if is_slash previous then None else Some previous in
         result ≡ (if next == byte "."
         then (if previous == byte "." then None else Some (byte_of before Dots))
         else Some (byte_of before (Other next))) }
@@ -177,15 +180,17 @@ fn close_piece(text: &mut [u8], end: usize) -> usize
     end + 1
 }
 
-/// The length of a piece without the `.lock`s at its end.
-fn length_of_cut(mut piece: &[u8]) -> usize
-    ensures within { result ≤ length piece.now }
-    ensures front { take result piece.now ≡ cut piece.now }
+/// The length of a text without the `.lock`s at its end.
+#[tactic(auto, using(crate::proofs::Sanitizing::LockSuffixes::lock_by_lock))]
+fn length_of_cut(text: &[u8]) -> usize
+    ensures within { result ≤ length text.now }
+    ensures front { take result text.now ≡ cut text.now }
 {
-    while let Some(front) = piece.strip_suffix(b".lock") {
-        piece = front;
+    let mut end = text.len();
+    while text[..end].ends_with(b".lock") {
+        end -= 5;
     }
-    piece.len()
+    end
 }
 
 /// Makes the last three repairs to the first `end` bytes of `buf`, and returns the length of the

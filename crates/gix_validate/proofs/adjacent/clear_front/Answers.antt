@@ -14,6 +14,9 @@ returns-in-None-clause-quiet c k below =
 
 pub returns-in-None-2 : goal.returns-in-None-2
 returns-in-None-2 c =
-    let clear = (clear_by_looks c.args.text.now c.requires).1 (sym c.may_be_faulty.ensures ∙ c.if-may_be_faulty.false,
-    sym c.ends_in_break.ensures ∙ c.if-ends_in_break.false, c.in-None-2.ensures) in
+    let clear = (clear_by_looks c.args.text.now c.requires).1 (
+      sym c.may_be_faulty.ensures ∙ c.if-may_be_faulty.false,
+      sym c.ends_in_break.ensures ∙ c.if-ends_in_break.false,
+      c.in-None-2.ensures,
+    ) in
     record { within = omega arith; quiet = clear.quiet; all = (λ _. clear, λ _. refl) }

@@ -1,4 +1,4 @@
-use Rattle.std.proofs.Common.{◌≡◌, ◌+◌, ◌<◌, ◌∙◌, length, get_or, refl, sym, ap, ◌∷◌, arith, length-take}
+use Rattle.std.proofs.Common.{◌<◌, ◌∙◌, length, get_or, refl, sym, ap, ◌∷◌, arith, length-take}
 use Rattle.std.specs.Str.{byte}
 use Rattle.std.proofs.lemmas.Bool.{eq-eqb, ne_eqb}
 use Rattle.std.proofs.lemmas.Bool.Decides.{nat_tests}
@@ -24,9 +24,9 @@ loop-read-preserved c =
           let plain = added-plain c.loop-read.previous b (sym c.may_be_faulty.ensures ∙ w.if-not-may_be_faulty.true) in
           rw (w.text-is, w.end-is) (MendedUpTo-byte _ _ _ _ _ _ so_far room plain.0 plain.1)
       | goal.else-not-may_be_faulty+then-byte-ne47+in-Some w ↦ rw (w.text-is, w.end-is)
-          (MendedUpTo-byte _ _ _ _ _ _ so_far room (ne_eqb _ _ w.if-byte-ne47.true) (mended-some c.loop-read.previous b _ w.in-Some.ensures))
+          (MendedUpTo-byte _ _ _ _ _ _ so_far room (ne_eqb _ _ w.if-byte-ne47.true) (mended-some c.loop-read.previous b _ w.in-Some.ensures.adds))
       | goal.else-not-may_be_faulty+then-byte-ne47+in_default w ↦ rw (w.text-is, w.end-is)
-          (MendedUpTo-dots _ _ _ _ _ so_far room (ne_eqb _ _ w.if-byte-ne47.true) (mended-none c.loop-read.previous b w.in_default.ensures))
+          (MendedUpTo-dots _ _ _ _ _ so_far room (ne_eqb _ _ w.if-byte-ne47.true) (mended-none c.loop-read.previous b w.in_default.ensures.adds))
       | goal.else-not-may_be_faulty+else-byte-ne47+then-previous-ne47 w ↦ let close = w.close_piece-end in rw (w.text-is, w.end-is)
           (MendedUpTo-slash _ _ _ _ _ _ _ so_far room (eq-eqb _ _ w.if-byte-ne47.false) close.auto.text close.ensures.within
           (rw (ne_eqb c.loop-read.previous (byte "/") w.if-previous-ne47.true) close.ensures.text) close.ensures.rest)

@@ -15,9 +15,8 @@ ghost use Rattle.std.specs.Prelude.{◌≡◌, ◌↔◌, ◌<◌, ◌≤◌, �
 ghost use Rattle.std.specs.Int.{bit_at};
 ghost use Rattle.std.specs.Str.{byte};
 ghost use Rattle.gix_validate.specs.Bytes.{is_among, ends};
-ghost use Rattle.gix_validate.specs.Private.Adjacent.{is_suspect, IsClear};
-ghost use Rattle.gix_validate.specs.Private.Scan.{Finds, at_pair};
-ghost use Rattle.gix_validate.specs.Private.TagWalk.{CanWalkFrom};
+ghost use Rattle.gix_validate.specs.Private.Adjacent.{is_suspect, suspect_at, IsClear};
+ghost use Rattle.gix_validate.specs.Private.Scan.{Finds, NoneBelow, at_pair};
 
 use crate::bytes::may_be_faulty;
 use crate::lanes::{classify, nonzero_lanes};
@@ -110,19 +109,21 @@ pub(crate) fn is_clear(text: &[u8]) -> bool
     scan::first_pair::<Suspect>(text).is_none()
 }
 
-/// The offset from which on a walk finds the first fault of a tag name, if a byte is one. A name that
-/// is short, or whose first byte may be a fault, needs no scan.
+/// How many bytes at the front of a name need no closer check: all of them if and only if the name is
+/// clear. A walk over the others finds each fault, and each byte that a repair changes.
 #[inline(always)]
-#[tactic(auto, using(crate::proofs::TagNames::Offsets::none_before_suspect, crate::proofs::TagNames::Offsets::none_without_suspect))]
-pub(crate) fn first_to_walk(text: &[u8]) -> usize
-    requires { 1 ≤ length text.now }
-    ensures { CanWalkFrom text.now result }
+pub(crate) fn clear_front(text: &[u8]) -> usize
+    requires { 0 < length text.now }
+    ensures within { result ≤ length text.now }
+    ensures quiet { NoneBelow (suspect_at text.now) result }
+    ensures all { (result ≡ length text.now) ↔ IsClear text.now }
 {
-    if may_be_faulty(text[0]) || text.len() < 8 {
+    if may_be_faulty(text[0]) {
         return 0;
     }
     match scan::first_pair::<Suspect>(text) {
         Some(offset) => offset + 1,
+        None if ends_in_break(text) => text.len() - 1,
         None => text.len(),
     }
 }
@@ -143,9 +144,13 @@ impl Pattern for Suspect {
 
     #[inline(always)]
     fn hits(front: u8x16, back: u8x16) -> u64 {
-        nonzero_lanes(
-            classify(CLASSES_BY_LOW_NIBBLE, CLASSES_BY_HIGH_NIBBLE, back) & suspect_after(front),
-        )
+        let suspect = classify(CLASSES_BY_LOW_NIBBLE, CLASSES_BY_HIGH_NIBBLE, back)
+            & suspect_after(front);
+        // LLVM makes one instruction of this test, and more of one of the mask.
+        if suspect.reduce_or() == 0 {
+            return 0;
+        }
+        nonzero_lanes(suspect)
     }
 }
 

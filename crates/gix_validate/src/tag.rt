@@ -8,7 +8,7 @@ ghost use Rattle.gix_validate.specs.Printed.{printed};
 ghost use Rattle.gix_validate.specs.Private.TagWalk.{fault_of_byte, first_fault_between, may_be_faulty};
 ghost use Rattle.gix_validate.specs.Tag.{fault_of, faults_at, is_tag_name, text_of};
 
-use crate::adjacent::{first_to_walk, is_clear};
+use crate::adjacent::{clear_front, is_clear};
 use crate::bytes::may_be_faulty;
 use crate::text::Text;
 use bstr::BStr;
@@ -167,7 +167,7 @@ fn fault_at_first_offset(bytes: &[u8]) -> Option<NameError>
     requires { 0 < length bytes.now }
     ensures { result ≡ at_first_offset (λ i. first_of (faults_at bytes.now i)) (length bytes.now) }
 {
-    let from = first_to_walk(bytes);
+    let from = clear_front(bytes);
     if let Some(fault) = first_fault_between(bytes, from, bytes.len()) {
         return Some(fault);
     }

@@ -1,6 +1,6 @@
 -- Lanes of suspect bytes: what one look at sixteen pairs says, and what looks at all pairs of a text say together.
-use Rattle.std.proofs.Common.{◌≡◌, ℕ, ◌-◌, ◌/◌, ◌%◌, ◌<◌, ◌↔◌, Bool, true, false, ◌&&◌, ◌||◌, cond, List, [], ◌∷◌, map, length}
-use Rattle.std.proofs.Common.{get_or, replicate, bit_and, bit_xor, ltb, w8, refl, ap, ap₂, ◌∙◌, arith}
+use Rattle.std.proofs.Common.{◌≡◌, ℕ, suc, zero, ◌+◌, ◌-◌, ◌/◌, ◌%◌, ◌<◌, ◌↔◌, Bool, true, false, ◌&&◌, ◌||◌, cond, List, [], ◌∷◌, map, length, add-one}
+use Rattle.std.proofs.Common.{get_or, replicate, bit_and, bit_xor, ltb, w8, refl, sym, ap, ap₂, ◌∙◌, arith}
 use Rattle.std.proofs.lemmas.Bool.{agree_below_at, ltb-true}
 use Rattle.std.proofs.lemmas.Simd.{zip2_splat, splat_is_map, zip2_of_maps, map-map, swz_l, SwzOk}
 use Rattle.std.specs.Prelude.{codes, ◌==◌, if◌then◌else◌}
@@ -11,7 +11,7 @@ use Rattle.gix_validate.specs.declared.adjacent.TheConstants.{ANYWHERE}
 use Rattle.gix_validate.specs.Bytes.{is_bad, is_among, ends}
 use Rattle.gix_validate.specs.Private.TagWalk.{may_be_faulty}
 use Rattle.gix_validate.specs.Private.Lanes.{is_nonzero}
-use Rattle.gix_validate.specs.Private.Adjacent.{is_suspect, IsClear}
+use Rattle.gix_validate.specs.Private.Adjacent.{is_suspect, suspect_at, IsClear}
 use Rattle.gix_validate.specs.Private.Scan.{NoneBelow, at_pair}
 use Rattle.gix_validate.proofs.Blocks.Lanes.{IsBlock, lane_fits, same_bytes, may_look, looked_up, lane_of}
 use Rattle.std.proofs.lemmas.Bool.Decides.{nat_tests}
@@ -92,10 +92,22 @@ suspect_lane before bytes classes after ba bb ek eb =
 suspect_regrouped : (w s d l c : Bool) → (w || (s || (d || (l || (c || false))))) ≡ ((w || (s || (c || false)) || (true && (d || (l || false)))) || false)
 suspect_regrouped w s d l c = grind arith
 
+pub first_look : (x : List ℕ) → suspect_at x 0 ≡ may_be_faulty (get_or x 0 0)
+unfolding is_suspect
+first_look x = grind (arith, nat_tests, suspect_regrouped)
+
+-- A look at the first byte, and at pairs, is a look at each byte of a front.
+pub quiet_by_looks : (x : List ℕ) (n : ℕ) → may_be_faulty (get_or x 0 0) ≡ false → NoneBelow (at_pair is_suspect x) n → NoneBelow (suspect_at x) (n + 1)
+quiet_by_looks x n first pairs zero below = first_look x ∙ first
+quiet_by_looks x n first pairs (suc k) below = rw (add-one k) at (pairs k (omega (arith, below)))
+
 -- A text that has a byte is clear just where these three looks find nothing.
 pub clear_by_looks : (x : List ℕ) → 0 < length x
     → IsClear x
     ↔ ((may_be_faulty (get_or x 0 0) ≡ false)
     × ((ends x (codes ".") || ends x (codes "/")) ≡ false) × NoneBelow (at_pair is_suspect x) (length x - 1))
-unfolding is_suspect
-clear_by_looks x some = grind (arith, nat_tests, suspect_regrouped)
+clear_by_looks x some =
+    let last : length x - 1 + 1 ≡ length x = omega arith in (
+      λ clear. (sym (first_look x) ∙ clear.quiet 0 some, clear.end, λ k below. rw (add-one k) (rw (add-one k) at (clear.quiet (k + 1) (omega arith)))),
+      λ looks. record { some = some; quiet = rw last at (quiet_by_looks x (length x - 1) looks.0 looks.2); end = looks.1 },
+    )

@@ -1,15 +1,15 @@
 -- Sixteen lanes: look-ups in a table of sixteen, and tests whether some lane passes.
-use Rattle.std.proofs.Common.{◌≡◌, ℕ, zero, suc, ◌+◌, ◌*◌, ◌/◌, ◌%◌, ◌^◌, ◌<◌, Bool, true, false, not, ◌&&◌, ◌||◌, cond, eqb, List, [], ◌∷◌, map}
+use Rattle.std.proofs.Common.{◌≡◌, ℕ, zero, suc, ◌+◌, ◌*◌, ◌/◌, ◌%◌, ◌^◌, ◌<◌, ◌≤◌, Bool, true, false, not, ◌&&◌, ◌||◌, cond, eqb, List, [], ◌∷◌, map}
 use Rattle.std.proofs.Common.{length, get_or, replicate, bit_and, bit_or, refl, sym, ap, ap₂, subst, ◌∙◌, inl, inr, arith, w8, Fits, eqb-true}
 use Rattle.std.proofs.lemmas.Bool.{agree_below, agree_below_at, cases_lt}
 use Rattle.std.proofs.lemmas.Nat.Bits.{bit_at_above, same_from_bits}
 use Rattle.std.proofs.lemmas.List.{get_or-map, get_or_past, length-map, ext_get_or}
-use Rattle.std.proofs.lemmas.Nat.{and_mask}
+use Rattle.std.proofs.lemmas.Nat.{and_mask, le_or_l, le_or_r}
 use Rattle.std.proofs.lemmas.Simd.{Each1-from_get_or, get_or-zip2, zip2_splat, zip2-map, length-zip2, mask_l-lt, mask_l-mod, bit_mask_l, bitmask_splat}
 use Rattle.std.specs.Int.{bit_at}
 use Rattle.std.proofs.lemmas.Simd.{swz_l, SwzOk, SwzOk-from_below, length-swz_l, get_or-swz_l_below}
 use Rattle.std.specs.List.{list_any}
-use lib.Lanes.{zip2, mask_l, top, Each1}
+use lib.Lanes.{zip2, mask_l, fold_l, top, Each1}
 use Rattle.gix_validate.specs.Private.Lanes.{is_nonzero}
 
 -- sixteen lanes of bytes
@@ -83,6 +83,19 @@ some_lane t v b long = ap (λ n. not (eqb n 0)) (bitmask_splat w8 t v 16 b long 
 pub nonzero_lane : (v : List ℕ) → length v ≡ 16
     → not (eqb (mask_l (map (top 7) (zip2 (λ x y. cond (not (eqb x y)) 255 0) v (replicate 16 0))) % 2 ^ 64) 0) ≡ list_any is_nonzero v
 nonzero_lane v = some_lane (λ x y. not (eqb x y)) v 0
+
+or_grows : (a : ℕ) (v : List ℕ) → a ≤ fold_l bit_or a v
+or_grows a [] = omega arith
+or_grows a (b ∷ v) = omega (arith, le_or_l a b, or_grows (bit_or a b) v)
+
+-- No lane is above what all of them together have.
+lane_below_or : (a : ℕ) (v : List ℕ) (k : ℕ) → get_or v k 0 ≤ fold_l bit_or a v
+lane_below_or a [] k = omega arith
+lane_below_or a (b ∷ v) zero = omega (arith, le_or_r a b, or_grows (bit_or a b) v)
+lane_below_or a (b ∷ v) (suc k) = lane_below_or (bit_or a b) v k
+
+pub none_nonzero : (v : List ℕ) (k : ℕ) → fold_l bit_or 0 v ≡ 0 → is_nonzero (get_or v k 0) ≡ false
+none_nonzero v k none = let zero : get_or v k 0 ≡ 0 = omega (arith, lane_below_or 0 v k, none) in ap is_nonzero zero
 
 -- The mask has a bit for each lane that passes a test against a byte.
 pub lane_mask : (t : ℕ → ℕ → Bool) (v : List ℕ) (b : ℕ) → length v ≡ 16

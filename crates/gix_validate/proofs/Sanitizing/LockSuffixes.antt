@@ -1,12 +1,17 @@
 -- Laws of the cut of a text: what it leaves is a front that does not end in `.lock`.
-use Rattle.std.proofs.Common.{◌≡◌, ◌≢◌, ℕ, ◌≤◌, true, List, [], ◌∷◌, ◌++◌, length, take, drop, refl, sym, ap, ◌∙◌, arith, length-append, append_assoc}
+use Rattle.std.proofs.Common.{◌≡◌, ◌≢◌, ℕ, ◌≤◌, ◌-◌, true, false, List, [], ◌∷◌, ◌++◌, length, take, drop, refl, sym, ap, ◌∙◌, arith, length-append, length-take, append_assoc}
 use Rattle.std.proofs.Common.{append-nil}
 use Rattle.std.specs.Prelude.{codes, ◌&&◌}
-use Rattle.std.specs.Str.{bytes_eq}
-use Rattle.std.proofs.lemmas.Bool.{and_parts}
-use Rattle.std.proofs.lemmas.List.{take_at, take-take}
+use Rattle.std.specs.Str.{byte, bytes_eq}
+use Rattle.std.proofs.lemmas.Bool.{and_parts, false_from_ne_true}
+use Rattle.std.proofs.lemmas.List.{take_all, take-take}
 use Rattle.std.proofs.lemmas.Slice.Eq.{bytes_eq-Decides}
+use Rattle.std.proofs.lemmas.Bool.Decides.{nat_tests}
+use Rattle.std.proofs.lemmas.List.Folds.{list_all-append}
+use Rattle.gix_validate.specs.Bytes.{ends}
+use Rattle.gix_validate.specs.Pieces.{has_no_slash}
 use Rattle.gix_validate.specs.Sanitized.{cut, is_locks}
+use Rattle.gix_validate.proofs.Texts.Endings.{ends-true, ends-no}
 
 -- More `.lock`s follow `.lock`s.
 is_locks-append : (x r : List ℕ) → is_locks r ≡ true → is_locks (x ++ r) ≡ is_locks x
@@ -16,6 +21,14 @@ is_locks-append (a ∷ b ∷ []) r h = grind arith
 is_locks-append (a ∷ b ∷ c ∷ []) r h = grind arith
 is_locks-append (a ∷ b ∷ c ∷ d ∷ []) r h = grind arith
 is_locks-append (a ∷ b ∷ c ∷ d ∷ e ∷ t) r h = ap (λ v. bytes_eq (a ∷ b ∷ c ∷ d ∷ e ∷ []) (codes ".lock") && v) (is_locks-append t r h)
+
+is_locks-apart : (x : List ℕ) → is_locks x ≡ true → has_no_slash x ≡ true
+is_locks-apart [] h = refl
+is_locks-apart (a ∷ b ∷ c ∷ d ∷ e ∷ t) h = grind (arith, bytes_eq-Decides, and_parts, is_locks-apart t)
+is_locks-apart _ h = grind arith
+
+pub is_locks-slash : (x r : List ℕ) → is_locks (x ++ byte "/" ∷ r) ≡ false
+is_locks-slash x r = grind (arith, is_locks-apart (x ++ byte "/" ∷ r), list_all-append, false_from_ne_true)
 
 -- `.lock`s at the end are cut as well.
 pub cut-append : (t r : List ℕ) → is_locks r ≡ true → cut (t ++ r) ≡ cut t
@@ -54,12 +67,13 @@ cut-own t other =
 pub cut_open : (t f : List ℕ) → cut t ≢ f ++ codes ".lock"
 cut_open t f e = grind (arith, cut_front t, cut-append, length-cut, length-append)
 
--- The piece is a front of the whole, after which only `.lock`s were taken away.
-pub record IsCutTo (whole piece : List ℕ) : Type 0 where
-  pub same : cut piece ≡ cut whole
-  pub shorter : length piece ≤ length whole
-  pub front : take (length piece) whole ≡ piece
+pub cut_lock : (t : List ℕ) (n : ℕ) → n ≤ length t → ends (take n t) (codes ".lock") ≡ true → (5 ≤ n) × (cut (take (n - 5) t) ≡ cut (take n t))
+cut_lock t n within lock =
+    let e = ends-true (take n t) (codes ".lock") lock in
+    grind (arith, length-take, length-append, take-take, cut-append (take (n - 5) t) (codes ".lock") refl)
 
-pub IsCutTo-lock : (whole piece front : List ℕ) → IsCutTo whole piece → piece ≡ front ++ codes ".lock" → IsCutTo whole front
-IsCutTo-lock whole piece front so_far e =
-    grind (arith, cut-append front (codes ".lock") refl, length-append, take_at front (codes ".lock"), take-take (length front) (length piece) whole)
+pub cut_none : (t : List ℕ) → ends t (codes ".lock") ≡ false → cut t ≡ t
+cut_none t none = cut-own t (ends-no t (codes ".lock") none)
+
+-- what a loop that cuts one `.lock` after the other needs
+pub ruleset lock_by_lock = (nat_tests, length-take, take_all, cut_lock, cut_none)

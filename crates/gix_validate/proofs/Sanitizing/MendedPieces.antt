@@ -1,9 +1,9 @@
 -- One piece: which bytes may follow which in a good one, what cleaning it writes byte by byte, and the laws of the mended piece.
-use Rattle.std.proofs.Common.{◌≡◌, ℕ, Bool, true, false, List, [], ◌∷◌, ◌++◌, arith, ◌≢◌, ◌≤◌, length, refl, ap, ◌-◌, take, drop, append_assoc}
+use Rattle.std.proofs.Common.{◌≡◌, ◌⊎◌, inl, inr, get_or, ℕ, Bool, true, false, List, [], ◌∷◌, ◌++◌, arith, ◌≢◌, ◌≤◌, length, refl, ◌-◌, take, drop, append_assoc}
 use Rattle.std.specs.Prelude.{codes, ◌&&◌, ◌||◌, not, ◌==◌, Option, Some, None, is_none, if◌then◌else◌}
 use Rattle.std.specs.List.{list_any}
 use Rattle.std.specs.Str.{byte}
-use Rattle.std.proofs.lemmas.Bool.{and_parts, cond_both}
+use Rattle.std.proofs.lemmas.Bool.{and_parts, cases_Bool, cond_both}
 use Rattle.std.proofs.lemmas.Grind.{common_steps}
 use Rattle.std.proofs.lemmas.Bool.Decides.{nat_tests}
 use Rattle.std.proofs.lemmas.List.{take-append-drop, same_from_push}
@@ -11,7 +11,7 @@ use Rattle.std.proofs.lemmas.List.Folds.{list_all-append}
 use Rattle.gix_validate.specs.Bytes.{is_bad, is_empty, ends, holds, begins}
 use Rattle.gix_validate.specs.Tag.{is_good_piece}
 use Rattle.gix_validate.specs.Pieces.{is_slash, has_no_slash}
-use Rattle.gix_validate.specs.Sanitized.{Dots, Other, dot_before, runs, byte_of, bytes_of, allowed, cleaned, cut, dash_last}
+use Rattle.gix_validate.specs.Sanitized.{Run, Dots, Other, dot_before, runs, byte_of, bytes_of, allowed, cleaned, cut, dash_last}
 use Rattle.gix_validate.proofs.Texts.Endings.{ends-false, ends-no}
 use Rattle.gix_validate.proofs.TagNames.Grammar.{is_refused}
 use Rattle.gix_validate.proofs.Sanitizing.LockSuffixes.{cut_front, cut_open, cut-own, length-cut}
@@ -59,86 +59,113 @@ abbrev pub is_after : ℕ → Option ℕ → Bool
 is_after a None = false
 is_after a (Some b) = b == a
 
--- the text begins with a dot
-abbrev pub dot_first : List ℕ → Bool
-dot_first [] = false
-dot_first (b ∷ p) = b == byte "."
+-- what a byte adds to its piece, by the byte before it in the piece, if there is one: of the dots in a row the first adds one
+abbrev pub added : Option ℕ → ℕ → List ℕ
+added before b = if b == byte "." then (if is_after (byte ".") before then [] else byte_of before Dots ∷ []) else byte_of before (Other b) ∷ []
 
--- what a byte becomes, after this written byte of its piece, if any
-unfoldable pub written_for : Option ℕ → ℕ → ℕ
-written_for last b = if (b == byte "." && is_none last) || (b == byte "{" && is_after (byte "@") last) then byte "-" else allowed b
+-- what the bytes of a piece add
+abbrev pub added_by : Option ℕ → List ℕ → List ℕ
+added_by before [] = []
+added_by before (b ∷ p) = added before b ++ added_by (Some b) p
 
--- what the bytes of a piece become after it: of the dots in a row the last is written
-abbrev pub written_by : Option ℕ → List ℕ → List ℕ
-written_by last [] = []
-written_by last (b ∷ p) =
-    if b == byte "." && dot_first p then written_by last p else written_for last b ∷ written_by (Some (written_for last b)) p
+dot_before-twice : (rs : List Run) → dot_before (dot_before rs) ≡ dot_before rs
+dot_before-twice [] = refl
+dot_before-twice (Dots ∷ rs) = refl
+dot_before-twice (Other b ∷ rs) = refl
 
-dot_before-runs : (p : List ℕ) → dot_before (runs p) ≡ (if dot_first p then runs p else Dots ∷ runs p)
-dot_before-runs p = grind (arith, nat_tests)
+-- The runs of a piece give what its bytes add, and the same after a dot.
+runs_added : (p : List ℕ) → ((before : Option ℕ) → is_after (byte ".") before ≡ false → bytes_of before (runs p) ≡ added_by before p)
+    × ((before : Option ℕ) → bytes_of before (dot_before (runs p)) ≡ byte_of before Dots ∷ added_by (Some (byte ".")) p)
+runs_added [] = (λ before h. refl, λ before. refl)
+runs_added (b ∷ p) =
+    let rest = runs_added p in
+    (λ before h. grind (arith, nat_tests, rest.0 (Some b), rest.1 before), λ before. grind (arith, nat_tests, dot_before-twice, rest.0 (Some b), rest.1 before))
 
--- `@` is written for `@` alone, and a dot for none but a dot
-marks_kept : (last : Option ℕ) (b : ℕ)
-    → ((written_for last b == byte "@") ≡ (b == byte "@")) × ((b == byte ".") ≡ false → (written_for last b == byte ".") ≡ false)
-unfolding is_bad written_for
-marks_kept last b = grind (arith, nat_tests)
-
-byte_written : (before last : Option ℕ) (b : ℕ) → is_none before ≡ is_none last → is_after (byte "@") before ≡ is_after (byte "@") last
-    → byte_of before (if b == byte "." then Dots else Other b) ≡ written_for last b
-unfolding is_bad written_for
-byte_written before last b none at = grind (arith, nat_tests)
-
-bytes_of-written : (before last : Option ℕ) (p : List ℕ) → is_none before ≡ is_none last → is_after (byte "@") before ≡ is_after (byte "@") last
-    → bytes_of before (runs p) ≡ written_by last p
-bytes_of-written before last [] none at = refl
-bytes_of-written before last (b ∷ p) none at =
-    let here = byte_written before last b none at in
-    grind (arith, dot_before-runs, marks_kept, bytes_of-written before last p, bytes_of-written (Some b) (Some (written_for last b)) p)
-
-pub cleaned-written : (p : List ℕ) → cleaned p ≡ written_by None p
+pub cleaned-added : (p : List ℕ) → cleaned p ≡ added_by None p
 unfolding cleaned
-cleaned-written p = bytes_of-written None None p refl refl
+cleaned-added p = (runs_added p).0 None refl
 
-pub length-written : (last : Option ℕ) (p : List ℕ) → length (written_by last p) ≤ length p
-length-written last [] = grind arith
-length-written last (b ∷ p) = grind (arith, length-written last p, length-written (Some (written_for last b)) p)
+length-added : (before : Option ℕ) (p : List ℕ) → length (added_by before p) ≤ length p
+length-added before [] = grind arith
+length-added before (b ∷ p) = grind (arith, length-added (Some b) p)
 
-written_for-own : (last : Option ℕ) (b : ℕ) → may_follow last b ≡ true → written_for last b ≡ b
-unfolding written_for is_refused
-written_for-own last b h = grind (arith, nat_tests)
-
-not_dots : (b : ℕ) (p : List ℕ) → each_may_follow (Some b) p ≡ true → (b == byte "." && dot_first p) ≡ false
-not_dots b p h = grind (arith, nat_tests)
+added-own : (before : Option ℕ) (b : ℕ) → may_follow before b ≡ true → added before b ≡ b ∷ []
+unfolding is_refused
+added-own None b h = grind (arith, nat_tests)
+added-own (Some a) b h = grind (arith, nat_tests)
 
 -- A piece whose bytes may each follow the one before stays as it is.
-pub written-own : (last : Option ℕ) (p : List ℕ) → each_may_follow last p ≡ true → written_by last p ≡ p
-written-own last [] h = grind arith
-written-own last (b ∷ p) h =
-    let parts = and_parts (may_follow last b) (each_may_follow (Some b) p) h in
-    rw (not_dots b p parts.1, written_for-own last b parts.0) (ap (λ v. b ∷ v) (written-own (Some b) p parts.1))
+added_by-own : (before : Option ℕ) (p : List ℕ) → each_may_follow before p ≡ true → added_by before p ≡ p
+added_by-own before [] h = grind arith
+added_by-own before (b ∷ p) h = grind (arith, and_parts, added-own before b, added_by-own (Some b) p)
 
-written_for-follows : (last : Option ℕ) (b : ℕ) → ((b == byte ".") ≡ true → is_after (byte ".") last ≡ false) → may_follow last (written_for last b) ≡ true
-unfolding is_bad written_for is_refused
-written_for-follows None b h = grind (arith, nat_tests)
-written_for-follows (Some a) b h = grind (arith, nat_tests)
+-- the byte that a piece ends in, as written, and the byte before the next one in it, as read
+record Alike (last before : Option ℕ) : Type 0 where
+  none : is_none last ≡ is_none before
+  at_sign : is_after (byte "@") last ≡ is_after (byte "@") before
+  dot : is_after (byte ".") last ≡ true → is_after (byte ".") before ≡ true
+
+-- a byte adds one, or is a dot after a dot and adds none
+added_cases : (before : Option ℕ) (b : ℕ) → ((w : ℕ) × (added before b ≡ w ∷ []))
+    ⊎ ((is_after (byte ".") before ≡ true) × (b ≡ byte ".") × (added before b ≡ []))
+added_cases before b = elim (cases_Bool (b == byte "." && is_after (byte ".") before)) [
+  | inl again ↦ inr (grind (arith, nat_tests), grind (arith, nat_tests), grind (arith, nat_tests))
+  | inr other ↦ inl (get_or (added before b) 0 0, grind (arith, nat_tests))
+]
+
+marks_not_refused : (is_refused (byte "-") ≡ false) × (is_refused (byte ".") ≡ false)
+unfolding is_bad is_refused
+marks_not_refused = (refl, refl)
+
+allowed_not_refused : (b : ℕ) → is_refused (allowed b) ≡ false
+unfolding is_refused
+allowed_not_refused b = grind (arith, marks_not_refused)
+
+added-not_refused : (before : Option ℕ) (b w : ℕ) → added before b ≡ w ∷ [] → is_refused w ≡ false
+added-not_refused None b w e = grind (arith, nat_tests, marks_not_refused, allowed_not_refused b)
+added-not_refused (Some c) b w e = grind (arith, nat_tests, marks_not_refused, allowed_not_refused b)
+
+added-no_dot : (b : ℕ) → added None b ≢ byte "." ∷ []
+unfolding is_bad
+added-no_dot b e = grind (arith, nat_tests)
+
+added-no_dots : (c b : ℕ) → added (Some c) b ≡ byte "." ∷ [] → (c == byte ".") ≡ false
+unfolding is_bad
+added-no_dots c b e = grind (arith, nat_tests)
+
+added-no_brace : (c b : ℕ) → added (Some c) b ≡ byte "{" ∷ [] → (c == byte "@") ≡ false
+unfolding is_bad
+added-no_brace c b e = grind (arith, nat_tests)
+
+added-may_follow : (last before : Option ℕ) (b w : ℕ) → Alike last before → added before b ≡ w ∷ [] → may_follow last w ≡ true
+added-may_follow None None b w alike e = grind (arith, nat_tests, added-not_refused None b w e, added-no_dot b)
+added-may_follow None (Some c) b w alike e = grind (arith, alike.none)
+added-may_follow (Some a) None b w alike e = grind (arith, alike.none)
+added-may_follow (Some a) (Some c) b w alike e = grind (arith, nat_tests, added-not_refused (Some c) b w e, alike.at_sign, alike.dot, added-no_dots, added-no_brace)
+
+added-alike : (before : Option ℕ) (b w : ℕ) → added before b ≡ w ∷ [] → Alike (Some w) (Some b)
+unfolding is_bad
+added-alike None b w e = record { none = refl; at_sign = grind (arith, nat_tests); dot = λ h. grind (arith, nat_tests) }
+added-alike (Some a) b w e = record { none = refl; at_sign = grind (arith, nat_tests); dot = λ h. grind (arith, nat_tests) }
 
 -- Of a cleaned piece each byte may follow the one before.
-pub written_follows : (last : Option ℕ) (p : List ℕ) → (dot_first p ≡ true → is_after (byte ".") last ≡ false)
-    → each_may_follow last (written_by last p) ≡ true
-written_follows last [] h = grind arith
-written_follows last (b ∷ p) h =
-    grind (arith, written_for-follows last b, (marks_kept last b).1, written_follows last p, written_follows (Some (written_for last b)) p)
+added_follows : (last before : Option ℕ) (p : List ℕ) → Alike last before → each_may_follow last (added_by before p) ≡ true
+added_follows last before [] alike = grind arith
+added_follows last before (b ∷ p) alike = elim (added_cases before b) [
+  | inl one ↦ let rest = added_follows (Some one.0) (Some b) p (added-alike before b one.0 one.1) in
+      rw one.1 (grind (arith, added-may_follow last before b one.0 alike one.1))
+  | inr none ↦ rw none.2 (added_follows last (Some b) p record { none = grind (arith, alike.none); at_sign = grind (arith, nat_tests, alike.at_sign); dot = λ h. grind (arith, nat_tests) })
+]
 
 -- A cleaned piece has no slash where the piece has none.
-pub written-apart : (last : Option ℕ) (p : List ℕ) → has_no_slash p ≡ true → has_no_slash (written_by last p) ≡ true
-unfolding written_for
-written-apart last [] h = grind arith
-written-apart last (b ∷ p) h = grind (arith, nat_tests, written-apart last p, written-apart (Some (written_for last b)) p)
+added-apart : (before : Option ℕ) (p : List ℕ) → has_no_slash p ≡ true → has_no_slash (added_by before p) ≡ true
+added-apart before [] h = grind arith
+added-apart before (b ∷ p) h = grind (arith, nat_tests, added-apart (Some b) p)
 
 -- A piece that is not empty leaves something.
-pub written_some : (last : Option ℕ) (p : List ℕ) → is_empty p ≡ false → is_empty (written_by last p) ≡ false
-written_some last [] h = grind arith
-written_some last (b ∷ p) h = grind (arith, common_steps, written_some last p)
+pub cleaned_some : (p : List ℕ) → is_empty p ≡ false → is_empty (cleaned p) ≡ false
+cleaned_some [] h = grind arith
+cleaned_some (b ∷ p) h = grind (arith, common_steps, cleaned-added (b ∷ p))
 
 pub is_good_piece-empty : is_good_piece [] ≡ false
 unfolding is_good_piece
@@ -155,22 +182,22 @@ is_good_piece-from p some follows other = grind (arith, is_good_piece-bytes, end
 -- A piece that is not empty is mended to a good piece.
 pub mend_good : (p : List ℕ) → is_empty p ≡ false → is_good_piece (cut (cleaned p)) ≡ true
 mend_good p some =
-    let follows : each_may_follow None (cleaned p) ≡ true = grind (arith, cleaned-written, written_follows) in
+    let follows : each_may_follow None (cleaned p) ≡ true = grind (arith, cleaned-added p, added_follows None None p record { none = refl; at_sign = refl; dot = λ h. h }) in
     let front = each_may_follow-front None (cut (cleaned p)) (drop (length (cut (cleaned p))) (cleaned p)) in
-    is_good_piece-from (cut (cleaned p)) (cut_some (cleaned p) (grind (arith, cleaned-written, written_some)) follows)
+    is_good_piece-from (cut (cleaned p)) (cut_some (cleaned p) (cleaned_some p some) follows)
     (grind (arith, cut_front (cleaned p))) (cut_open (cleaned p))
 
 -- A good piece stays as it is.
 pub mend-own : (p : List ℕ) → is_good_piece p ≡ true → cut (cleaned p) ≡ p
-mend-own p good = grind (arith, is_good_piece-bytes, cleaned-written, written-own, cut-own, ends-no)
+mend-own p good = grind (arith, is_good_piece-bytes, cleaned-added, added_by-own, cut-own, ends-no)
 
 pub mend_apart : (p : List ℕ) → has_no_slash p ≡ true → has_no_slash (cut (cleaned p)) ≡ true
 mend_apart p apart =
     let front = list_all-append (λ b. not (is_slash b)) (cut (cleaned p)) (drop (length (cut (cleaned p))) (cleaned p)) in
-    grind (arith, cleaned-written, written-apart, cut_front (cleaned p))
+    grind (arith, cleaned-added, added-apart, cut_front (cleaned p))
 
 pub length-mend : (p : List ℕ) → length (cut (cleaned p)) ≤ length p
-length-mend p = grind (arith, cleaned-written, length-cut, length-written)
+length-mend p = grind (arith, cleaned-added, length-cut, length-added)
 
 is_empty-dash : (f : List ℕ) → is_empty (f ++ codes "-") ≡ false
 is_empty-dash [] = refl

@@ -1,112 +1,123 @@
 -- The text is mended and repaired within one buffer: what is written is before the offset that is read next.
-use Rattle.std.proofs.Common.{◌≡◌, ℕ, ◌+◌, ◌-◌, ◌≤◌, ◌<◌, true, false, List, [], ◌∷◌, ◌++◌, length, take, drop, set, get_or, refl}
-use Rattle.std.proofs.Common.{sym, ap, arith, length-take, length-drop, length-set, append_assoc, max}
-use Rattle.std.specs.Prelude.{codes, ◌==◌, slice_range, if◌then◌else◌}
+use Rattle.std.proofs.Common.{◌≡◌, ◌≢◌, ℕ, zero, suc, ◌+◌, ◌-◌, ◌≤◌, ◌<◌, true, false, List, [], ◌∷◌, ◌++◌, length, take, drop, set, get_or, refl}
+use Rattle.std.proofs.Common.{sym, ap, inl, inr, add-one, arith, length-set, append-nil, max}
+use Rattle.std.specs.Prelude.{codes, ◌==◌, if◌then◌else◌, Option, Some, None}
 use Rattle.std.specs.Str.{byte}
-use Rattle.std.proofs.lemmas.Bool.Decides.{Decides-eqb, nat_tests}
-use Rattle.std.proofs.lemmas.List.{get_or-drop, take-append-drop, take-take, take-set-le, take_more_set, drop_all}
-use Rattle.std.proofs.lemmas.List.{drop-set-add, drop-set-lt, drop-take, drop-drop, drop_more, take-append-le}
+use Rattle.std.proofs.lemmas.Bool.{cases_Bool}
+use Rattle.std.proofs.lemmas.Bool.Decides.{nat_tests}
+use Rattle.std.proofs.lemmas.List.{take_more, take_more_set, drop_all}
+use Rattle.std.proofs.lemmas.List.{drop-set-lt, drop-drop, drop_more, take-append-le}
 use Rattle.std.proofs.lemmas.Slice.{drop-append-drop}
-use Rattle.gix_validate.specs.Bytes.{is_empty}
+use Rattle.gix_validate.specs.Private.Adjacent.{is_suspect, suspect_at}
+use Rattle.gix_validate.specs.Private.Scan.{NoneBelow}
 use Rattle.gix_validate.specs.Private.TagWalk.{may_be_faulty}
 use Rattle.gix_validate.specs.Pieces.{is_slash, joined}
-use Rattle.gix_validate.specs.Sanitized.{cut, mended_pieces, repaired_dot, repaired_at, repaired_nothing, sanitized}
-use Rattle.gix_validate.proofs.Sanitizing.MendedPieces.{dot_first}
-use Rattle.gix_validate.proofs.Sanitizing.WrittenPiece.{added, closed, GivesWhole, GivesWhole-start, GivesWhole-slash, GivesWhole-dots}
+use Rattle.gix_validate.specs.Sanitized.{Dots, Other, byte_of, mended_pieces, repaired_dot, repaired_at, repaired_nothing, sanitized}
+use Rattle.gix_validate.proofs.Texts.Endings.{ends-no}
+use Rattle.gix_validate.proofs.TagNames.ClearTexts.{no_lock, pair_quiet}
+use Rattle.gix_validate.proofs.Sanitizing.LockSuffixes.{cut-own}
+use Rattle.gix_validate.proofs.Sanitizing.MendedPieces.{added}
+use Rattle.gix_validate.proofs.Sanitizing.WrittenPiece.{in_piece, closed, finished, GivesWhole, GivesWhole-start, GivesWhole-slash}
 use Rattle.gix_validate.proofs.Sanitizing.WrittenPiece.{GivesWhole-byte, GivesWhole-end}
-use Rattle.std.proofs.lemmas.Grind.{common_steps}
 
-take-add : (m n : ℕ) (xs : List ℕ) → take (m + n) xs ≡ take m xs ++ take n (drop m xs)
-take-add m n xs = grind (arith, take-append-drop m (take (m + n) xs), take-take, drop-take)
-
--- A front of a part, after what is before the part.
-pub take-front : (text : List ℕ) (start end n : ℕ) → n ≤ length (slice_range text start end)
-    → take (start + n) text ≡ take start text ++ take n (slice_range text start end)
-take-front text start end n h = grind (arith, length-take, take-add, take-take)
-
--- A slash after a part that was cut.
-pub take_closed : (text : List ℕ) (start end n : ℕ) → start ≤ end → end < length text → n ≤ length (slice_range text start end)
-    → take n (slice_range text start end) ≡ cut (slice_range text start end)
-    → take (start + n + 1) (set text (start + n) (byte "/")) ≡ take start text ++ (cut (slice_range text start end) ++ codes "/")
-take_closed text start end n order room within front =
-    let at : start + n < length text = omega (arith, length-take (end - start) (drop start text)) in
-    grind (arith, take_more_set text (start + n) (byte "/"), take-front text start end n within, append_assoc)
-
--- where a written piece ends once it is cut
-pub ruleset part_ends = (nat_tests, take-front, take_closed)
-
-slice_more : (text : List ℕ) (start end w : ℕ) → start ≤ end → end < length text
-    → slice_range (set text end w) start (end + 1) ≡ slice_range text start end ++ w ∷ []
-slice_more text start end w order room =
-    let at : start + (end - start) ≡ end = omega arith in
-    let more : end + 1 - start ≡ end - start + 1 = omega arith in
-    grind (arith, drop-set-add start text (end - start) w, take_more_set (drop start text) (end - start) w, length-drop)
-
-no_slice : (text : List ℕ) (n : ℕ) → slice_range text n n ≡ []
-no_slice text n = let none : n - n ≡ 0 = omega arith in ap (λ v. take v (drop n text)) none
-
-is_empty-length : (p : List ℕ) → is_empty p ≡ (length p == 0)
-is_empty-length p = grind arith
-
-is_empty-slice : (text : List ℕ) (start end : ℕ) → start ≤ end → end ≤ length text → is_empty (slice_range text start end) ≡ (start == end)
-is_empty-slice text start end order within = grind (arith, nat_tests, is_empty-length, length-take, length-drop)
-
--- The text is mended up to the offset `read`.
-pub record MendedUpTo (whole text : List ℕ) (start end read : ℕ) : Type 0 where
-  pub in_order : start ≤ end
+-- The text is mended up to the offset `read`; this byte was before it.
+pub record MendedUpTo (whole text : List ℕ) (end read previous : ℕ) : Type 0 where
   pub written : end ≤ read
   pub long : length text ≡ length whole
-  pub gives : GivesWhole whole (take start text) (slice_range text start end) (drop read text)
+  pub gives : GivesWhole whole (take end text) previous (drop read text)
 
-pub MendedUpTo-start : (text : List ℕ) → MendedUpTo text text 0 0 0
-MendedUpTo-start text = record { in_order = omega arith; written = omega arith; long = refl; gives = GivesWhole-start text }
+-- A byte that isn't suspect gives itself.
+added-quiet : (previous b : ℕ) → is_slash b ≡ false → is_suspect previous b ≡ false → added (in_piece previous) b ≡ b ∷ []
+unfolding is_suspect
+added-quiet previous b other quiet = grind (arith, nat_tests)
 
-first_dot : (text : List ℕ) → dot_first text ≡ (get_or text 0 0 == byte ".")
-first_dot text = grind (arith, nat_tests)
+closed-quiet : (x : List ℕ) (n previous b : ℕ) → n ≤ length x → NoneBelow (suspect_at x) n → is_slash b ≡ true → is_suspect previous b ≡ false
+    → closed (take n x) previous ≡ take n x ++ b ∷ []
+unfolding is_suspect
+closed-quiet x n previous b within quiet slash here =
+    let no = no_lock x n within (λ five. pair_quiet x n (n - 5) quiet (omega arith)) in
+    let whole = cut-own (take n x) (ends-no (take n x) (codes ".lock") no) in
+    grind (arith, nat_tests)
 
-dot_next : (text : List ℕ) (n : ℕ) → dot_first (drop n text) ≡ (get_or text n 0 == byte ".")
-dot_next text n = grind (arith, first_dot (drop n text), get_or-drop)
+gives_more : (x : List ℕ) (n : ℕ) → n < length x → NoneBelow (suspect_at x) (n + 1) → GivesWhole x (take n x) (get_or (byte "/" ∷ x) n 0) (drop n x)
+    → GivesWhole x (take (n + 1) x) (get_or x n 0) (drop (n + 1) x)
+gives_more x n room quiet so_far =
+    let previous = get_or (byte "/" ∷ x) n 0 in
+    let b = get_or x n 0 in
+    let here = quiet n (omega arith) in
+    let from : GivesWhole x (take n x) previous (b ∷ drop (n + 1) x) = rw (drop_more x n 0 room) at so_far in
+    rw (take_more x n 0 room) (elim (cases_Bool (is_slash b)) [
+      | inl slash ↦ rw (closed-quiet x n previous b (omega arith) (λ k below. quiet k (omega (arith, below))) slash here) at (GivesWhole-slash _ _ _ _ _ from slash)
+      | inr other ↦ rw (added-quiet previous b other here) at (GivesWhole-byte _ _ _ _ _ from other)
+    ])
 
-MendedUpTo-later : (whole text new : List ℕ) (start end read i j : ℕ) → MendedUpTo whole text start end read → read < length text
-    → length new ≡ length text → drop (end + 1) new ≡ drop (end + 1) text → i ≤ j → j ≤ read + 1
-    → GivesWhole whole (take i new) (slice_range new i j) (drop (read + 1) text) → MendedUpTo whole new i j (read + 1)
-MendedUpTo-later whole text new start end read i j so_far room long same order written gives =
+gives_front : (x : List ℕ) (n : ℕ) → n ≤ length x → NoneBelow (suspect_at x) n → GivesWhole x (take n x) (get_or (byte "/" ∷ x) n 0) (drop n x)
+gives_front x zero within quiet = GivesWhole-start x
+gives_front x (suc n) within quiet =
+    let so_far = gives_front x n (omega (arith, within)) (λ k below. quiet k (omega (arith, below))) in
+    rw (add-one n) at (gives_more x n (omega (arith, within)) (λ k below. quiet k (omega (arith, below))) so_far)
+
+-- Bytes that aren't suspect are mended already.
+pub MendedUpTo-start : (text : List ℕ) (n : ℕ) → n ≤ length text → NoneBelow (suspect_at text) n → MendedUpTo text text n n (get_or (byte "/" ∷ text) n 0)
+MendedUpTo-start text n within quiet = record { written = omega arith; long = refl; gives = gives_front text n within quiet }
+
+pub before_front : (x : List ℕ) (n : ℕ) → n ≢ 0 → get_or (byte "/" ∷ x) n 0 ≡ get_or x (n - 1) 0
+before_front x zero some = absurd (some refl)
+before_front x (suc n) some = let e : suc n - 1 ≡ n = omega arith in rw e refl
+
+MendedUpTo-later : (whole text new : List ℕ) (end read previous i b : ℕ) → MendedUpTo whole text end read previous → read < length text
+    → length new ≡ length text → drop (end + 1) new ≡ drop (end + 1) text → i ≤ read + 1
+    → GivesWhole whole (take i new) b (drop (read + 1) text) → MendedUpTo whole new i (read + 1) b
+MendedUpTo-later whole text new end read previous i b so_far room long same written gives =
     let on : end + 1 + (read - end) ≡ read + 1 = omega arith in
     grind (arith, drop-drop (read - end) (end + 1) new, drop-drop (read - end) (end + 1) text)
 
--- A byte that adds one byte to its piece.
-pub MendedUpTo-byte : (whole text : List ℕ) (start end read w : ℕ) → MendedUpTo whole text start end read → read < length text
-    → is_slash (get_or text read 0) ≡ false → ((get_or text read 0 == byte ".") ≡ true → (get_or text (read + 1) 0 == byte ".") ≡ false)
-    → w ≡ added (slice_range text start end) (get_or text read 0) → MendedUpTo whole (set text end w) start (end + 1) (read + 1)
-MendedUpTo-byte whole text start end read w so_far room slash single e =
-    grind (arith, nat_tests, GivesWhole, GivesWhole-byte, drop_more, dot_next, drop-set-lt, MendedUpTo-later, length-set, slice_more, take-set-le)
+-- what `mended_byte` says of a byte
+abbrev mended : ℕ → ℕ → Option ℕ
+mended previous b =
+    if b == byte "." then (if previous == byte "." then None else Some (byte_of (in_piece previous) Dots)) else Some (byte_of (in_piece previous) (Other b))
+
+pub mended-some : (previous b w : ℕ) → Some w ≡ mended previous b → added (in_piece previous) b ≡ w ∷ []
+mended-some previous b w e = grind (arith, nat_tests)
+
+pub mended-none : (previous b : ℕ) → None ≡ mended previous b → added (in_piece previous) b ≡ []
+mended-none previous b e = grind (arith, nat_tests)
+
+-- A byte that adds one to its piece.
+pub MendedUpTo-byte : (whole text : List ℕ) (end read previous w : ℕ) → MendedUpTo whole text end read previous → read < length text
+    → is_slash (get_or text read 0) ≡ false → added (in_piece previous) (get_or text read 0) ≡ w ∷ []
+    → MendedUpTo whole (set text end w) (end + 1) (read + 1) (get_or text read 0)
+MendedUpTo-byte whole text end read previous w so_far room other e =
+    grind (arith, nat_tests, GivesWhole, GivesWhole-byte, drop_more, drop-set-lt, MendedUpTo-later, length-set, take_more_set)
 
 -- A plain byte is written as it is.
-pub MendedUpTo-plain : (whole text : List ℕ) (start end read : ℕ) → MendedUpTo whole text start end read → read < length text
-    → may_be_faulty (get_or text read 0) ≡ false → MendedUpTo whole (set text end (get_or text read 0)) start (end + 1) (read + 1)
-MendedUpTo-plain whole text start end read so_far room plain = grind (arith, common_steps, MendedUpTo-byte)
+pub added-plain : (previous b : ℕ) → may_be_faulty b ≡ false → (is_slash b ≡ false) × (added (in_piece previous) b ≡ b ∷ [])
+added-plain previous b plain = grind (arith, nat_tests)
 
--- A dot before another one is left out.
-pub MendedUpTo-dots : (whole text : List ℕ) (start end read : ℕ) → MendedUpTo whole text start end read → read < length text
-    → get_or text read 0 ≡ byte "." → get_or text (read + 1) 0 ≡ byte "." → MendedUpTo whole text start end (read + 1)
-MendedUpTo-dots whole text start end read so_far room first second = grind (arith, nat_tests, MendedUpTo-later, GivesWhole-dots, drop_more, dot_next)
+-- A dot after another one is left out.
+pub MendedUpTo-dots : (whole text : List ℕ) (end read previous : ℕ) → MendedUpTo whole text end read previous → read < length text
+    → is_slash (get_or text read 0) ≡ false → added (in_piece previous) (get_or text read 0) ≡ []
+    → MendedUpTo whole text end (read + 1) (get_or text read 0)
+MendedUpTo-dots whole text end read previous so_far room other e =
+    grind (arith, nat_tests, MendedUpTo-later, GivesWhole, GivesWhole-byte, drop_more, append-nil)
 
--- A slash closes the piece.
-pub MendedUpTo-slash : (whole text new : List ℕ) (start end read n : ℕ) → MendedUpTo whole text start end read → read < length text
+-- A slash closes the piece, or is left out after another one.
+pub MendedUpTo-slash : (whole text new : List ℕ) (end read previous n : ℕ) → MendedUpTo whole text end read previous → read < length text
     → is_slash (get_or text read 0) ≡ true → length new ≡ length text → n ≤ end + 1
-    → take n new ≡ (if start == end then take end text else take start text ++ (cut (slice_range text start end) ++ codes "/"))
-    → drop (end + 1) new ≡ drop (end + 1) text → MendedUpTo whole new n n (read + 1)
-MendedUpTo-slash whole text new start end read n so_far room slash same within written rest =
-    grind (arith, nat_tests, GivesWhole, closed, GivesWhole-slash, drop_more, is_empty-slice, MendedUpTo-later, no_slice)
+    → take n new ≡ closed (take end text) previous
+    → drop (end + 1) new ≡ drop (end + 1) text → MendedUpTo whole new n (read + 1) (get_or text read 0)
+MendedUpTo-slash whole text new end read previous n so_far room slash same within written rest =
+    let b = get_or text read 0 in
+    let gives : GivesWhole whole (take end text) previous (b ∷ drop (read + 1) text) = rw (drop_more text read 0 room) at so_far.gives in
+    MendedUpTo-later whole text new end read previous n b so_far room same rest (omega (arith, so_far.written, within))
+    (rw (sym written) at (GivesWhole-slash _ _ _ _ _ gives slash))
 
 -- At the end of the text the last piece ends.
-pub mended_text : (whole text written : List ℕ) (start end read : ℕ) → MendedUpTo whole text start end read → length text ≤ read
-    → end ≤ length text → written ≡ (if start == end then take (end - 1) text else take start text ++ cut (slice_range text start end))
-    → written ≡ joined (mended_pieces whole)
-mended_text whole text written start end read so_far last within e =
-    let gives : GivesWhole whole (take start text) (slice_range text start end) [] = rw (sym (drop_all read text last)) so_far.gives in
-    let given = GivesWhole-end whole (take start text) (slice_range text start end) gives in
-    grind (arith, nat_tests, take-take, length-take, is_empty-slice)
+pub mended_text : (whole text : List ℕ) (end read previous : ℕ) → MendedUpTo whole text end read previous → length text ≤ read
+    → finished (take end text) previous ≡ joined (mended_pieces whole)
+mended_text whole text end read previous so_far last =
+    let gives : GivesWhole whole (take end text) previous [] = rw (sym (drop_all read text last)) so_far.gives in
+    GivesWhole-end whole (take end text) previous gives
 
 -- The front that was mended, and then repaired, is the sanitised text.
 pub sanitized-in_place : (whole front rest new : List ℕ) (m n : ℕ) → m ≤ length front → take m front ≡ joined (mended_pieces whole)

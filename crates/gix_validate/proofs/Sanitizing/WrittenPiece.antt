@@ -1,21 +1,21 @@
 -- What was written, and the rest that is not yet read, decide the mended pieces of the whole text.
 use Rattle.std.proofs.Common.{◌≡◌, ℕ, ◌-◌, true, false, cond, List, [], ◌∷◌, ◌++◌, length, take, refl, sym, ap, ◌∙◌, arith, length-append, append_assoc}
 use Rattle.std.proofs.Common.{append-nil}
-use Rattle.std.specs.Prelude.{codes, ◌||◌, ◌&&◌, ◌==◌, if◌then◌else◌, Option, Some, None, is_none}
+use Rattle.std.specs.Prelude.{codes, if◌then◌else◌, Option, Some, None}
 use Rattle.std.specs.Str.{byte}
-use Rattle.std.proofs.lemmas.Grind.{common_steps}
 use Rattle.std.proofs.lemmas.List.{take_at}
-use Rattle.gix_validate.specs.Bytes.{is_empty, ends}
+use Rattle.gix_validate.specs.Bytes.{is_empty}
 use Rattle.gix_validate.specs.Pieces.{is_slash, pieces, joined}
-use Rattle.gix_validate.specs.Sanitized.{allowed, cut, mended_pieces}
-use Rattle.gix_validate.proofs.Sanitizing.MendedPieces.{is_after, dot_first, written_for, written_by, written_some, cleaned-written}
+use Rattle.gix_validate.specs.Sanitized.{cut, mended_pieces}
+use Rattle.gix_validate.proofs.Sanitizing.MendedPieces.{added, added_by, cleaned_some, cleaned-added}
+use Rattle.gix_validate.proofs.Sanitizing.LockSuffixes.{is_locks-slash}
 use Rattle.gix_validate.proofs.Sanitizing.Laws.{mended_of}
 use Rattle.gix_validate.proofs.Texts.Pieces.{joined-push}
 use Rattle.std.proofs.lemmas.Bool.Decides.{nat_tests}
 
--- what a byte adds to its piece
-abbrev pub added : List ℕ → ℕ → ℕ
-added piece b = if (b == byte "." && is_empty piece) || (b == byte "{" && ends piece (codes "@")) then byte "-" else allowed b
+-- the byte before in the piece, if it isn't the slash before the piece
+abbrev pub in_piece : ℕ → Option ℕ
+in_piece previous = if is_slash previous then None else Some previous
 
 -- texts joined, with a slash after the last one
 abbrev slashed : List (List ℕ) → List ℕ
@@ -26,76 +26,84 @@ slashed (p ∷ ps) = joined (p ∷ ps) ++ codes "/"
 abbrev kept : List ℕ → List (List ℕ)
 kept piece = cond (is_empty piece) [] (cut piece ∷ [])
 
--- the written text once a piece ends: cut, with a slash after it, if anything of it was written
-abbrev pub closed : List ℕ → List ℕ → List ℕ
-closed done piece = cond (is_empty piece) done (done ++ (cut piece ++ codes "/"))
+-- the written text once a piece ends, if the piece has a byte: cut, with a slash after it
+abbrev pub closed : List ℕ → ℕ → List ℕ
+closed written previous = cond (is_slash previous) written (cut written ++ codes "/")
 
--- the written text at the end: the last piece cut, or else the last slash taken back
-abbrev pub finished : List ℕ → List ℕ → List ℕ
-finished done piece = cond (is_empty piece) (take (length done - 1) done) (done ++ cut piece)
+-- the written text at the end: cut, or else the last slash taken back
+abbrev pub finished : List ℕ → ℕ → List ℕ
+finished written previous = cond (is_slash previous) (take (length written - 1) written) (cut written)
 
 -- these texts, and after them what becomes of the written piece with the rest of it and of the pieces after it
 abbrev mended_from : List (List ℕ) → List ℕ → Option ℕ → List (List ℕ) → List (List ℕ)
-mended_from texts piece last [] = texts ++ kept piece
-mended_from texts piece last (p ∷ ps) = texts ++ (kept (piece ++ written_by last p) ++ mended_of ps)
+mended_from texts piece before [] = texts ++ kept piece
+mended_from texts piece before (p ∷ ps) = texts ++ (kept (piece ++ added_by before p) ++ mended_of ps)
 
-closed-slashed : (texts : List (List ℕ)) (piece : List ℕ) → closed (slashed texts) piece ≡ slashed (texts ++ kept piece)
-closed-slashed texts piece = grind (arith, nat_tests, append-nil, append_assoc, joined-push)
+-- A slash and what is before it are never cut.
+cut-slash : (s p : List ℕ) → cut (s ++ byte "/" ∷ p) ≡ s ++ byte "/" ∷ cut p
+unfolding cut
+cut-slash [] p = grind (arith, is_locks-slash [] p)
+cut-slash (b ∷ s) p = grind (arith, is_locks-slash (b ∷ s) p, cut-slash s p)
 
-finished-slashed : (texts : List (List ℕ)) (piece : List ℕ) → finished (slashed texts) piece ≡ joined (texts ++ kept piece)
-finished-slashed texts piece = grind (arith, nat_tests, append-nil, append_assoc, joined-push, take_at, length-append)
+cut-slashed : (texts : List (List ℕ)) (piece : List ℕ) → cut (slashed texts ++ piece) ≡ slashed texts ++ cut piece
+cut-slashed [] piece = refl
+cut-slashed (p ∷ ps) piece = grind (arith, append_assoc, cut-slash (joined (p ∷ ps)) piece)
+
+closed-slashed : (texts : List (List ℕ)) (piece : List ℕ) (previous : ℕ) → is_empty piece ≡ is_slash previous
+    → closed (slashed texts ++ piece) previous ≡ slashed (texts ++ kept piece) ++ []
+closed-slashed texts piece previous begun = grind (arith, nat_tests, cut-slashed, append-nil, append_assoc, joined-push)
+
+finished-slashed : (texts : List (List ℕ)) (piece : List ℕ) (previous : ℕ) → is_empty piece ≡ is_slash previous
+    → finished (slashed texts ++ piece) previous ≡ joined (texts ++ kept piece)
+finished-slashed texts piece previous begun = grind (arith, nat_tests, cut-slashed, append-nil, append_assoc, joined-push, take_at, length-append)
 
 mended_from-start : (texts ps : List (List ℕ)) → mended_from texts [] None ps ≡ texts ++ mended_of ps
-mended_from-start texts ps = grind (arith, nat_tests, cleaned-written, written_some)
+mended_from-start texts ps = grind (arith, nat_tests, cleaned-added, cleaned_some)
 
-mended_from-next : (texts : List (List ℕ)) (piece : List ℕ) (last : Option ℕ) (ps : List (List ℕ))
-    → mended_from texts piece last ([] ∷ ps) ≡ mended_from (texts ++ kept piece) [] None ps
-mended_from-next texts piece last ps = grind (arith, append-nil, append_assoc, mended_from-start)
+mended_from-next : (texts : List (List ℕ)) (piece : List ℕ) (before : Option ℕ) (ps : List (List ℕ))
+    → mended_from texts piece before ([] ∷ ps) ≡ mended_from (texts ++ kept piece) [] None ps
+mended_from-next texts piece before ps = grind (arith, append-nil, append_assoc, mended_from-start)
 
-mended_from-byte : (texts : List (List ℕ)) (piece : List ℕ) (last : Option ℕ) (b : ℕ) (rest : List ℕ) → is_slash b ≡ false
-    → mended_from texts piece last (pieces (b ∷ rest)) ≡ (if b == byte "." && dot_first rest
-    then mended_from texts piece last (pieces rest)
-    else mended_from texts (piece ++ written_for last b ∷ []) (Some (written_for last b)) (pieces rest))
-mended_from-byte texts piece last b rest h = grind (arith, nat_tests, append_assoc, append-nil)
+mended_from-byte : (texts : List (List ℕ)) (piece : List ℕ) (before : Option ℕ) (b : ℕ) (rest : List ℕ) → is_slash b ≡ false
+    → mended_from texts piece before (pieces (b ∷ rest)) ≡ mended_from texts (piece ++ added before b) (Some b) (pieces rest)
+mended_from-byte texts piece before b rest h = grind (arith, nat_tests, append_assoc, append-nil)
 
--- With these pieces done, each with its slash, and this piece written, the rest still gives what the whole gives.
-pub record GivesWhole (whole done piece rest : List ℕ) : Type 0 where
+-- After what is written, and this byte, the rest still gives what the whole gives.
+pub record GivesWhole (whole written : List ℕ) (previous : ℕ) (rest : List ℕ) : Type 0 where
   pub texts : List (List ℕ)
-  pub last : Option ℕ
-  pub done_is : done ≡ slashed texts
-  pub begun : is_none last ≡ is_empty piece
-  pub at_sign : is_after (byte "@") last ≡ ends piece (codes "@")
-  pub gives : mended_from texts piece last (pieces rest) ≡ mended_pieces whole
+  pub piece : List ℕ
+  pub is : written ≡ slashed texts ++ piece
+  pub begun : is_empty piece ≡ is_slash previous
+  pub gives : mended_from texts piece (in_piece previous) (pieces rest) ≡ mended_pieces whole
 
-pub GivesWhole-start : (text : List ℕ) → GivesWhole text [] [] text
-GivesWhole-start text = record { texts = []; last = None; done_is = refl; begun = refl; at_sign = refl; gives = mended_from-start [] (pieces text) }
+pub GivesWhole-start : (text : List ℕ) → GivesWhole text [] (byte "/") text
+GivesWhole-start text = record { texts = []; piece = []; is = refl; begun = refl; gives = mended_from-start [] (pieces text) }
 
--- A dot before another one changes nothing.
-pub GivesWhole-dots : (whole done piece rest : List ℕ) (b : ℕ) → GivesWhole whole done piece (b ∷ rest) → b ≡ byte "." → dot_first rest ≡ true
-    → GivesWhole whole done piece rest
-GivesWhole-dots whole done piece rest b so_far dot more = grind (arith, mended_from-byte)
-
--- Any other byte but a slash adds one byte to its piece.
-pub GivesWhole-byte : (whole done piece rest : List ℕ) (b w : ℕ) → GivesWhole whole done piece (b ∷ rest) → is_slash b ≡ false
-    → ((b == byte ".") ≡ true → dot_first rest ≡ false) → w ≡ added piece b → GivesWhole whole done (piece ++ w ∷ []) rest
-unfolding written_for
-GivesWhole-byte whole done piece rest b w so_far other single e = grind (arith, common_steps, mended_from-byte)
+-- A byte of a piece adds to it.
+pub GivesWhole-byte : (whole written : List ℕ) (previous b : ℕ) (rest : List ℕ) → GivesWhole whole written previous (b ∷ rest) → is_slash b ≡ false
+    → GivesWhole whole (written ++ added (in_piece previous) b) b rest
+GivesWhole-byte whole written previous b rest so_far other = record {
+  texts = so_far.texts;
+  piece = so_far.piece ++ added (in_piece previous) b;
+  is = grind (arith, so_far.is, append_assoc);
+  begun = grind (arith, nat_tests, so_far.begun);
+  gives = rw other (sym (mended_from-byte so_far.texts so_far.piece (in_piece previous) b rest other) ∙ so_far.gives);
+}
 
 -- A slash ends the piece.
-pub GivesWhole-slash : (whole done piece rest : List ℕ) (b : ℕ) → GivesWhole whole done piece (b ∷ rest) → is_slash b ≡ true
-    → GivesWhole whole (closed done piece) [] rest
-GivesWhole-slash whole done piece rest b so_far slash = record {
-  texts = so_far.texts ++ kept piece;
-  last = None;
-  done_is = ap (λ v. closed v piece) so_far.done_is ∙ closed-slashed so_far.texts piece;
-  begun = refl;
-  at_sign = refl;
+pub GivesWhole-slash : (whole written : List ℕ) (previous b : ℕ) (rest : List ℕ) → GivesWhole whole written previous (b ∷ rest) → is_slash b ≡ true
+    → GivesWhole whole (closed written previous) b rest
+GivesWhole-slash whole written previous b rest so_far slash = record {
+  texts = so_far.texts ++ kept so_far.piece;
+  piece = [];
+  is = ap (λ v. closed v previous) so_far.is ∙ closed-slashed so_far.texts so_far.piece previous so_far.begun;
+  begun = sym slash;
   gives =
       let split : pieces (b ∷ rest) ≡ [] ∷ pieces rest = rw slash refl in
-      sym (mended_from-next so_far.texts piece so_far.last (pieces rest))
-      ∙ (ap (mended_from so_far.texts piece so_far.last) (sym split) ∙ so_far.gives);
+      rw slash (sym (mended_from-next so_far.texts so_far.piece (in_piece previous) (pieces rest))
+      ∙ (ap (mended_from so_far.texts so_far.piece (in_piece previous)) (sym split) ∙ so_far.gives));
 }
 
 -- Where no rest is left, the last piece ends.
-pub GivesWhole-end : (whole done piece : List ℕ) → GivesWhole whole done piece [] → finished done piece ≡ joined (mended_pieces whole)
-GivesWhole-end whole done piece so_far = grind (arith, finished-slashed, append-nil)
+pub GivesWhole-end : (whole written : List ℕ) (previous : ℕ) → GivesWhole whole written previous [] → finished written previous ≡ joined (mended_pieces whole)
+GivesWhole-end whole written previous so_far = grind (arith, finished-slashed so_far.texts so_far.piece previous so_far.begun, so_far.is, so_far.gives, append-nil)

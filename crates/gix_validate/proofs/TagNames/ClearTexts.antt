@@ -1,6 +1,6 @@
 -- What is not suspect has no fault: offset by offset, and so a clear text.
-use Rattle.std.proofs.Common.{◌≡◌, ℕ, ◌+◌, ◌-◌, ◌<◌, ◌≤◌, true, false, eqb, List, [], ◌∷◌, length, take, get_or, refl, sym, ap, ◌∙◌, inl, inr, arith}
-use Rattle.std.proofs.Common.{None, length-take}
+use Rattle.std.proofs.Common.{◌≡◌, ℕ, ◌+◌, ◌-◌, ◌<◌, ◌≤◌, true, false, eqb, List, [], ◌∷◌, length, take, get_or, refl, ap, ◌∙◌, inl, inr, arith}
+use Rattle.std.proofs.Common.{None, add-one, length-take}
 use Rattle.std.proofs.lemmas.Bool.{cases_lt, false_from_ne_true}
 use Rattle.std.proofs.lemmas.List.{take_all, get_or-take}
 use Rattle.std.proofs.lemmas.Slice.Eq.{bytes_eq-Decides}
@@ -9,8 +9,8 @@ use Rattle.std.specs.Str.{byte}
 use Rattle.gix_validate.specs.Bytes.{is_among, ends}
 use Rattle.gix_validate.specs.Tag.{fault_of}
 use Rattle.gix_validate.specs.Reference.{is_partial_name}
-use Rattle.gix_validate.specs.Private.Adjacent.{is_suspect, IsClear}
-use Rattle.gix_validate.specs.Private.Scan.{NoneBelow, at_pair}
+use Rattle.gix_validate.specs.Private.Adjacent.{is_suspect, suspect_at, IsClear}
+use Rattle.gix_validate.specs.Private.Scan.{NoneBelow}
 use Rattle.gix_validate.specs.Private.TagWalk.{fault_of_byte_at, NoFaultBetween}
 use Rattle.gix_validate.proofs.Texts.Offsets.{at_first_offset_none}
 use Rattle.gix_validate.proofs.Texts.Endings.{ends_read, lock_read}
@@ -36,24 +36,28 @@ pub last_read : (x : List ℕ) (i c : ℕ) → 0 < i → i ≤ length x → ends
 last_read x i c some within = grind (arith, ends_read, get_or-take, length-take)
 
 -- there the `l` is suspect
-no_lock : (x : List ℕ) (p : ℕ) → p ≤ length x → (5 ≤ p → is_suspect (get_or x (p - 5) 0) (get_or x (p - 5 + 1) 0) ≡ false)
+pub no_lock : (x : List ℕ) (p : ℕ) → p ≤ length x → (5 ≤ p → is_suspect (get_or x (p - 5) 0) (get_or x (p - 5 + 1) 0) ≡ false)
     → ends (take p x) (codes ".lock") ≡ false
 unfolding is_suspect
 no_lock x p within quiet = grind (arith, nat_tests, false_from_ne_true, lock_read, get_or-take, length-take)
 
--- Up to the first offset before a suspect byte, no byte after the first has a fault.
-pub none_to_suspect : (x : List ℕ) (n : ℕ) → n < length x → fault_of_byte_at x 0 ≡ None → NoneBelow (at_pair is_suspect x) n → NoFaultBetween x 0 (n + 1)
-none_to_suspect x n within first none p from to = elim (cases_lt p 1) [
-  | inl start ↦ let here : p ≡ 0 = omega arith in ap (fault_of_byte_at x) here ∙ first
-  | inr later ↦
-      let next : p - 1 + 1 ≡ p = omega arith in
-      no_fault x p (get_or x (p - 1) 0) (ap (λ j. is_suspect (get_or x (p - 1) 0) (get_or x j 0)) (sym next) ∙ none (p - 1) (omega arith))
-      (λ other. grind (arith, nat_tests, last_read))
-      (λ slash. no_lock x p (omega arith) (λ five. none (p - 5) (omega arith)))
-]
-
 pub no_fault_first : (x : List ℕ) → is_suspect (byte "/") (get_or x 0 0) ≡ false → fault_of_byte_at x 0 ≡ None
 no_fault_first x quiet = no_fault x 0 (byte "/") quiet (λ none. grind arith) (λ slash. refl)
+
+-- no byte is suspect after the one before it
+pub pair_quiet : (x : List ℕ) (n k : ℕ) → NoneBelow (suspect_at x) n → k + 1 < n → is_suspect (get_or x k 0) (get_or x (k + 1) 0) ≡ false
+pair_quiet x n k quiet below = rw (add-one k) (rw (add-one k) at (quiet (k + 1) below))
+
+-- Bytes that aren't suspect have no fault.
+pub none_to_suspect : (x : List ℕ) (n : ℕ) → n ≤ length x → NoneBelow (suspect_at x) n → NoFaultBetween x 0 n
+none_to_suspect x n within quiet p from to = elim (cases_lt p 1) [
+  | inl start ↦ let here : p ≡ 0 = omega arith in ap (fault_of_byte_at x) here ∙ no_fault_first x (quiet 0 (omega arith))
+  | inr later ↦
+      let next : p - 1 + 1 ≡ p = omega arith in
+      no_fault x p (get_or x (p - 1) 0) (rw next at (pair_quiet x n (p - 1) quiet (omega arith)))
+      (λ other. grind (arith, nat_tests, last_read))
+      (λ slash. no_lock x p (omega arith) (λ five. pair_quiet x n (p - 5) quiet (omega arith)))
+]
 
 pub clear_has_no_fault : (x : List ℕ) → IsClear x → fault_of x ≡ None
 unfolding fault_of is_suspect
@@ -61,10 +65,10 @@ clear_has_no_fault [] clear = absurd (omega (arith, clear.some))
 clear_has_no_fault (b ∷ x) clear =
     let y = b ∷ x in
     let n = length y in
-    let quiet = none_to_suspect y (n - 1) (omega arith) (no_fault_first y clear.first) clear.between in
-    let offsets = at_first_offset_none (fault_of_byte_at y) n (λ k small. quiet k (omega arith) (omega arith)) in
-    let lock = no_lock y n (omega arith) (λ five. clear.between (n - 5) (omega arith)) in
-    grind (arith, nat_tests, take_all, at_first_offset_split y refl, offsets, lock, clear.end, clear.first)
+    let quiet = none_to_suspect y n (omega arith) clear.quiet in
+    let offsets = at_first_offset_none (fault_of_byte_at y) n (λ k small. quiet k (omega arith) small) in
+    let lock = no_lock y n (omega arith) (λ five. pair_quiet y n (n - 5) clear.quiet (omega arith)) in
+    grind (arith, nat_tests, take_all, at_first_offset_split y refl, offsets, lock, clear.end, clear.quiet 0 (omega arith))
 
 -- A clear text of two bytes or more is a partial name.
 pub clear_is_partial : (x : List ℕ) → 1 < length x → IsClear x → is_partial_name x ≡ true

@@ -1,14 +1,14 @@
 -- The faults of a part of a text, and of all of it from its first suspect byte on.
-use Rattle.std.proofs.Common.{◌≡◌, ℕ, ◌+◌, ◌-◌, ◌<◌, ◌≤◌, false, not, ◌&&◌, eqb, List, length, get_or, ap, ◌∙◌, arith, Some, None, inl, inr}
+use Rattle.std.proofs.Common.{◌≡◌, ℕ, ◌+◌, ◌-◌, ◌<◌, ◌≤◌, not, ◌&&◌, eqb, List, length, ap, ◌∙◌, arith, Some, None, inl, inr}
 use Rattle.std.proofs.lemmas.Bool.{cases_lt}
 use Rattle.gix_validate.specs.declared.tag.NameError.{NameError}
 use Rattle.gix_validate.specs.declared.tag.NameError.TheVariants.{LockFileSuffix}
 use Rattle.gix_validate.specs.Bytes.{ends}
 use Rattle.gix_validate.specs.Tag.{faults_at}
-use Rattle.gix_validate.specs.Private.Adjacent.{is_suspect}
-use Rattle.gix_validate.specs.Private.Scan.{NoneBelow, IsFirst, at_pair}
+use Rattle.gix_validate.specs.Private.Adjacent.{suspect_at}
+use Rattle.gix_validate.specs.Private.Scan.{NoneBelow}
 use Rattle.gix_validate.specs.Faults.{first_of, at_first_offset, when, ◌orelse◌}
-use Rattle.gix_validate.specs.Private.TagWalk.{may_be_faulty, fault_of_byte_at, first_fault_between, NoFaultBetween, CanWalkFrom}
+use Rattle.gix_validate.specs.Private.TagWalk.{fault_of_byte_at, first_fault_between, NoFaultBetween}
 use Rattle.gix_validate.proofs.Texts.Offsets.{at_first_offset_none, at_first_offset_more, at_first_offset_from, found_below}
 use Rattle.gix_validate.proofs.TagNames.FaultTable.{quiet}
 use Rattle.gix_validate.proofs.TagNames.FaultsOfBytes.{at_first_offset_split}
@@ -41,17 +41,8 @@ between_more x i j none here p from to = elim (cases_lt p j) [ inl early ↦ non
 -- what the walk over single bytes needs
 pub ruleset offset_by_offset = (between_none, between_more, between_found, quiet)
 
--- Up to the first suspect byte, none has a fault.
-pub none_before_suspect : (x : List ℕ) (i : ℕ) → may_be_faulty (get_or x 0 0) ≡ false → IsFirst (at_pair is_suspect x) (length x - 1) i → CanWalkFrom x (i + 1)
-none_before_suspect x i start first = (omega (arith, first.within), none_to_suspect x i (omega (arith, first.within)) (quiet x 0 start) first.none)
-
--- where there is none, none has one
-pub none_without_suspect : (x : List ℕ) → 0 < length x → may_be_faulty (get_or x 0 0) ≡ false
-    → NoneBelow (at_pair is_suspect x) (length x - 1) → CanWalkFrom x (length x)
-none_without_suspect x some start none =
-    (omega arith, λ p from small. none_to_suspect x (length x - 1) (omega arith) (quiet x 0 start) none p from (omega arith))
-
 -- What a walk from there on finds is the first fault, and else the last line of the table is. (A text that ends in `.lock` is longer, or is that.)
-pub found_from : (x : List ℕ) (i : ℕ) → 0 < length x → CanWalkFrom x i → at_first_offset (λ j. first_of (faults_at x j)) (length x)
+pub found_from : (x : List ℕ) (i : ℕ) → 0 < length x → i ≤ length x → NoneBelow (suspect_at x) i → at_first_offset (λ j. first_of (faults_at x j)) (length x)
     ≡ (first_fault_between x i (length x) orelse when (ends x (codes ".lock") && not (eqb (length x) 5)) LockFileSuffix)
-found_from x i some from = grind (arith, at_first_offset_split, bytes_eq-Decides, from_offset x i (length x) from.0 from.1)
+found_from x i some within quiet =
+    grind (arith, at_first_offset_split, bytes_eq-Decides, from_offset x i (length x) within (none_to_suspect x i within quiet))

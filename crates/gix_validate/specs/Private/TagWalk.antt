@@ -1,5 +1,5 @@
 -- The walk over a text that may be a tag name: the fault of each byte by what is before it.
-use Rattle.std.specs.Prelude.{◌≡◌, ℕ, ◌+◌, ◌-◌, ◌<◌, ◌≤◌, Bool, ◌||◌, List, [], ◌∷◌, codes, length, take, slice_index, Option, None}
+use Rattle.std.specs.Prelude.{◌≡◌, ℕ, ◌+◌, ◌-◌, ◌<◌, ◌≤◌, Bool, ◌||◌, List, [], ◌∷◌, codes, take, slice_index, Option, None}
 use Rattle.gix_validate.specs.declared.tag.NameError.{NameError}
 use Rattle.gix_validate.specs.Bytes.{is_bad, is_among}
 use Rattle.gix_validate.specs.Faults.{first_of, at_first_offset}
@@ -24,7 +24,3 @@ first_fault_between x i j = at_first_offset (λ k. fault_of_byte_at x (i + k)) (
 -- no offset from i on and before j has a fault by what is before it
 abbrev pub NoFaultBetween : List ℕ → ℕ → ℕ → Type 0
 NoFaultBetween x i j = (p : ℕ) → i ≤ p → p < j → fault_of_byte_at x p ≡ None
-
--- no offset before i has such a fault, so a walk from there on finds the first
-abbrev pub CanWalkFrom : List ℕ → ℕ → Type 0
-CanWalkFrom x i = (i ≤ length x) × NoFaultBetween x 0 i

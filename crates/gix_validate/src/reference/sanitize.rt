@@ -1,18 +1,20 @@
 //! The repair of names that are not partial names.
 //!
-//! A clear name (see `adjacent`) stays as it is. Any other is walked once, in the buffer.
+//! A name is looked at once. A scan stops at the first byte that may have to change (see `adjacent`),
+//! and from there on a walk reads and writes in one buffer.
 
 ghost use Rattle.std.specs.Prelude.{◌≡◌, ◌≢◌, ℕ, false, ◌↔◌, ◌+◌, ◌-◌, ◌≤◌, ◌<◌, ◌==◌, ◌||◌, ◌&&◌, ◌++◌, [], ◌∷◌, max, if◌then◌else◌, length, take, drop, get_or, set, codes, IsTrue, IsOk, IfOk, Some, None, slice_range, vec_capacity};
 ghost use Rattle.bstr.specs.BStr.{bstr_bytes};
 ghost use Rattle.bstr.specs.Owned.{bstring_bytes};
 ghost use Rattle.std.specs.Str.{byte};
-ghost use Rattle.gix_validate.specs.Bytes.{is_empty, ends};
-ghost use Rattle.gix_validate.specs.Pieces.{joined};
+ghost use Rattle.gix_validate.specs.Pieces.{is_slash, joined};
 ghost use Rattle.gix_validate.specs.Reference.{is_partial_name};
+ghost use Rattle.gix_validate.specs.Private.Adjacent.{suspect_at};
+ghost use Rattle.gix_validate.specs.Private.Scan.{NoneBelow};
 ghost use Rattle.gix_validate.specs.Private.TagWalk.{may_be_faulty};
-ghost use Rattle.gix_validate.specs.Sanitized.{allowed, cut, mended_pieces, repaired_dot, repaired_at, repaired_nothing, sanitized, IsPiecewise};
+ghost use Rattle.gix_validate.specs.Sanitized.{Dots, Other, byte_of, cut, mended_pieces, repaired_dot, repaired_at, repaired_nothing, sanitized, IsPiecewise};
 
-use crate::adjacent::is_clear;
+use crate::adjacent::clear_front;
 use crate::bytes::may_be_faulty;
 use bstr::{BStr, BString};
 use std::alloc::{AllocError, Global};
@@ -91,8 +93,9 @@ fn fill_sanitized(name: &mut Vec<u8>, path: &[u8]) -> Result<(), AllocError>
 /// sanitize_in_place(&mut buffer, 3); // 2, and the buffer begins with `-a` and ends in `zz`
 /// ```
 ///
-/// It never fails and doesn't allocate. It reads the name once, sixteen bytes at a time, and walks
-/// it once more if it isn't clear. Most valid partial names are clear.
+/// It never fails and doesn't allocate. It looks at the name once: at sixteen bytes at a time up to
+/// the first that may have to change, and from there on byte by byte. Most valid partial names have
+/// no such byte.
 pub fn sanitize_in_place(buf: &mut [u8], len: usize) -> usize
     requires some { 1 ≤ length buf.old }
     requires within { len ≤ length buf.old }
@@ -104,101 +107,90 @@ pub fn sanitize_in_place(buf: &mut [u8], len: usize) -> usize
     ensures piecewise { IsPiecewise (take len buf.old) (take result buf.new) }
     ensures rest { drop (max 1 len) buf.new ≡ drop (max 1 len) buf.old }
 {
-    if len > 1 && is_clear(&buf[..len]) {
+    let clear = if len > 1 { clear_front(&buf[..len]) } else { 0 };
+    if clear > 0 && clear == len {
         return len;
     }
-    let end = mend_pieces(&mut buf[..len]);
+    let end = mend_pieces(&mut buf[..len], clear);
     repair_end(buf, end)
 }
 
 /// Writes the nonempty pieces of the name over it, each cleaned and cut, and returns how many bytes
-/// it wrote. A byte is written at the offset of the byte just read, or before it. Of dots in a row
-/// the last is written.
-fn mend_pieces(text: &mut [u8]) -> usize
+/// it wrote. The first `clear` bytes stay as they are. A byte is written at the offset of the byte
+/// just read, or before it, so the byte before that is kept in a variable. Only the cuts look at
+/// what was written.
+fn mend_pieces(text: &mut [u8], clear: usize) -> usize
+    requires within { clear ≤ length text.old }
+    requires clear { NoneBelow (suspect_at text.old) clear }
     ensures within { result ≤ length text.old }
     ensures text { take result text.new ≡ joined (mended_pieces text.old) }
 {
-    let (mut start, mut end) = (0, 0);
-    for read in 0..text.len() {
+    let mut end = clear;
+    let mut previous = if clear == 0 { b'/' } else { text[clear - 1] };
+    for read in clear..text.len() {
         let byte = text[read];
         if !may_be_faulty(byte) {
             text[end] = byte;
             end += 1;
-        } else if byte == b'/' {
-            end = close_piece(text, start, end);
-            start = end;
-        } else if byte != b'.' || text.get(read + 1) != Some(&b'.') {
-            text[end] = mended_byte(&text[start..end], byte);
-            end += 1;
+        } else if byte != b'/' {
+            if let Some(mended) = mended_byte(previous, byte) {
+                text[end] = mended;
+                end += 1;
+            }
+        } else if previous != b'/' {
+            end = close_piece(text, end);
         }
+        previous = byte;
     }
-    end_of_text(text, start, end)
+    if previous == b'/' {
+        end.saturating_sub(1)
+    } else {
+        length_of_cut(&text[..end])
+    }
 }
 
-/// The byte that is written for a byte that isn't plain, after the piece that is written so far.
+/// The byte that a byte of a piece is mended to, if it isn't plain, by the byte before it. A slash is
+/// before the first of a piece. Of dots in a row only the first is written.
 #[tactic(auto, unfolding(crate::specs::Bytes::is_bad))]
-fn mended_byte(piece: &[u8], next: u8) -> u8
+fn mended_byte(previous: u8, next: u8) -> Option<u8>
     requires no_slash { next ≢ byte "/" }
     requires faulty { IsTrue (may_be_faulty next) }
-    ensures { result ≡ (if (next == byte "." && is_empty piece.now) || (next == byte "{" && ends piece.now (codes "@"))
-        then byte "-" else allowed next) }
+    ensures adds { let before = if is_slash previous then None else Some previous in
+        result ≡ (if next == byte "."
+        then (if previous == byte "." then None else Some (byte_of before Dots))
+        else Some (byte_of before (Other next))) }
 {
     match next {
-        b'.' if piece.is_empty() => b'-',
-        b'.' => b'.',
-        b'{' if piece.ends_with(b"@") => b'-',
-        b'{' => b'{',
-        _ => b'-',
+        b'{' if previous != b'@' => Some(b'{'),
+        b'.' if previous == b'.' => None,
+        b'.' if previous != b'/' => Some(b'.'),
+        _ => Some(b'-'),
     }
 }
 
-/// Cuts the written piece from `start` to `end`, if it has a byte, writes a slash after it, and
-/// returns the offset after that.
-#[tactic(auto, using(crate::proofs::Sanitizing::OneBuffer::part_ends))]
-fn close_piece(text: &mut [u8], start: usize, end: usize) -> usize
-    requires in_order { start ≤ end }
+/// Cuts the first `end` bytes, writes a slash after them, and returns the offset after that.
+fn close_piece(text: &mut [u8], end: usize) -> usize
     requires room { end < length text.old }
     ensures within { result ≤ end + 1 }
-    ensures text { take result text.new ≡ (if start == end
-        then take end text.old
-        else take start text.old ++ (cut (slice_range text.old start end) ++ codes "/")) }
+    ensures text { take result text.new ≡ cut (take end text.old) ++ codes "/" }
     ensures rest { drop (end + 1) text.new ≡ drop (end + 1) text.old }
 {
-    if start == end {
-        return end;
-    }
-    let end = start + length_of_cut(&text[start..end]);
+    let end = length_of_cut(&text[..end]);
     text[end] = b'/';
     end + 1
 }
 
-/// The offset at which the result ends if its last piece was written from `start` to `end`: that
-/// piece is cut, or if it has no byte, the slash before it is dropped.
-#[tactic(auto, using(crate::proofs::Sanitizing::OneBuffer::part_ends))]
-fn end_of_text(text: &[u8], start: usize, end: usize) -> usize
-    requires in_order { start ≤ end }
-    requires within { end ≤ length text.now }
-    ensures within { result ≤ end }
-    ensures text { take result text.now ≡ (if start == end
-        then take (end - 1) text.now
-        else take start text.now ++ cut (slice_range text.now start end)) }
+/// The length of a text without the `.lock`s at its end.
+#[tactic(auto, using(crate::proofs::Sanitizing::LockSuffixes::lock_by_lock))]
+fn length_of_cut(text: &[u8]) -> usize
+    ensures within { result ≤ length text.now }
+    ensures front { take result text.now ≡ cut text.now }
 {
-    if start == end {
-        end.saturating_sub(1)
-    } else {
-        start + length_of_cut(&text[start..end])
+    let mut end = text.len();
+    while text[..end].ends_with(b".lock") {
+        end -= 5;
     }
-}
-
-/// The length of a piece without the `.lock`s at its end.
-fn length_of_cut(mut piece: &[u8]) -> usize
-    ensures within { result ≤ length piece.now }
-    ensures front { take result piece.now ≡ cut piece.now }
-{
-    while let Some(front) = piece.strip_suffix(b".lock") {
-        piece = front;
-    }
-    piece.len()
+    end
 }
 
 /// Makes the last three repairs to the first `end` bytes of `buf`, and returns the length of the

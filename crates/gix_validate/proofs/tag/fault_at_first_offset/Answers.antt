@@ -5,11 +5,11 @@ use Rattle.gix_validate.proofs.TagNames.Offsets.{found_from}
 use Rattle.gix_validate.proofs.tag.fault_at_first_offset.Goals as goal
 
 pub returns-in-Some : goal.returns-in-Some
-returns-in-Some c = grind (arith, found_from c.args.bytes.now _ c.requires c.first_to_walk-from.ensures, c.in-Some.ensures)
+returns-in-Some c = grind (arith, found_from c.args.bytes.now _ c.requires c.clear_front-from.ensures.within c.clear_front-from.ensures.quiet, c.in-Some.ensures)
 
 pub returns-then-bytes-ne5 : goal.returns-then-bytes-ne5
 returns-then-bytes-ne5 c =
-    grind (arith, nat_tests, found_from c.args.bytes.now _ c.requires c.first_to_walk-from.ensures, c.in_default.ensures, c.if-ends_with.ensures.value)
+    grind (arith, nat_tests, found_from c.args.bytes.now _ c.requires c.clear_front-from.ensures.within c.clear_front-from.ensures.quiet, c.in_default.ensures, c.if-ends_with.ensures.value)
 
 pub returns : goal.returns
-returns c = grind (arith, nat_tests, found_from c.args.bytes.now _ c.requires c.first_to_walk-from.ensures, c.in_default.ensures, c.else-ends_with.branch)
+returns c = grind (arith, nat_tests, found_from c.args.bytes.now _ c.requires c.clear_front-from.ensures.within c.clear_front-from.ensures.quiet, c.in_default.ensures, c.else-ends_with.branch)

@@ -1,9 +1,9 @@
-use Rattle.std.proofs.Common.{length}
-use Rattle.gix_validate.proofs.Sanitizing.LockSuffixes.{IsCutTo}
+use Rattle.std.proofs.Common.{◌≡◌, ◌≤◌, length, take}
+use Rattle.gix_validate.specs.Sanitized.{cut}
 use Rattle.gix_validate.proofs.reference.sanitize.length_of_cut.Given as goal
 
-abbrev pub invariant-loop-front : goal.invariant-loop-front
-invariant-loop-front l = IsCutTo l.fn.piece l.piece
+abbrev pub invariant-loop-end : goal.invariant-loop-end
+invariant-loop-end l = record { within : l.end ≤ length l.text; same : cut (take l.end l.text) ≡ cut l.text }
 
-abbrev pub decreases-loop-front : goal.decreases-loop-front
-decreases-loop-front l = length l.piece
+abbrev pub decreases-loop-end : goal.decreases-loop-end
+decreases-loop-end l = l.end

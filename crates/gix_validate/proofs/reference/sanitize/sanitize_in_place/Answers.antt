@@ -1,15 +1,20 @@
-use Rattle.std.proofs.Common.{take, drop, refl, sym, subst, arith, length-take}
+use Rattle.std.proofs.Common.{◌≡◌, true, take, drop, refl, sym, subst, arith, length-take}
+use Rattle.gix_validate.specs.Reference.{is_partial_name}
 use Rattle.gix_validate.specs.Sanitized.{IsPiecewise}
 use Rattle.gix_validate.proofs.TagNames.ClearTexts.{clear_is_partial}
 use Rattle.gix_validate.proofs.Sanitizing.OneBuffer.{sanitized-in_place, rest-in_place}
 use Rattle.gix_validate.proofs.Sanitizing.Laws.{sanitized-own, sanitized-partial, sanitized-unchanged, sanitized-sanitized, sanitized-piecewise}
 use Rattle.gix_validate.proofs.reference.sanitize.sanitize_in_place.Goals as goal
 
-pub returns-then-is_clear : goal.returns-then-is_clear
-returns-then-is_clear c =
+pub returns-then-clear-len : goal.returns-then-clear-len
+returns-then-clear-len c =
     let whole = take c.args.len c.args.buf.now in
     let long = length-take c.args.len c.args.buf.now in
-    let partial = clear_is_partial whole (omega arith) (c.is_clear.ensures.0 c.if-is_clear.true) in
+    let partial : is_partial_name whole ≡ true = elim c.if-len-gt1.branch [
+      | goal.then-len-gt1 w ↦
+          clear_is_partial whole (omega (arith, w.if-len-gt1.true)) (w.clear_front-clear.ensures.all.0 (omega (arith, w.clear-is)))
+      | goal.else-len-gt1 w ↦ absurd (omega (arith, w.clear-is))
+    ] in
     let own = sanitized-own whole partial in
     record {
       bounds = (omega arith, omega arith);

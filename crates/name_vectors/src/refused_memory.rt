@@ -6,33 +6,49 @@
 //! allocations fails.
 
 use bstr::{BStr, BString};
-use examples::literals::{release_tag, workflow};
-use gix_validate::reference::name_partial_or_sanitize;
+use gix_validate::path::{self, ComponentError, ComponentOptions};
+use gix_validate::reference::{self, name_partial_or_sanitize};
+use gix_validate::tag;
 use std::alloc::{AllocError, Global};
 use std::process::Abort;
 use std::test::Fail;
+use typed_names::Component;
 
 /// How each call is printed, and what it has to return.
 const CALLS: [(&str, &[u8]); 4] = [
     ("sanitize_nothing", b"-"),
     ("sanitize_pieces", b"refs/heads/-/x/-y-"),
-    ("reference_join", b"refs/tags/v1.0"),
-    ("path_join", b".github/workflows/ci.yml"),
+    ("reference_join", b"@/v1.0"),
+    ("path_join", b"src/.github/a.rs"),
 ];
 
-/// What the call at this index returns. Each allocates once.
-fn given(alloc: Global, call: usize) -> Result<BString, AllocError> {
-    match call {
-        0 => name_partial_or_sanitize(alloc, BStr::new(b"")),
-        1 => name_partial_or_sanitize(alloc, BStr::new(b"refs//heads/../x.lock.lock/.y*")),
-        2 => release_tag(alloc),
-        _ => workflow(alloc),
-    }
+/// The names and the components that are joined, one after the other.
+const INPUTS: &[u8; 19] = b"@v1.0src.githuba.rs";
+
+/// The name of an entry, as the join of components needs it.
+fn part(name: &[u8]) -> Result<Component<'_>, ComponentError> {
+    Component::new(BStr::new(name), None, ComponentOptions::default())
 }
 
-/// Whether a call returns what it has to.
-fn is_right(alloc: Global, call: usize, wanted: &[u8]) -> Result<bool, AllocError> {
-    Ok(given(alloc, call)?.as_bytes() == wanted)
+/// What the call at this index returns. Each allocates once.
+fn given(
+    alloc: Global,
+    call: usize,
+    inputs: &[u8; 19],
+) -> Result<Result<BString, AllocError>, Fail> {
+    Ok(match call {
+        0 => name_partial_or_sanitize(alloc, BStr::new(b"")),
+        1 => name_partial_or_sanitize(alloc, BStr::new(b"refs//heads/../x.lock.lock/.y*")),
+        2 => {
+            let name = tag::name(BStr::new(&inputs[..1]))?;
+            reference::join(alloc, name, tag::name(BStr::new(&inputs[1..5]))?)
+        }
+        _ => {
+            let (folder, inner) = (part(&inputs[5..8])?, part(&inputs[8..15])?);
+            let file = part(&inputs[15..])?;
+            path::join(alloc, &[folder.as_bstr(), inner.as_bstr(), file.as_bstr()])
+        }
+    })
 }
 
 /// Prints the outcome of a call.
@@ -42,18 +58,20 @@ fn say<R: Print>(rt: &R, call: &str, outcome: &str) -> Result<(), Fail> {
 }
 
 /// Allocates until the given allocation of the calls is the one that fails, and then makes each
-/// call, and once more if its allocation fails.
+/// call, and once more if its allocation fails. The inputs are as they were then.
 fn check_with_refused<R: Abort + AllocGlobal + Print>(rt: &R, request: usize) -> Result<(), Fail> {
     for _ in request..5 {
         Vec::from_slice(rt.alloc(), b" ")?;
     }
+    let inputs = *INPUTS;
     for call in 0..4 {
         let (name, wanted) = CALLS[call];
-        let right = match is_right(rt.alloc(), call, wanted) {
-            Ok(right) => right,
+        let right = match given(rt.alloc(), call, &inputs)? {
+            Ok(name) => name.as_bytes() == wanted,
             Err(AllocError) => {
                 say(rt, name, "refused")?;
-                is_right(rt.alloc(), call, wanted)?
+                assert!(rt; inputs == *INPUTS);
+                given(rt.alloc(), call, &inputs)??.as_bytes() == wanted
             }
         };
         assert!(rt; right);

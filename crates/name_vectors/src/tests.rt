@@ -1,8 +1,8 @@
 //! The functions of the library, compared with the second implementation on many names.
 
 use crate::agree::check;
-use crate::component::{DEVICES, NAMES_OF_MODULES};
-use crate::text::{before_first, joined, spelled};
+use crate::component::DEVICES;
+use crate::text::{joined, spelled};
 use crate::units::{IGNORED_CHARACTERS, ROWS};
 use std::alloc::{AllocError, Global};
 use std::process::Abort;
@@ -354,71 +354,5 @@ fn agrees_on_each_edge_of_the_greatest_sequences(rt: HostRuntime) -> Result<(), 
         checked = checked.saturating_add(check_edges(&rt, rt.alloc(), greatest)?);
     }
     assert_eq!(rt; checked, 112 * 27);
-    Ok(())
-}
-
-/// The names in the rows of `gix_validate` (its folder `proofs/Rows`) that no other test checks. In
-/// the rows, the definitions give the results. A comma follows each.
-const NAMES_OF_ROWS: &[u8] = b"\
-    *.lock,.../a\\b,..\\x,.a b,.lock/x,/.lock.lock/..@{,/a//b/,A-B,FETCH_HEAD,HEAD,HEAD1,\
-    a\tb@{c,a b.lock,a b/c~,a..b,a./b,a.LOCK,a.lock.lock/..lock,a.lock/*,a.lock//b,\
-    a.lock/b.lock,a.lockx,a/.../b,a/./b,a/.b,a/.lock/b,a//b,a@{b,a\\..,a\\b/c,main,\
-    refs//heads/../x.lock.lock/.y*,refs/heads/,refs/heads/HEAD,refs/heads/HEAD/x,\
-    refs/heads/head,refs/heads/main,refs/lower,some-name,v1.2.3,vendor/package,x.lock..,\
-    x.lock..lock/,x.lock.lock/..,x/../y,. .:x,..a ,.GiT\\x,.GitModules,.git. .:x,.git...,\
-    .git:a\\b,.git:x,.git\\x,.gitmodules .:,.gitmodules\\x,.gitx,.gitx\\y,COM0,COM10,CON  .,\
-    CONIN,GI7EBA~1. :y,GIT~1 ..,NUL?,a/b:,ab:,aux:x,com1 .txt,con in$,conout$ .y,gi7eba~10,\
-    gitmod~4:x,git~1 \\a:b,git~10,git~1:,gi~99999,gx~99999,lpt0:,nul\t,src,~0234567,~123456,\
-    ~1234567.\\y,.GIT\xE2\x81\xAA,.gitmodules\xE2\x80\x8D,.git\xE2\x80\x8B,\
-    .git\xF0\x90\xE2\x80\x8C,.g\xE2\x80\xE2\x80\x8C\x8Cit,.g\xEF\xBBit,COM\xC2\xB9,\
-    a\xE2\x80\x8C\xE2\x80\x8D\xE2\x80\x8E\xE2\x80\x8F\xE2\x80\xAA\xE2\x80\xAB\xE2\x80\xAC\xE2\x80\xAD\xE2\x80\xAE\xE2\x81\xAA\xE2\x81\xAB\xE2\x81\xAC\xE2\x81\xAD\xE2\x81\xAE\xE2\x81\xAF\xEF\xBB\xBFb,\
-    \xE2\x80\x8B\xE2\x80\xA9\xE2\x80\xAF\xE2\x81\xA9\xE2\x81\xB0,\xED\xA0\x80,\xEF\xBB\xBF,\
-    \xEF\xBB\xBF.git\xE2\x81\xAF,\xF0\x9F\x98\x80:,\xF0\x9F\x98\x80a,\xE2\x82:,\x80\x80:,\
-    \xC3\xA9:,\xE2\xE2\x80\x8C\x80\x8D,\xF0\x90\xE2\x80\x8C,\xC0:,\xE0\x80:,\
-    .g\xE2\xE2\x80\x8C\x80\x8Dit";
-
-/// Long names: what each begins with, and what is there a thousand times, once, and again a thousand
-/// times.
-#[rattlefmt::skip]
-const LONG_NAMES: &[(&[u8], &[u8], &[u8], &[u8])] = &[
-    (b"a", b".lock", b"", b""),
-    (b"", b".", b"", b""),
-    (b"a", b".", b"b", b""),
-    (b"", b"/", b"", b""),
-    (b"", b"\xE2\x80\x8C", b".git", b"\xE2\x80\x8C"),
-];
-
-/// The front, the word a thousand times, and the end.
-fn long(alloc: Global, front: &[u8], word: &[u8], end: &[u8]) -> Result<Vec<u8>, AllocError> {
-    let mut text = joined(alloc, front, b"", b"")?;
-    for _ in 0..1000 {
-        text.extend_from_slice(word)?;
-    }
-    text.extend_from_slice(end)?;
-    Ok(text)
-}
-
-#[test]
-fn agrees_on_long_names(rt: HostRuntime) -> Result<(), AllocError> {
-    for (front, word, middle, again) in LONG_NAMES {
-        let name = long(rt.alloc(), front, word, middle)?;
-        check(&rt, rt.alloc(), &long(rt.alloc(), &name, again, b"")?)?;
-    }
-    let mut name = Vec::new(rt.alloc());
-    for byte in 0x80..=0xFF {
-        name.extend_from_slice(&[byte])?;
-    }
-    check(&rt, rt.alloc(), &name)
-}
-
-#[test]
-fn agrees_on_names_of_rows(rt: HostRuntime) -> Result<(), AllocError> {
-    let mut rest = NAMES_OF_ROWS;
-    for _ in 0..106 {
-        let name = before_first(rest, b",");
-        check(&rt, rt.alloc(), name)?;
-        rest = rest.get(name.len().saturating_add(1)..).unwrap_or(b"");
-    }
-    assert!(rt; rest.is_empty());
     Ok(())
 }

@@ -1,9 +1,9 @@
 -- One piece: which bytes may follow which in a good one, what cleaning it writes byte by byte, and the laws of the mended piece.
-use Rattle.std.proofs.Common.{◌≡◌, ◌⊎◌, inl, inr, get_or, ℕ, Bool, true, false, List, [], ◌∷◌, ◌++◌, arith, ◌≢◌, ◌≤◌, length, refl, ◌-◌, take, drop, append_assoc}
+use Rattle.std.proofs.Common.{◌≡◌, ℕ, Bool, true, false, List, [], ◌∷◌, ◌++◌, arith, ◌≢◌, ◌≤◌, length, refl, ◌-◌, take, drop, append_assoc}
 use Rattle.std.specs.Prelude.{codes, ◌&&◌, ◌||◌, not, ◌==◌, Option, Some, None, is_none, if◌then◌else◌}
 use Rattle.std.specs.List.{list_any}
 use Rattle.std.specs.Str.{byte}
-use Rattle.std.proofs.lemmas.Bool.{and_parts, cases_Bool, cond_both}
+use Rattle.std.proofs.lemmas.Bool.{and_parts, cond_both}
 use Rattle.std.proofs.lemmas.Grind.{common_steps}
 use Rattle.std.proofs.lemmas.Bool.Decides.{nat_tests}
 use Rattle.std.proofs.lemmas.List.{take-append-drop, same_from_push}
@@ -47,6 +47,11 @@ is_good_piece-bytes p = grind (arith, nat_tests, may_begin_regrouped, each_after
 pub each_may_follow-front : (before : Option ℕ) (f r : List ℕ) → each_may_follow before (f ++ r) ≡ true → each_may_follow before f ≡ true
 each_may_follow-front before [] r h = grind arith
 each_may_follow-front before (b ∷ f) r h = grind (arith, each_may_follow-front (Some b) f r)
+
+dash_follows : (before : Option ℕ) → may_follow before (byte "-") ≡ true
+unfolding is_bad is_refused
+dash_follows None = refl
+dash_follows (Some a) = grind arith
 
 -- A dash may follow each byte, and first.
 pub each_may_follow-dash : (before : Option ℕ) (f : List ℕ) → each_may_follow before f ≡ true → each_may_follow before (f ++ codes "-") ≡ true
@@ -99,63 +104,35 @@ added_by-own : (before : Option ℕ) (p : List ℕ) → each_may_follow before p
 added_by-own before [] h = grind arith
 added_by-own before (b ∷ p) h = grind (arith, and_parts, added-own before b, added_by-own (Some b) p)
 
--- the byte that a piece ends in, as written, and the byte before the next one in it, as read
-record Alike (last before : Option ℕ) : Type 0 where
-  none : is_none last ≡ is_none before
-  at_sign : is_after (byte "@") last ≡ is_after (byte "@") before
-  dot : is_after (byte ".") last ≡ true → is_after (byte ".") before ≡ true
-
--- a byte adds one, or is a dot after a dot and adds none
-added_cases : (before : Option ℕ) (b : ℕ) → ((w : ℕ) × (added before b ≡ w ∷ []))
-    ⊎ ((is_after (byte ".") before ≡ true) × (b ≡ byte ".") × (added before b ≡ []))
-added_cases before b = elim (cases_Bool (b == byte "." && is_after (byte ".") before)) [
-  | inl again ↦ inr (grind (arith, nat_tests), grind (arith, nat_tests), grind (arith, nat_tests))
-  | inr other ↦ inl (get_or (added before b) 0 0, grind (arith, nat_tests))
-]
-
-marks_not_refused : (is_refused (byte "-") ≡ false) × (is_refused (byte ".") ≡ false)
+-- an allowed byte is one that a good piece may have, and is a dot, `@` or `{` only if the byte is
+allowed_kept : (b : ℕ) → (is_refused (allowed b) ≡ false) × ((allowed b == byte ".") ≡ (b == byte "."))
+    × ((allowed b == byte "@") ≡ (b == byte "@")) × ((allowed b == byte "{") ≡ (b == byte "{"))
 unfolding is_bad is_refused
-marks_not_refused = (refl, refl)
+allowed_kept b = (grind (arith, nat_tests), grind (arith, nat_tests), grind (arith, nat_tests), grind (arith, nat_tests))
 
-allowed_not_refused : (b : ℕ) → is_refused (allowed b) ≡ false
-unfolding is_refused
-allowed_not_refused b = grind (arith, marks_not_refused)
+marks_follow : (before : Option ℕ) → is_after (byte ".") before ≡ false → may_follow before (byte_of before Dots) ≡ true
+unfolding is_bad is_refused
+marks_follow None h = refl
+marks_follow (Some a) h = grind (arith, nat_tests)
 
-added-not_refused : (before : Option ℕ) (b w : ℕ) → added before b ≡ w ∷ [] → is_refused w ≡ false
-added-not_refused None b w e = grind (arith, nat_tests, marks_not_refused, allowed_not_refused b)
-added-not_refused (Some c) b w e = grind (arith, nat_tests, marks_not_refused, allowed_not_refused b)
+others_follow : (before : Option ℕ) (b : ℕ) → (b == byte ".") ≡ false → may_follow before (byte_of before (Other b)) ≡ true
+others_follow None b h = grind (arith, nat_tests, allowed_kept b, dash_follows None)
+others_follow (Some a) b h = grind (arith, nat_tests, allowed_kept b, dash_follows (Some a))
 
-added-no_dot : (b : ℕ) → added None b ≢ byte "." ∷ []
-unfolding is_bad
-added-no_dot b e = grind (arith, nat_tests)
-
-added-no_dots : (c b : ℕ) → added (Some c) b ≡ byte "." ∷ [] → (c == byte ".") ≡ false
-unfolding is_bad
-added-no_dots c b e = grind (arith, nat_tests)
-
-added-no_brace : (c b : ℕ) → added (Some c) b ≡ byte "{" ∷ [] → (c == byte "@") ≡ false
-unfolding is_bad
-added-no_brace c b e = grind (arith, nat_tests)
-
-added-may_follow : (last before : Option ℕ) (b w : ℕ) → Alike last before → added before b ≡ w ∷ [] → may_follow last w ≡ true
-added-may_follow None None b w alike e = grind (arith, nat_tests, added-not_refused None b w e, added-no_dot b)
-added-may_follow None (Some c) b w alike e = grind (arith, alike.none)
-added-may_follow (Some a) None b w alike e = grind (arith, alike.none)
-added-may_follow (Some a) (Some c) b w alike e = grind (arith, nat_tests, added-not_refused (Some c) b w e, alike.at_sign, alike.dot, added-no_dots, added-no_brace)
-
-added-alike : (before : Option ℕ) (b w : ℕ) → added before b ≡ w ∷ [] → Alike (Some w) (Some b)
-unfolding is_bad
-added-alike None b w e = record { none = refl; at_sign = grind (arith, nat_tests); dot = λ h. grind (arith, nat_tests) }
-added-alike (Some a) b w e = record { none = refl; at_sign = grind (arith, nat_tests); dot = λ h. grind (arith, nat_tests) }
+-- What may follow a byte may follow what is written for it.
+follow_written : (before : Option ℕ) (b : ℕ) (t : List ℕ) → each_may_follow (Some b) t ≡ true
+    → each_may_follow (Some (byte_of before (if b == byte "." then Dots else Other b))) t ≡ true
+follow_written before b [] h = grind arith
+follow_written None b (c ∷ t) h = grind (arith, nat_tests, allowed_kept b)
+follow_written (Some a) b (c ∷ t) h = grind (arith, nat_tests, allowed_kept b)
 
 -- Of a cleaned piece each byte may follow the one before.
-added_follows : (last before : Option ℕ) (p : List ℕ) → Alike last before → each_may_follow last (added_by before p) ≡ true
-added_follows last before [] alike = grind arith
-added_follows last before (b ∷ p) alike = elim (added_cases before b) [
-  | inl one ↦ let rest = added_follows (Some one.0) (Some b) p (added-alike before b one.0 one.1) in
-      rw one.1 (grind (arith, added-may_follow last before b one.0 alike one.1))
-  | inr none ↦ rw none.2 (added_follows last (Some b) p record { none = grind (arith, alike.none); at_sign = grind (arith, nat_tests, alike.at_sign); dot = λ h. grind (arith, nat_tests) })
-]
+added_follows : (before : Option ℕ) (p : List ℕ) → each_may_follow before (added_by before p) ≡ true
+added_follows before [] = grind arith
+added_follows before (b ∷ p) =
+    let rest = added_follows (Some b) p in
+    let follow = follow_written before b (added_by (Some b) p) rest in
+    grind (arith, nat_tests, marks_follow before, others_follow before b)
 
 -- A cleaned piece has no slash where the piece has none.
 added-apart : (before : Option ℕ) (p : List ℕ) → has_no_slash p ≡ true → has_no_slash (added_by before p) ≡ true
@@ -182,7 +159,7 @@ is_good_piece-from p some follows other = grind (arith, is_good_piece-bytes, end
 -- A piece that is not empty is mended to a good piece.
 pub mend_good : (p : List ℕ) → is_empty p ≡ false → is_good_piece (cut (cleaned p)) ≡ true
 mend_good p some =
-    let follows : each_may_follow None (cleaned p) ≡ true = grind (arith, cleaned-added p, added_follows None None p record { none = refl; at_sign = refl; dot = λ h. h }) in
+    let follows : each_may_follow None (cleaned p) ≡ true = grind (arith, cleaned-added p, added_follows None p) in
     let front = each_may_follow-front None (cut (cleaned p)) (drop (length (cut (cleaned p))) (cleaned p)) in
     is_good_piece-from (cut (cleaned p)) (cut_some (cleaned p) (cleaned_some p some) follows)
     (grind (arith, cut_front (cleaned p))) (cut_open (cleaned p))

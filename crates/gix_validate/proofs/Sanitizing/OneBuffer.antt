@@ -47,7 +47,8 @@ gives_more x n room quiet so_far =
     let here = quiet n (omega arith) in
     let from : GivesWhole x (take n x) previous (b ∷ drop (n + 1) x) = rw (drop_more x n 0 room) at so_far in
     rw (take_more x n 0 room) (elim (cases_Bool (is_slash b)) [
-      | inl slash ↦ rw (closed-quiet x n previous b (omega arith) (λ k below. quiet k (omega (arith, below))) slash here) at (GivesWhole-slash _ _ _ _ _ from slash)
+      | inl slash ↦ rw (closed-quiet x n previous b (omega arith) (λ k below. quiet k (omega (arith, below))) slash here)
+          at (GivesWhole-slash _ _ _ _ _ from slash)
       | inr other ↦ rw (added-quiet previous b other here) at (GivesWhole-byte _ _ _ _ _ from other)
     ])
 

@@ -106,4 +106,5 @@ GivesWhole-slash whole written previous b rest so_far slash = record {
 
 -- Where no rest is left, the last piece ends.
 pub GivesWhole-end : (whole written : List ℕ) (previous : ℕ) → GivesWhole whole written previous [] → finished written previous ≡ joined (mended_pieces whole)
-GivesWhole-end whole written previous so_far = grind (arith, finished-slashed so_far.texts so_far.piece previous so_far.begun, so_far.is, so_far.gives, append-nil)
+GivesWhole-end whole written previous so_far =
+    grind (arith, finished-slashed so_far.texts so_far.piece previous so_far.begun, so_far.is, so_far.gives, append-nil)

@@ -3,7 +3,8 @@ use Rattle.std.specs.Str.{byte}
 use Rattle.std.proofs.lemmas.Bool.{eq-eqb, ne_eqb}
 use Rattle.std.proofs.lemmas.Bool.Decides.{nat_tests}
 use Rattle.std.proofs.lemmas.List.{take-take}
-use Rattle.gix_validate.proofs.Sanitizing.OneBuffer.{MendedUpTo-start, MendedUpTo-byte, MendedUpTo-dots, MendedUpTo-slash, mended_text, before_front, added-plain, mended-some, mended-none}
+use Rattle.gix_validate.proofs.Sanitizing.OneBuffer.{MendedUpTo-start, MendedUpTo-byte, MendedUpTo-dots, MendedUpTo-slash}
+use Rattle.gix_validate.proofs.Sanitizing.OneBuffer.{mended_text, before_front, added-plain, mended-some, mended-none}
 use Rattle.gix_validate.proofs.reference.sanitize.mend_pieces.Goals as goal
 
 pub loop-read-init : goal.loop-read-init

@@ -4,16 +4,21 @@ import os
 import re
 import sys
 from collections import namedtuple
+from functools import lru_cache
 from pathlib import Path
 
 os.chdir(Path(__file__).resolve().parent.parent)
-EDIT = re.compile(r"file: (.*)\nold: (.*)\nnew: ?(.*)\nrefused: ([\w:]+)((?: \w+)+)\n")
+EDIT = re.compile(r"file: (.*)\nold: (.*)\nnew: ?(.*)\nrefused: ([\w:]+)((?: \w+)+)( \(limit\))?\n")
 # What begins a function, a type or the like, or one of their clauses.
 BEGIN = re.compile(r"""(?mx)^(?P<margin>[ ]{4})? (?P<pub>pub[ ])? (?:pub\([\w ]+\)[ ])? (?:const[ ]|extern[ ]"C"[ ])* (?:
     (?P<kind>fn|struct|enum|trait|type|const|static|impl)\b (?:<[^>]*>)?[ ] (?:.*[ ]for[ ])? (?P<name>[\w:]*\w)
     |[ ]*(?P<member>ghost|ensures)(?:[ ](?P<clause>\w+))?(?::|[ ]=)?[ ]\{)""")
+# The pages that tests/pages runs. A block: the line before it, a comment between them, its language, and its code.
+PAGES = ["README.md", "docs/BINDINGS.md", "docs/RELEASES.md", "docs/RECIPES.md", "docs/RULES.md", "hook/README.md",
+         "bench/README.md", "release/python.md", "release/javascript.md", "bindings/rust/README.md", "docs/TUTORIAL.md"]
+BLOCK = re.compile(r"(?:^([^\n]*)\n\n?)?(?:^<!-- ([^\n]*) -->\n)?^```(\w*)\n(.*?)^```$", re.M | re.S)
 Item = namedtuple("Item", "file offset path clause is_public")
-Edit = namedtuple("Edit", "file crate source old new function clauses")
+Edit = namedtuple("Edit", "file crate source old new function clauses is_limit")
 
 
 def read(path):
@@ -41,9 +46,21 @@ def write_or_check(doc, derive):
     parser.exit(bool(is_check and differ), "".join(f"{path} {end}\n" for path in differ))
 
 
+def blocks(page):
+    """Yields the blocks of a page that can be run, and its texts: the line before each, its note, its language, its code, its
+    line, and the number of headings above."""
+    for it in BLOCK.finditer(read(page)):
+        before, note, language, code = (group or "" for group in it.groups())
+        if language in ("text", "sh", "c", "cmake", "python", "js", "toml", "rust") and "From `" not in before:
+            above = it.string[:it.start(3)]
+            yield before, note, language, code, above.count("\n") + 1, len(re.findall("(?m)^##", above))
+
+
+@lru_cache(None)
 def items():
-    """Yields what begins in sources: where, the path of its function or type (a ghost member of an impl is one of its type),
+    """What begins in sources: where, the path of its function or type (a ghost member of an impl is one of its type),
     and for a clause its name and whether that is public."""
+    found = []
     for file in sorted(Path("crates").glob("*/src/**/*.rt")):
         text, (_, crate, _, *modules) = read(file), file.with_suffix("").parts
         for it in BEGIN.finditer(text):
@@ -58,16 +75,35 @@ def items():
                 names, is_public = (owner,), is_shown and top != "trait"
             path = "::".join(it for it in (crate, *modules, *names) if it not in ("lib", "main", ""))
             clause = it["member"] and (it["clause"] or "answer")
-            yield Item(file, it.start(), path, clause, bool(clause and is_public))
+            found.append(Item(file, it.start(), path, clause, bool(clause and is_public)))
+    return found
+
+
+@lru_cache(None)
+def bodies(file):
+    """The functions of a source, each with the range of its body: what is between its braces, which hold no statement."""
+    text, begun, found = read(file), [it for it in items() if it.file == file and it.clause is None], []
+    for it, end in zip(begun, [*(it.offset for it in begun[1:]), len(text)]):
+        margin, head = re.match(r"( *)(.*)", text[it.offset:end]).groups()
+        # (A line that is a brace alone, or ends a signature without clauses.)
+        opening = re.compile(r"(?m)(?:^ *| )\{$").search(text, it.offset, end)
+        if opening and re.search(r"\bfn ", head):
+            found.append((it.path, opening.end(), text.index(f"\n{margin}}}\n", opening.end() - 1)))
+    return found
 
 
 def edits():
-    """Yields the must-fail edits: what each replaces in a source, and the function that refuses it, with its clauses."""
+    """Yields the must-fail edits: what each replaces in the body of a function, which refuses it, with its clauses, and
+    whether only a search that gave up says so."""
     for file in sorted(Path("crates").glob("*/*/*.edit")):
         folder, crate, parts = file.parent.parent, file.parts[1], EDIT.fullmatch(read(file))
         if not parts:
             raise SystemExit(f"{file} is no edit: its lines are 'file:', 'old:', 'new:', 'refused: FUNCTION CLAUSE..'")
-        source, old, new, function, clauses = parts.groups()
+        source, old, new, function, clauses, limit = parts.groups()
         if read(folder / source).count(old) != 1:
             raise SystemExit(f"{file} no longer applies: {source} does not have this once: {old}")
-        yield Edit(file, crate, folder / source, old, new, f"{crate}::{function}", clauses.split())
+        at = read(folder / source).index(old)
+        if not any(path == f"{crate}::{function}" and first <= at < at + len(old) <= last
+                   for path, first, last in bodies(folder / source)):
+            raise SystemExit(f"{file} changes something else than the body of {function}")
+        yield Edit(file, crate, folder / source, old, new, f"{crate}::{function}", clauses.split(), bool(limit))

@@ -191,13 +191,57 @@ static struct bytes quoted(const char **at) {
 }
 
 static uint32_t flags_of(const char *letters) {
+    static const uint32_t values[] = {GIX_VALIDATE_PROTECT_WINDOWS, GIX_VALIDATE_PROTECT_HFS, GIX_VALIDATE_PROTECT_NTFS,
+                                      GIX_VALIDATE_SYMLINK};
     uint32_t flags = 0;
     for (; *letters != ' ' && *letters != '\0'; letters++) {
         const char *found = strchr("whns", *letters);
         EXPECT(found != NULL);
-        flags |= found == NULL ? 0u : 1u << (found - "whns");
+        flags |= found == NULL ? 0u : values[found - "whns"];
     }
     return flags;
+}
+
+/* The faults by their names in the rows. */
+static const struct {
+    const char *name;
+    uint32_t number;
+} faults[] = {
+    {"Ok", GIX_VALIDATE_OK},
+    {"InvalidByte", GIX_VALIDATE_INVALID_BYTE},
+    {"StartsWithSlash", GIX_VALIDATE_STARTS_WITH_SLASH},
+    {"RepeatedSlash", GIX_VALIDATE_REPEATED_SLASH},
+    {"RepeatedDot", GIX_VALIDATE_REPEATED_DOT},
+    {"LockFileSuffix", GIX_VALIDATE_LOCK_FILE_SUFFIX},
+    {"ReflogPortion", GIX_VALIDATE_REFLOG_PORTION},
+    {"Asterisk", GIX_VALIDATE_ASTERISK},
+    {"StartsWithDot", GIX_VALIDATE_STARTS_WITH_DOT},
+    {"EndsWithDot", GIX_VALIDATE_ENDS_WITH_DOT},
+    {"EndsWithSlash", GIX_VALIDATE_ENDS_WITH_SLASH},
+    {"Empty", GIX_VALIDATE_EMPTY},
+    {"SomeLowercase", GIX_VALIDATE_SOME_LOWERCASE},
+    {"Reserved", GIX_VALIDATE_RESERVED},
+    {"ParentComponent", GIX_VALIDATE_PARENT_COMPONENT},
+    {"PathSeparator", GIX_VALIDATE_PATH_SEPARATOR},
+    {"WindowsPathPrefix", GIX_VALIDATE_WINDOWS_PATH_PREFIX},
+    {"WindowsReservedName", GIX_VALIDATE_WINDOWS_RESERVED_NAME},
+    {"WindowsIllegalCharacter", GIX_VALIDATE_WINDOWS_ILLEGAL_CHARACTER},
+    {"DotGitDir", GIX_VALIDATE_DOT_GIT_DIR},
+    {"SymlinkedGitModules", GIX_VALIDATE_SYMLINKED_GIT_MODULES},
+    {"Relative", GIX_VALIDATE_RELATIVE},
+};
+
+/* The number that the header has for a fault, and the library too. */
+static uint32_t number_of(const char *fault, size_t length) {
+    for (size_t i = 0; i < sizeof faults / sizeof *faults; i++) {
+        if (strlen(faults[i].name) == length && memcmp(faults[i].name, fault, length) == 0) {
+            const char *name = gix_validate_fault_name(faults[i].number);
+            EXPECT(name != NULL && strcmp(name, faults[i].name) == 0);
+            return faults[i].number;
+        }
+    }
+    EXPECT(!"the header has the fault");
+    return UINT32_MAX;
 }
 
 /* answer is the fault's name, with a colon and the byte where that is InvalidByte. */
@@ -205,9 +249,8 @@ static void check_code(const struct question *asked, const char *call, struct by
                        const char *text) {
     uint32_t flags = flags_of(call + strlen(asked->call));
     uint32_t code = code_of(asked, flags, name);
-    const char *fault = gix_validate_fault_name(code);
     size_t word = strcspn(answer, ":");
-    EXPECT(strlen(fault) == word && memcmp(fault, answer, word) == 0);
+    EXPECT(code == number_of(answer, word));
     if (asked->code == NULL) {
         EXPECT(gix_validate_component(name.start, name.length, flags | 0xFFFFFFF0u) == code);
     } else if (asked->code != gix_validate_submodule) {
@@ -231,16 +274,6 @@ static const struct question *question_of(const char *call, const char *behind) 
         }
     }
     return NULL;
-}
-
-static uint32_t number_of(const char *fault, size_t length) {
-    uint32_t number = 0;
-    const char *name = gix_validate_fault_name(number);
-    while (number <= GIX_VALIDATE_RELATIVE && (strlen(name) != length || memcmp(name, fault, length) != 0)) {
-        name = gix_validate_fault_name(++number);
-    }
-    EXPECT(number <= GIX_VALIDATE_RELATIVE);
-    return number;
 }
 
 /* answer is how many names there are, and their faults. */

@@ -1,6 +1,6 @@
 -- One piece: which bytes may follow which in a good one, what cleaning it writes byte by byte, and the laws of the mended piece.
 use Rattle.std.proofs.Common.{◌≡◌, ℕ, Bool, true, false, List, [], ◌∷◌, ◌++◌, arith, ◌≢◌, ◌≤◌, length, refl, ◌-◌, take, drop, append_assoc}
-use Rattle.std.specs.Prelude.{codes, ◌&&◌, ◌||◌, not, ◌==◌, Option, Some, None, is_none, if◌then◌else◌}
+use Rattle.std.specs.Prelude.{codes, ◌&&◌, ◌||◌, not, ◌==◌, Option, Some, None, if◌then◌else◌}
 use Rattle.std.specs.List.{list_any}
 use Rattle.std.specs.Str.{byte}
 use Rattle.std.proofs.lemmas.Bool.{and_parts, cond_both}

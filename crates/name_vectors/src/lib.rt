@@ -32,6 +32,8 @@ mod printed;
 #[cfg(test)]
 mod refused_memory;
 #[cfg(test)]
+mod rows;
+#[cfg(test)]
 mod sanitized;
 #[cfg(test)]
 mod tests;

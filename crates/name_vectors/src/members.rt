@@ -12,6 +12,10 @@ ghost use Rattle.gix_validate.specs.Submodule.{text_of as submodule_text_of};
 ghost use Rattle.gix_validate.specs.Tag.{text_of as tag_text_of};
 ghost use Rattle.typed_names.specs.Names.{name_bytes, name_text, component_bytes};
 
+use crate::agree::{expect, expect_told};
+use crate::component::DEVICE_NAME;
+use crate::names::{RESERVED, SOME_LOWERCASE};
+use crate::text::joined;
 use bstr::BStr;
 use gix_validate::path::{ComponentError, ComponentMode, ComponentOptions};
 use gix_validate::{reference, submodule, tag};
@@ -40,14 +44,17 @@ pub(crate) fn reference_text(
 }
 
 /// What an error of a submodule name prints.
-fn submodule_text(alloc: Global, fault: &submodule::NameError) -> Result<String, AllocError>
+pub(crate) fn submodule_text(
+    alloc: Global,
+    fault: &submodule::NameError,
+) -> Result<String, AllocError>
     ensures { IfOk result (λ text. string_bytes text ≡ submodule_text_of fault.now) }
 {
     format!(in alloc; "{fault}")
 }
 
 /// What an error of a component prints.
-fn component_text(alloc: Global, fault: &ComponentError) -> Result<String, AllocError>
+pub(crate) fn component_text(alloc: Global, fault: &ComponentError) -> Result<String, AllocError>
     ensures { IfOk result (λ text. string_bytes text ≡ component_text_of fault.now) }
 {
     format!(in alloc; "{fault}")
@@ -210,19 +217,101 @@ fn prints_typed_names(rt: HostRuntime) -> Result<(), Fail> {
     assert_eq!(rt; text.as_str(), DEBUGGED);
     let text = printed_name(alloc, &TagName::new(BStr::new(b"caf\xC3\xA9/\xFF"))?)?;
     assert_eq!(rt; text.as_bytes(), b"caf\xC3\xA9/\xEF\xBF\xBD".as_slice());
+    let name = Component::new(BStr::new(b"caf\xC3\xA9 \xFF"), None, default_options())?;
+    let text = printed_component(alloc, &name)?;
+    assert_eq!(rt; text.as_bytes(), b"caf\xC3\xA9 \xEF\xBF\xBD".as_slice());
+    assert_eq!(rt; listed(alloc, tag)?.len(), 2);
+    Ok(())
+}
+
+/// A name, its pieces, and what follows its slashes, one after the other.
+type Parts = (
+    &'static [u8],
+    &'static [&'static [u8]],
+    &'static [&'static [u8]],
+);
+
+const PARTS: &[Parts] = &[
+    (
+        b"refs/heads/main",
+        &[b"refs", b"heads", b"main"],
+        &[b"heads/main", b"main"],
+    ),
+    (b"a./b", &[b"a.", b"b"], &[b"b"]),
+    (b"v1.2.3", &[b"v1.2.3"], &[]),
+];
+
+#[test]
+fn parts_outlive_the_name_that_gave_them(rt: HostRuntime) -> Result<(), Fail> {
+    for (text, wanted, rests) in PARTS {
+        let bytes = joined(rt.alloc(), text, b"", b"")?;
+        let (mut pieces, mut rest) = parts_of(&bytes)?;
+        for piece in *wanted {
+            let came = next_of(&mut pieces).unwrap_or(BStr::new(b""));
+            expect(&rt, ("pieces", text), piece, came.as_bytes());
+        }
+        assert!(rt; next_of(&mut pieces).is_none());
+        for wanted in *rests {
+            let name = rest.expect(&rt, "a slash");
+            expect(
+                &rt,
+                ("after_first_slash", text),
+                wanted,
+                name.as_bstr().as_bytes(),
+            );
+            rest = name.after_first_slash();
+        }
+        assert!(rt; rest.is_none());
+    }
     Ok(())
 }
 
 #[test]
-fn parts_outlive_the_name_that_gave_them(rt: HostRuntime) -> Result<(), Fail> {
-    let (mut pieces, rest) = parts_of(b"refs/heads/main")?;
-    assert!(rt; next_of(&mut pieces) == Some(BStr::from("refs")) && rest.is_some());
-    assert_eq!(rt;
-        listed(rt.alloc(), TagName::new(BStr::from("a./b"))?)?.len(),
-        2
+fn checks_typed_names(rt: HostRuntime) -> Result<(), Fail> {
+    let alloc = rt.alloc();
+    let name = PartialName::new(BStr::from("@")).map(|name| name.as_bstr());
+    expect_told(
+        &rt,
+        alloc,
+        ("PartialName::new", b"@"),
+        (RESERVED, b"@"),
+        name,
+    )?;
+    let name = FullName::new(BStr::from("V1")).map(|name| name.as_bstr());
+    expect_told(
+        &rt,
+        alloc,
+        ("FullName::new", b"V1"),
+        (SOME_LOWERCASE[1], b""),
+        name,
+    )?;
+    let tag = tag_of(partial_of(FullName::new(BStr::from("HEAD"))?));
+    expect(
+        &rt,
+        ("TagName::from", b"HEAD"),
+        b"HEAD",
+        tag.as_bstr().as_bytes(),
     );
-    let name = Component::new(BStr::new(b"caf\xC3\xA9 \xFF"), None, default_options())?;
-    let text = printed_component(rt.alloc(), &name)?;
-    assert_eq!(rt; text.as_bytes(), b"caf\xC3\xA9 \xEF\xBF\xBD".as_slice());
+    let name = Component::new(BStr::from("CON"), None, default_options());
+    let name = name.map(|name| name.as_bstr());
+    expect_told(
+        &rt,
+        alloc,
+        ("Component::new", b"CON"),
+        (DEVICE_NAME, b""),
+        name,
+    )?;
+    let windows = ComponentOptions {
+        protect_windows: true,
+        protect_hfs: false,
+        protect_ntfs: false,
+    };
+    let name = Component::new(BStr::from("CON"), None, windows)?;
+    expect(
+        &rt,
+        ("Component::new", b"CON"),
+        b"CON",
+        name.as_bstr().as_bytes(),
+    );
     Ok(())
 }

@@ -7,39 +7,39 @@ use std::alloc::{AllocError, Global};
 /// is quoted after that, if anything is. Of a valid name all are empty.
 pub(crate) type Fault<'a> = [&'a [u8]; 3];
 
-const VALID: Fault<'static> = [b"", b"", b""];
+pub(crate) const VALID: Fault<'static> = [b"", b"", b""];
 
-const EMPTY: Fault<'static> = [
+pub(crate) const EMPTY: Fault<'static> = [
     b"A ref must not be empty",
     b"Reference name cannot be empty",
     b"",
 ];
 
-const ENDS_WITH_SLASH: Fault<'static> = [
+pub(crate) const ENDS_WITH_SLASH: Fault<'static> = [
     b"A ref must not end with a '/'",
     b"Reference name cannot end with a slash",
     b"",
 ];
 
-const STARTS_WITH_SLASH: Fault<'static> = [
+pub(crate) const STARTS_WITH_SLASH: Fault<'static> = [
     b"A reference name must not start with a slash '/'",
     b"Reference name cannot start with a slash",
     b"",
 ];
 
-const STARTS_WITH_DOT: Fault<'static> = [
+pub(crate) const STARTS_WITH_DOT: Fault<'static> = [
     b"A ref must not start with a '.'",
     b"Reference name cannot start with a dot",
     b"",
 ];
 
-const ENDS_WITH_DOT: Fault<'static> = [
+pub(crate) const ENDS_WITH_DOT: Fault<'static> = [
     b"A ref must not end with a '.'",
     b"Reference name cannot end with a dot",
     b"",
 ];
 
-const LOCK_FILE_SUFFIX: Fault<'static> = [
+pub(crate) const LOCK_FILE_SUFFIX: Fault<'static> = [
     b"A ref must not end with '.lock'",
     b"Reference name cannot end with '.lock'",
     b"",
@@ -54,20 +54,43 @@ pub(crate) const INVALID_BYTE: [&[u8]; 2] = [
 /// What the error of a reserved name prints before the quoted name.
 pub(crate) const RESERVED: &[u8] = b"Reference name is reserved and cannot be used: ";
 
-const SOME_LOWERCASE: Fault<'static> = [
+pub(crate) const SOME_LOWERCASE: Fault<'static> = [
     b"",
     b"Standalone references must be all uppercased, like 'HEAD'",
     b"",
 ];
 
+pub(crate) const ASTERISK: Fault<'static> = [
+    b"A ref must not contain '*' character",
+    b"Reference name cannot contain '*'",
+    b"",
+];
+
+pub(crate) const REPEATED_DOT: Fault<'static> = [
+    b"A ref must not contain '..' as it may be mistaken for a range",
+    b"Reference name cannot contain repeated dots",
+    b"",
+];
+
+pub(crate) const REFLOG_PORTION: Fault<'static> = [
+    b"A ref must not contain '@{' which is a part of a ref-log",
+    b"Reference name cannot contain '@{'",
+    b"",
+];
+
+pub(crate) const REPEATED_SLASH: Fault<'static> = [
+    b"Multiple slashes in a row are not allowed as they may change the reference's meaning",
+    b"Reference name cannot contain repeated slashes",
+    b"",
+];
+
 /// The errors at an offset: what the bytes before it end with, what the bytes from it on start with.
-#[rattlefmt::skip]
 const AT_OFFSET: &[(&[u8], &[u8], Fault<'static>)] = &[
-    (b"", b"*", [b"A ref must not contain '*' character", b"Reference name cannot contain '*'", b""]),
-    (b".", b".", [b"A ref must not contain '..' as it may be mistaken for a range", b"Reference name cannot contain repeated dots", b""]),
+    (b"", b"*", ASTERISK),
+    (b".", b".", REPEATED_DOT),
     (b"/", b".", STARTS_WITH_DOT),
-    (b"@", b"{", [b"A ref must not contain '@{' which is a part of a ref-log", b"Reference name cannot contain '@{'", b""]),
-    (b"/", b"/", [b"Multiple slashes in a row are not allowed as they may change the reference's meaning", b"Reference name cannot contain repeated slashes", b""]),
+    (b"@", b"{", REFLOG_PORTION),
+    (b"/", b"/", REPEATED_SLASH),
     (b".lock", b"/", LOCK_FILE_SUFFIX),
 ];
 
@@ -161,14 +184,19 @@ pub(crate) fn accepting(alloc: Global, text: &[u8]) -> Result<usize, AllocError>
     })
 }
 
+// What the errors of a submodule name print.
+pub(crate) const NO_SUBMODULE_NAME: &[u8] = b"Submodule names cannot be empty";
+
+pub(crate) const PARENT_COMPONENT: &[u8] = b"Submodules names must not contains '..'";
+
 /// What the error of a submodule name prints, one of whose parts is `..`. The slashes around it end
 /// its parts.
 pub(crate) fn of_submodule(alloc: Global, text: &[u8]) -> Result<&'static [u8], AllocError> {
     let parts = joined(alloc, b"/", text, b"/")?;
     Ok(if text.is_empty() {
-        b"Submodule names cannot be empty"
+        NO_SUBMODULE_NAME
     } else if contains_one(&parts, &[b"/../", b"/..\\", b"\\../", b"\\..\\"]) {
-        b"Submodules names must not contains '..'"
+        PARENT_COMPONENT
     } else {
         b""
     })

@@ -6,33 +6,34 @@
 //! allocations fails.
 
 use bstr::{BStr, BString};
-use examples::literals::{release_tag, workflow};
+use gix_validate::path::ComponentOptions;
 use gix_validate::reference::name_partial_or_sanitize;
+use gix_validate::{path, reference};
 use std::alloc::{AllocError, Global};
 use std::process::Abort;
 use std::test::Fail;
+use typed_names::{Component, TagName};
 
 /// How each call is printed, and what it has to return.
 const CALLS: [(&str, &[u8]); 4] = [
     ("sanitize_nothing", b"-"),
     ("sanitize_pieces", b"refs/heads/-/x/-y-"),
-    ("reference_join", b"refs/tags/v1.0"),
-    ("path_join", b".github/workflows/ci.yml"),
+    ("reference_join", b"@/v1.0"),
+    ("path_join", b"src/.github/a.rs"),
 ];
 
+/// What the join of names and the join of components are passed.
+type Inputs<'a> = ([TagName<'a>; 2], [Component<'a>; 3]);
+
 /// What the call at this index returns. Each allocates once.
-fn given(alloc: Global, call: usize) -> Result<BString, AllocError> {
+fn given(alloc: Global, call: usize, inputs: Inputs<'_>) -> Result<BString, AllocError> {
+    let ([name, version], [folder, inner, file]) = inputs;
     match call {
         0 => name_partial_or_sanitize(alloc, BStr::new(b"")),
         1 => name_partial_or_sanitize(alloc, BStr::new(b"refs//heads/../x.lock.lock/.y*")),
-        2 => release_tag(alloc),
-        _ => workflow(alloc),
+        2 => reference::join(alloc, name.as_bstr(), version.as_bstr()),
+        _ => path::join(alloc, &[folder.as_bstr(), inner.as_bstr(), file.as_bstr()]),
     }
-}
-
-/// Whether a call returns what it has to.
-fn is_right(alloc: Global, call: usize, wanted: &[u8]) -> Result<bool, AllocError> {
-    Ok(given(alloc, call)?.as_bytes() == wanted)
 }
 
 /// Prints the outcome of a call.
@@ -42,18 +43,28 @@ fn say<R: Print>(rt: &R, call: &str, outcome: &str) -> Result<(), Fail> {
 }
 
 /// Allocates until the given allocation of the calls is the one that fails, and then makes each
-/// call, and once more if its allocation fails.
+/// call, and once more if its allocation fails. The inputs are as they were then.
 fn check_with_refused<R: Abort + AllocGlobal + Print>(rt: &R, request: usize) -> Result<(), Fail> {
     for _ in request..5 {
         Vec::from_slice(rt.alloc(), b" ")?;
     }
+    let bytes = *b"@v1.0src.githuba.rs";
+    let part = |from, end| BStr::new(&bytes[from..end]);
+    let options = ComponentOptions::default();
+    let names = [TagName::new(part(0, 1))?, TagName::new(part(1, 5))?];
+    let parts = [
+        Component::new(part(5, 8), None, options)?,
+        Component::new(part(8, 15), None, options)?,
+        Component::new(part(15, 19), None, options)?,
+    ];
     for call in 0..4 {
         let (name, wanted) = CALLS[call];
-        let right = match is_right(rt.alloc(), call, wanted) {
-            Ok(right) => right,
+        let right = match given(rt.alloc(), call, (names, parts)) {
+            Ok(name) => name.as_bytes() == wanted,
             Err(AllocError) => {
                 say(rt, name, "refused")?;
-                is_right(rt.alloc(), call, wanted)?
+                assert!(rt; bytes == *b"@v1.0src.githuba.rs");
+                given(rt.alloc(), call, (names, parts))?.as_bytes() == wanted
             }
         };
         assert!(rt; right);

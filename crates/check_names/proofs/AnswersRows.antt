@@ -32,10 +32,7 @@ requests = refl
 
 -- lines, and their answers
 answers_on_tags : Gives answer_of
-    ((codes "tag v1.2.3", codes "ok")  -- tag of version
-    ∷ (codes "tag a b", codes "error: A ref must not contain invalid bytes or ascii control characters: \" \"")  -- tag with space
-    ∷ (codes "tag a\r", codes "error: A ref must not contain invalid bytes or ascii control characters: \"\\r\"")  -- tag with carriage return
-    ∷ (codes "tag  x", codes "error: A ref must not contain invalid bytes or ascii control characters: \" \"")  -- tag of two spaces
+    ((codes "tag a\r", codes "error: A ref must not contain invalid bytes or ascii control characters: \"\\r\"")  -- tag with carriage return
     ∷ (codes "tag ", codes "error: A ref must not be empty")  -- tag without name
     ∷ [])
 unfolding kinds answer_of names_on_literals
@@ -54,7 +51,6 @@ answers_of_other_kinds = refl
 
 unknown_kinds : Gives answer_of
     ((codes "tag", codes "unknown kind")  -- tag without space
-    ∷ (codes "TAG x", codes "unknown kind")  -- upper case kind
     ∷ (codes " tag x", codes "unknown kind")  -- kind after space
     ∷ (codes "bogus x", codes "unknown kind")  -- unknown word
     ∷ ([], codes "unknown kind")  -- empty line

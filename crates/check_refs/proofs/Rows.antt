@@ -27,29 +27,15 @@ Row = List ℕ × Option (List ℕ) × Option (List ℕ)
 
 abbrev rows : List Row
 rows =
-    (line none short (codes " refs/heads/main"), Some [], Some (short ++ codes "\n"))  -- a new branch
-    ∷ (line long long (codes " refs/heads/main"), Some [], Some (long ++ codes "\n"))  -- ids of SHA-256
-    ∷ (line short none (codes " refs/heads/a b"), Some [], Some [])  -- a deletion
-    ∷ (
+    (
       line short short (codes " refs/heads/HEAD"),  -- reserved as a branch alone
       Some (codes "ref \"refs/heads/HEAD\" Reference name is reserved and cannot be used: \"refs/heads/HEAD\"\n"),
       Some (codes "ref \"refs/heads/HEAD\" Reference name is reserved and cannot be used: \"refs/heads/HEAD\"\n"),
-    )
-    ∷ (line none short (codes " refs/tags/HEAD"), Some [], Some (short ++ codes "\n"))  -- elsewhere a name like others
-    ∷ (
-      line none short (codes " refs/heads/a "),  -- the name is all the rest
-      Some (codes "ref \"refs/heads/a \" Reference name contains invalid byte: \" \"\n"),
-      Some (codes "ref \"refs/heads/a \" Reference name contains invalid byte: \" \"\n"),
     )
     ∷ (
       line none short (codes " main"),  -- one level
       Some (codes "ref \"main\" Standalone references must be all uppercased, like 'HEAD'\n"),
       Some (codes "ref \"main\" Standalone references must be all uppercased, like 'HEAD'\n"),
-    )
-    ∷ (
-      line none short (codes " refs/replace/" ++ short),  -- a replacement
-      Some (codes "ref \"refs/replace/" ++ short ++ codes "\" replacement references are not allowed\n"),
-      Some (short ++ codes "\n"),
     )
     ∷ (
       line none short (codes " refs/replace/"),  -- its fault comes first
@@ -64,7 +50,6 @@ rows =
       Some (codes "ref \"refs/tags/\\xff\\\"*\" Reference name cannot contain '*'\n"),
     )
     ∷ (line none short [], None, None)  -- no name
-    ∷ (line none short (codes " "), None, None)  -- an empty name
     ∷ (line none (codes " " ++ short) (codes " refs/heads/main"), None, None)  -- two spaces
     ∷ (line none long (codes " refs/heads/main"), None, None)  -- two lengths
     ∷ (line none (codes "4B825DC642CB6EB9A060E54BF8D69288FBEE4904") (codes " refs/heads/main"), None, None)  -- capitals

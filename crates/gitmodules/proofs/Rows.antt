@@ -10,39 +10,27 @@ name_at offset name = (offset, Some name)
 abbrev unreadable_at : ℕ → ℕ × Option (List ℕ)
 unreadable_at offset = (offset, None)
 
--- files as Git writes them
-plain_files :
-    (sections 0 [] ≡ [])
-    × (sections 0 (codes "[submodule \"a\"]\n\tpath = a\n\turl = ../a\n") ≡ name_at 0 (codes "a") ∷ [])
-    × (sections 0 (codes "[submodule \"a/b\"]\n\tpath = x\n[submodule \"c\"]\n") ≡ name_at 0 (codes "a/b") ∷ name_at 28 (codes "c") ∷ [])
-    × (sections 0 (codes "[core]\n\tbare = true\n[SubModule\t \"../x\"]\n") ≡ name_at 20 (codes "../x") ∷ [])
-unfolding header_after_bracket
-plain_files = (refl, refl, refl, refl)
-
--- escapes, and names that are empty or have a bracket
-names_with_escapes :
-    (sections 0 (codes "[submodule \"a\\\"b\\\\c\"]") ≡ name_at 0 (codes "a\"b\\c") ∷ [])
-    × (sections 0 (codes "[submodule \"\\.\\.\"]") ≡ name_at 0 (codes "..") ∷ [])
-    × (sections 0 (codes "[submodule \"\"]") ≡ name_at 0 [] ∷ [])
+-- names: of two sections, with escapes, and with brackets
+names_of_sections :
+    (sections 0 (codes "[submodule \"a/b\"]\n\tpath = x\n[submodule \"c\"]\n") ≡ name_at 0 (codes "a/b") ∷ name_at 28 (codes "c") ∷ [])
+    × (sections 0 (codes "[submodule \"a\\\"b\\\\c\"]") ≡ name_at 0 (codes "a\"b\\c") ∷ [])
     × (sections 0 (codes "[submodule \"a]b[c\"]") ≡ name_at 0 (codes "a]b[c") ∷ [])
 unfolding header_after_bracket
-names_with_escapes = (refl, refl, refl, refl)
+names_of_sections = (refl, refl, refl)
 
--- sections in comments, values and names
+-- sections in values and names
 sections_anywhere :
-    (sections 0 (codes "# [submodule \"a\"]\n") ≡ name_at 2 (codes "a") ∷ [])
-    × (sections 0 (codes "[x]\n\ty = \"[submodule \\\"a\\\"]\"\n") ≡ unreadable_at 10 ∷ [])
+    (sections 0 (codes "[x]\n\ty = \"[submodule \\\"a\\\"]\"\n") ≡ unreadable_at 10 ∷ [])
     × (sections 0 (codes "[submodule \"[submodule \"a\"]\"]") ≡ unreadable_at 0 ∷ name_at 12 (codes "a") ∷ [])
 unfolding header_after_bracket
-sections_anywhere = (refl, refl, refl)
+sections_anywhere = (refl, refl)
 
 -- other sections, and words that only begin with the word
 other_sections :
-    (sections 0 (codes "[submodule]\n\tactive = .\n") ≡ [])
-    × (sections 0 (codes "[submodules \"a\"]\n[submodule-x \"a\"]\n[submodule2]") ≡ [])
+    (sections 0 (codes "[submodules \"a\"]\n[submodule-x \"a\"]\n[submodule2]") ≡ [])
     × (sections 0 (codes "[sub \"submodule\"]\n[ submodule \"a\"]\n[submodul") ≡ [])
 unfolding header_after_bracket
-other_sections = (refl, refl, refl)
+other_sections = (refl, refl)
 
 -- sections that can't be read: the old form, no blank, no quotes, no end, and bytes that are in no name
 unreadable_sections :
@@ -50,7 +38,6 @@ unreadable_sections :
     × (sections 0 (codes "[submodule\"a\"]\n[submodule a]\n[submodule \n\"a\"]") ≡ unreadable_at 0 ∷ unreadable_at 15 ∷ unreadable_at 29 ∷ [])
     × (sections 0 (codes "[submodule \"a\" ]\n[submodule \"a") ≡ unreadable_at 0 ∷ unreadable_at 17 ∷ [])
     × (sections 0 (codes "[submodule \"a\nb\"]\n[submodule \"a\\\nb\"]") ≡ unreadable_at 0 ∷ unreadable_at 18 ∷ [])
-    × (sections 0 (codes "[submodule \"a" ++ 0xFF ∷ codes "b\"]") ≡ unreadable_at 0 ∷ [])
     × (sections 0 (codes "[submodule \"a\\" ++ 0 ∷ codes "\"]") ≡ unreadable_at 0 ∷ [])
 unfolding header_after_bracket
-unreadable_sections = (refl, refl, refl, refl, refl, refl)
+unreadable_sections = (refl, refl, refl, refl, refl)

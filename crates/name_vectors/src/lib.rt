@@ -1,6 +1,8 @@
 //! The tests of `gix_validate`, `typed_names` and `examples`. A crate that has tests is proved a second
-//! time with them, so these three have none. This crate has three parts:
+//! time with them, so these three have none. This crate has four parts:
 //!
+//! - Tables of worked names, and what docs/RULES.md gives for each (`rows`, `printed`, and of typed
+//!   names `members`).
 //! - An independent second implementation of the rules of docs/RULES.md. The first is the
 //!   definitions in `crates/gix_validate/specs`, against which the library is proved. The second is
 //!   code, and uses other algorithms than the library: it searches names for what they may not have
@@ -13,8 +15,8 @@
 //!   that show what the ghost members of the types' traits say.
 //!
 //! All of it is built for the tests alone. Its proofs say that the tests are safe and end, so it is
-//! written for short ones: few functions, tables in place of code, no test of what a clause or a row
-//! of `gix_validate` says, and few different functions of the standard library.
+//! written for short ones: few functions, tables in place of code, and few different functions of the
+//! standard library.
 #![tactic(auto)]
 
 #[cfg(test)]

@@ -51,6 +51,11 @@ pub(crate) const INVALID_BYTE: [&[u8]; 2] = [
     b"Reference name contains invalid byte: ",
 ];
 
+/// A bad byte's error, which quotes the byte.
+pub(crate) fn invalid_byte(byte: &[u8]) -> Fault<'_> {
+    [INVALID_BYTE[0], INVALID_BYTE[1], byte]
+}
+
 /// What the error of a reserved name prints before the quoted name.
 pub(crate) const RESERVED: &[u8] = b"Reference name is reserved and cannot be used: ";
 
@@ -99,7 +104,7 @@ fn at_lowest_offset(text: &[u8]) -> Fault<'_> {
     for offset in 0..text.len() {
         let (before, here) = (&text[..offset], &text[offset..]);
         if is_bad(text[offset]) {
-            return [INVALID_BYTE[0], INVALID_BYTE[1], &text[offset..offset + 1]];
+            return invalid_byte(&text[offset..offset + 1]);
         }
         for (last, next, fault) in AT_OFFSET {
             if before.ends_with(last) && here.starts_with(next) {

@@ -6,13 +6,13 @@
 //! allocations fails.
 
 use bstr::{BStr, BString};
-use gix_validate::path::ComponentOptions;
-use gix_validate::reference::name_partial_or_sanitize;
-use gix_validate::{path, reference};
+use gix_validate::path::{self, ComponentError, ComponentOptions};
+use gix_validate::reference::{self, name_partial_or_sanitize};
+use gix_validate::tag;
 use std::alloc::{AllocError, Global};
 use std::process::Abort;
 use std::test::Fail;
-use typed_names::{Component, TagName};
+use typed_names::Component;
 
 /// How each call is printed, and what it has to return.
 const CALLS: [(&str, &[u8]); 4] = [
@@ -22,18 +22,33 @@ const CALLS: [(&str, &[u8]); 4] = [
     ("path_join", b"src/.github/a.rs"),
 ];
 
-/// What the join of names and the join of components are passed.
-type Inputs<'a> = ([TagName<'a>; 2], [Component<'a>; 3]);
+/// The names and the components that are joined, one after the other.
+const INPUTS: &[u8; 19] = b"@v1.0src.githuba.rs";
+
+/// The name of an entry, as the join of components needs it.
+fn part(name: &[u8]) -> Result<Component<'_>, ComponentError> {
+    Component::new(BStr::new(name), None, ComponentOptions::default())
+}
 
 /// What the call at this index returns. Each allocates once.
-fn given(alloc: Global, call: usize, inputs: Inputs<'_>) -> Result<BString, AllocError> {
-    let ([name, version], [folder, inner, file]) = inputs;
-    match call {
+fn given(
+    alloc: Global,
+    call: usize,
+    inputs: &[u8; 19],
+) -> Result<Result<BString, AllocError>, Fail> {
+    Ok(match call {
         0 => name_partial_or_sanitize(alloc, BStr::new(b"")),
         1 => name_partial_or_sanitize(alloc, BStr::new(b"refs//heads/../x.lock.lock/.y*")),
-        2 => reference::join(alloc, name.as_bstr(), version.as_bstr()),
-        _ => path::join(alloc, &[folder.as_bstr(), inner.as_bstr(), file.as_bstr()]),
-    }
+        2 => {
+            let name = tag::name(BStr::new(&inputs[..1]))?;
+            reference::join(alloc, name, tag::name(BStr::new(&inputs[1..5]))?)
+        }
+        _ => {
+            let (folder, inner) = (part(&inputs[5..8])?, part(&inputs[8..15])?);
+            let file = part(&inputs[15..])?;
+            path::join(alloc, &[folder.as_bstr(), inner.as_bstr(), file.as_bstr()])
+        }
+    })
 }
 
 /// Prints the outcome of a call.
@@ -48,23 +63,15 @@ fn check_with_refused<R: Abort + AllocGlobal + Print>(rt: &R, request: usize) ->
     for _ in request..5 {
         Vec::from_slice(rt.alloc(), b" ")?;
     }
-    let bytes = *b"@v1.0src.githuba.rs";
-    let part = |from, end| BStr::new(&bytes[from..end]);
-    let options = ComponentOptions::default();
-    let names = [TagName::new(part(0, 1))?, TagName::new(part(1, 5))?];
-    let parts = [
-        Component::new(part(5, 8), None, options)?,
-        Component::new(part(8, 15), None, options)?,
-        Component::new(part(15, 19), None, options)?,
-    ];
+    let inputs = *INPUTS;
     for call in 0..4 {
         let (name, wanted) = CALLS[call];
-        let right = match given(rt.alloc(), call, (names, parts)) {
+        let right = match given(rt.alloc(), call, &inputs)? {
             Ok(name) => name.as_bytes() == wanted,
             Err(AllocError) => {
                 say(rt, name, "refused")?;
-                assert!(rt; bytes == *b"@v1.0src.githuba.rs");
-                given(rt.alloc(), call, (names, parts))?.as_bytes() == wanted
+                assert!(rt; inputs == *INPUTS);
+                given(rt.alloc(), call, &inputs)??.as_bytes() == wanted
             }
         };
         assert!(rt; right);

@@ -1,8 +1,8 @@
 //! The functions of the library, compared with the second implementation on many names.
 
 use crate::agree::check;
-use crate::component::{DEVICES, NAMES_OF_MODULES};
-use crate::text::{before_first, joined, spelled};
+use crate::component::DEVICES;
+use crate::text::{joined, spelled};
 use crate::units::{IGNORED_CHARACTERS, ROWS};
 use std::alloc::{AllocError, Global};
 use std::process::Abort;

@@ -3,12 +3,7 @@ use Rattle.std.proofs.Common.{◌≡◌, ℕ, true, false, refl, List, [], ◌�
 use Rattle.std.specs.Prelude.{codes}
 use Rattle.std.specs.List.{after_first}
 use Rattle.bstr.specs.declared.bstr.BStr.{BStr}
-use Rattle.gix_validate.proofs.OnLiterals.{names_on_literals, components_on_literals}
-use Rattle.gix_validate.specs.declared.path.ComponentError.TheVariants.{WindowsReservedName, DotGitDir, Relative}
-use Rattle.gix_validate.specs.Component.{all_protections, fault_of}
-use Rattle.gix_validate.specs.ComponentLaws.{no_protections}
 use Rattle.gix_validate.specs.Pieces.{is_slash, has_no_slash}
-use Rattle.gix_validate.specs.Tag.{is_tag_name}
 use Rattle.typed_names.specs.Pieces.{pieces_left}
 
 abbrev text : List ℕ → BStr
@@ -31,19 +26,3 @@ after_the_first_slash :
     × (has_no_slash (codes "main") ≡ true)
     × (has_no_slash (codes "a./b") ≡ false)
 after_the_first_slash = (refl, refl, refl, refl, refl, refl)
-
--- the part before a slash need not be a tag name, where the part after it is one
-parts_of_a_name : (is_tag_name (codes "a./b") ≡ true) × (is_tag_name (codes "a.") ≡ false) × (is_tag_name (codes "b") ≡ true)
-unfolding names_on_literals
-parts_of_a_name = (refl, refl, refl)
-
--- what a component is tested by, and what it keeps: all protections, Windows alone, none
-faults_of_components :
-    (fault_of all_protections None (codes "CON") ≡ Some WindowsReservedName)
-    × (fault_of (record { protect_windows = true; protect_hfs = false; protect_ntfs = false }) None (codes "CON") ≡ None)
-    × (fault_of no_protections None (codes "CON") ≡ None)
-    × (fault_of no_protections None (codes ".GIT") ≡ Some DotGitDir)
-    × (fault_of no_protections None (codes "..") ≡ Some Relative)
-    × (fault_of no_protections None (codes ".gitmodules") ≡ None)
-unfolding components_on_literals
-faults_of_components = (refl, refl, refl, refl, refl, refl)

@@ -23,22 +23,6 @@ partial_names : Judges partial_fault_of is_partial_name
 unfolding names_on_literals
 partial_names = (refl, refl)
 
--- the faults of tag names are those of partial names
-faults_of_tag_names : Judges partial_fault_of is_partial_name
-    ((codes "refs/heads/", Some EndsWithSlash)  -- folder alone
-    ∷ (codes "/a", Some StartsWithSlash)  -- slash first
-    ∷ (codes "a//b", Some RepeatedSlash)  -- two slashes
-    ∷ (codes "a..b", Some RepeatedDot)  -- two dots
-    ∷ (codes "a.lock", Some LockFileSuffix)  -- lock
-    ∷ (codes "a@{b", Some ReflogPortion)  -- reflog
-    ∷ (codes "a*", Some Asterisk)  -- star
-    ∷ (codes ".a", Some StartsWithDot)  -- dot first
-    ∷ (codes "a.", Some EndsWithDot)  -- dot last
-    ∷ (codes "a/", Some EndsWithSlash)  -- slash last
-    ∷ [])
-unfolding names_on_literals
-faults_of_tag_names = (refl, refl)
-
 stand_alone : Gives has_slash_or_stands_alone
     ((codes "HEAD", true)  -- HEAD may stand alone
     ∷ (codes "FETCH_HEAD", true)  -- an underscore, too
@@ -55,14 +39,7 @@ full_names : Judges full_fault_of is_full_name
     ∷ (codes "refs/lower", None)  -- lower in a folder
     ∷ (codes "a/b", None)  -- folder
     ∷ (codes "refs/heads/HEAD", None)  -- head branch
-    ∷ (codes "refs/heads/main", None)  -- main branch
-    ∷ [])
-unfolding names_on_literals
-full_names = (refl, refl)
-
--- what a full name is not
-no_full_names : Judges full_fault_of is_full_name
-    ((codes "V1", Some SomeLowercase)  -- digit
+    ∷ (codes "V1", Some SomeLowercase)  -- digit
     ∷ (codes "HEAD1", Some SomeLowercase)  -- digit at the end
     ∷ (codes "main", Some SomeLowercase)  -- lower alone
     ∷ (0xC3 ∷ 0x89 ∷ [], Some SomeLowercase)  -- two high bytes
@@ -70,7 +47,7 @@ no_full_names : Judges full_fault_of is_full_name
     ∷ (codes "a b", Some (InvalidByte 0x20))  -- space before lowercase
     ∷ [])
 unfolding names_on_literals
-no_full_names = (refl, refl)
+full_names = (refl, refl)
 
 -- names of branches
 branch_names : Judges branch_fault_of is_branch_name

@@ -54,84 +54,22 @@ pieces_mended = refl
 dash_last_piece : dash_last_of (codes "a" ∷ codes "b." ∷ []) ≡ codes "a" ∷ codes "b-" ∷ []
 dash_last_piece = refl
 
-dots_and_slashes : Gives sanitized
-    ((codes "", codes "-")  -- empty text
+repaired_names : Gives sanitized
+    (([], codes "-")  -- empty text
     ∷ (codes "///", codes "-")  -- only slashes
-    ∷ (codes ".", codes "-")  -- one dot
-    ∷ (codes "..", codes "-")  -- two dots
-    ∷ (codes "a.", codes "a-")  -- dot at end
-    ∷ (codes "a..b", codes "a.b")  -- dots inside
+    ∷ (codes "..a", codes "-a")  -- dots at start
     ∷ (codes "/a//b/", codes "a/b")  -- slashes around
     ∷ (codes "a./b", codes "a./b")  -- dot before slash
-    ∷ (codes "..a", codes "-a")  -- dots at start
-    ∷ (codes "a./", codes "a-")  -- dot then slash
-    ∷ (codes "a/./b", codes "a/-/b")  -- dot piece
-    ∷ [])
-unfolding names_on_literals
-dots_and_slashes = refl
-
--- `.lock` once in a piece
-one_lock_suffix : Gives sanitized
-    ((codes "a/.lock", codes "a/-lock")  -- lock piece
-    ∷ (codes "a//.lock", codes "a/-lock")  -- lock piece after slashes
-    ∷ (codes "a.lock/b.lock", codes "a/b")  -- locks of pieces
-    ∷ (codes "x.lock..", codes "x.lock-")  -- lock before dots
-    ∷ (codes "a..lock", codes "a")  -- dots before lock
-    ∷ (codes ".lock", codes "-lock")  -- lock alone
     ∷ (codes "a.lock.", codes "a.lock-")  -- lock then dot
-    ∷ (codes ".lock/.lock", codes "-lock/-lock")  -- locks twice
-    ∷ (codes "a.lock", codes "a")  -- one lock
-    ∷ [])
-unfolding names_on_literals
-one_lock_suffix = refl
-
--- `.lock` again and again
-several_lock_suffixes : Gives sanitized
-    ((codes "a.lock.lock", codes "a")  -- locks at end
     ∷ (codes ".lock.lock", codes "-lock")  -- two locks alone
     ∷ (codes "x.lock..lock/", codes "x")  -- locks and slash
-    ∷ (codes "a.lock.lock/..lock", codes "a/-lock")  -- locks and dots
-    ∷ (codes "/.lock.lock/..@{", codes "-lock/-@-")  -- empty then locks
-    ∷ (codes "x.lock.lock/..", codes "x/-")  -- locks then dots
-    ∷ [])
-unfolding names_on_literals
-several_lock_suffixes = refl
-
--- `@`, alone and before a brace
-at_signs : Gives sanitized
-    ((codes "@{", codes "@-")  -- log portion
-    ∷ (codes "@..{", codes "@.{")  -- log portion with dots
-    ∷ (codes "@", codes "-")  -- at alone
     ∷ (codes "@/@", codes "@/@")  -- two ats
     ∷ (codes "@.lock", codes "-")  -- at before lock
-    ∷ (codes "/@", codes "-")  -- at after slash
-    ∷ (codes "@/", codes "-")  -- at before slash
-    ∷ (codes "@@{", codes "@@-")  -- two ats and brace
     ∷ (codes "a" ++ 0x09 ∷ codes "b@{c", codes "a-b@-c")  -- tab and log portion
-    ∷ [])
-unfolding names_on_literals
-at_signs = refl
-
--- bad bytes, `*`, and bytes that are not ASCII
-other_bytes_cleaned : Gives sanitized
-    ((codes "*.lock", codes "-")  -- star and lock
-    ∷ (0x00 ∷ 0x7F ∷ [], codes "--")  -- control bytes
-    ∷ (0xC3 ∷ 0xA9 ∷ [], 0xC3 ∷ 0xA9 ∷ [])  -- other bytes
-    ∷ (codes "a b/c~", codes "a-b/c-")  -- spaces and tildes
-    ∷ (codes "a b.lock", codes "a-b")  -- space and lock
     ∷ (codes "refs//heads/../x.lock.lock/.y*", codes "refs/heads/-/x/-y-")  -- many faults
     ∷ [])
 unfolding names_on_literals
-other_bytes_cleaned = refl
-
-partial_names : Gives is_partial_name
-    ((codes "@", false)  -- at
-    ∷ (codes "-", true)  -- dash
-    ∷ (codes "@/@", true)  -- two ats
-    ∷ (codes "main", true)  -- main
-    ∷ [])
-unfolding names_on_literals
-partial_names = refl
+repaired_names = refl
 
 piecewise_with_dash : KeepsPieces (codes "a b//c.") (codes "a-b/c-")
 unfolding names_on_literals

@@ -24,7 +24,6 @@ accepted : Judges fault_of is_submodule_name
     ∷ (codes "a..", None)  -- dots at end
     ∷ (codes "a//b", None)  -- empty part
     ∷ (codes "a\\b", None)  -- two parts
-    ∷ (codes "vendor/package", None)  -- package
     ∷ [])
 unfolding names_on_literals
 accepted = (refl, refl)

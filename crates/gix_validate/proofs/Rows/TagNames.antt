@@ -1,4 +1,4 @@
--- The definitions of tag names, computed on texts: worked answers, and the tables of bytes.
+-- The definitions of tag names, computed on literals.
 use Rattle.std.proofs.Common.{◌≡◌, refl, [], ◌∷◌, Some, None}
 use Rattle.std.specs.Prelude.{codes}
 use Rattle.gix_validate.proofs.OnLiterals.{names_on_literals}
@@ -8,59 +8,23 @@ use Rattle.gix_validate.specs.declared.tag.NameError.TheVariants.{ReflogPortion,
 use Rattle.gix_validate.specs.Quoted.{quoted}
 use Rattle.gix_validate.specs.Tag.{fault_of, is_tag_name, text_of}
 
--- slashes, alone and beside other faults
-slashes : Judges fault_of is_tag_name
-    ((codes "/", Some EndsWithSlash)  -- only a slash
-    ∷ (codes "/a", Some StartsWithSlash)  -- slash first
+-- an accepted text, and one for each fault: where several rules are broken, which comes first
+faults : Judges fault_of is_tag_name
+    ((codes "a./b", None)  -- dot before slash
     ∷ ([], Some Empty)  -- nothing
-    ∷ (codes "/.a", Some StartsWithSlash)  -- slash then dot
-    ∷ (codes "a//*", Some RepeatedSlash)  -- slashes before asterisk
     ∷ (codes "a*/", Some EndsWithSlash)  -- asterisk then slash last
-    ∷ (codes "a.lock/", Some EndsWithSlash)  -- lock then slash last
-    ∷ (codes "./", Some EndsWithSlash)  -- dot then slash last
-    ∷ [])
-unfolding names_on_literals
-slashes = (refl, refl)
-
--- dots, and what begins with one
-dots : Judges fault_of is_tag_name
-    ((codes "..", Some RepeatedDot)  -- two dots
+    ∷ (codes "/.a", Some StartsWithSlash)  -- slash then dot
     ∷ (codes ".a b", Some (InvalidByte 0x20))  -- bad byte before first dot
-    ∷ (codes ".", Some StartsWithDot)  -- one dot
-    ∷ (codes "a./b", None)  -- dot before slash
-    ∷ (codes "a.", Some EndsWithDot)  -- dot last
-    ∷ (codes "a/.b", Some StartsWithDot)  -- dot after slash
+    ∷ (codes "a*", Some Asterisk)  -- asterisk
     ∷ (codes "..a.", Some RepeatedDot)  -- dots first and last
     ∷ (codes "a/.lock/b", Some StartsWithDot)  -- lock piece begins with dot
-    ∷ (codes "v1.2.3", None)  -- a version
-    ∷ [])
-unfolding names_on_literals
-dots = (refl, refl)
-
--- `.lock`, and what looks like it
-locks : Judges fault_of is_tag_name
-    ((codes ".lock/x", Some LockFileSuffix)  -- lock then slash
-    ∷ (codes ".lock", Some StartsWithDot)  -- only lock
-    ∷ (codes "a.LOCK", None)  -- lock in capitals
-    ∷ (codes "a.lock//b", Some LockFileSuffix)  -- lock before slashes
-    ∷ (codes "a.lock/*", Some LockFileSuffix)  -- lock before asterisk
-    ∷ (codes "a.lock", Some LockFileSuffix)  -- lock last
-    ∷ (codes "a.lockx", None)  -- lock and more
-    ∷ [])
-unfolding names_on_literals
-locks = (refl, refl)
-
--- `*`, `@`, and bytes that are not ASCII
-marks : Judges fault_of is_tag_name
-    ((codes "a*", Some Asterisk)  -- asterisk
-    ∷ (codes "a@{b", Some ReflogPortion)  -- reflog
-    ∷ (codes "@", None)  -- at alone
     ∷ (codes "@@{", Some ReflogPortion)  -- reflog after two
-    ∷ (codes "{@", None)  -- brace first
-    ∷ (0x80 ∷ 0xFF ∷ [], None)  -- past ascii
+    ∷ (codes "a//*", Some RepeatedSlash)  -- slashes before asterisk
+    ∷ (codes "a.lock/*", Some LockFileSuffix)  -- lock before asterisk
+    ∷ (codes "a.", Some EndsWithDot)  -- dot last
     ∷ [])
 unfolding names_on_literals
-marks = (refl, refl)
+faults = (refl, refl)
 
 -- bytes, and the same quoted
 quoted_bytes : Gives quoted

@@ -5,8 +5,8 @@ use Rattle.gix_validate.proofs.OnLiterals.{names_on_literals}
 use Rattle.gix_validate.proofs.Rows.Tables.{Gives, Judges}
 use Rattle.gix_validate.specs.Reference.{has_slash_or_stands_alone, is_partial_name, is_full_name, is_branch_name, reserved, partial_fault_of}
 use Rattle.gix_validate.specs.Reference.{full_fault_of, branch_fault_of, text_of}
-use Rattle.gix_validate.specs.declared.reference.NameError.TheVariants.{InvalidByte, StartsWithSlash, RepeatedSlash, RepeatedDot, LockFileSuffix}
-use Rattle.gix_validate.specs.declared.reference.NameError.TheVariants.{ReflogPortion, Asterisk, StartsWithDot, EndsWithDot, EndsWithSlash, Empty}
+use Rattle.gix_validate.specs.declared.reference.NameError.TheVariants.{InvalidByte}
+use Rattle.gix_validate.specs.declared.reference.NameError.TheVariants.{Empty}
 use Rattle.gix_validate.specs.declared.reference.NameError.TheVariants.{SomeLowercase}
 
 -- partial names, `@` in them, and no names

@@ -5,7 +5,6 @@ use Rattle.std.specs.Prelude.{codes}
 use Rattle.std.specs.Str.{byte}
 use Rattle.gix_validate.proofs.OnLiterals.{names_on_literals}
 use Rattle.gix_validate.proofs.Rows.Tables.{Gives}
-use Rattle.gix_validate.specs.Reference.{is_partial_name}
 use Rattle.gix_validate.specs.Sanitized.{Dots, Other, runs, cleaned, cut, dash_last_of, mended_pieces, nonempty_pieces, sanitized, KeepsPieces}
 
 runs_of_pieces : Gives runs

@@ -52,12 +52,14 @@ function equal(found, wanted, where) {
     }
 }
 
-async function opened(url) {
+/** Opens a page, and waits until this holds in it. */
+async function opened(url, ready = "document.readyState === 'complete'") {
     await send("Page.navigate", { url });
-    for (let ready = ""; ready !== "complete"; ready = await value("document.readyState")) {
+    while (!await value(`location.href === ${JSON.stringify(url)} && ${ready}`)) {
         await new Promise((done) => setTimeout(done, 20));
     }
 }
+const SHOWN = "Boolean(document.querySelector('#version')?.textContent && (globalThis.part_name = document.querySelector('#name')))";
 
 async function rows(version, ...tested) {
     const folders = tested.filter((_, at) => at % 2);
@@ -115,8 +117,7 @@ async function page(file) {
     await send("Emulation.setEmulatedMedia", { features: [{ name: "prefers-color-scheme", value: "light" }] });
     await send("Network.enable");
     await send("Network.emulateNetworkConditions", { offline: true, latency: 0, downloadThroughput: 0, uploadThroughput: 0 });
-    await opened(pathToFileURL(resolve(file)).href);
-    await value("globalThis.part_name = document.querySelector('#name'), document.querySelector('#version').textContent");
+    await opened(pathToFileURL(resolve(file)).href, SHOWN);
     equal(await value(SAID), ["Type a name."], "at first");
     equal(await value("document.activeElement.id"), "name", "the focus at first");
     for (const [kind, name, verdict, marked, said, repaired] of STATES) {
@@ -164,8 +165,7 @@ async function page(file) {
 async function picture(file, png) {
     const metrics = { width: 620, height: 900, deviceScaleFactor: 1, mobile: true };
     await send("Emulation.setDeviceMetricsOverride", metrics);
-    await opened(pathToFileURL(resolve(file)).href);
-    await value("globalThis.part_name = document.querySelector('#name'), 0");
+    await opened(pathToFileURL(resolve(file)).href, SHOWN);
     await type("branch", "feature//login page.lock");
     metrics.height = await value("Math.ceil(document.querySelector('footer').getBoundingClientRect().top)");
     await send("Emulation.setDeviceMetricsOverride", metrics);

@@ -1,4 +1,4 @@
-# shellcheck shell=sh disable=SC2034,SC2086,SC2154
+# shellcheck shell=sh disable=SC2016,SC2034,SC2086,SC2154,SC3045
 # What pre-receive and scan share. Both set `here`, the folder of the programs; `outcome`, the words with which a
 # failure begins; and how many lines of names are shown at most, and how much of each: `most` and `longest`.
 #
@@ -8,9 +8,11 @@
 # - check_trees and check_submodules accept a stream only if its last line is `..end missing`. Git prints that line for
 #   the word `..end`, and gets that word only after `git rev-list` has ended with status 0. So if Git or a subshell dies
 #   on the way, that line is missing, and the program's status is 2.
+# - `git rev-list` reads ids up to an empty line. `..end` follows the ids in the same pipe, after more than it can have
+#   read ahead. So a list of ids that was cut has no `..end`.
 # - Each `$( )` that checks names prints `ended` last. If that line doesn't arrive, nothing was checked. The status of
 #   `$( )` doesn't count: bash sets it to 0 if it could not even start a subshell.
-# - The shell passes ids as arguments. It writes no file and uses no here-document, so the hook needs no TMPDIR.
+# - The shell writes no file and uses no here-document, so the hook needs no TMPDIR.
 # - What Git says on standard error can have names of the pusher's choice, as they are, so it isn't shown.
 {
     export LC_ALL=C GIT_NO_LAZY_FETCH=1
@@ -38,20 +40,13 @@
         [ -x "$here/$program" ] || fail "the program $program is missing"
     done
 
-    # Sets `settings` to what Git has for the keys that this pattern matches. Git before 2.39 can believe a tag that calls
-    # a commit a blob, and then lists no tree of it.
-    get_settings() {
-        settings=$(git version 2> /dev/null && exec git config --get-regexp "$1" 2> /dev/null)
-        ended=$?
-        version=${settings%%"$nl"*}
-        settings=${settings#"$version"}
-        case ${version#git version } in
-        2.39* | 2.[4-9][0-9]* | 2.[1-9][0-9][0-9]* | [3-9].* | [1-9][0-9].*) ;;
-        [0-9]*) fail "$version is too old: it has to be 2.39 or later" ;;
-        *) fail 'git version failed' ;;
-        esac
-        [ $ended -le 1 ] || fail 'git config failed'
-    }
+    # Git before 2.39 can believe a tag that calls a commit a blob, and then lists no tree of it.
+    version=$(git version 2> /dev/null) || fail 'git version failed'
+    case ${version#git version } in
+    2.39* | 2.[4-9][0-9]* | 2.[1-9][0-9][0-9]* | [3-9].* | [1-9][0-9].*) ;;
+    [0-9]*) fail "$version is too old: it has to be 2.39 or later" ;;
+    *) fail 'git version failed' ;;
+    esac
 
     # Returns 1 if `protect` is no list of file systems, and sets `wrong` to what check_trees says of it.
     check_list() {
@@ -68,32 +63,85 @@
         esac
     }
 
-    # Checks the names in all trees that git rev-list lists for these arguments.
+    # Sets `protect`, `accept` and `replace` to the settings of the repository and the system; those of the account that
+    # pushes are ignored.
+    read_settings() {
+        settings=$(
+            export GIT_CONFIG_GLOBAL=/dev/null
+            unset GIT_CONFIG GIT_CONFIG_SYSTEM GIT_CONFIG_NOSYSTEM GIT_CONFIG_PARAMETERS GIT_CONFIG_COUNT
+            git config --get-regexp '^names\.' 2> /dev/null
+            echo "ended $?"
+        )
+        case $settings in
+        *"$nl$nl"*) fail 'a setting names.accept has a newline' ;;
+        *'ended '[01]) ;;
+        *) fail 'git config failed' ;;
+        esac
+        for line in ${settings%ended ?}; do
+            case $line in
+            'names.protect '*) protect=${line#* }; check_list || fail "the setting names.protect: ${wrong#invalid --protect }" ;;
+            'names.accept '*) accept=$accept/${line#* } ;;
+            'names.replace true') replace=--replace ;;
+            'names.replace '*) replace= ;;
+            names.protect | names.accept | names.replace) fail "the setting $line has no value" ;;
+            names.*) fail "the setting ${line%% *} is unknown" ;;
+            *) fail 'a setting names.accept has a newline' ;;
+            esac
+        done
+    }
+
+    # Lists the trees that `git rev-list` selects by `ids`, one on each line, and by these arguments; then ..end, if it has
+    # read all ids and ended well. If `names` is empty each tree has its folder. (With long paths the list is quadratic then.)
+    list() {
+        { printf '%s\n' $ids && printf '\n%99999s\n..end\n' ''; } | {
+            git -c core.warnAmbiguousRefs=false rev-list --stdin --objects "--${names}object-names" \
+                --filter=object:type=tree --filter-provided-objects "$@" 2> /dev/null && sed -n '$p' ||
+                echo "git rev-list failed (status $?)" >&2
+        }
+    }
+
+    # With `only`, the trees of the list whose ids are words of it, as far as the list has 60 MB.
+    some() {
+        [ -n "$only" ] || exec cat
+        only=$only awk 'BEGIN { for (n = split(ENVIRON["only"], word); n; n--) wanted[word[n]] }
+            (size += length($0)) > 6e7 { exit }
+            $1 in wanted'
+        echo ..end
+    }
+
+    # What `git cat-file` prints for a line with an id, and then other words, which it passes on.
+    batch='%(objectname) %(objecttype) %(objectsize) %(rest)'
+
+    # Checks the names in the trees that are listed for these arguments.
     trees() {
-        {
-            git -c core.warnAmbiguousRefs=false rev-list --objects --filter=object:type=tree --filter-provided-objects "$@" \
-                2> /dev/null && echo ..end || echo "git rev-list failed (status $?)" >&2
-        } | git cat-file --batch='%(objectname) %(objecttype) %(objectsize) %(rest)' --buffer 2> /dev/null |
+        list "$@" | some | git cat-file --batch="$batch" --buffer 2> /dev/null |
             "$here/check_trees" --end --modules --protect "$protect" --accept "$accept"
         echo "ended $?"
     }
 
-    # Checks the names of submodules in blobs, whose ids have spaces between them.
+    # Checks the names of submodules in blobs. Each has its id and the place where it was found; there is a ; between two.
     submodules() {
-        IFS=' '
-        { printf '%s\n' $1 && echo ..end; } | git cat-file --batch --buffer 2> /dev/null | "$here/check_submodules" --end
+        IFS=';'
+        printf 'place %s\n' $1
+        { printf '%s\n' $1 && echo ..end; } | {
+            [ -z "$seconds" ] || ulimit -t "$seconds"
+            git cat-file --buffer --batch="$batch" 2> /dev/null ||
+                echo "git cat-file failed (status $?)${seconds:+; it may read .gitmodules files for $seconds seconds}" >&2
+        } | "$here/check_submodules" --end
         echo "ended $?"
     }
 
     # For awk: what a program prints, with the lines of names cut; then a line `modules` with the blobs to look into, each
     # once; and a last line with the status and the number of names.
     summary='
+        function cut(text) { return length(text) > longest ? substr(text, 1, longest - 3) "..." : text }
         /^[0-9a-f]+$/ { next } # a new id
-        /^modules / { if (!seen[$2]++) blob[++blobs] = $2; next }
+        /^modules / { if (!seen[$2]++) { gsub(/;/, "\\x3b"); blob[++blobs] = substr($0, 9) } next }
+        /^place / { place[$2] = " in " cut(substr($0, 8 + length($2))); next }
         /^ended / { status = $2; next }
-        ++names <= most { print(length($0) > longest ? substr($0, 1, longest - 3) "..." : $0) }
+        ++names <= most { print cut($0) place[$1] }
         END {
-            for (n = 1; n <= blobs; n++) printf "%s %s", (n == 1 ? "modules" : ""), blob[n]
+            for (n = 1; n <= blobs; n++) printf "%s%s", (n == 1 ? "modules " : ";"), blob[n]
             if (blobs) print ""
             if (status != "") print "ended " status " " names + 0
         }'
@@ -106,7 +154,7 @@
             case $line in
             'modules '*) blobs=${line#modules } ;;
             'ended '*) ended=${line#ended } ;;
-            *) printf '%s\n' "$line" ;;
+            *) show "$line" ;;
             esac
         done
         case $ended in
@@ -116,9 +164,10 @@
         esac
     }
 
-    # The names in the trees that git rev-list lists for these arguments, and in the .gitmodules files in those trees.
+    # The names in the trees that are listed for these arguments, and in the .gitmodules files in those trees.
     objects() {
         take check_trees trees "$@"
+        in_trees=$refused
         [ -z "$blobs" ] || take check_submodules submodules "$blobs"
     }
 }

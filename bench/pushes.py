@@ -1,0 +1,192 @@
+"""Pushes that take a careless hook more than linear time, each as a pack of its own making, for bench/run."""
+import hashlib
+import random
+import struct
+import subprocess
+import zlib
+
+KINDS = {"commit": 1, "tree": 2, "blob": 3, "tag": 4}
+
+
+def number(value, low=7):
+    """A number as a pack has it: its low bits first, the high bit of a byte if more follow."""
+    out = bytearray()
+    while value >> low:
+        out.append(value & (1 << low) - 1 | 128)
+        value, low = value >> low, 7
+    return bytes([*out, value])
+
+
+def copied(start, size):
+    """Instructions of a delta that copy bytes of its base."""
+    out = b""
+    for at in range(start, start + size, 0xFFFFFF):
+        out += b"\xff" + struct.pack("<I", at) + struct.pack("<I", min(0xFFFFFF, start + size - at))[:3]
+    return out
+
+
+class Pack:
+    """A pack, and the references that are pushed with it."""
+    def __init__(self, algorithm="sha1"):
+        self.algorithm, self.parts, self.refs, self.ids = algorithm, [], [], set()
+
+    def sum(self, data):
+        return hashlib.new(self.algorithm, data).digest()
+
+    def add(self, kind, data, base=None, keep=0):
+        """Adds an object, as it is or as a delta: what it doesn't share with the last `keep` bytes of a base, and those."""
+        name = self.sum(f"{kind} {len(data)}\0".encode() + data)
+        if name in self.ids:
+            return name
+        self.ids.add(name)
+        code, before = KINDS[kind], b""
+        body = data
+        if base:
+            size, code, before = base[1], 7, base[0]
+            fresh = data[:len(data) - keep]
+            body = number(size) + number(len(data)) + bytes([len(fresh)]) + fresh + copied(size - keep, keep)
+        first = bytearray(number(len(body) >> 4) if len(body) >> 4 else b"")
+        head = bytes([code << 4 | len(body) & 15 | (128 if first else 0)])
+        self.parts.append(head + first + before + zlib.compress(body, 1))
+        return name
+
+    def tree(self, *entries):
+        return self.add("tree", b"".join(b"%o %s\0%s" % it for it in entries))
+
+    def commit(self, tree, *parents, ref=None):
+        lines = [f"tree {tree.hex()}", *(f"parent {it.hex()}" for it in parents), "author a <b> 1 +0000", "committer a <b> 1 +0000"]
+        commit = self.add("commit", "\n".join([*lines, "", f"{len(self.parts)}\n"]).encode())
+        self.refs += [(commit, ref)] if ref else []
+        return commit
+
+    def data(self):
+        body = b"PACK" + struct.pack(">II", 2, len(self.parts)) + b"".join(self.parts)
+        return body + self.sum(body)
+
+
+def modules(count):
+    """Versions of a file .gitmodules of 500 kB, each a delta of the one before, in random order."""
+    pack, rest = Pack(), b"[submodule \"a\"]\n" + b"#\n" * 250000
+    base, ids = None, []
+    for n in range(count):
+        text = b"#%09d\n" % n + rest
+        base = pack.add("blob", text, base, len(rest)), len(text)
+        ids.append(base[0])
+    random.Random(1).shuffle(ids)
+    commit = ()
+    for it in ids:
+        commit = (pack.commit(pack.tree((0o100644, b".gitmodules", it)), *commit, ref=b"main" if it is ids[-1] else None),)
+    return pack
+
+
+def below(pack, count, length):
+    """A tree with so many trees, below a path."""
+    blob = pack.add("blob", b"x")
+    trees = [(0o40000, b"d%06d" % n, pack.tree((0o100644, b"f%d" % n, blob))) for n in range(count)]
+    tree = pack.tree(*trees)
+    for _ in range(length // 250):
+        tree = pack.tree((0o40000, b"n" * 249, tree))
+    return tree
+
+
+def folders(count, algorithm="sha1"):
+    pack = Pack(algorithm)
+    pack.commit(below(pack, count, 65000), ref=b"main")
+    return pack
+
+
+def orphans(count, each):
+    """Commits without parents, each with the same 4,000 trees below a path of 65 kB, after references to another commit."""
+    pack = Pack()
+    tree = below(pack, 4000, 65000)
+    other = pack.commit(pack.tree((0o100644, b"f", pack.add("blob", b"x"))))
+    for n in range(count):
+        pack.commit(tree, ref=b"%d/first" % n)
+        pack.refs += [(other, b"%d/%d" % (n, it)) for it in range(each)]
+    return pack
+
+
+def references(count):
+    pack = Pack()
+    tree = pack.tree((0o100644, b"f", pack.add("blob", b"x")))
+    commit = pack.commit(tree)
+    pack.refs = [(commit, b"%06d" % n) for n in range(count)]
+    return pack
+
+
+def small_modules(count):
+    pack = Pack()
+    trees = [pack.tree((0o100644, b".gitmodules", pack.add("blob", b"[submodule \"a%d\"]\n" % n))) for n in range(count)]
+    pack.commit(pack.tree(*((0o40000, b"d%06d" % n, it) for n, it in enumerate(trees))), ref=b"main")
+    return pack
+
+
+def chain(count):
+    """Trees, each a delta of the one before."""
+    pack, base, trees = Pack(), None, []
+    blob = pack.add("blob", b"x")
+    for n in range(count):
+        data = b"100644 f%06d\0%s" % (n, blob)
+        base = pack.add("tree", data, base, len(blob)), len(data)
+        trees.append((0o40000, b"d%06d" % n, base[0]))
+    pack.commit(pack.tree(*trees), ref=b"main")
+    return pack
+
+
+def tags(count):
+    """A tag of a tag of a tag .., and a reference to each."""
+    pack = Pack()
+    target, kind = pack.commit(pack.tree((0o100644, b"f", pack.add("blob", b"x")))), "commit"
+    for n in range(count):
+        text = f"object {target.hex()}\ntype {kind}\ntag t\ntagger a <b> 1 +0000\n\n{n}\n"
+        target, kind = pack.add("tag", text.encode()), "tag"
+        pack.refs.append((target, b"t%d" % n))
+    return pack
+
+
+def merges(count, parents):
+    pack = Pack()
+    tree = pack.tree((0o100644, b"f", pack.add("blob", b"x")))
+    commits = [pack.commit(tree) for _ in range(parents)]
+    for n in range(count):
+        pack.commit(tree, *commits, ref=b"m%d" % n)
+    return pack
+
+
+def files(count):
+    """A first push of so many files, twenty in a folder, in a hundred commits that change one of them each."""
+    pack, commit = Pack(), ()
+    texts = [pack.add("blob", b"%d\n" % n * 500) for n in range(count)]
+    for n in range(100):
+        texts[n * 131 % count] = pack.add("blob", b"%d\n" % n * 400)
+        parts = [texts[at:at + 20] for at in range(0, count, 20)]
+        trees = [pack.tree(*((0o100644, b"f%02d.txt" % at, it) for at, it in enumerate(part))) for part in parts] if n == 0 else trees
+        at = n * 131 % count // 20
+        trees[at] = pack.tree(*((0o100644, b"f%02d.txt" % k, it) for k, it in enumerate(parts[at])))
+        commit = (pack.commit(pack.tree(*((0o40000, b"d%06d" % k, it) for k, it in enumerate(trees))), *commit),)
+    pack.refs = [(*commit, b"main")]
+    return pack
+
+
+PUSHES = {
+    "1,000 .gitmodules of 500 kB, deltas of each other": lambda: modules(1000),
+    "4,000 trees below 65 kB, for 40 of 100,000 references": lambda: orphans(40, 2500),
+    "200,000 references": lambda: references(200000),
+    "100,000 trees below 65 kB": lambda: folders(100000),
+    "the same with SHA-256": lambda: folders(100000, "sha256"),
+    "100,000 small .gitmodules": lambda: small_modules(100000),
+    "a chain of 30,000 deltas": lambda: chain(30000),
+    "3,000 tags of tags": lambda: tags(3000),
+    "10 merges of 20,000 commits": lambda: merges(10, 20000),
+    "17,000 files": lambda: files(17000),
+}
+
+
+def push(server, pack):
+    """Pushes by Git's protocol, and returns whether all references were accepted, and what the server said."""
+    packet = lambda data: b"%04x" % (len(data) + 4) + data
+    words = b"\0report-status side-band-64k" + (b" object-format=sha256" if pack.algorithm == "sha256" else b"")
+    lines = [b"%s %s refs/pushes/%s" % (b"0" * 2 * len(it), it.hex().encode(), ref) for it, ref in pack.refs]
+    given = b"".join(packet(line + words * (n == 0)) for n, line in enumerate(lines)) + b"0000" + pack.data()
+    said = subprocess.run(["git", "receive-pack", server], input=given, capture_output=True, check=False).stdout
+    return b"unpack ok" in said and b"ng refs/" not in said, said

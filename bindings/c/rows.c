@@ -311,6 +311,9 @@ static void check_row(const char *row) {
         struct bytes wanted = quoted(&answer);
         check_sanitized(name, wanted);
         free(wanted.start);
+    } else if (strncmp(row, "offset ", 7) == 0) {
+        size_t wanted = strcmp(answer, "none") == 0 ? name.length : (size_t)strtoul(answer, NULL, 10);
+        EXPECT(gix_validate_fault_offset(name.start, name.length) == wanted);
     } else {
         EXPECT(strncmp(row, "device ", 7) == 0);
         EXPECT(strcmp(answer, gix_validate_is_windows_device(name.start, name.length) ? "yes" : "no") == 0);
@@ -329,6 +332,7 @@ static void ask_all(struct bytes name) {
         }
     }
     (void)gix_validate_invalid_byte(name.start, name.length);
+    (void)gix_validate_fault_offset(name.start, name.length);
     (void)gix_validate_is_windows_device(name.start, name.length);
     (void)gix_validate_sanitize(name.start, name.length, copy, sizeof copy);
 }
@@ -413,6 +417,7 @@ static void check_null(void) {
     EXPECT(gix_validate_submodule(NULL, 0) == GIX_VALIDATE_EMPTY);
     EXPECT(gix_validate_component(NULL, 0, GIX_VALIDATE_PROTECT_ALL) == GIX_VALIDATE_EMPTY);
     EXPECT(gix_validate_invalid_byte(NULL, 0) == GIX_VALIDATE_NO_BYTE);
+    EXPECT(gix_validate_fault_offset(NULL, 0) == 0);
     EXPECT(!gix_validate_is_windows_device(NULL, 0));
     uint8_t buffer[4] = {CANARY, CANARY, CANARY, CANARY};
     EXPECT(gix_validate_sanitize(NULL, 0, buffer, sizeof buffer) == 1);

@@ -91,6 +91,12 @@ export function isValidPathComponent(name: Name, options?: ComponentOptions): bo
 /** Whether Windows takes the name for a device, such as "NUL" and "com1.txt". */
 export function isWindowsDevice(name: Name): boolean;
 
+/**
+ * The offset in bytes of the fault for which `tagName`, and with it the functions for references, refuses the name: in "a..b"
+ * that of the second dot. It is -1 if `tagName` returns the name. A fault of the end is at the last byte, that of "" at 0.
+ */
+export function faultOffset(name: Name): number;
+
 /** Repairs any name to a valid partial name of a reference. A valid one is returned as it is. */
 export function sanitize(name: string): string;
 export function sanitize(name: Uint8Array): Uint8Array;

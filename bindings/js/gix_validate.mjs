@@ -149,6 +149,12 @@ export function isWindowsDevice(name) {
     return proved.gix_validate_is_windows_device(NAME, bigOf(put(name))) !== 0;
 }
 
+export function faultOffset(name) {
+    const length = put(name);
+    const offset = Number(proved.gix_validate_fault_offset(NAME, BigInt(length)));
+    return offset < length || length === 0 ? offset : -1;
+}
+
 export function sanitize(name) {
     const length = put(name);
     if (proved.gix_validate_partial(NAME, bigOf(length)) === 0) {

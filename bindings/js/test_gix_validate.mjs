@@ -87,6 +87,8 @@ function replayed(rows) {
                 equal(gix.isWindowsDevice(name), answer === "yes", row);
             } else if (call === "sanitize") {
                 repaired(name, bytesOf(answer.slice(1, -1)), row);
+            } else if (call === "offset") {
+                equal(gix.faultOffset(name), answer === "none" ? -1 : Number(answer), row);
             } else if (call.endsWith("_many")) {
                 many(call.slice(0, -5), more, name, answer, row);
             } else {
@@ -101,7 +103,7 @@ function replayed(rows) {
 
 /** What isn't a name, and buffers that are gone, shared or lie. */
 function odd() {
-    const calls = Object.values(CALLS).flatMap((call) => [gix[call], whether(call)]).concat(gix.sanitize, gix.isWindowsDevice,
+    const calls = Object.values(CALLS).flatMap((call) => [gix[call], whether(call)]).concat(gix.sanitize, gix.isWindowsDevice, gix.faultOffset,
         (name) => gix.faultNumbers(name, "tag"), (name) => gix.faults([name], "tag"), (name) => gix.firstInvalid(["a", name], "tag"));
     const wrong = [undefined, null, 1, 1n, true, Symbol("a"), {}, [97], ["a"], new String("a"), new ArrayBuffer(1),
         new DataView(new ArrayBuffer(1)), new Int8Array(1), new Uint16Array(1), new Uint8ClampedArray(1), new BigInt64Array(1),

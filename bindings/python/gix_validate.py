@@ -47,7 +47,7 @@ __all__ = [
     "tag_name", "partial_name", "full_name", "branch_name", "submodule_name", "path_component",
     "is_valid_tag_name", "is_valid_partial_name", "is_valid_full_name", "is_valid_branch_name",
     "is_valid_submodule_name", "is_valid_path_component", "is_windows_device",
-    "sanitize", "fault_numbers", "faults", "first_invalid", "version",
+    "fault_offset", "sanitize", "fault_numbers", "faults", "first_invalid", "version",
 ]
 
 _VERSION = (2, 1, 0)
@@ -176,6 +176,7 @@ _code = {kind: _function(kind, ctypes.c_uint32, *_FLAGS.get(kind, [])) for kind 
 _text = {kind: _function(f"{kind}_text", ctypes.c_size_t, *_FLAGS.get(kind, []), *_NAME) for kind in _KINDS}
 _many = {kind: _function(f"{kind}_many", ctypes.c_size_t, ctypes.c_uint8, *_NAME) for kind in _KINDS if kind not in _FLAGS}
 _invalid_byte = _function("invalid_byte", ctypes.c_uint32)
+_fault_offset = _function("fault_offset", ctypes.c_size_t)
 _is_windows_device = _function("is_windows_device", ctypes.c_bool)
 _sanitize = _function("sanitize", ctypes.c_size_t, *_NAME)
 _fault_of: List[Optional[Fault]] = [None, *Fault]
@@ -263,6 +264,15 @@ def is_valid_path_component(
 def is_windows_device(name: Bytes) -> bool:
     """Whether Windows takes `name` for a device, such as b"NUL" or b"com1.txt"."""
     return bool(_is_windows_device(*_given(name)))
+
+
+def fault_offset(name: Bytes) -> Optional[int]:
+    """The offset of the fault for which `tag_name`, and with it the functions for references, refuses the name: in b"a..b" that
+    of the second dot. None if `tag_name` accepts it. A fault of the end is at the last byte, that of an empty name at 0.
+    """
+    name, length = _given(name)
+    offset: int = _fault_offset(name, length)
+    return offset if offset < length or length == 0 else None
 
 
 def sanitize(name: Bytes) -> bytes:

@@ -78,6 +78,8 @@ class Test(unittest.TestCase):
                     self.many(Kind(call[:-5]), bytes.fromhex(more), name, [*map(fault_of, wanted)])
                 elif call == "device":
                     self.assertIs(gix_validate.is_windows_device(name), answer == "yes")
+                elif call == "offset":
+                    self.assertEqual(gix_validate.fault_offset(name), None if answer == "none" else int(answer))
                 elif call == "sanitize":
                     repaired = gix_validate.sanitize(name)
                     self.assertEqual(repaired, unquoted(answer[1:-1]))
@@ -104,7 +106,7 @@ class Test(unittest.TestCase):
         for call in MANY:
             wrong += [(call, (names, tag), "a name has to be bytes, not") for names in (b"main", "main", [b"a", "b"])]
             wrong += [(call, (b"", None), "a kind has to be a Kind, not NoneType"), (call, (None, tag), "iterable")]
-        for call in (*CALLS.values(), *WHETHER.values(), gix_validate.is_windows_device, gix_validate.sanitize):
+        for call in (*CALLS.values(), *WHETHER.values(), gix_validate.is_windows_device, gix_validate.fault_offset, gix_validate.sanitize):
             wrong += [(call, (name,), "a name has to be bytes, not") for name in ("main", None, 1, [109])]
         for call, given, message in wrong:
             with self.subTest(call=call, given=given), self.assertRaisesRegex(TypeError, message):

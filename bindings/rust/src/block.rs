@@ -33,6 +33,7 @@ macro_rules! declare {
             fn gix_validate_submodule(name: *const u8, name_len: size_t) -> u32;
             fn gix_validate_component(name: *const u8, name_len: size_t, flags: u32) -> u32;
             fn gix_validate_invalid_byte(name: *const u8, name_len: size_t) -> u32;
+            fn gix_validate_fault_offset(name: *const u8, name_len: size_t) -> size_t;
             fn gix_validate_is_windows_device(name: *const u8, name_len: size_t) -> bool;
             fn gix_validate_sanitize_in_place(
                 buffer: *mut u8,
@@ -99,6 +100,11 @@ pub(crate) fn is_windows_device(name: &BStr) -> bool {
 pub(crate) fn invalid_byte(name: &BStr) -> Option<u8> {
     let answer = unsafe { gix_validate_invalid_byte(name.as_ptr(), name.len()) };
     u8::try_from(answer).ok()
+}
+
+/// The offset of the name's fault as a tag, or its length.
+pub(crate) fn fault_offset(name: &BStr) -> usize {
+    unsafe { gix_validate_fault_offset(name.as_ptr(), name.len()) }
 }
 
 /// The name repaired to a partial reference name.

@@ -87,6 +87,21 @@ pub fn name(input: &BStr) -> Result<&BStr, name::Error> {
     }
 }
 
+/// The offset of the fault of a tag's name in bytes, or `None` if it is valid. A fault of the end is at the last byte, that of
+/// an empty name at 0. It serves for references, too: what is invalid as a tag is so at the same place.
+///
+/// ```
+/// use bstr::ByteSlice;
+/// use gix_validate::tag;
+///
+/// assert_eq!(tag::fault_offset(b"v1..2".as_bstr()), Some(3));
+/// assert_eq!(tag::fault_offset(b"v1.2".as_bstr()), None);
+/// ```
+pub fn fault_offset(input: &BStr) -> Option<usize> {
+    let offset = block::fault_offset(input);
+    (offset < input.len() || input.is_empty()).then_some(offset)
+}
+
 /// Checks many names: returns what [`name()`] returns for each name in `buffer`, in order.
 ///
 /// The byte `end` ends each name, as `b'\n'` or 0. What follows the last such byte is a name too, unless it is empty.

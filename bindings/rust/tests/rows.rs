@@ -142,6 +142,10 @@ fn replay(row: &str) {
             );
             return assert!(["yes", "no"].contains(&wanted), "{row}");
         }
+        "offset" => {
+            let given = tag::fault_offset(name).map_or("none".into(), |offset| offset.to_string());
+            return assert_eq!(given, wanted, "{row}");
+        }
         "sanitize" => {
             return assert_eq!(
                 reference::name_partial_or_sanitize(name),

@@ -1,5 +1,5 @@
 -- Tag names: which texts are one, and the fault of those that aren't.
-use Rattle.std.specs.Prelude.{ℕ, ◌+◌, Bool, ◌==◌, ◌&&◌, ◌||◌, not, List, [], ◌∷◌, ◌++◌, length, take, drop, slice_index, codes, Option}
+use Rattle.std.specs.Prelude.{ℕ, ◌+◌, ◌-◌, is_some, Bool, ◌==◌, ◌&&◌, ◌||◌, not, List, [], ◌∷◌, ◌++◌, length, take, drop, slice_index, codes, Option}
 use Rattle.std.specs.List.{list_all, list_any}
 use Rattle.std.specs.Str.{byte, bytes_eq}
 use Rattle.gix_validate.specs.declared.tag.NameError.{NameError}
@@ -51,6 +51,21 @@ fault_of x = first_of (
     ∷ at_first_offset (λ i. first_of (faults_at x i)) (length x)
     ∷ when (begins x (codes ".")) StartsWithDot
     ∷ when (ends x (codes ".")) EndsWithDot
+    ∷ [])
+
+-- the offset, if a line of the table applies there
+abbrev pub offset_at : List ℕ → ℕ → Option ℕ
+offset_at x i = when (is_some (first_of (faults_at x i))) i
+
+-- The offset of the fault of a text, by the same lines. A fault of the end is at the last byte.
+unfoldable pub fault_offset_of : List ℕ → Option ℕ
+fault_offset_of x = first_of (
+    when (is_empty x) 0
+    ∷ when (ends x (codes "/")) (length x - 1)
+    ∷ when (begins x (codes "/")) 0
+    ∷ at_first_offset (offset_at x) (length x)
+    ∷ when (begins x (codes ".")) 0
+    ∷ when (ends x (codes ".")) (length x - 1)
     ∷ [])
 
 -- What an error prints.

@@ -1,12 +1,12 @@
 //! Tag names, whose rule is part of that of every reference name.
 
-ghost use Rattle.std.specs.Prelude.{◌≡◌, ◌↔◌, ◌<◌, ◌≤◌, ◌+◌, ◌-◌, length, slice_index, codes, Some, IsOk, IfOk, IsTrue, MatchOption};
+ghost use Rattle.std.specs.Prelude.{◌≡◌, ◌↔◌, ◌<◌, ◌≤◌, ◌+◌, ◌-◌, length, slice_index, codes, Some, IsNone, IfSome, IsOk, IfOk, IsTrue, MatchOption};
 ghost use Rattle.bstr.specs.BStr.{bstr_bytes};
 ghost use Rattle.gix_validate.specs.Bytes.{ends};
 ghost use Rattle.gix_validate.specs.Faults.{Validates, first_of, at_first_offset};
 ghost use Rattle.gix_validate.specs.Printed.{printed};
 ghost use Rattle.gix_validate.specs.Private.TagWalk.{fault_of_byte, first_fault_between, may_be_faulty};
-ghost use Rattle.gix_validate.specs.Tag.{fault_of, faults_at, is_tag_name, text_of};
+ghost use Rattle.gix_validate.specs.Tag.{fault_of, fault_offset_of, faults_at, is_tag_name, offset_at, text_of};
 
 use crate::adjacent::{clear_front, is_clear};
 use crate::bytes::may_be_faulty;
@@ -131,6 +131,71 @@ fn name_on_walk<'a>(input: BStr<'a>) -> Result<BStr<'a>, NameError>
         None => Ok(input),
         Some(fault) => Err(fault),
     }
+}
+
+/// The offset in bytes of the first fault of a tag name, or `None` if it is valid. A fault of the end,
+/// as `EndsWithDot`, is at the last byte; that of an empty name is at 0.
+///
+/// ```
+/// tag::fault_offset(BStr::from("v1..2")); // Some(3), the second dot
+/// tag::fault_offset(BStr::from("v1.2")); // None
+/// ```
+///
+/// # Memory
+///
+/// It doesn't allocate.
+#[tactic(auto, using(crate::proofs::TagNames::Grammar::offset_grammar_law, crate::proofs::TagNames::Offsets::offset_within))]
+pub fn fault_offset(input: BStr<'_>) -> Option<usize>
+    ensures offset { result ≡ fault_offset_of (bstr_bytes input.entry) }
+    ensures grammar { IsNone result ↔ IsTrue (is_tag_name (bstr_bytes input.entry)) }
+    ensures within { IfSome result (λ i. i ≤ length (bstr_bytes input.entry) - 1) }
+{
+    offset_of_fault(input.as_bytes())
+}
+
+/// The offset of the first fault, in the order of docs/RULES.md, "Tag names".
+#[tactic(auto, unfolding(crate::specs::Tag::fault_offset_of))]
+fn offset_of_fault(bytes: &[u8]) -> Option<usize>
+    ensures { result ≡ fault_offset_of bytes.now }
+{
+    if bytes.is_empty() {
+        return Some(0);
+    }
+    let last = bytes.len() - 1;
+    if bytes[last] == b'/' {
+        return Some(last);
+    }
+    if bytes[0] == b'/' {
+        return Some(0);
+    }
+    if let Some(offset) = first_offset(bytes) {
+        return Some(offset);
+    }
+    if bytes[0] == b'.' {
+        return Some(0);
+    }
+    if bytes[last] == b'.' {
+        return Some(last);
+    }
+    None
+}
+
+/// The least offset that has a fault.
+#[tactic(auto, using(crate::proofs::TagNames::Offsets::least_offset))]
+fn first_offset(bytes: &[u8]) -> Option<usize>
+    requires { 0 < length bytes.now }
+    ensures { result ≡ at_first_offset (offset_at bytes.now) (length bytes.now) }
+{
+    for offset in 0..bytes.len() {
+        let byte = bytes[offset];
+        if may_be_faulty(byte) && fault_of_byte(&bytes[..offset], byte).is_some() {
+            return Some(offset);
+        }
+    }
+    if bytes.ends_with(b".lock") && bytes.len() != 5 {
+        return Some(bytes.len() - 1);
+    }
+    None
 }
 
 /// The first fault of a name, in the order of docs/RULES.md, "Tag names".

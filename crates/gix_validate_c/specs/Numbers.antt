@@ -70,6 +70,11 @@ abbrev pub reference_invalid_byte_of : Option ReferenceError → ℕ
 reference_invalid_byte_of (Some (reference.InvalidByte b)) = b
 reference_invalid_byte_of _ = 256
 
+-- an offset in a text of n bytes, and n where there is none
+abbrev pub offset_or : ℕ → Option ℕ → ℕ
+offset_or n None = n
+offset_or n (Some i) = i
+
 -- a version as one number
 abbrev pub version_number : ℕ → ℕ → ℕ → ℕ
 version_number major minor patch = major * 1000000 + minor * 1000 + patch

@@ -4,14 +4,14 @@
 //! (docs/RULES.md, "Calls for C"). Lengths are in bytes. The functions never fail and don't
 //! allocate.
 
-ghost use Rattle.std.specs.Prelude.{◌≡◌, ◌⊎◌, ◌↔◌, ◌≤◌, ◌%◌, IsTrue};
+ghost use Rattle.std.specs.Prelude.{◌≡◌, ◌⊎◌, ◌↔◌, ◌≤◌, ◌%◌, IsTrue, length};
 ghost use Rattle.gix_validate.specs.Tag as tag;
 ghost use Rattle.gix_validate.specs.Reference.{partial_fault_of, full_fault_of, branch_fault_of, is_partial_name, is_full_name, is_branch_name};
 ghost use Rattle.gix_validate.specs.Submodule as submodule;
 ghost use Rattle.gix_validate.specs.Component as component;
 ghost use Rattle.gix_validate.specs.Windows.{is_device};
 ghost use Rattle.gix_validate_c.specs.Flags.{options_of, mode_of};
-ghost use Rattle.gix_validate_c.specs.Numbers.{code_by, tag_number, reference_number, submodule_number, component_number, invalid_byte_of};
+ghost use Rattle.gix_validate_c.specs.Numbers.{code_by, tag_number, reference_number, submodule_number, component_number, invalid_byte_of, offset_or};
 ghost use Rattle.gix_validate_c.specs.Numbers.{reference_invalid_byte_of};
 
 use crate::fault::code;
@@ -161,6 +161,26 @@ pub extern "C" fn gix_validate_invalid_byte(name: &[u8]) -> u32
     match tag::name(BStr::new(name)) {
         Err(tag::NameError::InvalidByte { byte }) => u32::from(byte),
         _ => NO_BYTE,
+    }
+}
+
+/// Returns the offset in bytes of the fault of the tag name, and the length of the name if it has
+/// none (docs/RULES.md, "Calls for C").
+///
+/// It serves for all reference names: whichever has a fault of tag names also has it as a tag name.
+///
+/// ```c
+/// gix_validate_fault_offset((const uint8_t *)"v1..2", 5); // 3, the second dot
+/// gix_validate_fault_offset((const uint8_t *)"v1.2", 4);  // 4
+/// ```
+#[unsafe(no_mangle)]
+pub extern "C" fn gix_validate_fault_offset(name: &[u8]) -> usize
+    ensures offset { result ≡ offset_or (length name.now) (tag.fault_offset_of name.now) }
+    ensures bounds { result ≤ length name.now }
+{
+    match tag::fault_offset(BStr::new(name)) {
+        Some(offset) => offset,
+        None => name.len(),
     }
 }
 

@@ -1,5 +1,5 @@
 -- A text is a tag name if and only if it has no fault.
-use Rattle.std.proofs.Common.{◌≡◌, ℕ, Bool, true, false, not, ◌&&◌, ◌||◌, cond, eqb, List, [], ◌∷◌, ◌++◌, refl}
+use Rattle.std.proofs.Common.{◌≡◌, ℕ, zero, suc, length, Bool, true, false, not, ◌&&◌, ◌||◌, cond, eqb, List, [], ◌∷◌, ◌++◌, refl}
 use Rattle.std.proofs.lemmas.List.{append-nil, append_assoc}
 use Rattle.std.specs.Prelude.{codes, is_none, ◌==◌}
 use Rattle.std.specs.List.{list_all, list_any}
@@ -7,7 +7,8 @@ use Rattle.std.specs.Str.{byte}
 use Rattle.gix_validate.specs.Bytes.{is_bad, is_empty, begins, ends, holds}
 use Rattle.gix_validate.specs.Pieces.{is_slash, pieces}
 use Rattle.gix_validate.specs.Private.TagWalk.{fault_of_byte}
-use Rattle.gix_validate.specs.Tag.{is_good_piece, is_tag_name, fault_of}
+use Rattle.gix_validate.specs.Tag.{is_good_piece, is_tag_name, fault_of, fault_offset_of, faults_at, offset_at}
+use Rattle.gix_validate.specs.Faults.{first_of, at_first_offset}
 use Rattle.gix_validate.proofs.Texts.Pieces.{pieces_front, pieces_alone}
 use Rattle.gix_validate.proofs.Texts.Endings.{last_piece, last_piece_nothing, last_piece_push, ends_last_piece, slash_last, last_piece_apart, ends_cons}
 use Rattle.gix_validate.proofs.TagNames.FaultTable.{is_none-when, is_none-fault_of_byte}
@@ -95,3 +96,14 @@ law_begun b x = grind (arith, nat_tests, begun_good, is_none-parts, slash_last, 
 pub tag_grammar_law : (x : List ℕ) → is_tag_name x ≡ is_none (fault_of x)
 unfolding is_tag_name fault_of is_good_piece
 tag_grammar_law x = grind (arith, nat_tests, law_begun)
+
+-- an offset is found where a fault is
+offset_none_law : (x : List ℕ) (n : ℕ) → is_none (at_first_offset (offset_at x) n) ≡ is_none (at_first_offset (λ i. first_of (faults_at x i)) n)
+unfolding at_first_offset
+offset_none_law x zero = refl
+offset_none_law x (suc n) = grind (arith, offset_none_law x n)
+
+-- a text is a tag name if and only if it has no offset of a fault
+pub offset_grammar_law : (x : List ℕ) → is_tag_name x ≡ is_none (fault_offset_of x)
+unfolding fault_offset_of fault_of
+offset_grammar_law x = grind (arith, tag_grammar_law x, offset_none_law x (length x), is_none-when)

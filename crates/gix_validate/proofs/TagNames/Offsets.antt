@@ -1,17 +1,17 @@
 -- The faults of a part of a text, and of all of it from its first suspect byte on.
-use Rattle.std.proofs.Common.{◌≡◌, ℕ, ◌+◌, ◌-◌, ◌<◌, ◌≤◌, not, ◌&&◌, eqb, List, length, ap, ◌∙◌, arith, Some, None, inl, inr}
+use Rattle.std.proofs.Common.{◌≡◌, ℕ, zero, suc, ◌+◌, ◌-◌, ◌<◌, ◌≤◌, not, ◌&&◌, eqb, List, length, ap, ◌∙◌, arith, Some, None, inl, inr}
 use Rattle.std.proofs.lemmas.Bool.{cases_lt}
 use Rattle.gix_validate.specs.declared.tag.NameError.{NameError}
 use Rattle.gix_validate.specs.declared.tag.NameError.TheVariants.{LockFileSuffix}
 use Rattle.gix_validate.specs.Bytes.{ends}
-use Rattle.gix_validate.specs.Tag.{faults_at}
+use Rattle.gix_validate.specs.Tag.{fault_offset_of, faults_at, offset_at}
 use Rattle.gix_validate.specs.Private.Adjacent.{suspect_at}
 use Rattle.gix_validate.specs.Private.Scan.{NoneBelow}
 use Rattle.gix_validate.specs.Faults.{first_of, at_first_offset, when, ◌orelse◌}
 use Rattle.gix_validate.specs.Private.TagWalk.{fault_of_byte_at, first_fault_between, NoFaultBetween}
 use Rattle.gix_validate.proofs.Texts.Offsets.{at_first_offset_none, at_first_offset_more, at_first_offset_from, found_below}
 use Rattle.gix_validate.proofs.TagNames.FaultTable.{quiet}
-use Rattle.gix_validate.proofs.TagNames.FaultsOfBytes.{at_first_offset_split}
+use Rattle.gix_validate.proofs.TagNames.FaultsOfBytes.{at_first_offset_split, offset_split, offset_of_byte}
 use Rattle.std.proofs.lemmas.Slice.Eq.{bytes_eq-Decides}
 use Rattle.std.specs.Prelude.{codes}
 use Rattle.gix_validate.proofs.TagNames.ClearTexts.{none_to_suspect}
@@ -46,3 +46,30 @@ pub found_from : (x : List ℕ) (i : ℕ) → 0 < length x → i ≤ length x �
     ≡ (first_fault_between x i (length x) orelse when (ends x (codes ".lock") && not (eqb (length x) 5)) LockFileSuffix)
 found_from x i some within quiet =
     grind (arith, at_first_offset_split, bytes_eq-Decides, from_offset x i (length x) within (none_to_suspect x i within quiet))
+
+-- where none has a fault by what is before it, the last line of the table says the offset
+pub offset_none : (x : List ℕ) → 0 < length x → NoFaultBetween x 0 (length x)
+    → at_first_offset (offset_at x) (length x) ≡ when (ends x (codes ".lock") && not (eqb (length x) 5)) (length x - 1)
+offset_none x some none =
+    let quiets = at_first_offset_none (offset_of_byte x) (length x) (λ k small. grind (arith, none k (omega arith) small)) in
+    grind (arith, offset_split, bytes_eq-Decides, quiets)
+
+-- the first that has one is the offset
+pub offset_found : (x : List ℕ) (j : ℕ) (a : NameError) → j < length x → NoFaultBetween x 0 j → fault_of_byte_at x j ≡ Some a
+    → at_first_offset (offset_at x) (length x) ≡ Some j
+offset_found x j a small none here =
+    let quiets = at_first_offset_none (offset_of_byte x) j (λ k less. grind (arith, none k (omega arith) less)) in
+    grind (arith, offset_split, quiets, at_first_offset_more (offset_of_byte x) j, found_below (offset_of_byte x) (j + 1) (length x))
+
+-- what is found is within the text
+offset_below : (x : List ℕ) (n i : ℕ) → at_first_offset (offset_at x) n ≡ Some i → i < n
+unfolding at_first_offset
+offset_below x zero i found = grind arith
+offset_below x (suc n) i found = grind (arith, offset_below x n i)
+
+pub offset_within : (x : List ℕ) (i : ℕ) → fault_offset_of x ≡ Some i → i ≤ length x - 1
+unfolding fault_offset_of
+offset_within x i found = grind (arith, offset_below x (length x))
+
+-- what the walk to the least offset needs
+pub ruleset least_offset = (between_more, offset_none, offset_found, quiet)

@@ -1,8 +1,7 @@
 //! The results for the lines of the input.
 
-ghost use Rattle.std.specs.Prelude.{◌≡◌, ◌≢◌, ◌+◌, ◌<◌, [], ◌∷◌, ◌++◌, ℕ, List, codes, length, vec_len, vec_capacity, Some, None, Err, IsOk, IsOkUnless, IfErr, IfOk, OnOk, OnErr, IfSome, MatchOption, MatchResult};
+ghost use Rattle.std.specs.Prelude.{◌≡◌, ◌≢◌, ◌+◌, ◌<◌, [], ◌∷◌, ◌++◌, ℕ, List, codes, length, vec_len, vec_capacity, Some, None, Err, IsOk, IsOkUnless, IfOk, OnOk, OnErr, IfSome, MatchOption, MatchResult};
 ghost use Rattle.std.specs.Io.KnownBytes.{Appends, IsAtEnd};
-ghost use Rattle.program.specs.Writes.{AppendsPrefixOf, IsWriteError};
 ghost use Rattle.bstr.specs.BStr.{bstr_bytes};
 ghost use Rattle.gix_validate.specs.Component.{all_protections, fault_of, text_of as component_text};
 ghost use Rattle.gix_validate.specs.Sanitized.{sanitized};
@@ -14,7 +13,6 @@ use gix_validate::path::{ComponentMode, ComponentOptions};
 use gix_validate::{path, reference, submodule};
 use memchr::memchr;
 pub use program::outcome::RunError;
-use program::output::write_all;
 use std::alloc::{AllocError, Global};
 use std::fmt::{Display, Write as _};
 use std::io::{Read, Write};
@@ -39,16 +37,15 @@ const UNKNOWN_KIND: &[u8] = b"unknown kind";
 /// readers `&[u8]`, `Cursor`, `VecDeque<u8>` and `Empty`, the writers `Vec<u8>` and `VecDeque<u8>`,
 /// and over them `&mut`, `Box`, `Take`, `Chain` and the buffers of `BufReader`, `BufWriter` and
 /// `LineWriter`. They are not a terminal, a file, a pipe, a socket, `&mut [u8]` as a writer or the
-/// writers of `Cursor`. `ok` and `stopped` depend on both sides; `end`, `spent` and `empty` on the
-/// reader alone; `read` and `memory` on neither.
+/// writers of `Cursor`. `ok` depends on both sides; `end`, `spent` and `empty` on the reader
+/// alone; `read` and `memory` on neither.
 ///
 /// # Errors
 ///
 /// - [`RunError::Read`] if reading to the end failed, or memory for what was read can't be
 ///   allocated. Nothing was written.
 /// - [`RunError::Memory`] if memory for the results can't be allocated. Nothing was written.
-/// - [`RunError::Closed`] if the reader of the pipe has closed it, and [`RunError::Write`] if writing
-///   or flushing failed otherwise. What was written is the beginning of the results.
+/// - [`RunError::Write`] if writing or flushing failed.
 pub fn run<R: Read, W: Write>(alloc: Global, input: &mut R, output: &mut W) -> Result<(), RunError>
     ensures ok { OnOk result (IfSome (R.remaining input.old)
         (λ text. Appends (W.contents output.old) (W.contents output.new) (answers text))) }
@@ -57,8 +54,6 @@ pub fn run<R: Read, W: Write>(alloc: Global, input: &mut R, output: &mut W) -> R
         (λ _. R.remaining input.new ≡ Some []) }
     ensures read { result ≡ Err RunError.Read → output.new ≡ output.old }
     ensures memory { result ≡ Err RunError.Memory → output.new ≡ output.old }
-    ensures stopped { OnErr result (IfSome (R.remaining input.old) (λ text.
-        AppendsPrefixOf (W.contents output.old) (W.contents output.new) (answers text))) }
     ensures empty { R.remaining input.old ≡ Some [] → IsOkUnless result RunError.Read
         × (output.new ≡ output.old) }
 {
@@ -82,14 +77,13 @@ fn read_all<R: Read>(alloc: Global, input: &mut R) -> io::Result<Vec<u8>>
 fn write_once<W: Write>(bytes: &[u8], output: &mut W) -> Result<(), RunError>
     ensures ok { OnOk result (Appends (W.contents output.old) (W.contents output.new) bytes.now) }
     ensures none { bytes.now ≡ [] → IsOk result × (output.new ≡ output.old) }
-    ensures err { OnErr result (AppendsPrefixOf (W.contents output.old) (W.contents output.new) bytes.now) }
-    ensures stop { IfErr result IsWriteError }
+    ensures stop { OnErr result (result ≡ Err RunError.Write) }
 {
     if bytes.is_empty() {
         return Ok(());
     }
-    write_all(bytes, output)?;
-    output.flush().map_err(RunError::from_write)
+    output.write_all(bytes).map_err(|_| RunError::Write)?;
+    output.flush().map_err(|_| RunError::Write)
 }
 
 /// The results for the lines of the input. It does not allocate if there is no line.

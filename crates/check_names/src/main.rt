@@ -1,22 +1,24 @@
 //! Validates the names on the lines of standard input, and prints a line for each.
 #![tactic(auto)]
 
-ghost use Rattle.std.specs.Prelude.{◌≡◌, ◌≢◌, ◌≤◌, ⊤, Ok, IfSome, IsErr, map};
-ghost use Rattle.std.specs.Io.KnownBytes.{Appends};
-ghost use Rattle.std.specs.Process.{exit_status};
+ghost use Rattle.std.specs.Prelude.{⊤, Option, List, ℕ, map};
 ghost use Rattle.std.specs.String.{string_bytes};
-ghost use Rattle.program.specs.Writes.{AppendsPrefixOf};
-ghost use Rattle.check_names.specs.Answers.{answers};
-ghost use Rattle.check_names.specs.Arguments.{AsksForAnswers, request_of, rule};
-ghost use Rattle.program.specs.Arguments.{Check};
-ghost use Rattle.check_names.specs.Messages.{message_of};
+ghost use Rattle.program.specs.Messages.{Does};
+ghost use Rattle.check_names.specs.Arguments.{request_of, rule};
+ghost use Rattle.check_names.specs.Messages.{Checks, Ran};
 
 mod check;
+#[cfg(test)]
+mod refused_memory;
+#[cfg(test)]
+mod tests;
 
-use program::arguments::{Options, Request, Setting, arguments, request_of};
-use program::outcome::RunError;
-use program::output::write_all;
+use check::RunError;
+use program::arguments::{Options, Request, Setting, arguments, fail_arguments, request_of};
+use program::messages::Messages;
 use program::{VERSION, fail, print};
+use std::alloc::Global;
+use std::env;
 use std::io::{IsTerminal, Read, Write};
 use std::process::ExitCode;
 
@@ -60,8 +62,6 @@ const HINT: &str =
 struct NoOptions;
 
 impl<'a> Options<'a> for NoOptions {
-    const NAME: &'static str = NAME;
-
     ghost View = { ⊤ };
 
     ghost view = { λ _. tt };
@@ -79,18 +79,42 @@ impl<'a> Options<'a> for NoOptions {
     }
 }
 
+/// What [`answer`] runs on the input. `gave` is abstract there, so that only a call of `run` shows
+/// it of a result.
+trait Run {
+    ghost gave: { (R W : Type 0) → (R → Option (List ℕ)) → (W → Option (List ℕ)) → R → R → W → W → Ran → Type 0 };
+
+    fn run<R: Read, W: Write>(alloc: Global, input: &mut R, output: &mut W) -> Result<(), RunError>
+        ensures { gave R W R.remaining W.contents input.old input.new output.old output.new result };
+}
+
+impl Run for NoOptions {
+    ghost use Rattle.check_names.specs.Messages.{Runs};
+
+    ghost gave = { λ R W remaining contents input rest output written ran. Runs remaining contents input rest output written ran };
+
+    fn run<R: Read, W: Write>(
+        alloc: Global,
+        input: &mut R,
+        output: &mut W,
+    ) -> Result<(), RunError> {
+        check::run(alloc, input, output)
+    }
+}
+
 fn main(rt: HostRuntime) -> ExitCode {
-    match arguments(&rt, NAME) {
+    let mut errors = Messages::new(rt.stderr());
+    match arguments(rt.alloc(), env::args(&rt), NAME, &mut errors) {
         Ok(arguments) => {
             if arguments.is_empty() && rt.stdin().is_terminal() {
-                let _ = eprintln!(rt; "{NAME}: {HINT}");
+                errors.say(NAME, HINT);
             }
-            answer(
-                &rt,
+            answer::<NoOptions, _, _, _>(
+                rt.alloc(),
                 &arguments,
                 &mut rt.stdin(),
                 &mut rt.stdout(),
-                &mut rt.stderr(),
+                &mut errors,
             )
         }
         Err(status) => status,
@@ -98,48 +122,27 @@ fn main(rt: HostRuntime) -> ExitCode {
 }
 
 /// Does what the arguments say, and returns the exit status.
-fn answer<R: Read, W: Write, E: Write>(
-    rt: &HostRuntime,
+fn answer<C: Run, R: Read, W: Write, E: Write>(
+    alloc: Global,
     arguments: &[String],
     input: &mut R,
     output: &mut W,
-    errors: &mut E,
+    errors: &mut Messages<E>,
 ) -> ExitCode
-    ensures answered { AsksForAnswers arguments.now → exit_status result ≡ 0 → IfSome (R.remaining input.old) (λ text.
-        Appends (W.contents output.old) (W.contents output.new) (answers text)) × (errors.new ≡ errors.old) }
-    ensures begun { AsksForAnswers arguments.now → exit_status result ≡ 1 → IfSome (R.remaining input.old) (λ text.
-        AppendsPrefixOf (W.contents output.old) (W.contents output.new) (answers text)) }
-    ensures message { AsksForAnswers arguments.now → exit_status result ≡ 1 → (stop : RunError)
-        × AppendsPrefixOf (E.contents errors.old) (E.contents errors.new) (message_of stop)
-        × (stop ≢ RunError.Write → stop ≢ RunError.Closed → output.new ≡ output.old) }
-    ensures arguments { exit_status result ≡ 2 → request_of (map string_bytes arguments.now) ≢ Ok (Check tt) }
-    ensures unread { request_of (map string_bytes arguments.now) ≢ Ok (Check tt)
-        → (input.new ≡ input.old) × (output.new ≡ output.old) }
-    ensures unknown { IsErr (request_of (map string_bytes arguments.now)) → exit_status result ≡ 2 }
-    ensures status { exit_status result ≤ 2 }
+    ensures { Does (λ _. Checks (C.gave R W R.remaining W.contents input.old input.new output.old output.new) E.contents
+        errors.old errors.new result) W.contents E.contents NAME.now HELP.now input.old input.new output.old output.new
+        errors.old errors.new result (request_of (map string_bytes arguments.now)) }
 {
     match request_of::<NoOptions>(arguments) {
-        Ok(Request::Check(_)) => match check::run(rt.alloc(), input, output) {
+        Ok(Request::Check(_)) => match C::run(alloc, input, output) {
             Ok(()) => ExitCode::SUCCESS,
             Err(stop) => {
-                let _ = write_all(message_of(stop), errors);
+                errors.say(NAME, stop);
                 ExitCode::FAILURE
             }
         },
-        Ok(Request::Help) => print(rt, NAME, HELP),
-        Ok(Request::Version) => print(rt, NAME, format_args!("{NAME} {VERSION}")),
-        Err(fault) => fail(rt, NAME, fault),
-    }
-}
-
-/// What is written on standard error if a run failed: a line, or nothing if the pipe is closed.
-fn message_of(stop: RunError) -> &'static [u8]
-    ensures { result.now ≡ message_of stop }
-{
-    match stop {
-        RunError::Read => b"check_names: read failed\n",
-        RunError::Memory => b"check_names: out of memory\n",
-        RunError::Write => b"check_names: write failed\n",
-        RunError::Closed => b"",
+        Ok(Request::Help) => print(NAME, HELP, output, errors),
+        Ok(Request::Version) => print(NAME, format_args!("{NAME} {VERSION}"), output, errors),
+        Err(fault) => fail_arguments(NAME, fault, errors),
     }
 }

@@ -11,7 +11,6 @@ ghost use Rattle.check_refs.specs.Spelled.{IsReportedInOrder, IsWellFormedOnlyIf
 use crate::report::{Options, push_line};
 use crate::update::update_of;
 use program::outcome::RunError;
-use program::output::write_all;
 use std::alloc::Global;
 use std::io::{BufRead, Write};
 use streams::lines;
@@ -37,7 +36,9 @@ impl LineCheck for Options {
         };
         buffers.lines.clear();
         let refused = push_line(self, update, &mut buffers.lines).map_err(|_| RunError::Memory)?;
-        write_all(&buffers.lines, output)?;
+        output
+            .write_all(&buffers.lines)
+            .map_err(|_| RunError::Write)?;
         Ok(Ok(refused))
     }
 }
@@ -57,8 +58,8 @@ impl LineCheck for Options {
 ///
 /// # Errors
 ///
-/// [`RunError`] says whether reading, memory or writing failed. What was written then is the
-/// beginning of the report.
+/// [`RunError`] says whether reading, memory or writing failed. If reading or memory did, what was
+/// written is the beginning of the report.
 ///
 /// # Memory
 ///

@@ -4,7 +4,6 @@
 
 ghost use Rattle.check_refs.specs.Accepted.{IsAcceptedInput};
 ghost use Rattle.check_refs.specs.Arguments.{no_options, rule};
-ghost use Rattle.std.proofs.Common.{ap, subst};
 ghost use Rattle.check_refs.specs.Report.{refs_report};
 
 mod check;
@@ -12,15 +11,17 @@ mod refusal;
 mod report;
 mod update;
 
-use program::arguments;
 use program::arguments::Setting;
+use program::messages::Messages;
 use program::outcome::RunError;
+use program::{arguments, fail};
 use report::Options;
 use std::alloc::Global;
+use std::env;
 use std::io::{BufRead, Write};
 use std::process::ExitCode;
 use streams::outcome::Verdict;
-use streams::runs::{Check, answer};
+use streams::runs::{Check, Program, answer, buffers};
 
 const HELP: &str = "\
 Prints a line for each reference of a push whose name is refused. A pre-receive
@@ -47,10 +48,15 @@ input is empty, a line is malformed or longer than 65536 bytes, the last line
 has no newline, reading or writing fails, memory runs out, or an argument is
 wrong.";
 
+const PROGRAM: Program<'_> = Program {
+    name: "check_refs",
+    help: HELP,
+    unit: "line",
+    hint: "",
+};
+
 impl<'a> arguments::Options<'a> for Options {
     ghost use Rattle.check_refs.specs.declared.report.Options.{Options};
-
-    const NAME: &'static str = "check_refs";
 
     ghost View = { Options };
 
@@ -83,15 +89,12 @@ impl<'a> arguments::Options<'a> for Options {
 }
 
 impl Check<'_> for Options {
-    const HELP: &'static str = HELP;
+    ghost use Rattle.std.specs.Prelude.{◌≡◌, ◌↔◌, IfOk, IfSome};
+    ghost use Rattle.streams.specs.Promises.{Runs};
+    ghost use Rattle.streams.specs.declared.outcome.Verdict.TheVariants.{Clean};
 
-    const UNIT: &'static str = "line";
-
-    const HINT: &'static str = "";
-
-    ghost report = { λ options. refs_report options };
-
-    ghost accepts = { λ options. IsAcceptedInput options };
+    ghost gave = { λ options input rest output written ran. Runs (refs_report options) (λ line. 0) input rest output written ran
+        × IfOk ran (λ verdict. IfSome input (λ text. (verdict ≡ Clean) ↔ IsAcceptedInput options text)) };
 
     fn run<R: BufRead, W: Write>(
         self,
@@ -101,15 +104,22 @@ impl Check<'_> for Options {
     ) -> Result<Verdict, RunError> {
         check::run(alloc, self, input, output)
     }
-
-    ghost by_view = { λ a b same. ap refs_report same };
-
-    ghost accepts_by_view = { λ a b text same. subst (λ options. IsAcceptedInput options text) same };
 }
 
 fn main(rt: HostRuntime) -> ExitCode {
-    match arguments::arguments(&rt, "check_refs") {
-        Ok(arguments) => answer::<Options, _, _>(&rt, &arguments, rt.stdin(), rt.stdout()).0,
+    let mut errors = Messages::new(rt.stderr());
+    match arguments::arguments(rt.alloc(), env::args(&rt), PROGRAM.name, &mut errors) {
+        Ok(arguments) => match buffers(rt.alloc(), rt.stdin(), rt.stdout()) {
+            Ok((mut input, mut output)) => answer::<Options, _, _, _>(
+                PROGRAM,
+                rt.alloc(),
+                &arguments,
+                &mut input,
+                &mut output,
+                &mut errors,
+            ),
+            Err(stop) => fail(PROGRAM.name, stop, &mut errors),
+        },
         Err(status) => status,
     }
 }

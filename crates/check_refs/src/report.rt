@@ -2,7 +2,7 @@
 //!
 //! Ids and refusals go to one output, which keeps the order of the input. They can't be confused: a
 //! refusal begins with `ref `, and an id has only hexadecimal digits. If there is no verdict, one
-//! line on standard error says why, unless the pipe is closed.
+//! line on standard error says why.
 
 ghost use Rattle.std.specs.Prelude.{◌≡◌, ◌++◌, OnOk, IfOk};
 ghost use Rattle.check_refs.specs.Refs.{as_parsed, id_line, refused_line};

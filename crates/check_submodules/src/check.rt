@@ -13,10 +13,8 @@ ghost use Rattle.check_submodules.specs.Private.{Reads};
 ghost use Rattle.check_submodules.specs.Report.{report, submodules_rule};
 ghost use Rattle.check_submodules.specs.Spelled.{IsAcceptedStream, IsCleanIff, IsEachHeaderReported, IsEachNameReported};
 
-use crate::HELP;
 use crate::report::{push_lines, push_too_large};
 use program::outcome::RunError;
-use program::output::write_all;
 use std::alloc::Global;
 use std::io::{BufRead, Write};
 use streams::header::{Kind, Object};
@@ -52,8 +50,8 @@ pub struct Options {
 ///
 /// # Errors
 ///
-/// [`RunError`] says whether reading, memory or writing failed. What was written then is the
-/// beginning of the report.
+/// [`RunError`] says whether reading, memory or writing failed. If reading or memory did, what was
+/// written is the beginning of the report.
 ///
 /// # Memory
 ///
@@ -79,18 +77,8 @@ pub fn run<R: BufRead, W: Write>(
 }
 
 impl Check<'_> for Options {
-    ghost use Rattle.check_submodules.specs.declared.check.Options.{Options};
-
-    const HELP: &'static str = HELP;
-
-    const UNIT: &'static str = "object";
-
-    const HINT: &'static str = "; pass a file through git cat-file --batch, as in: \
-        echo HEAD:.gitmodules | git cat-file --batch | check_submodules";
-
-    ghost report = { λ options. report options.whole };
-
-    ghost accepts = { λ options. IsAcceptedStream options.whole };
+    ghost gave = { λ options input rest output written ran. Runs (report options.whole) object_reach input rest output written ran
+        × IfOk ran (λ verdict. IfSome input (IsCleanIff options.whole verdict)) };
 
     fn run<R: BufRead, W: Write>(
         self,
@@ -100,10 +88,6 @@ impl Check<'_> for Options {
     ) -> Result<Verdict, RunError> {
         run(alloc, self, input, output)
     }
-
-    ghost by_view = { λ a b same. ap (λ (options : Options). report options.whole) same };
-
-    ghost accepts_by_view = { λ a b text same. subst (λ (options : Options). IsAcceptedStream options.whole text) same };
 }
 
 impl ObjectCheck for Options {
@@ -119,7 +103,9 @@ impl ObjectCheck for Options {
         if !read_object(object, input, buffers)? {
             return Ok(Err(Fault::Ended));
         }
-        write_all(&buffers.lines, output)?;
+        output
+            .write_all(&buffers.lines)
+            .map_err(|_| RunError::Write)?;
         Ok(Ok(!buffers.lines.is_empty()))
     }
 }

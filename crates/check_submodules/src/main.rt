@@ -8,10 +8,12 @@ mod check;
 mod report;
 
 use check::Options;
-use program::arguments;
 use program::arguments::Setting;
+use program::messages::Messages;
+use program::{arguments, fail};
+use std::env;
 use std::process::ExitCode;
-use streams::runs::answer;
+use streams::runs::{Program, answer, buffers};
 
 const HELP: &str = "\
 Prints a line for each submodule in a .gitmodules file whose name is refused:
@@ -39,10 +41,16 @@ The status is 0 if nothing is refused, 1 if a name, a section or a file is, and
 2 if the input is malformed, reading or writing fails, memory runs out, or an
 argument is wrong.";
 
+const PROGRAM: Program<'_> = Program {
+    name: "check_submodules",
+    help: HELP,
+    unit: "object",
+    hint: "; pass a file through git cat-file --batch, as in: \
+        echo HEAD:.gitmodules | git cat-file --batch | check_submodules",
+};
+
 impl<'a> arguments::Options<'a> for Options {
     ghost use Rattle.check_submodules.specs.declared.check.Options.{Options};
-
-    const NAME: &'static str = "check_submodules";
 
     ghost View = { Options };
 
@@ -65,8 +73,19 @@ impl<'a> arguments::Options<'a> for Options {
 }
 
 fn main(rt: HostRuntime) -> ExitCode {
-    match arguments::arguments(&rt, "check_submodules") {
-        Ok(arguments) => answer::<Options, _, _>(&rt, &arguments, rt.stdin(), rt.stdout()).0,
+    let mut errors = Messages::new(rt.stderr());
+    match arguments::arguments(rt.alloc(), env::args(&rt), PROGRAM.name, &mut errors) {
+        Ok(arguments) => match buffers(rt.alloc(), rt.stdin(), rt.stdout()) {
+            Ok((mut input, mut output)) => answer::<Options, _, _, _>(
+                PROGRAM,
+                rt.alloc(),
+                &arguments,
+                &mut input,
+                &mut output,
+                &mut errors,
+            ),
+            Err(stop) => fail(PROGRAM.name, stop, &mut errors),
+        },
         Err(status) => status,
     }
 }

@@ -4,11 +4,12 @@ use Rattle.std.proofs.Common.{[], length, take, drop}
 use Rattle.std.proofs.Common.{refl, ap, ◌∙◌, arith, append-nil, append_assoc, length-append, length-take, length-drop, take_all, take_at, drop_at, take-take}
 use Rattle.std.proofs.lemmas.Option.{IfSome_then}
 use Rattle.std.proofs.lemmas.Bool.Decides.{nat_tests}
-use Rattle.std.specs.Prelude.{IfSome, IfOk, IsErr}
+use Rattle.std.specs.Prelude.{IfSome, IfOk}
 use Rattle.std.specs.Io.KnownBytes.{Appends}
 use Rattle.streams.specs.declared.outcome.Fault.{Fault}
 use Rattle.streams.specs.declared.outcome.Fault.TheVariants.{Ended, TooLong, Entry}
 use Rattle.program.specs.declared.outcome.RunError.{RunError}
+use Rattle.program.specs.declared.outcome.RunError.TheVariants.{Write}
 use Rattle.streams.specs.declared.input.Found.TheVariants.{Byte, Limit, End}
 use Rattle.streams.specs.Texts.{split_once}
 use Rattle.streams.specs.Headers.{ParsedObject}
@@ -136,11 +137,11 @@ module _ (options : Options) (tree : ParsedObject) (left : ℕ) (new out : Optio
         → IfSome old (λ text. EntryGives options tree left text new out out (Ok (Err Entry)))
     gives_id_past passes less = let (bytes, skips, same) = passed finding count mid new kept true passes in skipped_past bytes skips less
 
-    pub gives_stop : (after : Option (List ℕ)) (r : Result (Result Checked Fault) RunError) → finding ≡ finding_of options named
+    pub gives_stop : (after : Option (List ℕ)) (stop : RunError) (r : Result (Result Checked Fault) RunError) → finding ≡ finding_of options named
         → PassesId finding count mid new kept true → length tree.id / 2 ≤ count
-        → IsErr r → AppendsPrefixOf out after (finding_said tree (record { front = named; id = kept }) finding).lines
+        → r ≡ Err stop → (stop ≢ Write → AppendsPrefixOf out after (finding_said tree (record { front = named; id = kept }) finding).lines)
         → IfSome old (λ text. EntryGives options tree left text new out after r)
-    gives_stop after r found passes more stop begins =
+    gives_stop after stop r found passes more is begins =
         let (bytes, skips, same) = passed finding count mid new kept true passes in
         let said : finding_said tree (record { front = named; id = kept }) finding ≡ entry_said options tree (record { front = named; id = bytes }) =
         same tree named ∙ ap (finding_said tree (record { front = named; id = bytes })) found in

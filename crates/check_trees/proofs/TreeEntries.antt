@@ -6,9 +6,10 @@ use Rattle.std.proofs.lemmas.List.Elements.{All-nil}
 use Rattle.std.proofs.lemmas.Option.{IfSome_then}
 use Rattle.std.proofs.lemmas.Bool.Decides.{nat_tests}
 use Rattle.std.proofs.lemmas.Grind.{common_steps}
-use Rattle.std.specs.Prelude.{IfSome, IsErr}
+use Rattle.std.specs.Prelude.{IfSome}
 use Rattle.streams.specs.declared.outcome.Fault.{Fault}
 use Rattle.program.specs.declared.outcome.RunError.{RunError}
+use Rattle.program.specs.declared.outcome.RunError.TheVariants.{Write}
 use Rattle.streams.specs.Headers.{ParsedObject}
 use Rattle.streams.specs.Reports.{nothing, then_said}
 use Rattle.program.specs.Writes.{AppendsPrefixOf}
@@ -91,8 +92,9 @@ module _ (options : Options) (tree : ParsedObject) (size left : ℕ) {a b old mi
   pub tree_ends : left ≡ 0 → IfSome a (λ text. FollowsRule (tree_report options tree size text) b old mid (Ok (Ok refused)))
   tree_ends none = IfSome_then a sofar.known (λ text so. grind (arith, append-nil, tree_ended))
 
-  pub tree_stops : (c new : Option (List ℕ)) (r : Result (Result Bool Fault) RunError) → 0 < left → IsErr r
-      → IfSome b (λ rest. AppendsPrefixOf mid new (first_said options tree (first_entry tree left rest)).lines)
+  pub tree_stops : (c new : Option (List ℕ)) (stop : RunError) (r : Result (Result Bool Fault) RunError) → 0 < left → r ≡ Err stop
+      → IfSome b (λ rest. stop ≢ Write → AppendsPrefixOf mid new (first_said options tree (first_entry tree left rest)).lines)
       → IfSome a (λ text. FollowsRule (tree_report options tree size text) c old new r)
-  tree_stops c new r some stop begun =
-      IfSome_then a (stops sofar new (IfSome_then b begun (λ rest e. tree_begins options tree left rest mid new some e))) (λ text e. grind arith)
+  tree_stops c new stop r some is begun =
+      IfSome_then a (stops sofar (stop ≢ Write) new (IfSome_then b begun (λ rest e other. tree_begins options tree left rest mid new some (e other))))
+      (λ text e. rw is e)

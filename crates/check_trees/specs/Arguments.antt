@@ -45,7 +45,7 @@ no_options = record { protections = all_protections; modules = false; whole = fa
 
 -- the options with the switches that a list asks for
 abbrev pub protected_by : List ℕ → Options → Option ComponentOptions → Effect Options
-protected_by list options None = Invalid list
+protected_by list options None = Invalid list (codes "windows, hfs or ntfs, separated by commas, or none")
 protected_by list options (Some on) = Sets (record { protections = on; modules = options.modules; whole = options.whole; accepted = options.accepted })
 
 -- What an option does. The names of `--accept` are between the slashes of its value.

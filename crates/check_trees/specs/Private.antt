@@ -1,9 +1,10 @@
 -- What the private functions promise of one step, where the reader's and the writer's bytes are known.
-use Rattle.std.specs.Prelude.{◌≡◌, ℕ, ◌-◌, ◌/◌, ◌≤◌, nat_lt, Bool, List, [], length, take, drop, Option}
+use Rattle.std.specs.Prelude.{◌≡◌, ◌≢◌, ℕ, ◌-◌, ◌/◌, ◌≤◌, nat_lt, Bool, List, [], length, take, drop, Option}
 use Rattle.std.specs.Prelude.{Some, Result, Ok, Err}
 use Rattle.std.specs.Io.KnownBytes.{Appends}
 use Rattle.streams.specs.declared.outcome.Fault.{Fault}
 use Rattle.program.specs.declared.outcome.RunError.{RunError}
+use Rattle.program.specs.declared.outcome.RunError.TheVariants.{Write}
 use Rattle.streams.specs.Headers.{ParsedObject}
 use Rattle.streams.specs.Reports.{Said, nothing, Step}
 use Rattle.program.specs.Writes.{AppendsPrefixOf}
@@ -20,10 +21,10 @@ use Rattle.check_trees.specs.Report.{entry_said, entries, short_of}
 abbrev pub as_front : ModeAndName → ParsedModeAndName
 as_front front = record { mode = front.mode.now; kind = front.kind; is_file = front.is_file; name = front.name.now }
 
--- this was said, or its lines were begun
+-- this was said, or its lines were begun, except that nothing is said of a failed write
 abbrev pub Says : Said → Option (List ℕ) → Option (List ℕ) → Result Bool RunError → Type 0
 Says said old new (Ok refused) = Appends old new said.lines × (refused ≡ said.refused)
-Says said old new (Err stop) = AppendsPrefixOf old new said.lines
+Says said old new (Err stop) = stop ≢ Write → AppendsPrefixOf old new said.lines
 
 -- a tree of this size in the text after its header
 abbrev pub tree_report : Options → ParsedObject → ℕ → List ℕ → Step
@@ -45,7 +46,7 @@ EntryGives options tree left text new before after (Ok (Ok checked)) =
     × (new ≡ Some (drop checked.len text)) × (checked.len ≤ length text)
     × Appends before after (entry_said options tree entry).lines × (checked.refused ≡ (entry_said options tree entry).refused)
 EntryGives options tree left text new before after (Ok (Err fault)) = (first_entry tree left text ≡ Err fault) × Appends before after []
-EntryGives options tree left text new before after (Err stop) = AppendsPrefixOf before after (first_said options tree (first_entry tree left text)).lines
+EntryGives options tree left text new before after (Err stop) = stop ≢ Write → AppendsPrefixOf before after (first_said options tree (first_entry tree left text)).lines
 
 -- no more was read than the entry, or than was left of the tree
 abbrev pub EntryReads : ℕ → Option (List ℕ) → Option (List ℕ) → Result Checked Fault → Type 0

@@ -12,8 +12,6 @@ use program::arguments::{Options, Setting};
 
 /// If there are several lists of protections or of names, the last one counts.
 impl<'a> Options<'a> for CheckOptions<'a> {
-    const NAME: &'static str = "check_trees";
-
     ghost View = { Options };
 
     ghost view = { λ options. as_options options };

@@ -15,14 +15,12 @@ ghost use Rattle.check_trees.specs.Report.{finding_by, finding_of, finding_said,
 ghost use Rattle.check_trees.specs.Spelled.{IsAcceptedStream, IsCleanIff, IsReadAsItems};
 ghost use Rattle.check_trees.specs.Private.{EntryGives, EntryReads, PassesId, Says, as_front, tree_report};
 
-use crate::HELP;
 use crate::entry::{ModeAndName, front_of};
 use crate::report::{set_modules_line, set_refused_line};
 use bstr::BStr;
 use gix_validate::path;
 use gix_validate::path::{ComponentError, ComponentMode, ComponentOptions};
 use program::outcome::RunError;
-use program::output::write_all;
 use std::alloc::Global;
 use std::io::{BufRead, Write};
 use streams::header::{Kind, Object};
@@ -60,8 +58,8 @@ pub struct CheckOptions<'a> {
 ///
 /// # Errors
 ///
-/// [`RunError`] says whether reading, memory or writing failed. What was written then is the
-/// beginning of the report.
+/// [`RunError`] says whether reading, memory or writing failed. If reading or memory did, what was
+/// written is the beginning of the report.
 ///
 /// # Memory
 ///
@@ -87,15 +85,8 @@ pub fn run<R: BufRead, W: Write>(
 }
 
 impl<'a> Check<'a> for CheckOptions<'a> {
-    const HELP: &'static str = HELP;
-
-    const UNIT: &'static str = "object";
-
-    const HINT: &'static str = "";
-
-    ghost report = { λ options. report (as_options options) };
-
-    ghost accepts = { λ options. IsAcceptedStream (as_options options) };
+    ghost gave = { λ options input rest output written ran. Runs (report (as_options options)) object_reach input rest output written ran
+        × IfOk ran (λ verdict. IfSome input (IsCleanIff (as_options options) verdict)) };
 
     fn run<R: BufRead, W: Write>(
         self,
@@ -105,10 +96,6 @@ impl<'a> Check<'a> for CheckOptions<'a> {
     ) -> Result<Verdict, RunError> {
         run(alloc, self, input, output)
     }
-
-    ghost by_view = { λ a b same. ap report same };
-
-    ghost accepts_by_view = { λ a b text same. subst (λ options. IsAcceptedStream options text) same };
 }
 
 /// Trees are checked, and other objects are skipped.
@@ -315,12 +302,12 @@ fn say<W: Write>(
         Finding::Accepted => Ok(false),
         Finding::Modules => {
             set_modules_line(line, tree, front, id).map_err(|_| RunError::Memory)?;
-            write_all(line, output)?;
+            output.write_all(line).map_err(|_| RunError::Write)?;
             Ok(false)
         }
         Finding::Refused(fault) => {
             set_refused_line(line, tree, front, fault).map_err(|_| RunError::Memory)?;
-            write_all(line, output)?;
+            output.write_all(line).map_err(|_| RunError::Write)?;
             Ok(true)
         }
     }

@@ -9,8 +9,11 @@ mod report;
 
 use check::CheckOptions;
 use program::arguments::arguments;
+use program::fail;
+use program::messages::Messages;
+use std::env;
 use std::process::ExitCode;
-use streams::runs::answer;
+use streams::runs::{Program, answer, buffers};
 
 const HELP: &str = "\
 Prints a line for each entry of a Git tree whose name is refused:
@@ -45,14 +48,27 @@ forbids in a name, such as a dot at its end, are refused only if windows and
 ntfs are both protected. ntfs without windows accepts a\\.git, which Windows
 reads as a path, and which `git fsck` refuses.";
 
+const PROGRAM: Program<'_> = Program {
+    name: "check_trees",
+    help: HELP,
+    unit: "object",
+    hint: "",
+};
+
 fn main(rt: HostRuntime) -> ExitCode {
-    match arguments(&rt, "check_trees") {
-        Ok(arguments) => answer::<CheckOptions<'_>, _, _>(
-            &rt,
-            &arguments,
-            rt.stdin(),
-            rt.stdout(),
-        ).0,
+    let mut errors = Messages::new(rt.stderr());
+    match arguments(rt.alloc(), env::args(&rt), PROGRAM.name, &mut errors) {
+        Ok(arguments) => match buffers(rt.alloc(), rt.stdin(), rt.stdout()) {
+            Ok((mut input, mut output)) => answer::<CheckOptions<'_>, _, _, _>(
+                PROGRAM,
+                rt.alloc(),
+                &arguments,
+                &mut input,
+                &mut output,
+                &mut errors,
+            ),
+            Err(stop) => fail(PROGRAM.name, stop, &mut errors),
+        },
         Err(status) => status,
     }
 }

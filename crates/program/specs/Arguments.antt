@@ -12,12 +12,12 @@ use Rattle.program.specs.declared.arguments.ArgumentError.{ArgumentError}
 use Rattle.program.specs.declared.arguments.ArgumentError.TheVariants as error
 use Rattle.program.specs.Lines.{split_once}
 
--- what an option does: there is none of this name, the options are these from now on, it needs a value, or it can't have this one
+-- what an option does: there is none of this name, the options are these from now on, it needs a value, or it can't have this one, and needs one as the second text says
 pub data Effect (V : Type 0) : Type 0 where
   Unknown : Effect V
   Sets : (options : V) → Effect V
   NeedsValue : Effect V
-  Invalid : (value : List ℕ) → Effect V
+  Invalid : (value valid : List ℕ) → Effect V
 
 -- a rule of options: what the one of this name does with this value or none, where these are the options so far
 abbrev pub OptionRule : Type 0 → Type 0
@@ -28,7 +28,7 @@ abbrev pub effect_of : {O V : Type 0} → (O → V) → Setting O → Effect V
 effect_of view setting.Unknown = Unknown
 effect_of view (setting.Set options) = Sets (view options)
 effect_of view setting.NeedsValue = NeedsValue
-effect_of view (setting.Invalid value valid) = Invalid value.now
+effect_of view (setting.Invalid value valid) = Invalid value.now valid.now
 
 -- what a program has to do
 pub data Task (V : Type 0) : Type 0 where
@@ -42,17 +42,17 @@ task_of view (request.Check options) = Check (view options)
 task_of view request.Help = Help
 task_of view request.Version = Version
 
--- what is wrong with the arguments: an unknown word, an option that has no value and needs one, or an option's value
+-- what is wrong with the arguments: an unknown word, an option that has no value and needs one, or an option's value, which is not as the last text says
 pub data WrongArgument : Type 0 where
   UnknownWord : (word : List ℕ) → WrongArgument
   NoValue : (name : List ℕ) → WrongArgument
-  WrongValue : (name value : List ℕ) → WrongArgument
+  WrongValue : (name value valid : List ℕ) → WrongArgument
 
 -- what is wrong, as the code has it
 abbrev pub wrong_argument : ArgumentError → WrongArgument
-wrong_argument (error.Unknown program word) = UnknownWord word.now
-wrong_argument (error.NoValue program name) = NoValue name.now
-wrong_argument (error.Invalid name value valid) = WrongValue name.now value.now
+wrong_argument (error.Unknown word) = UnknownWord word.now
+wrong_argument (error.NoValue name) = NoValue name.now
+wrong_argument (error.Invalid name value valid) = WrongValue name.now value.now valid.now
 
 abbrev pub text_of : Bor (List ℕ) → List ℕ
 text_of text = text.now
@@ -62,7 +62,7 @@ abbrev pub after_effect : {V : Type 0} → V → (word name : List ℕ) → Effe
 after_effect options word name Unknown = Err (UnknownWord word)
 after_effect options word name (Sets set) = Ok (set, None)
 after_effect options word name NeedsValue = Ok (options, Some name)
-after_effect options word name (Invalid value) = Err (WrongValue name value)
+after_effect options word name (Invalid value valid) = Err (WrongValue name value valid)
 
 -- the options after a word, NAME=VALUE or the name of an option, and the option that needs a value then
 abbrev pub set_parts : {V : Type 0} → OptionRule V → V → List ℕ → Option (List ℕ × List ℕ) → Result (V × Option (List ℕ)) WrongArgument

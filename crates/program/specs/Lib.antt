@@ -1,4 +1,4 @@
 pub mod Lines
 pub mod Writes
-pub mod Messages
 pub mod Arguments
+pub mod Messages

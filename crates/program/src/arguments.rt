@@ -1,6 +1,6 @@
 //! The arguments of a program.
 
-ghost use Rattle.std.specs.Prelude.{◌≡◌, IfErr, IfOk, drop, map};
+ghost use Rattle.std.specs.Prelude.{◌≡◌, ◌⊎◌, ℕ, List, codes, IfErr, IfOk, IfSome, IsErr, IsOk, OnErr, OnOk, drop, map};
 ghost use Rattle.std.specs.Option.{option_map};
 ghost use Rattle.std.specs.Process.{exit_status};
 ghost use Rattle.std.specs.Result.{result_map_both};
@@ -9,15 +9,16 @@ ghost use Rattle.std.specs.String.{string_bytes};
 ghost use Rattle.std.specs.Vec.Iter.{into_iter_items};
 ghost use Rattle.program.specs.Arguments.{OptionRule, effect_of, is_help, request_of, set_by, task_of, text_of, wrong_argument};
 ghost use Rattle.program.specs.Lines.{split_once};
+ghost use Rattle.program.specs.Messages.{Says, message, stop_text_of, wrong_text_of};
 
 use crate::fail;
+use crate::messages::Messages;
 use crate::outcome::RunError;
 use std::alloc::{AllocError, Global};
 use std::env::Args;
-use std::error::Error;
-use std::io::ErrorKind;
+use std::io;
+use std::io::{ErrorKind, Write};
 use std::process::ExitCode;
-use std::{env, fmt};
 
 /// What a program has to do.
 #[derive(Drop)]
@@ -45,9 +46,6 @@ pub enum Setting<'a, O> {
 
 /// The options of a program.
 pub trait Options<'a>: Copy {
-    /// The name of the program.
-    const NAME: &'static str;
-
     ghost View: { Type 0 };
 
     ghost view: { Self → View };
@@ -68,48 +66,64 @@ pub trait Options<'a>: Copy {
 /// Why the arguments are wrong.
 #[derive(Debug, Clone, Copy)]
 pub enum ArgumentError<'a> {
-    /// The second argument is unknown to the first, the program.
-    Unknown(&'a str, &'a str),
-    /// The second, the last argument, is an option of the first, the program, that needs a value.
-    NoValue(&'a str, &'a str),
+    /// The argument is unknown.
+    Unknown(&'a str),
+    /// The last argument is an option that needs a value.
+    NoValue(&'a str),
     /// The first is an option whose value, the second, is not as the third says.
     Invalid(&'a str, &'a str, &'a str),
 }
 
-impl fmt::Display for ArgumentError<'_> {
-    fn fmt<W: fmt::Write>(&self, f: &mut fmt::Formatter<W>) -> fmt::Result {
-        match self {
-            ArgumentError::Unknown(program, word) => {
-                write!(f, "unknown argument {word:?}, see {program} --help")
-            }
-            ArgumentError::NoValue(program, option) => {
-                write!(f, "{option} needs a value, see {program} --help")
-            }
-            ArgumentError::Invalid(option, value, valid) => {
-                write!(f, "invalid {option} {value:?}: give {valid}")
-            }
+/// Says why the arguments of the program `name` are wrong, and returns the status 2.
+pub fn fail_arguments<E: Write>(
+    name: &str,
+    fault: ArgumentError<'_>,
+    errors: &mut Messages<E>,
+) -> ExitCode
+    ensures status { exit_status result ≡ 2 }
+    ensures said { IfSome (wrong_text_of name.now (wrong_argument fault.entry))
+        (λ text. Says E.contents errors.old errors.new (message name.now text)) }
+{
+    match fault {
+        ArgumentError::Unknown(word) => {
+            let what = format_args!("unknown argument {word:?}, see {name} --help");
+            fail(name, what, errors)
+        }
+        ArgumentError::NoValue(option) => {
+            let what = format_args!("{option} needs a value, see {name} --help");
+            fail(name, what, errors)
+        }
+        ArgumentError::Invalid(option, value, valid) => {
+            let what = format_args!("invalid {option} {value:?}: give {valid}");
+            fail(name, what, errors)
         }
     }
 }
-
-impl Error for ArgumentError<'_> {}
 
 /// Returns the arguments of the program `name`, without its own name.
 ///
 /// # Errors
 ///
-/// The exit status 2, after a message on standard error, if an argument is not UTF-8 or memory
-/// can't be allocated.
-pub fn arguments(rt: &HostRuntime, name: &str) -> Result<Vec<String>, ExitCode>
+/// The exit status 2, after a message, if an argument is not UTF-8 or memory can't be allocated.
+pub fn arguments<E: Write>(
+    alloc: Global,
+    args: io::Result<Args>,
+    name: &str,
+    errors: &mut Messages<E>,
+) -> Result<Vec<String>, ExitCode>
+    ensures items { IfOk result (λ arguments. IfOk args (λ args. arguments.items ≡ drop 1 (into_iter_items args))) }
+    ensures given { OnOk result (IsOk args × (errors.new ≡ errors.old)) }
     ensures status { IfErr result (λ status. exit_status status ≡ 2) }
+    ensures said { OnErr result (Says E.contents errors.old errors.new (message name.now (stop_text_of RunError.Memory))
+        ⊎ (Says E.contents errors.old errors.new (message name.now (codes "the arguments can't be read as UTF-8")) × IsErr args)) }
 {
-    match env::args(rt) {
-        Ok(args) => match after_first(rt.alloc(), args) {
+    match args {
+        Ok(args) => match after_first(alloc, args) {
             Ok(arguments) => Ok(arguments),
-            Err(_) => Err(fail(rt, name, RunError::Memory)),
+            Err(_) => Err(fail(name, RunError::Memory, errors)),
         },
-        Err(e) if e.kind() == ErrorKind::OutOfMemory => Err(fail(rt, name, RunError::Memory)),
-        Err(_) => Err(fail(rt, name, "the arguments can't be read as UTF-8")),
+        Err(e) if e.kind() == ErrorKind::OutOfMemory => Err(fail(name, RunError::Memory, errors)),
+        Err(_) => Err(fail(name, "the arguments can't be read as UTF-8", errors)),
     }
 }
 
@@ -147,7 +161,7 @@ pub fn request_of<'a, O: Options<'a>>(
         rest = after;
     }
     match option {
-        Some(name) => Err(ArgumentError::NoValue(O::NAME, name)),
+        Some(name) => Err(ArgumentError::NoValue(name)),
         None => Ok(Request::Check(options)),
     }
 }
@@ -175,7 +189,7 @@ fn set_by<'a, O: Options<'a>>(
         (None, None) => (word, None),
     };
     match options.set(name, value) {
-        Setting::Unknown => Err(ArgumentError::Unknown(O::NAME, word)),
+        Setting::Unknown => Err(ArgumentError::Unknown(word)),
         Setting::Set(options) => Ok((options, None)),
         Setting::NeedsValue => Ok((options, Some(name))),
         Setting::Invalid(value, valid) => Err(ArgumentError::Invalid(name, value, valid)),

@@ -1,12 +1,9 @@
 //! Why a run fails.
 
-ghost use Rattle.std.specs.Prelude.{◌≡◌, ◌↔◌, Some};
-ghost use Rattle.std.specs.IoError.{error_kind};
-ghost use Rattle.program.specs.Writes.{IsWriteError};
+ghost use Rattle.std.specs.Prelude.{Some};
 
 use std::error::Error;
-use std::io::ErrorKind;
-use std::{fmt, io};
+use std::fmt;
 
 /// Why a run failed.
 #[derive(Debug, Drop)]
@@ -15,23 +12,8 @@ pub enum RunError {
     Read,
     /// Memory can't be allocated.
     Memory,
-    /// Writing failed. The beginning of a line may have been written.
+    /// Writing failed.
     Write,
-    /// The reader of the pipe has closed it. A program then ends without a message, as filters do.
-    Closed,
-}
-
-impl RunError {
-    /// The error of a write that failed with `error`.
-    pub fn from_write(error: io::Error) -> RunError
-        ensures closed { result ≡ RunError.Closed ↔ error_kind error ≡ ErrorKind.BrokenPipe }
-        ensures write { IsWriteError result }
-    {
-        match error.kind() {
-            ErrorKind::BrokenPipe => RunError::Closed,
-            _ => RunError::Write,
-        }
-    }
 }
 
 impl fmt::Display for RunError {
@@ -44,7 +26,6 @@ impl fmt::Display for RunError {
             RunError::Read => "read failed",
             RunError::Memory => "out of memory",
             RunError::Write => "write failed",
-            RunError::Closed => "the pipe is closed",
         })
     }
 }

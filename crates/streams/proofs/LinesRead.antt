@@ -14,7 +14,7 @@ use Rattle.gix_validate.specs.Bytes.{is_empty}
 use Rattle.streams.specs.declared.outcome.Fault.{Fault}
 use Rattle.streams.specs.declared.outcome.Fault.TheVariants.{TooLong, Ended}
 use Rattle.program.specs.declared.outcome.RunError.{RunError}
-use Rattle.program.specs.declared.outcome.RunError.TheVariants.{Read}
+use Rattle.program.specs.declared.outcome.RunError.TheVariants.{Write}
 use Rattle.streams.specs.declared.outcome.Verdict.TheVariants.{Clean, Refused, Malformed}
 use Rattle.streams.specs.declared.lines.Ending.{Ending}
 use Rattle.streams.specs.declared.lines.Ending.TheVariants.{Anywhere, EndLine, AfterALine}
@@ -212,12 +212,13 @@ module _ (rule : LineRule) (leaves : LeavesTheEnd rule) (ending : Ending) (numbe
       → IfSome after (λ rest. true ≡ (is_end_word ending front && is_empty rest)) → Consumes after now [] → IfSome a (λ _. now ≡ Some [])
   stream_spent now read last kept = IfSome_then a sofar.known (λ text so. grind (arith, append-nil))
 
-  pub stream_stops : {new : Option (List ℕ)} → LineGives rule ending b None mid new (Err Read)
+  pub stream_stops : {new : Option (List ℕ)} {stop : RunError} → stop ≢ Write → LineGives rule ending b None mid new (Err stop)
       → IfSome a (λ text. AppendsPrefixOf old new (report rule ending text).said.lines)
   unfolding report
-  stream_stops {new = new} gives = stops sofar new (IfSome_then b gives.known (λ rest e.
-      rw (lines_first rule leaves ending number rest e.0 e.1) (then_begins (lines_from rule ending (number + 1)) number rest (line_of rule rest) mid new e.2)))
+  stream_stops {new = new} {stop = stop} other gives = IfSome_then a (stops sofar (stop ≢ Write) new (IfSome_then b gives.known (λ rest e read.
+      rw (lines_first rule leaves ending number rest e.0 e.1)
+      (then_begins (lines_from rule ending (number + 1)) number rest (line_of rule rest) mid new (e.2 read))))) (λ text begins. begins other)
 
   pub stream_pauses : IfSome a (λ text. AppendsPrefixOf old mid (report rule ending text).said.lines)
   unfolding report
-  stream_pauses = stops sofar mid (when_known b _ (λ rest e. ([], Appends-nil mid, refl)))
+  stream_pauses = IfSome_then a (stops sofar (Unit {0}) mid (when_known b _ (λ rest e _. ([], Appends-nil mid, refl)))) (λ text begins. begins tt)

@@ -41,7 +41,7 @@ closes_gives : (said : Said) (rest : List ℕ) (refused : Bool) (c old new : Opt
     → Appends old new said.lines → refused ≡ said.refused → Closes refused rest c r → FollowsRule (said, after_end rest) c old new r
 closes_gives said rest refused c old new (Ok (Ok found)) appends is closes = (appends, closes.0 ∙ is, closes.1)
 closes_gives said rest refused c old new (Ok (Err fault)) appends is closes = (appends, closes)
-closes_gives said rest refused c old new (Err stop) appends is closes = begins_all old new said.lines appends
+closes_gives said rest refused c old new (Err stop) appends is closes = λ _. begins_all old new said.lines appends
 
 -- what the object's bytes gave, and then its end
 pub closed_gives : (rule : ObjectRule) (object : ParsedObject) (a b c old new : Option (List ℕ)) (refused : Bool) (r : Result (Result Bool Fault) RunError)

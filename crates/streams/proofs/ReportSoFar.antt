@@ -58,7 +58,8 @@ module _ {E : Type 0} {all now : List ℕ → Said × E} {a b old mid : Option (
       → IfSome a (λ text. Appends old new (all text).0.lines × ((all text).1 ≡ end))
   ends new end step = IfSome_then a sofar.known (λ text so. grind (arith, Appends-trans))
 
-  pub stops : (new : Option (List ℕ)) → IfSome b (λ rest. AppendsPrefixOf mid new (now rest).0.lines)
-      → IfSome a (λ text. AppendsPrefixOf old new (all text).0.lines)
-  stops new begun = IfSome_then a sofar.known (λ text (rest, said, there, done, was, is).
-      rw is (Begins_more old mid new said.lines (now rest).0.lines done (MatchOption-at_some ⊤ _ rest there begun)))
+  -- a front of that is, on a premise
+  pub stops : (P : Type 0) (new : Option (List ℕ)) → IfSome b (λ rest. P → AppendsPrefixOf mid new (now rest).0.lines)
+      → IfSome a (λ text. P → AppendsPrefixOf old new (all text).0.lines)
+  stops P new begun = IfSome_then a sofar.known (λ text (rest, said, there, done, was, is) p.
+      rw is (Begins_more old mid new said.lines (now rest).0.lines done (MatchOption-at_some ⊤ _ rest there begun p)))

@@ -6,3 +6,4 @@ pub mod Spelled
 pub mod Promises
 pub mod Messages
 pub mod Private
+pub mod Ends

@@ -6,6 +6,7 @@ use Rattle.streams.specs.declared.lines.Ending.{Ending}
 use Rattle.streams.specs.declared.lines.Ending.TheVariants.{Anywhere, EndLine, AfterALine}
 use Rattle.std.specs.Io.KnownBytes.{Appends, Consumes, IsAtEnd}
 use Rattle.program.specs.declared.outcome.RunError.{RunError}
+use Rattle.program.specs.declared.outcome.RunError.TheVariants.{Write}
 use Rattle.program.specs.Writes.{AppendsPrefixOf}
 use Rattle.gix_validate.specs.Faults.{when}
 use Rattle.streams.specs.declared.outcome.Fault.{Fault}
@@ -87,8 +88,8 @@ pub record Runs (report : List ℕ → Report) (reach : Reach) (old new before a
   pub spent : IfOk result (λ verdict. is_malformed verdict ≡ false → IfSome old (λ _. new ≡ Some []))
   -- of any other nothing is read after the malformed line and what can belong to it
   pub within : IfOk result (λ verdict. is_malformed verdict ≡ true → IfSome old (λ text. StopsWithin reach (report text) new))
-  -- where reading, memory or writing fails, a front of the report was written
-  pub stopped : OnErr result (IfSome old (λ text. AppendsPrefixOf before after (report text).said.lines))
+  -- where reading or memory fails, a front of the report was written; of a failed write nothing is said
+  pub stopped : result ≢ Err Write → OnErr result (IfSome old (λ text. AppendsPrefixOf before after (report text).said.lines))
 
 -- ---- steps
 
@@ -103,7 +104,7 @@ abbrev pub FollowsRule : Step → Option (List ℕ) → Option (List ℕ) → Op
 FollowsRule wanted left old new (Ok (Ok refused)) =
     Appends old new wanted.0.lines × (refused ≡ wanted.0.refused) × ((text : List ℕ) × (left ≡ Some text) × (wanted.1 ≡ Ok text))
 FollowsRule wanted left old new (Ok (Err fault)) = Appends old new wanted.0.lines × (wanted.1 ≡ Err fault)
-FollowsRule wanted left old new (Err stop) = AppendsPrefixOf old new wanted.0.lines
+FollowsRule wanted left old new (Err stop) = stop ≢ Write → AppendsPrefixOf old new wanted.0.lines
 
 -- what a rule judges of an object, where the text after its header may have fewer bytes than it: then the input ended within it
 abbrev pub or_cut : Bool → Judged → Judged

@@ -6,9 +6,12 @@ ghost use Rattle.gix_validate.specs.Bytes.{is_empty};
 ghost use Rattle.streams.specs.Promises.{IsCutAt, ReadsBefore, ReadsNext, Part, ReadsExactly};
 
 use memchr::memchr;
-use program::TURNS;
 use program::outcome::RunError;
 use std::io::{BufRead, ErrorKind};
+
+/// The most turns of a loop that reads until it is done. An interrupted call is made again, so nothing
+/// else bounds the loop. No run takes so many.
+pub(crate) const TURNS: u64 = u64::MAX;
 
 /// Why [`read_before`] stopped.
 #[derive(Clone, Copy)]

@@ -4,16 +4,15 @@
 //! `check_trees` and `check_refs` hold a bounded number of bytes, whatever their input is. No size
 //! that the input claims is trusted: bytes are read or skipped as they come.
 
-ghost use Rattle.std.specs.Prelude.{◌≡◌, ◌<◌, [], Some, true, false, ◌&&◌, if◌then◌else◌, IfOk, OnErr, IfSome, OnSome};
+ghost use Rattle.std.specs.Prelude.{◌≡◌, ◌≢◌, ◌<◌, [], Some, Err, true, false, ◌&&◌, if◌then◌else◌, IfOk, OnErr, IfSome, OnSome};
 ghost use Rattle.std.specs.Io.KnownBytes.{Appends, Consumes, IsAtEnd};
 ghost use Rattle.program.specs.Writes.{AppendsPrefixOf};
 ghost use Rattle.gix_validate.specs.Bytes.{is_empty};
 ghost use Rattle.streams.specs.Reports.{IsWhole, LeavesTheEnd, LineRule, Reach, fault_at_end, is_malformed, report, verdict_of};
 ghost use Rattle.streams.specs.Promises.{FollowsRule, ReadsUpTo, StopsWithin, is_end_word};
 
-use crate::input::{Found, is_at_end, read_before};
+use crate::input::{Found, TURNS, is_at_end, read_before};
 use crate::outcome::{Fault, Verdict};
-use program::TURNS;
 use program::outcome::RunError;
 use std::alloc::Global;
 use std::io::{BufRead, Write};
@@ -77,8 +76,8 @@ pub trait LineCheck: Copy {
 ///
 /// # Errors
 ///
-/// [`RunError`] says whether reading, memory or writing failed. What was written then is the
-/// beginning of the report.
+/// [`RunError`] says whether reading, memory or writing failed. If reading or memory did, what was
+/// written is the beginning of the report.
 ///
 /// # Memory
 ///
@@ -101,7 +100,7 @@ pub fn run<C: LineCheck, R: BufRead, W: Write>(
     ensures within { IfOk result (λ verdict. is_malformed verdict ≡ true
         → IfSome (R.remaining input.old) (λ text.
         StopsWithin (C.line_reach check) (report (C.line_rule check) ending text) (R.remaining input.new))) }
-    ensures stopped { OnErr result (IfSome (R.remaining input.old) (λ text.
+    ensures stopped { result ≢ Err RunError.Write → OnErr result (IfSome (R.remaining input.old) (λ text.
         AppendsPrefixOf (W.contents output.old) (W.contents output.new) (report (C.line_rule check) ending text).said.lines)) }
     ensures whole { IsWhole (C.line_rule check) }
 {

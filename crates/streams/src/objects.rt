@@ -106,8 +106,8 @@ fn close<R: BufRead>(refused: bool, input: &mut R) -> Result<Result<bool, Fault>
 ///
 /// # Errors
 ///
-/// [`RunError`] says whether reading, memory or writing failed. What was written then is the
-/// beginning of the report.
+/// [`RunError`] says whether reading, memory or writing failed. If reading or memory did, what was
+/// written is the beginning of the report.
 ///
 /// # Memory
 ///

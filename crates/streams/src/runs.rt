@@ -1,17 +1,19 @@
 //! What a program does around a run: its arguments, buffers, the message for malformed input, and the
 //! exit status.
 
-ghost use Rattle.std.specs.Prelude.{◌≡◌, ◌≢◌, ◌≤◌, ℕ, List, IfOk, IfSome, IsErr, IsSome, map};
-ghost use Rattle.std.specs.Io.KnownBytes.{Appends};
+ghost use Rattle.std.specs.Prelude.{◌≡◌, ℕ, List, Option, Result, Err, IfOk, OnErr, map};
+ghost use Rattle.std.specs.Io.Buffered.{reader_remaining, writer_buffer, writer_contents};
 ghost use Rattle.std.specs.Process.{exit_status};
 ghost use Rattle.std.specs.String.{string_bytes};
-ghost use Rattle.program.specs.Arguments.{AsksFor, request_of};
-ghost use Rattle.streams.specs.Reports.{Report, verdict_of};
+ghost use Rattle.program.specs.Arguments.{request_of};
+ghost use Rattle.program.specs.Messages.{Does, Says, message};
+ghost use Rattle.streams.specs.Ends.{Checks, EndsBy, Finishes, Ran, hint_of, malformed_text};
 
 use crate::outcome::{Fault, Verdict};
-use program::arguments::{Options, Request, request_of};
+use program::arguments::{Options, Request, fail_arguments, request_of};
+use program::messages::Messages;
 use program::outcome::RunError;
-use program::{VERSION, fail, fail_run, print};
+use program::{VERSION, fail, print};
 use std::alloc::Global;
 use std::io::{BufRead, BufReader, BufWriter, Read, Write};
 use std::process::ExitCode;
@@ -19,20 +21,23 @@ use std::process::ExitCode;
 /// How many bytes are read or written at once.
 const BUFFERED: usize = 65_536;
 
-/// What a program checks under its options.
-pub trait Check<'a>: Options<'a> {
+/// What a program calls itself, and its input.
+#[derive(Clone, Copy)]
+pub struct Program<'p> {
+    /// Its name.
+    pub name: &'p str,
     /// The text that `--help` prints.
-    const HELP: &'static str;
-
+    pub help: &'p str,
     /// What messages call a part of the input, such as `object` or `line`.
-    const UNIT: &'static str;
-
+    pub unit: &'p str,
     /// What a message adds if the first line is not a header line.
-    const HINT: &'static str;
+    pub hint: &'p str,
+}
 
-    ghost report: { Self → List ℕ → Report };
-
-    ghost accepts: { Self → List ℕ → Type 0 };
+/// What a program checks under its options. `gave` is abstract in [`answer`], so that only a call
+/// of `run` shows it of a result.
+pub trait Check<'a>: Options<'a> {
+    ghost gave: { Self → Option (List ℕ) → Option (List ℕ) → Option (List ℕ) → Option (List ℕ) → Ran → Type 0 };
 
     /// Reads all of `input`, and writes the lines of the report to `output`.
     fn run<R: BufRead, W: Write>(
@@ -41,118 +46,114 @@ pub trait Check<'a>: Options<'a> {
         input: &mut R,
         output: &mut W,
     ) -> Result<Verdict, RunError>
-        ensures verdict { IfOk result (λ verdict. IfSome (R.remaining input.old) (λ text.
-            Appends (W.contents output.old) (W.contents output.new) (report self text).said.lines
-            × (verdict ≡ verdict_of (report self text)))) }
-        ensures accepted { IfOk result (λ verdict. verdict ≡ Verdict.Clean → IfSome (R.remaining input.old) (accepts self)) };
-
-    ghost by_view: { (a b : Self) → Self.view a ≡ Self.view b
-        → report a ≡ report b };
-
-    ghost accepts_by_view: { (a b : Self) (text : List ℕ) → Self.view a ≡ Self.view b → accepts a text → accepts b text };
+        ensures { gave self (R.remaining input.old) (R.remaining input.new)
+            (W.contents output.old) (W.contents output.new) result };
 }
 
-/// Does what the arguments say, and returns the exit status, and after a run that did not fail the
-/// writer.
-pub fn answer<'a, C: Check<'a>, R: Read + Drop, W: Write + Drop>(
-    rt: &HostRuntime,
-    arguments: &'a [String],
-    input: R,
-    output: W,
-) -> (ExitCode, Option<W>)
-    ensures written { IfSome result.1 (λ writer. IfSome (R.remaining input) (λ text. (options : C)
-        → AsksFor C.rule C.start arguments.now (C.view options)
-        → Appends (W.contents output) (W.contents writer) (C.report options text).said.lines)) }
-    ensures given { (options : C) → AsksFor C.rule C.start arguments.now (C.view options)
-        → exit_status result.0 ≢ 2 → IsSome result.1 }
-    ensures clean { IfSome (R.remaining input) (λ text. (options : C)
-        → AsksFor C.rule C.start arguments.now (C.view options)
-        → exit_status result.0 ≡ 0 → verdict_of (C.report options text) ≡ Verdict.Clean) }
-    ensures accepted { IfSome (R.remaining input) (λ text. (options : C)
-        → AsksFor C.rule C.start arguments.now (C.view options)
-        → exit_status result.0 ≡ 0 → C.accepts options text) }
-    ensures refused { IfSome (R.remaining input) (λ text. (options : C)
-        → AsksFor C.rule C.start arguments.now (C.view options)
-        → exit_status result.0 ≡ 1 → verdict_of (C.report options text) ≡ Verdict.Refused) }
-    ensures unknown { IsErr (request_of C.rule C.start (map string_bytes arguments.now)) → exit_status result.0 ≡ 2 }
-    ensures status { exit_status result.0 ≤ 2 }
-{
-    match request_of::<C>(arguments) {
-        Ok(Request::Check(options)) => exit_code(rt, options, input, output),
-        Ok(Request::Help) => (print(rt, C::NAME, C::HELP), None),
-        Ok(Request::Version) => {
-            let name = C::NAME;
-            (print(rt, name, format_args!("{name} {VERSION}")), None)
-        }
-        Err(fault) => (fail(rt, C::NAME, fault), None),
-    }
-}
-
-/// Checks the input, and returns the exit status: 0 if nothing is refused, 1 if something is, and 2 if
-/// the input is malformed or the run failed, after a message on standard error, except if the reader
-/// of the report's pipe has closed it (docs/RULES.md, "Streams of objects"). The lines of the report
-/// are written before the status is known. The writer is returned too, unless the run failed.
+/// Does what the arguments say, and returns the exit status: 0 if nothing is refused, 1 if something
+/// is, and 2 if the input is malformed or the run failed, after a message (docs/RULES.md, "Streams of
+/// objects"). The lines of the report are written before the status is known.
 ///
 /// # Memory
 ///
-/// It allocates two buffers of 65,536 bytes, and what `check` allocates, from the allocator of
-/// `rt`.
-pub fn exit_code<'a, C: Check<'a>, R: Read + Drop, W: Write + Drop>(
-    rt: &HostRuntime,
-    check: C,
-    input: R,
-    output: W,
-) -> (ExitCode, Option<W>)
-    ensures clean { IfSome (R.remaining input) (λ text. exit_status result.0 ≡ 0 → verdict_of (C.report check text) ≡ Verdict.Clean) }
-    ensures accepted { IfSome (R.remaining input) (λ text. exit_status result.0 ≡ 0 → C.accepts check text) }
-    ensures refused { IfSome (R.remaining input) (λ text. exit_status result.0 ≡ 1 → verdict_of (C.report check text) ≡ Verdict.Refused) }
-    ensures written { IfSome result.1 (λ writer. IfSome (R.remaining input) (λ text.
-        Appends (W.contents output) (W.contents writer) (C.report check text).said.lines)) }
-    ensures given { exit_status result.0 ≢ 2 → IsSome result.1 }
-    ensures status { exit_status result.0 ≤ 2 }
+/// It allocates what `C::run` allocates, from `alloc`.
+pub fn answer<'a, C: Check<'a>, R: BufRead, W: Write + Drop, E: Write>(
+    program: Program<'_>,
+    alloc: Global,
+    arguments: &'a [String],
+    input: &mut R,
+    output: &mut BufWriter<W>,
+    errors: &mut Messages<E>,
+) -> ExitCode
+    ensures { Does (λ asked. (options : C) × (C.view options ≡ asked)
+        × Checks (C.gave options (R.remaining input.old) (R.remaining input.new) (writer_contents W.contents output.old))
+        (writer_contents W.contents output.new) (writer_buffer output.new) program.entry E.contents errors.old errors.new result)
+        (writer_contents W.contents) E.contents program.entry.name.now program.entry.help.now input.old input.new output.old output.new
+        errors.old errors.new result (request_of C.rule C.start (map string_bytes arguments.now)) }
 {
-    match run_buffered(rt.alloc(), check, input, output) {
-        Ok((Verdict::Clean, output)) => (ExitCode::SUCCESS, Some(output)),
-        Ok((Verdict::Refused, output)) => (ExitCode::FAILURE, Some(output)),
-        Ok((Verdict::Malformed { number, fault }, output)) => {
-            let (unit, is_first) = (C::UNIT, number == 1);
-            let hint = if is_first && fault == Fault::Header {
-                C::HINT
-            } else {
-                ""
-            };
-            let what = format_args!("malformed input: {unit} {number}: {fault}{hint}");
-            (fail(rt, C::NAME, what), Some(output))
+    let name = program.name;
+    match request_of::<C>(arguments) {
+        Ok(Request::Check(options)) => {
+            let ran = run_flushed(alloc, options, input, output);
+            exit_code(program, ran, errors)
         }
-        Err(stop) => (fail_run(rt, C::NAME, stop), None),
+        Ok(Request::Help) => print(name, program.help, output, errors),
+        Ok(Request::Version) => print(name, format_args!("{name} {VERSION}"), output, errors),
+        Err(fault) => fail_arguments(name, fault, errors),
     }
 }
 
-/// Runs `check` with a buffer for the input and one for the output, and writes out all of the
-/// report. Returns the verdict and the writer.
+/// Runs `check`, and writes out all of the report.
+fn run_flushed<'a, C: Check<'a>, R: BufRead, W: Write + Drop>(
+    alloc: Global,
+    check: C,
+    input: &mut R,
+    output: &mut BufWriter<W>,
+) -> Result<Verdict, RunError>
+    ensures { Finishes (C.gave check (R.remaining input.old) (R.remaining input.new) (writer_contents W.contents output.old))
+        (writer_contents W.contents output.new) (writer_buffer output.new) result }
+{
+    let ran = check.run(alloc, input, output);
+    output.flush().map_err(|_| RunError::Write)?;
+    ran
+}
+
+/// The exit status after a run, and the message if it failed or the input is malformed.
+fn exit_code<E: Write>(
+    program: Program<'_>,
+    ran: Result<Verdict, RunError>,
+    errors: &mut Messages<E>,
+) -> ExitCode
+    ensures { EndsBy program.entry E.contents errors.old errors.new result ran }
+{
+    match ran {
+        Ok(Verdict::Clean) => ExitCode::SUCCESS,
+        Ok(Verdict::Refused) => ExitCode::FAILURE,
+        Ok(Verdict::Malformed { number, fault }) => fail_malformed(program, number, fault, errors),
+        Err(stop) => fail(program.name, stop, errors),
+    }
+}
+
+/// Says what is malformed, and returns the status 2.
+fn fail_malformed<E: Write>(
+    program: Program<'_>,
+    number: u64,
+    fault: Fault,
+    errors: &mut Messages<E>,
+) -> ExitCode
+    ensures status { exit_status result ≡ 2 }
+    ensures said { Says E.contents errors.old errors.new (message program.entry.name.now (malformed_text program.entry number fault)) }
+{
+    let (unit, hint) = (program.unit, hint_of(program.hint, number, fault));
+    let what = format_args!("malformed input: {unit} {number}: {fault}{hint}");
+    fail(program.name, what, errors)
+}
+
+/// What the message adds for this fault of the part with this number.
+fn hint_of(hint: &str, number: u64, fault: Fault) -> &str
+    ensures { result.now ≡ hint_of hint.now number fault }
+{
+    match fault {
+        Fault::Header if number == 1 => hint,
+        _ => "",
+    }
+}
+
+/// Buffers for an input and an output.
 ///
 /// # Errors
 ///
-/// [`RunError`] says whether reading, memory or writing failed.
-pub fn run_buffered<'a, C: Check<'a>, R: Read + Drop, W: Write + Drop>(
+/// [`RunError::Memory`] if memory for a buffer can't be allocated. Nothing was read or written.
+pub fn buffers<R: Read + Drop, W: Write + Drop>(
     alloc: Global,
-    check: C,
     input: R,
     output: W,
-) -> Result<(Verdict, W), RunError>
-    ensures verdict { IfOk result (λ answer. IfSome (R.remaining input) (λ text.
-        (answer.0 ≡ verdict_of (C.report check text)) × (answer.0 ≡ Verdict.Clean → C.accepts check text)
-        × Appends (W.contents output) (W.contents answer.1) (C.report check text).said.lines)) }
+) -> Result<(BufReader<R>, BufWriter<W>), RunError>
+    ensures input { IfOk result (λ both. reader_remaining R.remaining both.0 ≡ R.remaining input) }
+    ensures output { IfOk result (λ both. writer_contents W.contents both.1 ≡ W.contents output) }
+    ensures stop { OnErr result (result ≡ Err RunError.Memory) }
 {
-    let mut input = BufReader::with_capacity(alloc, BUFFERED, input).map_err(|_| RunError::Memory)?;
-    let mut buffered = BufWriter::with_capacity(alloc, BUFFERED, output).map_err(
-        |_| RunError::Memory,
-    )?;
-    let verdict = check.run(alloc, &mut input, &mut buffered);
-    buffered.flush().map_err(RunError::from_write)?;
-    let verdict = verdict?;
-    match buffered.into_inner() {
-        Ok(output) => Ok((verdict, output)),
-        Err(e) => Err(RunError::from_write(e.into_error())),
-    }
+    let input = BufReader::with_capacity(alloc, BUFFERED, input).map_err(|_| RunError::Memory)?;
+    let output = BufWriter::with_capacity(alloc, BUFFERED, output).map_err(|_| RunError::Memory)?;
+    Ok((input, output))
 }

@@ -43,8 +43,8 @@ pub returns-in_err-refused-clause-gives : goal.returns-in_err-refused-clause-giv
 returns-in_err-refused-clause-gives g c =
     let read = rw c.in-Byte.is at c.in_ok-read_before.ensures in
     gives_stop (as_options c.args.options) (as_object c.args.tree) _ _ _ c.min-limit.ensures read (c.in-Some.ensures ∙ ap parsed_front c.deref.ensures.value)
-    (grind (arith, common_steps)) _ _ _ _ c.finding_of-finding.ensures (rw c.if-not-branch.false at c.in_ok-pass_id.ensures) c.if-id_left-id_len.false
-    c.from_residual-in_err-refused.ensures.0 (rw c.deref-2.ensures.value at c.in_err-refused.ensures)
+    (grind (arith, common_steps)) _ _ _ _ _ c.finding_of-finding.ensures (rw c.if-not-branch.false at c.in_ok-pass_id.ensures) c.if-id_left-id_len.false
+    (grind (arith, c.from_residual-in_err-refused.ensures)) (rw c.deref-2.ensures.value at c.in_err-refused.ensures)
 
 pub returns-clause-gives : goal.returns-clause-gives
 returns-clause-gives g c =

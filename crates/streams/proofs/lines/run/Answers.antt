@@ -19,11 +19,11 @@ loop-before-preserved g c =
     stream_goes _ (g.met.C.LineCheck.leaves _) _ _ c.loop-before.invariant gives
 
 pub returns-in_err-read_before-clause-stopped : goal.returns-in_err-read_before-clause-stopped
-returns-in_err-read_before-clause-stopped g c = on_err c.from_residual.result _ (stream_pauses _ (g.met.C.LineCheck.leaves _) _ _ c.loop-before.invariant)
+returns-in_err-read_before-clause-stopped g c = λ _. on_err c.from_residual.result _ (stream_pauses _ (g.met.C.LineCheck.leaves _) _ _ c.loop-before.invariant)
 
 pub returns-in_err-is_last-in-Byte-clause-stopped : goal.returns-in_err-is_last-in-Byte-clause-stopped
 returns-in_err-is_last-in-Byte-clause-stopped g c =
-    on_err c.from_residual-in_err-is_last-in-Byte.result _ (stream_pauses _ (g.met.C.LineCheck.leaves _) _ _ c.loop-before.invariant)
+    λ _. on_err c.from_residual-in_err-is_last-in-Byte.result _ (stream_pauses _ (g.met.C.LineCheck.leaves _) _ _ c.loop-before.invariant)
 
 pub returns-then-branch-clause-verdict : goal.returns-then-branch-clause-verdict
 returns-then-branch-clause-verdict g c =
@@ -36,8 +36,8 @@ returns-then-branch-clause-spent g c = λ _. stream_spent _ (g.met.C.LineCheck.l
     (rw (c.if-branch.true, c.deref.ensures.value) at c.in_ok-is_last-in-Byte.ensures.known) c.in_ok-is_last-in-Byte.ensures.kept
 
 pub returns-in_err-more-in-Byte-clause-stopped : goal.returns-in_err-more-in-Byte-clause-stopped
-returns-in_err-more-in-Byte-clause-stopped g c = on_err c.from_residual-in_err-more-in-Byte.result _
-    (stream_stops _ (g.met.C.LineCheck.leaves _) _ _ c.loop-before.invariant
+returns-in_err-more-in-Byte-clause-stopped g c = λ other. on_err c.from_residual-in_err-more-in-Byte.result _
+    (stream_stops _ (g.met.C.LineCheck.leaves _) _ _ c.loop-before.invariant (λ e. other (grind (arith, c.from_residual-in_err-more-in-Byte.ensures, e)))
     (line_gives _ (rw c.in-Byte.is at c.in_ok-read_before.ensures)
     (rw (c.if-branch.false, c.deref.ensures.value) at c.in_ok-is_last-in-Byte.ensures.known) c.in_ok-is_last-in-Byte.ensures.kept
     (rw c.deref-in-Byte.ensures.value at c.in_err-more-in-Byte.ensures.gives)))
@@ -47,7 +47,7 @@ returns-in-None-clause-verdict g c = rw c.whole_input-in-None.ensures (stream_en
     (rw c.in-End-2.is at c.in_ok-read_before.ensures) (grind (arith, common_steps)) (grind (arith, common_steps)))
 
 pub returns-clause-stopped : goal.returns-clause-stopped
-returns-clause-stopped g c = stream_pauses _ (g.met.C.LineCheck.leaves _) _ _ c.loop-before.invariant
+returns-clause-stopped g c = λ _. stream_pauses _ (g.met.C.LineCheck.leaves _) _ _ c.loop-before.invariant
 
 pub returns-in-loop-before-clause-verdict : goal.returns-in-loop-before-clause-verdict
 returns-in-loop-before-clause-verdict g c = elim c.match-branch-2.branch [

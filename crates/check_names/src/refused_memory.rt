@@ -1,0 +1,90 @@
+//! Runs in which an allocation fails. `tests/memory` builds these tests once, makes the same
+//! allocation of each fail, and counts what they print.
+//!
+//! A test is named after the allocation of a run that fails in it: it first makes so many allocations
+//! of its own that this one is the one that fails.
+
+use crate::check::{RunError, run};
+use crate::tests::{Device, ROWS, printed};
+use std::alloc::{AllocError, Global};
+use std::process::Abort;
+use std::test::Fail;
+
+/// Makes allocations until the given one that follows is the one that fails.
+fn allocate_until(alloc: Global, request: usize) -> Result<(), AllocError> {
+    for _ in request..8 {
+        Vec::from_slice(alloc, b" ")?;
+    }
+    Ok(())
+}
+
+/// Runs with a writer that doesn't allocate, and again if an allocation of the run fails.
+fn run_with_refused<R: Abort + AllocGlobal + Print>(rt: &R, request: usize) -> Result<(), Fail> {
+    let (input, output) = ROWS;
+    let mut room = [0; 512];
+    allocate_until(rt.alloc(), request)?;
+    match run(rt.alloc(), &mut &*input, &mut Device::new(&mut room)) {
+        Ok(()) => {
+            assert!(rt; room.starts_with(output));
+            println!(rt; "run: answered")?;
+        }
+        Err(stop) => {
+            assert!(rt; room == [0; 512]);
+            println!(rt; "run: {stop}")?;
+            assert_eq!(rt; printed(rt.alloc(), input)?.as_slice(), output);
+        }
+    }
+    Ok(())
+}
+
+/// A vector as the writer is what allocates last.
+#[test]
+fn growing_writer(rt: HostRuntime) -> Result<(), Fail> {
+    let (input, output) = ROWS;
+    allocate_until(rt.alloc(), 8)?;
+    if let Err(stop) = printed(rt.alloc(), input) {
+        println!(rt; "run: {stop}")?;
+    }
+    assert_eq!(rt; printed(rt.alloc(), input)?.as_slice(), output);
+    Ok(())
+}
+
+#[test]
+fn request_1(rt: HostRuntime) -> Result<(), Fail> {
+    run_with_refused(&rt, 1)
+}
+
+#[test]
+fn request_2(rt: HostRuntime) -> Result<(), Fail> {
+    run_with_refused(&rt, 2)
+}
+
+#[test]
+fn request_3(rt: HostRuntime) -> Result<(), Fail> {
+    run_with_refused(&rt, 3)
+}
+
+#[test]
+fn request_4(rt: HostRuntime) -> Result<(), Fail> {
+    run_with_refused(&rt, 4)
+}
+
+#[test]
+fn request_5(rt: HostRuntime) -> Result<(), Fail> {
+    run_with_refused(&rt, 5)
+}
+
+#[test]
+fn request_6(rt: HostRuntime) -> Result<(), Fail> {
+    run_with_refused(&rt, 6)
+}
+
+#[test]
+fn request_7(rt: HostRuntime) -> Result<(), Fail> {
+    run_with_refused(&rt, 7)
+}
+
+#[test]
+fn request_8(rt: HostRuntime) -> Result<(), Fail> {
+    run_with_refused(&rt, 8)
+}

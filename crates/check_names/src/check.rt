@@ -21,8 +21,9 @@ use typed_names::{Component, FullName, PartialName, TagName};
 
 const UNKNOWN_KIND: &[u8] = b"unknown kind";
 
-/// Reads all of `input`, makes one line of output for each of its lines, writes all of them to
-/// `output` with one call, and flushes it once (docs/RULES.md, "The program's lines").
+/// Reads all of `input`, builds a line of output for each of its lines, writes all of them to
+/// `output` at once, and flushes (docs/RULES.md, "The program's lines"). Reading is by std's
+/// `read_to_end` and writing by its `write_all`: nothing else is tried again.
 ///
 /// A line is a kind, a space and a name, such as `tag v1.0`, for which the output is `ok`. If there
 /// is no line, nothing is written and nothing is flushed.
@@ -46,6 +47,7 @@ const UNKNOWN_KIND: &[u8] = b"unknown kind";
 ///   allocated. Nothing was written.
 /// - [`RunError::Memory`] if memory for the results can't be allocated. Nothing was written.
 /// - [`RunError::Write`] if writing or flushing failed.
+#[tactic(auto, using(crate::proofs::AnswerLemmas::answers_nil))]
 pub fn run<R: Read, W: Write>(alloc: Global, input: &mut R, output: &mut W) -> Result<(), RunError>
     ensures ok { OnOk result (IfSome (R.remaining input.old)
         (λ text. Appends (W.contents output.old) (W.contents output.new) (answers text))) }

@@ -1,9 +1,7 @@
 -- What the arguments of a program ask for.
-use Rattle.std.specs.Prelude.{◌≡◌, ℕ, ◌||◌, Bool, map, if◌then◌else◌, List, [], ◌∷◌, codes, Option, Some, None, Result, Ok, Err}
+use Rattle.std.specs.Prelude.{ℕ, ◌||◌, Bool, if◌then◌else◌, List, [], ◌∷◌, codes, Option, Some, None, Result, Ok, Err}
 use Rattle.std.specs.Borrow.{Bor}
 use Rattle.std.specs.Str.{byte, bytes_eq}
-use Rattle.std.specs.String.{string_bytes}
-use Rattle.std.specs.declared.string.String.{String}
 use Rattle.program.specs.declared.arguments.Request.{Request}
 use Rattle.program.specs.declared.arguments.Request.TheVariants as request
 use Rattle.program.specs.declared.arguments.Setting.{Setting}
@@ -95,7 +93,3 @@ request_from rule None options (word ∷ words) =
 -- what all arguments ask for, where a check has these options without any
 abbrev pub request_of : {V : Type 0} → OptionRule V → V → List (List ℕ) → Result (Task V) WrongArgument
 request_of rule start words = request_from rule None start words
-
--- they ask for a check with these options
-abbrev pub AsksFor : {V Z : Type 0} → OptionRule V → V → List (String Z) → V → Type 0
-AsksFor rule start words options = request_of rule start (map string_bytes words) ≡ Ok (Check options)

@@ -1,17 +1,43 @@
 //! Bounded reads that say where the input ends.
 
-ghost use Rattle.std.specs.Prelude.{◌≡◌, ◌<◌, ◌≤◌, ℕ, true, List, [], ◌++◌, length, IfOk, IfSome, MatchOption, OnSome, Some};
+ghost use Rattle.std.specs.Prelude.{◌≡◌, ◌≢◌, ◌↔◌, ◌+◌, ◌<◌, ◌≤◌, ℕ, true, List, [], ◌++◌, length, vec_capacity, vec_len, Err, IsOk, IfOk, IfSome, MatchOption, OnErr, OnSome, Some};
+ghost use Rattle.std.specs.IoError.{error_kind};
 ghost use Rattle.std.specs.Io.KnownBytes.{Consumes, IsAtEnd};
 ghost use Rattle.gix_validate.specs.Bytes.{is_empty};
 ghost use Rattle.streams.specs.Promises.{IsCutAt, ReadsBefore, ReadsNext, Part, ReadsExactly};
 
 use memchr::memchr;
 use program::outcome::RunError;
+use std::io;
 use std::io::{BufRead, ErrorKind};
 
 /// The most turns of a loop that reads until it is done. An interrupted call is made again, so nothing
 /// else bounds the loop. No run takes so many.
 pub(crate) const TURNS: u64 = u64::MAX;
+
+/// Decides whether a read that failed is made again: only if it was interrupted.
+fn read_again(error: io::Error) -> Result<(), RunError>
+    ensures again { IsOk result ↔ error_kind error ≡ ErrorKind.Interrupted }
+    ensures stop { OnErr result (result ≡ Err RunError.Read) }
+{
+    match error.kind() {
+        ErrorKind::Interrupted => Ok(()),
+        _ => Err(RunError::Read),
+    }
+}
+
+/// What the reader has buffered. If the read has to be made again, the function returns this.
+macro_rules! filled {
+    ($input:expr, $again:expr) => {
+        match $input.fill_buf() {
+            Ok(available) => available,
+            Err(e) => {
+                read_again(e)?;
+                return Ok($again);
+            }
+        }
+    };
+}
 
 /// Why [`read_before`] stopped.
 #[derive(Clone, Copy)]
@@ -36,7 +62,8 @@ pub fn read_before<R: BufRead>(
     limit: usize,
     front: &mut Vec<u8>,
 ) -> Result<Found, RunError>
-    ensures { IfOk result (ReadsBefore byte limit (R.remaining input.old) (R.remaining input.new) front.new.items) }
+    ensures read { IfOk result (ReadsBefore byte limit (R.remaining input.old) (R.remaining input.new) front.new.items) }
+    ensures stop { result ≢ Err RunError.Write }
 {
     front.clear();
     for _ in 0..TURNS {
@@ -60,14 +87,12 @@ fn append_part<R: BufRead>(
     front: &mut Vec<u8>,
 ) -> Result<Option<Found>, RunError>
     requires { 0 < limit }
-    ensures { IfOk result (λ found. (part : List ℕ) × (front.new.items ≡ front.old.items ++ part)
+    ensures read { IfOk result (λ found. (part : List ℕ) × (front.new.items ≡ front.old.items ++ part)
         × Part byte limit (R.remaining input.old) (R.remaining input.new) part found) }
+    ensures stop { result ≢ Err RunError.Write }
+    ensures full { result ≡ Err RunError.Memory → vec_capacity front.old < vec_len front.old + limit }
 {
-    let available = match input.fill_buf() {
-        Ok(available) => available,
-        Err(e) if e.kind() == ErrorKind::Interrupted => return Ok(None),
-        Err(_) => return Err(RunError::Read),
-    };
+    let available = filled!(input, None);
     if available.is_empty() {
         return Ok(Some(Found::End));
     }
@@ -100,7 +125,8 @@ pub fn read_bytes<R: BufRead>(
     count: usize,
     bytes: &mut Vec<u8>,
 ) -> Result<bool, RunError>
-    ensures { IfOk result (ReadsExactly count (R.remaining input.old) (R.remaining input.new) bytes.new.items) }
+    ensures read { IfOk result (ReadsExactly count (R.remaining input.old) (R.remaining input.new) bytes.new.items) }
+    ensures stop { result ≢ Err RunError.Write }
 {
     bytes.clear();
     for _ in 0..TURNS {
@@ -119,15 +145,13 @@ pub fn read_bytes<R: BufRead>(
 /// ended.
 fn read_part<R: BufRead>(input: &mut R, count: usize, bytes: &mut Vec<u8>) -> Result<bool, RunError>
     requires { 0 < count }
-    ensures { IfOk result (λ ended. (part : List ℕ) × (bytes.new.items ≡ bytes.old.items ++ part) × (length part ≤ count)
+    ensures read { IfOk result (λ ended. (part : List ℕ) × (bytes.new.items ≡ bytes.old.items ++ part) × (length part ≤ count)
         × Consumes (R.remaining input.old) (R.remaining input.new) part
         × (ended ≡ true → (part ≡ []) × OnSome (R.remaining input.old) (IsAtEnd (R.remaining input.new)))) }
+    ensures stop { result ≢ Err RunError.Write }
+    ensures full { result ≡ Err RunError.Memory → vec_capacity bytes.old < vec_len bytes.old + count }
 {
-    let available = match input.fill_buf() {
-        Ok(available) => available,
-        Err(e) if e.kind() == ErrorKind::Interrupted => return Ok(false),
-        Err(_) => return Err(RunError::Read),
-    };
+    let available = filled!(input, false);
     if available.is_empty() {
         return Ok(true);
     }
@@ -144,8 +168,9 @@ fn read_part<R: BufRead>(input: &mut R, count: usize, bytes: &mut Vec<u8>) -> Re
 ///
 /// [`RunError::Read`] if reading failed.
 pub fn skip<R: BufRead>(input: &mut R, count: u64) -> Result<bool, RunError>
-    ensures { IfOk result (λ whole. (bytes : List ℕ)
+    ensures read { IfOk result (λ whole. (bytes : List ℕ)
         × ReadsExactly count (R.remaining input.old) (R.remaining input.new) bytes whole) }
+    ensures stop { OnErr result (result ≡ Err RunError.Read) }
 {
     let mut left = count;
     for _ in 0..TURNS {
@@ -171,13 +196,10 @@ fn skip_part<R: BufRead>(input: &mut R, count: u64) -> Result<Option<u64>, RunEr
         (λ n. (bytes : List ℕ) × (length bytes ≡ n)
         × Consumes (R.remaining input.old) (R.remaining input.new) bytes
         × (n ≡ 0 → OnSome (R.remaining input.old) (IsAtEnd (R.remaining input.new))))) }
+    ensures stop { OnErr result (result ≡ Err RunError.Read) }
 {
-    let available = match input.fill_buf() {
-        Ok(available) => available.len(),
-        Err(e) if e.kind() == ErrorKind::Interrupted => return Ok(None),
-        Err(_) => return Err(RunError::Read),
-    };
-    let skipped = (available as u64).min(count);
+    let available = filled!(input, None);
+    let skipped = (available.len() as u64).min(count);
     input.consume(skipped as usize);
     Ok(Some(skipped))
 }
@@ -189,6 +211,7 @@ fn skip_part<R: BufRead>(input: &mut R, count: u64) -> Result<Option<u64>, RunEr
 /// [`RunError::Read`] if reading failed.
 pub fn read_byte<R: BufRead>(input: &mut R) -> Result<Option<u8>, RunError>
     ensures byte { IfOk result (λ byte. ReadsNext (R.remaining input.old) (R.remaining input.new) byte) }
+    ensures stop { OnErr result (result ≡ Err RunError.Read) }
 {
     for _ in 0..TURNS {
         if let Some(byte) = next_part(input)? {
@@ -201,15 +224,14 @@ pub fn read_byte<R: BufRead>(input: &mut R) -> Result<Option<u8>, RunError>
 /// Reads the next byte, or `None` at the end of the input. The outer `None` means that the read was
 /// interrupted.
 fn next_part<R: BufRead>(input: &mut R) -> Result<Option<Option<u8>>, RunError>
-    ensures { IfOk result (λ found. MatchOption found
+    ensures byte { IfOk result (λ found. MatchOption found
         (Consumes (R.remaining input.old) (R.remaining input.new) [])
         (ReadsNext (R.remaining input.old) (R.remaining input.new))) }
+    ensures stop { OnErr result (result ≡ Err RunError.Read) }
 {
-    let byte = match input.fill_buf() {
-        Ok([]) => return Ok(Some(None)),
-        Ok([byte, ..]) => *byte,
-        Err(e) if e.kind() == ErrorKind::Interrupted => return Ok(None),
-        Err(_) => return Err(RunError::Read),
+    let byte = match filled!(input, None) {
+        [] => return Ok(Some(None)),
+        [byte, ..] => *byte,
     };
     input.consume(1);
     Ok(Some(Some(byte)))
@@ -224,6 +246,7 @@ pub fn is_at_end<R: BufRead>(input: &mut R) -> Result<bool, RunError>
     ensures known { IfOk result (λ ended. IfSome (R.remaining input.old) (λ rest. ended ≡ is_empty rest)) }
     ensures kept { IfOk result (λ ended. Consumes (R.remaining input.old) (R.remaining input.new) []) }
     ensures spent { IfOk result (λ ended. ended ≡ true → OnSome (R.remaining input.old) (IsAtEnd (R.remaining input.new))) }
+    ensures stop { OnErr result (result ≡ Err RunError.Read) }
 {
     for _ in 0..TURNS {
         if let Some(ended) = look(input)? {
@@ -238,12 +261,9 @@ fn look<R: BufRead>(input: &mut R) -> Result<Option<bool>, RunError>
     ensures known { IfOk result (λ found. IfSome found (λ ended. IfSome (R.remaining input.old) (λ rest. ended ≡ is_empty rest))) }
     ensures kept { IfOk result (λ found. Consumes (R.remaining input.old) (R.remaining input.new) []) }
     ensures spent { IfOk result (λ found. found ≡ Some true → OnSome (R.remaining input.old) (IsAtEnd (R.remaining input.new))) }
+    ensures stop { OnErr result (result ≡ Err RunError.Read) }
 {
-    let ended = match input.fill_buf() {
-        Ok(available) => available.is_empty(),
-        Err(e) if e.kind() == ErrorKind::Interrupted => return Ok(None),
-        Err(_) => return Err(RunError::Read),
-    };
+    let ended = filled!(input, None).is_empty();
     input.consume(0);
     Ok(Some(ended))
 }

@@ -10,8 +10,8 @@ Fronts_more : (byte limit room : ℕ) (a b c : Option (List ℕ)) (done part new
     → Consumes a b done → All (λ x. x ≢ byte) done → ReadsBefore byte room b c part found → ReadsBefore byte limit a c new found
 Fronts_more byte limit room a b c done part new found whole is first none front = grind (arith, common_steps)
 
-pub returns-in-Some : goal.returns-in-Some
-returns-in-Some g c =
-    let (part, is, given) = c.in_ok-found.ensures in
+pub returns-in-Some-clause-read : goal.returns-in-Some-clause-read
+returns-in-Some-clause-read g c =
+    let (part, is, given) = c.in_ok-found.ensures.read in
     Fronts_more c.args.byte c.args.limit _ _ _ _ c.loop.front.items part _ c.in-Some.found (grind (arith, common_steps)) is
     c.loop.invariant.bytes c.loop.invariant.none (subst (Part c.args.byte _ _ _ part) c.in-Some.is given)

@@ -45,7 +45,7 @@ const PROGRAM: Program<'_> = Program {
     name: "check_submodules",
     help: HELP,
     unit: "object",
-    hint: "; pass a file through git cat-file --batch, as in: \
+    hint: "; if it says that a name is missing, Git has no such object; a file is passed as in: \
         echo HEAD:.gitmodules | git cat-file --batch | check_submodules",
 };
 

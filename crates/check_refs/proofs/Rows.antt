@@ -26,12 +26,11 @@ abbrev Row : Type 0
 Row = List ℕ × Option (List ℕ) × Option (List ℕ)
 
 abbrev rows : List Row
-rows =
-    (
-      line short short (codes " refs/heads/HEAD"),  -- reserved as a branch alone
-      Some (codes "ref \"refs/heads/HEAD\" Reference name is reserved and cannot be used: \"refs/heads/HEAD\"\n"),
-      Some (codes "ref \"refs/heads/HEAD\" Reference name is reserved and cannot be used: \"refs/heads/HEAD\"\n"),
-    )
+rows = (
+  line short short (codes " refs/heads/HEAD"),  -- reserved as a branch alone
+  Some (codes "ref \"refs/heads/HEAD\" Reference name is reserved and cannot be used: \"refs/heads/HEAD\"\n"),
+  Some (codes "ref \"refs/heads/HEAD\" Reference name is reserved and cannot be used: \"refs/heads/HEAD\"\n"),
+)
     ∷ (
       line none short (codes " main"),  -- one level
       Some (codes "ref \"main\" Standalone references must be all uppercased, like 'HEAD'\n"),

@@ -1,7 +1,7 @@
 -- What the arguments of the command ask for. It has no options.
 use Rattle.std.specs.Prelude.{ℕ, ⊤, List, Result}
-use Rattle.program.specs.Arguments as arguments
-use Rattle.program.specs.Arguments.{OptionRule, Unknown, Task, WrongArgument}
+use Rattle.cli.specs.Arguments as arguments
+use Rattle.cli.specs.Arguments.{OptionRule, Unknown, Task, WrongArgument}
 
 -- there is no option
 abbrev pub rule : OptionRule ⊤

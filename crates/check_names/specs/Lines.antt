@@ -2,7 +2,7 @@
 use Rattle.std.specs.Prelude.{ℕ, List, Option}
 use Rattle.std.specs.Str.{byte}
 use Rattle.gix_validate.specs.Pieces.{names_in}
-pub use Rattle.program.specs.Lines.{line_end, split_once}
+pub use Rattle.cli.specs.Lines.{line_end, split_once}
 
 -- the texts that a line end ends, and then what follows the last line end, if that isn't empty
 abbrev pub lines : List ℕ → List (List ℕ)

@@ -3,10 +3,10 @@ use Rattle.std.specs.Prelude.{◌≡◌, ◌≢◌, ℕ, List, [], Option, Some,
 use Rattle.std.specs.Io.KnownBytes.{Appends, IsAtEnd}
 use Rattle.std.specs.Process.{exit_status}
 use Rattle.std.specs.declared.process.ExitCode.{ExitCode}
-use Rattle.program.specs.declared.messages.Messages.{Messages}
-use Rattle.program.specs.declared.outcome.RunError.{RunError}
-use Rattle.program.specs.declared.outcome.RunError.TheVariants.{Read, Memory}
-use Rattle.program.specs.Messages.{Says, message, stop_text_of}
+use Rattle.cli.specs.declared.messages.Messages.{Messages}
+use Rattle.cli.specs.declared.outcome.RunError.{RunError}
+use Rattle.cli.specs.declared.outcome.RunError.TheVariants.{Read, Memory}
+use Rattle.cli.specs.Messages.{Says, message, stop_text_of}
 use Rattle.check_names.specs.declared.TheConstants.{NAME}
 use Rattle.check_names.specs.Answers.{answers}
 

@@ -9,10 +9,10 @@ ghost use Rattle.check_names.specs.Answers.{answer_of, answers, device_answer, u
 ghost use Rattle.check_names.specs.Lines.{lines, request_of};
 
 use bstr::BStr;
+pub use cli::outcome::RunError;
 use gix_validate::path::{ComponentMode, ComponentOptions};
 use gix_validate::{path, reference, submodule};
 use memchr::memchr;
-pub use program::outcome::RunError;
 use std::alloc::{AllocError, Global};
 use std::fmt::{Display, Write as _};
 use std::io::{Read, Write};

@@ -3,7 +3,7 @@
 
 ghost use Rattle.std.specs.Prelude.{⊤, Option, List, ℕ, map};
 ghost use Rattle.std.specs.String.{string_bytes};
-ghost use Rattle.program.specs.Messages.{Does};
+ghost use Rattle.cli.specs.Messages.{Does};
 ghost use Rattle.check_names.specs.Arguments.{request_of, rule};
 ghost use Rattle.check_names.specs.Messages.{Checks, Ran};
 
@@ -14,9 +14,9 @@ mod refused_memory;
 mod tests;
 
 use check::RunError;
-use program::arguments::{Options, Request, Setting, arguments, fail_arguments, request_of};
-use program::messages::Messages;
-use program::{VERSION, fail, print};
+use cli::arguments::{Options, Request, Setting, arguments, fail_arguments, request_of};
+use cli::messages::Messages;
+use cli::{VERSION, fail, print};
 use std::alloc::Global;
 use std::env;
 use std::io::{IsTerminal, Read, Write};

@@ -12,12 +12,12 @@ use Rattle.gix_validate.specs.Bytes.{begins}
 use Rattle.gix_validate.specs.Faults.{when, ◌orelse◌}
 use Rattle.gix_validate.specs.Reference.{is_partial_name, is_full_name, is_branch_name, partial_fault_of, full_fault_of, branch_fault_of}
 use Rattle.gix_validate.proofs.TagNames.Grammar.{tag_grammar_law}
-use Rattle.streams.specs.declared.outcome.Verdict.{Verdict}
-use Rattle.streams.specs.declared.outcome.Verdict.TheVariants.{Clean}
-use Rattle.streams.specs.declared.lines.Ending.TheVariants.{AfterALine}
-use Rattle.streams.specs.Reports.{all_said, before_report, at_end_line, lines_from, report, verdict_of}
-use Rattle.streams.proofs.LinesRead.{lines_none}
-use Rattle.streams.proofs.CleanStreams.{neither, clean_by}
+use Rattle.git_input.specs.declared.outcome.Verdict.{Verdict}
+use Rattle.git_input.specs.declared.outcome.Verdict.TheVariants.{Clean}
+use Rattle.git_input.specs.declared.lines.Ending.TheVariants.{AfterALine}
+use Rattle.git_input.specs.Reports.{all_said, before_report, at_end_line, lines_from, report, verdict_of}
+use Rattle.git_input.proofs.LinesRead.{lines_none}
+use Rattle.git_input.proofs.CleanStreams.{neither, clean_by}
 use Rattle.check_refs.specs.declared.report.Options.{Options}
 use Rattle.check_refs.specs.Refs.{ParsedUpdate, is_deletion, name_fault_of, refusal_of, update_refusal_of}
 use Rattle.check_refs.specs.declared.refusal.Refusal.TheVariants.{Name, Replacement}

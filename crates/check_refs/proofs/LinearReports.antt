@@ -13,9 +13,9 @@ use Rattle.gix_validate.specs.Faults.{when, ◌orelse◌}
 use Rattle.gix_validate.specs.Quoted.{quoted}
 use Rattle.gix_validate.specs.Tag.{fault_of}
 use Rattle.gix_validate.specs.Reference.{reserved, carried, partial_fault_of, full_fault_of, branch_fault_of, text_of}
-use Rattle.streams.specs.declared.lines.Ending.TheVariants.{AfterALine}
-use Rattle.streams.specs.Reports.{PrintsAtMost}
-use Rattle.streams.proofs.LinearReports.{quoted_length, id_length, IsStepWithin, IsLineWithin, prints_at_most}
+use Rattle.git_input.specs.declared.lines.Ending.TheVariants.{AfterALine}
+use Rattle.git_input.specs.Reports.{PrintsAtMost}
+use Rattle.git_input.proofs.LinearReports.{quoted_length, id_length, IsStepWithin, IsLineWithin, prints_at_most}
 use Rattle.check_refs.specs.declared.report.Options.{Options}
 use Rattle.check_refs.specs.declared.refusal.Refusal.{Refusal}
 use Rattle.check_refs.specs.declared.refusal.Refusal.TheVariants.{Name, Replacement}

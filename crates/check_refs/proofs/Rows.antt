@@ -5,7 +5,7 @@ use Rattle.gix_validate.specs.Bytes.{is_bad}
 use Rattle.gix_validate.specs.Faults.{at_first_offset}
 use Rattle.gix_validate.specs.Reference.{partial_fault_of, full_fault_of, branch_fault_of}
 use Rattle.gix_validate.specs.Tag.{fault_of, faults_at, fault_table}
-use Rattle.streams.specs.Texts.{is_id}
+use Rattle.git_input.specs.Texts.{is_id}
 use Rattle.check_refs.specs.Refs.{parsed_update, line_of}
 
 -- no id, an id of SHA-1, and one of SHA-256

@@ -4,10 +4,10 @@ use Rattle.std.proofs.Common.{append_assoc, length-append}
 use Rattle.std.specs.List.{AllByRecursion, flat_map}
 use Rattle.std.proofs.lemmas.List.Elements.{All-append, All-cons, All-from_recursion}
 use Rattle.std.specs.Str.{byte}
-use Rattle.streams.specs.declared.lines.Ending.TheVariants.{AfterALine}
-use Rattle.streams.specs.Texts.{line_end}
-use Rattle.streams.specs.Reports.{Said, all_said, then_said, Step, before_report, lines_then, Report, lines_from, line_of, report}
-use Rattle.streams.proofs.LinesRead.{line_found, lines_first, lines_none}
+use Rattle.git_input.specs.declared.lines.Ending.TheVariants.{AfterALine}
+use Rattle.git_input.specs.Texts.{line_end}
+use Rattle.git_input.specs.Reports.{Said, all_said, then_said, Step, before_report, lines_then, Report, lines_from, line_of, report}
+use Rattle.git_input.proofs.LinesRead.{line_found, lines_first, lines_none}
 use Rattle.check_refs.specs.declared.report.Options.{Options}
 use Rattle.check_refs.specs.Refs.{ParsedUpdate, parsed_update}
 use Rattle.check_refs.specs.Report.{said_of, step_of, update_rule}

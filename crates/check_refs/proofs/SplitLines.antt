@@ -2,9 +2,9 @@
 use Rattle.std.proofs.Common.{◌≡◌, ◌≢◌, ℕ, ◌<◌, ◌+◌, List, ◌∷◌, ◌++◌, Option, Some, None, Ok, length, take, drop, arith}
 use Rattle.std.specs.Prelude.{IfSome}
 use Rattle.std.specs.List.{AllByRecursion}
-use Rattle.streams.specs.Texts.{line_end, split_once}
-use Rattle.streams.specs.Reports.{longest, Said, LineRule, line_with, line_of}
-use Rattle.streams.proofs.SplitTexts.{IsCut, split_cuts, whole}
+use Rattle.git_input.specs.Texts.{line_end, split_once}
+use Rattle.git_input.specs.Reports.{longest, Said, LineRule, line_with, line_of}
+use Rattle.git_input.proofs.SplitTexts.{IsCut, split_cuts, whole}
 
 -- a whole line at the front of a text, and what is said of it
 pub record IsFirstLine (rule : LineRule) (text : List ℕ) (said : Said) (rest : List ℕ) : Type 0 where

@@ -4,10 +4,10 @@ use Rattle.std.specs.Str.{byte}
 use Rattle.std.specs.List.{list_all, AllByRecursion}
 use Rattle.std.proofs.lemmas.List.Elements.{All-from_recursion}
 use Rattle.std.proofs.lemmas.Bool.Decides.{nat_tests}
-use Rattle.streams.specs.Texts.{is_hex_digit, is_id, split_once}
+use Rattle.git_input.specs.Texts.{is_hex_digit, is_id, split_once}
 use Rattle.check_refs.specs.Refs.{ParsedUpdate, is_update, parsed_update}
 use Rattle.check_refs.specs.Spelled.{IsUpdate, update_line, IsReadAsSpelled}
-use Rattle.streams.proofs.SplitTexts.{split_found, split_cuts}
+use Rattle.git_input.proofs.SplitTexts.{split_found, split_cuts}
 
 module _ (separator : ℕ) (low : separator < byte "0") where
   digits_each : (text : List ℕ) → list_all is_hex_digit text ≡ true → AllByRecursion (λ b. b ≢ separator) text

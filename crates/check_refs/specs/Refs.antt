@@ -9,7 +9,7 @@ use Rattle.gix_validate.specs.Bytes.{is_empty, begins}
 use Rattle.gix_validate.specs.Faults.{when, ◌orelse◌}
 use Rattle.gix_validate.specs.Quoted.{quoted}
 use Rattle.gix_validate.specs.Reference.{full_fault_of, branch_fault_of, text_of}
-use Rattle.streams.specs.Texts.{split_once, is_id}
+use Rattle.git_input.specs.Texts.{split_once, is_id}
 use Rattle.check_refs.specs.declared.update.Update.{Update}
 use Rattle.check_refs.specs.declared.refusal.Refusal.{Refusal}
 use Rattle.check_refs.specs.declared.refusal.Refusal.TheVariants.{Name, Replacement}

@@ -1,8 +1,8 @@
 //! The report of an input, line by line.
 
 ghost use Rattle.std.specs.Prelude.{◌≡◌, ◌↔◌, Some, IfOk, IfSome};
-ghost use Rattle.streams.specs.Promises.{Runs};
-ghost use Rattle.streams.specs.Reports.{PrintsAtMost};
+ghost use Rattle.git_input.specs.Promises.{Runs};
+ghost use Rattle.git_input.specs.Reports.{PrintsAtMost};
 ghost use Rattle.check_refs.specs.Accepted.{IsAcceptedInput};
 ghost use Rattle.check_refs.specs.Private.{update_leaves};
 ghost use Rattle.check_refs.specs.Report.{refs_report, update_rule};
@@ -10,12 +10,12 @@ ghost use Rattle.check_refs.specs.Spelled.{IsReportedInOrder, IsWellFormedOnlyIf
 
 use crate::report::{Options, push_line};
 use crate::update::update_of;
-use program::outcome::RunError;
+use cli::outcome::RunError;
+use git_input::lines;
+use git_input::lines::{Buffers, Ending, LineCheck};
+use git_input::outcome::{Malformation, Verdict};
 use std::alloc::Global;
 use std::io::{BufRead, Write};
-use streams::lines;
-use streams::lines::{Buffers, Ending, LineCheck};
-use streams::outcome::{Fault, Verdict};
 
 impl LineCheck for Options {
     ghost line_rule = { λ options. update_rule options };
@@ -30,9 +30,9 @@ impl LineCheck for Options {
         input: &mut R,
         output: &mut W,
         buffers: &mut Buffers,
-    ) -> Result<Result<bool, Fault>, RunError> {
+    ) -> Result<Result<bool, Malformation>, RunError> {
         let Some(update) = update_of(line) else {
-            return Ok(Err(Fault::Line));
+            return Ok(Err(Malformation::Line));
         };
         buffers.lines.clear();
         let refused = push_line(self, update, &mut buffers.lines).map_err(|_| RunError::Memory)?;

@@ -11,17 +11,17 @@ mod refusal;
 mod report;
 mod update;
 
-use program::arguments::Setting;
-use program::messages::Messages;
-use program::outcome::RunError;
-use program::{arguments, fail};
+use cli::arguments::Setting;
+use cli::messages::Messages;
+use cli::outcome::RunError;
+use cli::{arguments, fail};
+use git_input::outcome::Verdict;
+use git_input::runs::{Check, Program, answer, buffers};
 use report::Options;
 use std::alloc::Global;
 use std::env;
 use std::io::{BufRead, Write};
 use std::process::ExitCode;
-use streams::outcome::Verdict;
-use streams::runs::{Check, Program, answer, buffers};
 
 const HELP: &str = "\
 Prints a line for each reference of a push whose name is refused. A pre-receive
@@ -90,8 +90,8 @@ impl<'a> arguments::Options<'a> for Options {
 
 impl Check<'_> for Options {
     ghost use Rattle.std.specs.Prelude.{◌≡◌, ◌↔◌, IfOk, IfSome};
-    ghost use Rattle.streams.specs.Promises.{Runs};
-    ghost use Rattle.streams.specs.declared.outcome.Verdict.TheVariants.{Clean};
+    ghost use Rattle.git_input.specs.Promises.{Runs};
+    ghost use Rattle.git_input.specs.declared.outcome.Verdict.TheVariants.{Clean};
 
     ghost gave = { λ options input rest output written ran. Runs (refs_report options) (λ line. 0) input rest output written ran
         × IfOk ran (λ verdict. IfSome input (λ text. (verdict ≡ Clean) ↔ IsAcceptedInput options text)) };

@@ -10,9 +10,9 @@ ghost use Rattle.check_refs.specs.Report.{said_of};
 
 use crate::refusal::{Refusal, refusal_of};
 use crate::update::{Update, is_deletion};
+use git_input::output::push_quoted;
 use std::alloc::AllocError;
 use std::io::Write;
-use streams::output::push_quoted;
 
 /// The options of a run.
 #[derive(Clone, Copy)]

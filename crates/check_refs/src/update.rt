@@ -5,7 +5,7 @@ ghost use Rattle.std.specs.Option.{option_map};
 ghost use Rattle.check_refs.specs.Refs.{as_parsed, is_deletion, parsed_update};
 ghost use Rattle.check_refs.specs.Spelled.{IsReadAsSpelled};
 
-use streams::text::{is_id, split_once};
+use git_input::text::{is_id, split_once};
 
 /// An update of a reference, as Git passes it to a pre-receive hook. It borrows its line.
 #[derive(Clone, Copy)]

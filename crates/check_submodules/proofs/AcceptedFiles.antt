@@ -8,11 +8,11 @@ use Rattle.gix_validate.specs.Bytes.{is_empty}
 use Rattle.gix_validate.specs.Submodule.{fault_of}
 use Rattle.gix_validate.specs.declared.submodule.NameError.{NameError}
 use Rattle.gitmodules.specs.Sections.{sections}
-use Rattle.streams.specs.declared.header.Kind.{Kind}
-use Rattle.streams.specs.declared.header.Kind.TheVariants.{Blob, Tree, Commit, Tag}
-use Rattle.streams.specs.declared.outcome.Verdict.{Verdict}
-use Rattle.streams.specs.Spelled as stream
-use Rattle.streams.specs.Spelled.{Spelled, Present, Absent, IsSpelled, spelled_said, IsCleanStream}
+use Rattle.git_input.specs.declared.header.Kind.{Kind}
+use Rattle.git_input.specs.declared.header.Kind.TheVariants.{Blob, Tree, Commit, Tag}
+use Rattle.git_input.specs.declared.outcome.Verdict.{Verdict}
+use Rattle.git_input.specs.Spelled as stream
+use Rattle.git_input.specs.Spelled.{Spelled, Present, Absent, IsSpelled, spelled_said, IsCleanStream}
 use Rattle.check_submodules.specs.Lines.{line_start, line_if, line_of, lines_of, too_large_line}
 use Rattle.check_submodules.specs.Report.{largest, file_lines, object_lines, submodules_rule}
 use Rattle.check_submodules.specs.Spelled.{IsAccepted, IsAcceptedFile, IsAcceptedObject, IsAcceptedStream, IsCleanIff}

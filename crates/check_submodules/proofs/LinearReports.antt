@@ -16,10 +16,10 @@ use Rattle.gitmodules.specs.Sections.{is_never_in_name, closed, escaped_name, un
 use Rattle.gitmodules.specs.Sections.{is_word_byte, named}
 use Rattle.gitmodules.proofs.SpelledSections.{nine}
 use Rattle.gitmodules.specs.Sections.{quoted_header, header_after_word, header_after_bracket, begun, sections}
-use Rattle.streams.specs.declared.header.Kind.{Kind}
-use Rattle.streams.specs.declared.header.Kind.TheVariants.{Blob, Tree, Commit, Tag}
-use Rattle.streams.specs.Reports.{PrintsAtMost}
-use Rattle.streams.proofs.LinearReports.{quoted_length, id_length, IsObjectWithin, stream_prints_at_most}
+use Rattle.git_input.specs.declared.header.Kind.{Kind}
+use Rattle.git_input.specs.declared.header.Kind.TheVariants.{Blob, Tree, Commit, Tag}
+use Rattle.git_input.specs.Reports.{PrintsAtMost}
+use Rattle.git_input.proofs.LinearReports.{quoted_length, id_length, IsObjectWithin, stream_prints_at_most}
 use Rattle.check_submodules.specs.Lines.{line_start, line_if, line_of, lines_of, too_large_line}
 use Rattle.check_submodules.specs.Report.{largest, object_lines, submodules_rule, report}
 

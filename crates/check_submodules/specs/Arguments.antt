@@ -1,14 +1,14 @@
 -- What the options of the command do.
 use Rattle.std.specs.Prelude.{true, false, if◌then◌else◌, codes, Some, None}
 use Rattle.std.specs.Str.{bytes_eq}
-use Rattle.program.specs.Arguments.{OptionRule, Unknown, Sets}
+use Rattle.cli.specs.Arguments.{OptionRule, Unknown, Sets}
 use Rattle.check_submodules.specs.declared.check.Options.{Options}
 
 -- without options
 abbrev pub no_options : Options
-no_options = record { whole = false }
+no_options = record { needs_end = false }
 
 -- what an option does
 abbrev pub rule : OptionRule Options
 rule name (Some value) options = Unknown
-rule name None options = if bytes_eq name (codes "--end") then Sets (record { whole = true }) else Unknown
+rule name None options = if bytes_eq name (codes "--end") then Sets (record { needs_end = true }) else Unknown

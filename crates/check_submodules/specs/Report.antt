@@ -1,10 +1,10 @@
 -- What is reported of a stream of `.gitmodules` files: the lines of each, in order.
 use Rattle.std.specs.Prelude.{ℕ, Bool, not, nat_lt, if◌then◌else◌, List, [], None}
 use Rattle.gix_validate.specs.Bytes.{is_empty}
-use Rattle.streams.specs.declared.header.Kind.{Kind}
-use Rattle.streams.specs.declared.header.Kind.TheVariants.{Blob, Tree, Commit, Tag}
-use Rattle.streams.specs.Reports.{Said, nothing, Report}
-use Rattle.streams.specs.Objects.{ObjectRule, object_report}
+use Rattle.git_input.specs.declared.header.Kind.{Kind}
+use Rattle.git_input.specs.declared.header.Kind.TheVariants.{Blob, Tree, Commit, Tag}
+use Rattle.git_input.specs.Reports.{Said, nothing, Report}
+use Rattle.git_input.specs.Objects.{ObjectRule, object_report}
 use Rattle.gitmodules.specs.Sections.{sections}
 use Rattle.check_submodules.specs.Lines.{lines_of, too_large_line}
 
@@ -33,4 +33,4 @@ submodules_rule cut object bytes = (if cut then nothing else said_of (object_lin
 
 -- the report of an input
 abbrev pub report : Bool → List ℕ → Report
-report whole text = object_report submodules_rule whole text
+report needs_end text = object_report submodules_rule needs_end text

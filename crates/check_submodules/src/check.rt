@@ -5,25 +5,25 @@
 
 ghost use Rattle.std.specs.Prelude.{false, true, IfOk, IfSome};
 ghost use Rattle.std.proofs.Common.{ap, subst};
-ghost use Rattle.streams.specs.Objects.{IsWholeStream, object_reach};
-ghost use Rattle.streams.specs.Promises.{Runs, as_object};
-ghost use Rattle.streams.specs.Reports.{PrintsAtMost};
-ghost use Rattle.streams.specs.Spelled.{IsReportedInOrder, IsWellFormedOnlyIfSpelled};
+ghost use Rattle.git_input.specs.Objects.{IsWholeStream, object_reach};
+ghost use Rattle.git_input.specs.Promises.{Runs, as_object};
+ghost use Rattle.git_input.specs.Reports.{PrintsAtMost};
+ghost use Rattle.git_input.specs.Spelled.{IsReportedInOrder, IsWellFormedOnlyIfSpelled};
 ghost use Rattle.check_submodules.specs.Private.{Reads};
 ghost use Rattle.check_submodules.specs.Report.{report, submodules_rule};
 ghost use Rattle.check_submodules.specs.Spelled.{IsAcceptedStream, IsCleanIff, IsEachHeaderReported, IsEachNameReported};
 
 use crate::report::{push_lines, push_too_large};
-use program::outcome::RunError;
+use cli::outcome::RunError;
+use git_input::header::{Kind, Object};
+use git_input::input::{read_bytes, skip};
+use git_input::lines::Buffers;
+use git_input::objects;
+use git_input::objects::ObjectCheck;
+use git_input::outcome::{Malformation, Verdict};
+use git_input::runs::Check;
 use std::alloc::Global;
 use std::io::{BufRead, Write};
-use streams::header::{Kind, Object};
-use streams::input::{read_bytes, skip};
-use streams::lines::Buffers;
-use streams::objects;
-use streams::objects::ObjectCheck;
-use streams::outcome::{Fault, Verdict};
-use streams::runs::Check;
 
 /// The size in bytes of the largest file that is read.
 const LARGEST: u64 = 16_777_216;
@@ -31,9 +31,9 @@ const LARGEST: u64 = 16_777_216;
 /// How the input is checked.
 #[derive(Clone, Copy)]
 pub struct Options {
-    /// Whether the input has to be whole (`--end`): no object is missing, and the line `..end
+    /// Whether the input needs its end line (`--end`): no object is missing, and the line `..end
     /// missing` ends it.
-    pub whole: bool,
+    pub needs_end: bool,
 }
 
 /// Reads all of `input`, objects as `git cat-file --batch` prints them, and writes a line to
@@ -42,7 +42,7 @@ pub struct Options {
 /// skipped. A blob of more than 16,777,216 bytes is skipped too, and has a line that says so.
 ///
 /// ```
-/// run(alloc, Options { whole: false }, &mut input, &mut output)?; // Verdict::Refused
+/// run(alloc, Options { needs_end: false }, &mut input, &mut output)?; // Verdict::Refused
 /// ```
 ///
 /// The lines of a blob are written once all of it is read, and `output` is not flushed. A malformed
@@ -63,22 +63,22 @@ pub fn run<R: BufRead, W: Write>(
     input: &mut R,
     output: &mut W,
 ) -> Result<Verdict, RunError>
-    ensures runs { Runs (report options.whole) object_reach (R.remaining input.old) (R.remaining input.new)
+    ensures runs { Runs (report options.needs_end) object_reach (R.remaining input.old) (R.remaining input.new)
         (W.contents output.old) (W.contents output.new) result }
-    ensures clean { IfOk result (λ verdict. IfSome (R.remaining input.old) (IsCleanIff options.whole verdict)) }
-    ensures spelled { IsReportedInOrder submodules_rule options.whole }
-    ensures well_formed { IsWellFormedOnlyIfSpelled submodules_rule options.whole }
-    ensures whole { IsWholeStream submodules_rule options.whole }
+    ensures clean { IfOk result (λ verdict. IfSome (R.remaining input.old) (IsCleanIff options.needs_end verdict)) }
+    ensures spelled { IsReportedInOrder submodules_rule options.needs_end }
+    ensures well_formed { IsWellFormedOnlyIfSpelled submodules_rule options.needs_end }
+    ensures whole { IsWholeStream submodules_rule options.needs_end }
     ensures names { IsEachNameReported }
     ensures headers { IsEachHeaderReported }
-    ensures linear { PrintsAtMost 17 (report options.whole) }
+    ensures linear { PrintsAtMost 17 (report options.needs_end) }
 {
-    objects::run(alloc, options, options.whole, input, output)
+    objects::run(alloc, options, options.needs_end, input, output)
 }
 
 impl Check<'_> for Options {
-    ghost gave = { λ options input rest output written ran. Runs (report options.whole) object_reach input rest output written ran
-        × IfOk ran (λ verdict. IfSome input (IsCleanIff options.whole verdict)) };
+    ghost gave = { λ options input rest output written ran. Runs (report options.needs_end) object_reach input rest output written ran
+        × IfOk ran (λ verdict. IfSome input (IsCleanIff options.needs_end verdict)) };
 
     fn run<R: BufRead, W: Write>(
         self,
@@ -99,9 +99,9 @@ impl ObjectCheck for Options {
         input: &mut R,
         output: &mut W,
         buffers: &mut Buffers,
-    ) -> Result<Result<bool, Fault>, RunError> {
+    ) -> Result<Result<bool, Malformation>, RunError> {
         if !read_object(object, input, buffers)? {
-            return Ok(Err(Fault::Ended));
+            return Ok(Err(Malformation::Ended));
         }
         output
             .write_all(&buffers.lines)

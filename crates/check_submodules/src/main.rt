@@ -8,12 +8,12 @@ mod check;
 mod report;
 
 use check::Options;
-use program::arguments::Setting;
-use program::messages::Messages;
-use program::{arguments, fail};
+use cli::arguments::Setting;
+use cli::messages::Messages;
+use cli::{arguments, fail};
+use git_input::runs::{Program, answer, buffers};
 use std::env;
 use std::process::ExitCode;
-use streams::runs::{Program, answer, buffers};
 
 const HELP: &str = "\
 Prints a line for each submodule in a .gitmodules file whose name is refused:
@@ -61,12 +61,12 @@ impl<'a> arguments::Options<'a> for Options {
     ghost rule = { rule };
 
     fn start() -> Self {
-        Options { whole: false }
+        Options { needs_end: false }
     }
 
     fn set(self, name: &str, value: Option<&'a str>) -> Setting<'a, Self> {
         match value {
-            None if name == "--end" => Setting::Set(Options { whole: true }),
+            None if name == "--end" => Setting::Set(Options { needs_end: true }),
             _ => Setting::Unknown,
         }
     }

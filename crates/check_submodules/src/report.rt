@@ -6,12 +6,12 @@ ghost use Rattle.gitmodules.specs.Headers.{section_pair};
 ghost use Rattle.check_submodules.specs.Lines.{line_of, lines_of, line_start, too_large_line};
 
 use bstr::BStr;
+use git_input::output::push_quoted;
 use gitmodules::{Section, Sections};
 use gix_validate::submodule;
 use std::alloc::AllocError;
 use std::io;
 use std::io::Write;
-use streams::output::push_quoted;
 
 /// Appends the lines of a file: one for each section whose name [`submodule::name`] refuses, and
 /// one for each section that can't be read (docs/RULES.md, "The names in a .gitmodules file").

@@ -7,18 +7,18 @@ use Rattle.std.specs.Option.{is_some}
 use Rattle.std.specs.List.{AllByRecursion}
 use Rattle.gix_validate.specs.declared.path.ComponentError.{ComponentError}
 use Rattle.gix_validate.specs.Component.{fault_of}
-use Rattle.streams.specs.declared.header.Kind.{Kind}
-use Rattle.streams.specs.declared.header.Kind.TheVariants.{Blob, Tree, Commit, Tag}
-use Rattle.streams.specs.declared.outcome.Fault.TheVariants.{Entry}
-use Rattle.streams.specs.declared.outcome.Verdict.{Verdict}
-use Rattle.streams.specs.Headers.{ParsedObject}
-use Rattle.streams.specs.Reports.{all_said}
-use Rattle.streams.specs.Objects.{Judged}
-use Rattle.streams.specs.Spelled as stream
-use Rattle.streams.specs.Spelled.{Spelled, Present, Absent, IsSpelled, spelled_said, IsCleanStream}
-use Rattle.streams.proofs.CleanStreams.{neither}
+use Rattle.git_input.specs.declared.header.Kind.{Kind}
+use Rattle.git_input.specs.declared.header.Kind.TheVariants.{Blob, Tree, Commit, Tag}
+use Rattle.git_input.specs.declared.outcome.Malformation.TheVariants.{Entry}
+use Rattle.git_input.specs.declared.outcome.Verdict.{Verdict}
+use Rattle.git_input.specs.Headers.{ParsedObject}
+use Rattle.git_input.specs.Reports.{all_said}
+use Rattle.git_input.specs.Objects.{Judged}
+use Rattle.git_input.specs.Spelled as stream
+use Rattle.git_input.specs.Spelled.{Spelled, Present, Absent, IsSpelled, spelled_said, IsCleanStream}
+use Rattle.git_input.proofs.CleanStreams.{neither}
 use Rattle.check_trees.specs.Options.{Options, protections_for}
-use Rattle.check_trees.specs.Entries.{ParsedEntry, kind_of, named}
+use Rattle.check_trees.specs.Entries.{ParsedEntry, mode_of, named}
 use Rattle.check_trees.specs.Report.{finding_by, finding_said, entries, judged_by_kind, tree_rule}
 use Rattle.check_trees.specs.Spelled.{Item, item_said, IsAcceptedTree, IsAcceptedObject, IsAcceptedStream, IsCleanIff}
 use Rattle.check_trees.proofs.SpelledTrees.{entries_spelled, read_as_items}
@@ -33,11 +33,11 @@ refused_by tree entry false None = refl
 
 module _ (options : Options) (tree : ParsedObject) where
   abbrev IsAcceptedItem : Item → Type 0
-  IsAcceptedItem item = fault_of (protections_for options item.name) (kind_of item.number) item.name ≡ None
+  IsAcceptedItem item = fault_of (protections_for options item.name) (mode_of item.number) item.name ≡ None
 
-  item_refused : (item : Item) → (item_said options tree item).refused ≡ is_some (fault_of (protections_for options item.name) (kind_of item.number) item.name)
-  item_refused item = refused_by tree (record { front = named item.mode item.name item.number; id = item.id }) _
-      (fault_of (protections_for options item.name) (kind_of item.number) item.name)
+  item_refused : (item : Item) → (item_said options tree item).refused ≡ is_some (fault_of (protections_for options item.name) (mode_of item.number) item.name)
+  item_refused item = refused_by tree (record { front = named item.digits item.name item.number; id = item.id }) _
+      (fault_of (protections_for options item.name) (mode_of item.number) item.name)
 
   some_fault : (fault : Option ComponentError) → is_some fault ≡ false → fault ≡ None
   some_fault None e = refl
@@ -101,15 +101,15 @@ module _ (options : Options) where
 
   -- ---- a stream
 
-  accepted_if_clean : (text : List ℕ) → IsCleanStream (tree_rule options) options.whole text → IsAcceptedStream options text
+  accepted_if_clean : (text : List ℕ) → IsCleanStream (tree_rule options) options.needs_end text → IsAcceptedStream options text
   accepted_if_clean text clean = record {
     stream = clean.stream;
     each = clean.each;
-    accepted = all_accept options.whole clean.stream clean.each clean.clean;
+    accepted = all_accept options.needs_end clean.stream clean.each clean.clean;
     text_is = clean.text_is;
   }
 
-  clean_if_each_accepted : (text : List ℕ) → IsAcceptedStream options text → IsCleanStream (tree_rule options) options.whole text
+  clean_if_each_accepted : (text : List ℕ) → IsAcceptedStream options text → IsCleanStream (tree_rule options) options.needs_end text
   clean_if_each_accepted text good = record {
     stream = good.stream;
     each = good.each;
@@ -118,12 +118,12 @@ module _ (options : Options) where
   }
 
 clean_if_accepted : (options : Options) (verdict : Verdict) (text : List ℕ)
-    → stream.IsCleanIff (tree_rule options) options.whole verdict text → IsCleanIff options verdict text
+    → stream.IsCleanIff (tree_rule options) options.needs_end verdict text → IsCleanIff options verdict text
 clean_if_accepted options verdict text both =
     (λ e. accepted_if_clean options text (both.0 e), λ good. both.1 (clean_if_each_accepted options text good))
 
 pub clean_run : {E : Type 0} (options : Options) (r : Result Verdict E) (a : Option (List ℕ))
-    → IfOk r (λ verdict. IfSome a (λ text. stream.IsCleanIff (tree_rule options) options.whole verdict text))
+    → IfOk r (λ verdict. IfSome a (λ text. stream.IsCleanIff (tree_rule options) options.needs_end verdict text))
     → IfOk r (λ verdict. IfSome a (IsCleanIff options verdict))
 clean_run options (Ok verdict) a both = IfSome_then a both (λ text e. clean_if_accepted options verdict text e)
 clean_run options (Err stop) a both = tt

@@ -4,9 +4,9 @@ use Rattle.std.proofs.lemmas.Bool.Decides.{nat_tests}
 use Rattle.std.proofs.lemmas.List.{take_rest}
 use Rattle.std.specs.Str.{byte}
 use Rattle.memchr.specs.Find.{is_byte, IsFirstByte}
-use Rattle.streams.specs.Texts.{split_once}
+use Rattle.git_input.specs.Texts.{split_once}
 use Rattle.check_trees.specs.Arguments.{comma_parts}
-use Rattle.streams.proofs.SplitTexts.{split_searched}
+use Rattle.git_input.proofs.SplitTexts.{split_searched}
 
 -- the texts before and after the first comma, if there is one
 abbrev parts_of : List ℕ → Option (List ℕ × List ℕ) → List (List ℕ)

@@ -2,15 +2,15 @@
 use Rattle.std.proofs.Common.{◌≡◌, List, ℕ, ◌++◌, Some, None, take, drop, codes, true, refl, arith, take-append-drop, take-take}
 use Rattle.std.specs.Str.{bytes_eq}
 use Rattle.std.proofs.lemmas.Slice.Eq.{bytes_eq-Decides}
-use Rattle.streams.specs.Texts.{number_of}
+use Rattle.git_input.specs.Texts.{number_of}
 use Rattle.check_trees.specs.Entries.{parsed_front}
 
-plain_name : (name : List ℕ) → parsed_front (codes "100644 " ++ name) ≡ Some (record { mode = codes "100644"; kind = None; is_file = true; name = name })
+plain_name : (name : List ℕ) → parsed_front (codes "100644 " ++ name) ≡ Some (record { digits = codes "100644"; mode = None; is_file = true; name = name })
 unfolding parsed_front number_of
 plain_name name = refl
 
 pub plain_file : (front : List ℕ) → bytes_eq (take 7 front) (codes "100644 ") ≡ true
-    → parsed_front front ≡ Some (record { mode = take 6 front; kind = None; is_file = true; name = drop 7 front })
+    → parsed_front front ≡ Some (record { digits = take 6 front; mode = None; is_file = true; name = drop 7 front })
 plain_file front e =
     let there : take 7 front ≡ codes "100644 " = (bytes_eq-Decides (take 7 front) (codes "100644 ")).0 e in
     grind (arith, plain_name (drop 7 front), take-append-drop 7 front, take-take 6 7 front)

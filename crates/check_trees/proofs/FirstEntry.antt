@@ -6,17 +6,17 @@ use Rattle.std.proofs.lemmas.Option.{IfSome_then}
 use Rattle.std.proofs.lemmas.Bool.Decides.{nat_tests}
 use Rattle.std.specs.Prelude.{IfSome, IfOk}
 use Rattle.std.specs.Io.KnownBytes.{Appends}
-use Rattle.streams.specs.declared.outcome.Fault.{Fault}
-use Rattle.streams.specs.declared.outcome.Fault.TheVariants.{Ended, TooLong, Entry}
-use Rattle.program.specs.declared.outcome.RunError.{RunError}
-use Rattle.program.specs.declared.outcome.RunError.TheVariants.{Write}
-use Rattle.streams.specs.declared.input.Found.TheVariants.{Byte, Limit, End}
-use Rattle.streams.specs.Texts.{split_once}
-use Rattle.streams.specs.Headers.{ParsedObject}
-use Rattle.streams.specs.Reports.{longest, Said}
-use Rattle.program.specs.Writes.{AppendsPrefixOf}
-use Rattle.streams.specs.Promises.{ReadsBefore, ReadsExactly}
-use Rattle.streams.proofs.SplitTexts.{take_after, take_past, drop_before, drop_both, split_within, split_short, split_long}
+use Rattle.git_input.specs.declared.outcome.Malformation.{Malformation}
+use Rattle.git_input.specs.declared.outcome.Malformation.TheVariants.{Ended, TooLong, Entry}
+use Rattle.cli.specs.declared.outcome.RunError.{RunError}
+use Rattle.cli.specs.declared.outcome.RunError.TheVariants.{Write}
+use Rattle.git_input.specs.declared.input.Found.TheVariants.{Byte, Limit, End}
+use Rattle.git_input.specs.Texts.{split_once}
+use Rattle.git_input.specs.Headers.{ParsedObject}
+use Rattle.git_input.specs.Reports.{longest, Said}
+use Rattle.cli.specs.Writes.{AppendsPrefixOf}
+use Rattle.git_input.specs.Promises.{ReadsBefore, ReadsExactly}
+use Rattle.git_input.proofs.SplitTexts.{take_after, take_past, drop_before, drop_both, split_within, split_short, split_long}
 use Rattle.check_trees.specs.Options.{Options}
 use Rattle.check_trees.specs.declared.check.Checked.{Checked}
 use Rattle.check_trees.specs.declared.check.Finding.{Finding}
@@ -27,7 +27,7 @@ use Rattle.check_trees.specs.Private.{first_entry, EntryGives, PassesId}
 
 -- ---- an entry of these bytes
 
-module _ (short : Fault) (width : ℕ) where
+module _ (short : Malformation) (width : ℕ) where
   entry_cut : (bytes : List ℕ) → All (λ b. b ≢ nul) bytes → length bytes < longest → entry_of short width bytes ≡ Err short
   unfolding entry_of
   entry_cut bytes none few = grind (arith, nat_tests, split_short nul bytes longest none)
@@ -137,7 +137,7 @@ module _ (options : Options) (tree : ParsedObject) (left : ℕ) (new out : Optio
         → IfSome old (λ text. EntryGives options tree left text new out out (Ok (Err Entry)))
     gives_id_past passes less = let (bytes, skips, same) = passed finding count mid new kept true passes in skipped_past bytes skips less
 
-    pub gives_stop : (after : Option (List ℕ)) (stop : RunError) (r : Result (Result Checked Fault) RunError) → finding ≡ finding_of options named
+    pub gives_stop : (after : Option (List ℕ)) (stop : RunError) (r : Result (Result Checked Malformation) RunError) → finding ≡ finding_of options named
         → PassesId finding count mid new kept true → length tree.id / 2 ≤ count
         → r ≡ Err stop → (stop ≢ Write → AppendsPrefixOf out after (finding_said tree (record { front = named; id = kept }) finding).lines)
         → IfSome old (λ text. EntryGives options tree left text new out after r)

@@ -8,14 +8,14 @@ use Rattle.gix_validate.specs.declared.path.ComponentError.TheVariants.{Empty, P
 use Rattle.gix_validate.specs.declared.path.ComponentError.TheVariants.{WindowsIllegalCharacter, DotGitDir, SymlinkedGitModules, Relative}
 use Rattle.gix_validate.specs.Component.{text_of}
 use Rattle.gix_validate.specs.Quoted.{quoted}
-use Rattle.streams.specs.declared.header.Kind.{Kind}
-use Rattle.streams.specs.declared.header.Kind.TheVariants.{Blob, Tree, Commit, Tag}
-use Rattle.streams.specs.declared.outcome.Fault.{Fault}
-use Rattle.streams.specs.Texts.{number_of, is_id, hex_pair}
-use Rattle.streams.specs.Headers.{ParsedObject}
-use Rattle.streams.specs.Reports.{PrintsAtMost}
-use Rattle.streams.specs.Objects.{Judged}
-use Rattle.streams.proofs.LinearReports.{quoted_length, id_length, IsObjectWithin, stream_prints_at_most}
+use Rattle.git_input.specs.declared.header.Kind.{Kind}
+use Rattle.git_input.specs.declared.header.Kind.TheVariants.{Blob, Tree, Commit, Tag}
+use Rattle.git_input.specs.declared.outcome.Malformation.{Malformation}
+use Rattle.git_input.specs.Texts.{number_of, is_id, hex_pair}
+use Rattle.git_input.specs.Headers.{ParsedObject}
+use Rattle.git_input.specs.Reports.{PrintsAtMost}
+use Rattle.git_input.specs.Objects.{Judged}
+use Rattle.git_input.proofs.LinearReports.{quoted_length, id_length, IsObjectWithin, stream_prints_at_most}
 use Rattle.check_trees.specs.Options.{Options}
 use Rattle.check_trees.specs.declared.check.Finding.{Finding}
 use Rattle.check_trees.specs.declared.check.Finding.TheVariants.{Accepted, Modules, Refused}
@@ -69,51 +69,51 @@ mode_length (d ∷ mode) number e = omega arith
 -- ---- a line
 
 module _ (tree : ParsedObject) (front : ParsedModeAndName) where
-  place_length : length (place tree front) ≤ length tree.id + length front.mode + 4 * length front.name + 4
+  place_length : length (place tree front) ≤ length tree.id + length front.digits + 4 * length front.name + 4
   place_length = grind (arith, length-append, quoted_length front.name)
 
-  refused_length : (fault : ComponentError) → length (refused_line tree front fault) ≤ length tree.id + length front.mode + 4 * length front.name + 665
+  refused_length : (fault : ComponentError) → length (refused_line tree front fault) ≤ length tree.id + length front.digits + 4 * length front.name + 665
   refused_length fault = grind (arith, length-append, place_length, text_length fault, in_length tree.rest)
 
-  modules_length : (id : List ℕ) → length (modules_line tree front id) ≤ 2 * length id + length tree.id + length front.mode + 4 * length front.name + 539
+  modules_length : (id : List ℕ) → length (modules_line tree front id) ≤ 2 * length id + length tree.id + length front.digits + 4 * length front.name + 539
   modules_length id = grind (arith, length-append, hex_length id, place_length, in_length tree.rest)
 
-item_length : (item : Item) → length (item_bytes item) ≡ length item.mode + length item.name + length item.id + 2
+item_length : (item : Item) → length (item_bytes item) ≡ length item.digits + length item.name + length item.id + 2
 item_length item = grind (arith, length-append)
 
 module _ (tree : ParsedObject) (good : is_id tree.id ≡ true) where
   said_length : (item : Item) (finding : Finding) → IsItem (length tree.id / 2) item
-      → length (finding_said tree (record { front = named item.mode item.name item.number; id = item.id }) finding).lines ≤ 32 * length (item_bytes item)
+      → length (finding_said tree (record { front = named item.digits item.name item.number; id = item.id }) finding).lines ≤ 32 * length (item_bytes item)
   said_length item Accepted is = omega arith
   said_length item Modules is =
       omega (
         arith,
-        modules_length tree (named item.mode item.name item.number) item.id,
+        modules_length tree (named item.digits item.name item.number) item.id,
         id_length tree.id good,
-        mode_length item.mode item.number is.0,
+        mode_length item.digits item.number is.0,
         is.2,
         item_length item,
       )
   said_length item (Refused fault) is =
       omega (
         arith,
-        refused_length tree (named item.mode item.name item.number) fault,
+        refused_length tree (named item.digits item.name item.number) fault,
         id_length tree.id good,
-        mode_length item.mode item.number is.0,
+        mode_length item.digits item.number is.0,
         is.2,
         item_length item,
       )
 
   -- ---- a tree
 
-  module _ (options : Options) (short : Fault) where
-    then_length : (more : List ℕ → Judged) (r : Result (ParsedEntry × List ℕ) Fault) (bytes : List ℕ)
+  module _ (options : Options) (short : Malformation) where
+    then_length : (more : List ℕ → Judged) (r : Result (ParsedEntry × List ℕ) Malformation) (bytes : List ℕ)
         → ((rest : List ℕ) → length (more rest).0.lines ≤ 32 * length rest)
         → IfOk r (IsFirst (length tree.id / 2) bytes) → length (entries_then more options tree r).0.lines ≤ 32 * length bytes
     then_length more (Err fault) bytes go first = omega arith
     then_length more (Ok entry) bytes go (item, is, cut, same) =
         let long : length bytes ≡ length (item_bytes item ++ entry.1) = ap length cut in
-        let few = said_length item (finding_of options (named item.mode item.name item.number)) is in
+        let few = said_length item (finding_of options (named item.digits item.name item.number)) is in
         let lines : length (entry_said options tree entry.0).lines ≤ 32 * length (item_bytes item) = rw same few in
         omega (
           arith,
@@ -146,4 +146,4 @@ tree_within : (options : Options) → IsObjectWithin 32 (tree_rule options)
 tree_within options cut object bytes good whole = kind_length object good options cut bytes object.kind
 
 pub linear_report : (options : Options) → PrintsAtMost 32 (report options)
-linear_report options = stream_prints_at_most 32 (tree_rule options) options.whole (tree_within options)
+linear_report options = stream_prints_at_most 32 (tree_rule options) options.needs_end (tree_within options)

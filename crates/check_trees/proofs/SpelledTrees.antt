@@ -8,16 +8,16 @@ use Rattle.std.proofs.lemmas.List.Elements.{All-from_recursion, All-append, All-
 use Rattle.std.proofs.lemmas.Bool.Decides.{nat_tests}
 use Rattle.std.proofs.lemmas.Grind.{common_steps}
 use Rattle.std.specs.Str.{byte}
-use Rattle.streams.specs.declared.outcome.Fault.{Fault}
-use Rattle.streams.specs.declared.outcome.Fault.TheVariants.{Entry}
-use Rattle.streams.specs.declared.header.Kind.TheVariants.{Tree}
-use Rattle.streams.specs.Texts.{split_once, number_of}
-use Rattle.streams.specs.Headers.{ParsedObject}
-use Rattle.streams.specs.Reports.{longest, then_said, all_said}
-use Rattle.streams.specs.Objects.{Judged}
-use Rattle.streams.proofs.SplitTexts.{split_found, drop_both, IsCut, split_cuts, whole}
-use Rattle.streams.proofs.SpelledHeaders.{without, number_high}
-use Rattle.streams.proofs.WellFormedStreams.{each_after}
+use Rattle.git_input.specs.declared.outcome.Malformation.{Malformation}
+use Rattle.git_input.specs.declared.outcome.Malformation.TheVariants.{Entry}
+use Rattle.git_input.specs.declared.header.Kind.TheVariants.{Tree}
+use Rattle.git_input.specs.Texts.{split_once, number_of}
+use Rattle.git_input.specs.Headers.{ParsedObject}
+use Rattle.git_input.specs.Reports.{longest, then_said, all_said}
+use Rattle.git_input.specs.Objects.{Judged}
+use Rattle.git_input.proofs.SplitTexts.{split_found, drop_both, IsCut, split_cuts, whole}
+use Rattle.git_input.proofs.SpelledHeaders.{without, number_high}
+use Rattle.git_input.proofs.WellFormedStreams.{each_after}
 use Rattle.check_trees.specs.Options.{Options}
 use Rattle.check_trees.specs.Entries.{nul, named, ParsedModeAndName, ParsedEntry, parsed_front, entry_at, entry_with, entry_of}
 use Rattle.check_trees.specs.Report.{entries_then, entries_within, entries, judged_by_kind, tree_rule}
@@ -33,12 +33,12 @@ unfolding parsed_front
 front_spelled mode name number e =
     grind (arith, split_found (byte " ") mode name (without (byte "0") (byte " ") mode (omega arith) (number_high 8 mode number e)))
 
-entry_spelled : (short : Fault) (width : ℕ) (item : Item) (more : List ℕ) → IsItem width item
-    → entry_of short width (item_bytes item ++ more) ≡ Ok (record { front = named item.mode item.name item.number; id = item.id }, more)
+entry_spelled : (short : Malformation) (width : ℕ) (item : Item) (more : List ℕ) → IsItem width item
+    → entry_of short width (item_bytes item ++ more) ≡ Ok (record { front = named item.digits item.name item.number; id = item.id }, more)
 entry_spelled short width item more good =
-    let high = number_high 8 item.mode item.number good.0 in
-    let front = item.mode ++ byte " " ∷ item.name in
-    let none : All (λ b. b ≢ nul) front = All-append (λ b. b ≢ nul) item.mode (byte " " ∷ item.name) (without (byte "0") nul item.mode (omega arith) high)
+    let high = number_high 8 item.digits item.number good.0 in
+    let front = item.digits ++ byte " " ∷ item.name in
+    let none : All (λ b. b ≢ nul) front = All-append (λ b. b ≢ nul) item.digits (byte " " ∷ item.name) (without (byte "0") nul item.digits (omega arith) high)
     (All-cons (λ b. b ≢ nul) (byte " ") item.name (λ e. omega arith) good.1) in
     grind (
       arith,
@@ -48,10 +48,10 @@ entry_spelled short width item more good =
       entry_found short width front (item.id ++ more) none,
       drop_both (front ++ nul ∷ []) item.id more,
       id_after front item.id more (length front + 1) width refl,
-      front_spelled item.mode item.name item.number good.0,
+      front_spelled item.digits item.name item.number good.0,
     )
 
-pub entries_spelled : (options : Options) (short : Fault) (tree : ParsedObject) (items : List Item) → AllByRecursion (IsItem (length tree.id / 2)) items
+pub entries_spelled : (options : Options) (short : Malformation) (tree : ParsedObject) (items : List Item) → AllByRecursion (IsItem (length tree.id / 2)) items
     → entries options short tree (flat_map item_bytes items) ≡ (all_said (map (item_said options tree) items), None)
 entries_spelled options short tree [] each = grind (arith, entries_none)
 entries_spelled options short tree (item ∷ items) (first, each) =
@@ -60,8 +60,8 @@ entries_spelled options short tree (item ∷ items) (first, each) =
 -- ---- an entry that is well-formed
 
 abbrev IsFront : List ℕ → ParsedModeAndName → Type 0
-IsFront front parsed = (number : ℕ) × (number_of 8 parsed.mode ≡ Some number) × (front ≡ parsed.mode ++ byte " " ∷ parsed.name)
-    × (parsed ≡ named parsed.mode parsed.name number)
+IsFront front parsed = (number : ℕ) × (number_of 8 parsed.digits ≡ Some number) × (front ≡ parsed.digits ++ byte " " ∷ parsed.name)
+    × (parsed ≡ named parsed.digits parsed.name number)
 
 front_is : (front : List ℕ) → IfSome (parsed_front front) (IsFront front)
 unfolding parsed_front
@@ -70,24 +70,24 @@ front_is front = grind (arith, split_cuts (byte " ") front)
 abbrev pub IsFirst : ℕ → List ℕ → ParsedEntry × List ℕ → Type 0
 IsFirst width bytes entry =
     (item : Item) × IsItem width item × (bytes ≡ item_bytes item ++ entry.1)
-    × (entry.0 ≡ record { front = named item.mode item.name item.number; id = item.id })
+    × (entry.0 ≡ record { front = named item.digits item.name item.number; id = item.id })
 
 -- what a test lets through
-if_ok : {T : Type 0} (test : Bool) (fault : Fault) (x : T) (P : T → Type 0) → (test ≡ false → P x) → IfOk (if test then Err fault else Ok x) P
+if_ok : {T : Type 0} (test : Bool) (fault : Malformation) (x : T) (P : T → Type 0) → (test ≡ false → P x) → IfOk (if test then Err fault else Ok x) P
 if_ok true fault x P holds = tt
 if_ok false fault x P holds = holds refl
 
-module _ (short : Fault) (width : ℕ) where
+module _ (short : Malformation) (width : ℕ) where
   item_at : (bytes front : List ℕ) (parsed : Option ParsedModeAndName) → bytes ≡ front ++ nul ∷ drop (length front + 1) bytes → length front < longest
       → AllByRecursion (λ b. b ≢ nul) front → IfSome parsed (IsFront front) → IfOk (entry_at short width bytes (length front + 1) parsed) (IsFirst width bytes)
   item_at bytes front None cut few none is = tt
   item_at bytes front (Some parsed) cut few none (number, digits, spelled, same) = if_ok _ short _ (IsFirst width bytes) (λ room.
       let id = take width (drop (length front + 1) bytes) in
-      let name_none : AllByRecursion (λ b. b ≢ nul) parsed.name = (each_after (λ b. b ≢ nul) parsed.mode (byte " " ∷ parsed.name) (rw spelled at none)).1 in
+      let name_none : AllByRecursion (λ b. b ≢ nul) parsed.name = (each_after (λ b. b ≢ nul) parsed.digits (byte " " ∷ parsed.name) (rw spelled at none)).1 in
       let long : length bytes ≡ length (front ++ nul ∷ drop (length front + 1) bytes) = ap length cut in
       let after : drop (length front + 1) bytes ≡ id ++ drop (length front + 1 + width) bytes =
       rw (← (drop-drop width (length front + 1) bytes)) (sym (take-append-drop width (drop (length front + 1) bytes))) in (
-        record { mode = parsed.mode; number = number; name = parsed.name; id = id },
+        record { digits = parsed.digits; number = number; name = parsed.name; id = id },
         (digits, All-from_recursion (λ b. b ≢ nul) parsed.name name_none, grind (arith, nat_tests, length-take, length-append), grind (arith, length-append)),
         grind (arith, append_assoc),
         ap (λ (front : ParsedModeAndName). record { front = front; id = id }) same,
@@ -105,11 +105,11 @@ module _ (short : Fault) (width : ℕ) where
 
 -- ---- a tree that is well-formed
 
-module _ (options : Options) (short : Fault) (tree : ParsedObject) where
+module _ (options : Options) (short : Malformation) (tree : ParsedObject) where
   abbrev Goes : List ℕ → Judged → Type 0
   Goes bytes judged = judged.1 ≡ None → IsTree options tree bytes judged.0
 
-  tree_then : (more : List ℕ → Judged) (r : Result (ParsedEntry × List ℕ) Fault) (bytes : List ℕ) (fuel : ℕ) → length bytes ≤ suc fuel
+  tree_then : (more : List ℕ → Judged) (r : Result (ParsedEntry × List ℕ) Malformation) (bytes : List ℕ) (fuel : ℕ) → length bytes ≤ suc fuel
       → ((rest : List ℕ) → length rest ≤ fuel → Goes rest (more rest))
       → IfOk r (IsFirst (length tree.id / 2) bytes) → Goes bytes (entries_then more options tree r)
   tree_then more (Err fault) bytes fuel many go first none = grind arith

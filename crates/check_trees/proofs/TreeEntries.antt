@@ -7,14 +7,14 @@ use Rattle.std.proofs.lemmas.Option.{IfSome_then}
 use Rattle.std.proofs.lemmas.Bool.Decides.{nat_tests}
 use Rattle.std.proofs.lemmas.Grind.{common_steps}
 use Rattle.std.specs.Prelude.{IfSome}
-use Rattle.streams.specs.declared.outcome.Fault.{Fault}
-use Rattle.program.specs.declared.outcome.RunError.{RunError}
-use Rattle.program.specs.declared.outcome.RunError.TheVariants.{Write}
-use Rattle.streams.specs.Headers.{ParsedObject}
-use Rattle.streams.specs.Reports.{nothing, then_said}
-use Rattle.program.specs.Writes.{AppendsPrefixOf}
-use Rattle.streams.specs.Promises.{FollowsRule}
-use Rattle.streams.proofs.ReportSoFar.{SoFar, goes, ends, stops}
+use Rattle.git_input.specs.declared.outcome.Malformation.{Malformation}
+use Rattle.cli.specs.declared.outcome.RunError.{RunError}
+use Rattle.cli.specs.declared.outcome.RunError.TheVariants.{Write}
+use Rattle.git_input.specs.Headers.{ParsedObject}
+use Rattle.git_input.specs.Reports.{nothing, then_said}
+use Rattle.cli.specs.Writes.{AppendsPrefixOf}
+use Rattle.git_input.specs.Promises.{FollowsRule}
+use Rattle.git_input.proofs.ReportSoFar.{SoFar, goes, ends, stops}
 use Rattle.check_trees.specs.Options.{Options}
 use Rattle.check_trees.specs.declared.check.Checked.{Checked}
 use Rattle.check_trees.specs.Entries.{nul, ParsedEntry, entry_of}
@@ -24,7 +24,7 @@ use Rattle.check_trees.proofs.FirstEntry.{entry_shorter, first_cut}
 
 -- ---- the fuel says nothing, where there is enough
 
-module _ (options : Options) (short : Fault) (tree : ParsedObject) where
+module _ (options : Options) (short : Malformation) (tree : ParsedObject) where
   entries_enough : (f g : ℕ) (bytes : List ℕ) → length bytes ≤ f → length bytes ≤ g
       → entries_within f options short tree bytes ≡ entries_within g options short tree bytes
   entries_enough zero zero bytes p q = refl
@@ -49,7 +49,7 @@ module _ (options : Options) (tree : ParsedObject) (left : ℕ) where
   tree_ended : (text : List ℕ) → left ≡ 0 → tree_report options tree left text ≡ (nothing, Ok text)
   tree_ended text none = grind (arith, entries_none)
 
-  tree_faulty : (text : List ℕ) (fault : Fault) → 0 < left → first_entry tree left text ≡ Err fault → tree_report options tree left text ≡ (nothing, Err fault)
+  tree_faulty : (text : List ℕ) (fault : Malformation) → 0 < left → first_entry tree left text ≡ Err fault → tree_report options tree left text ≡ (nothing, Err fault)
   tree_faulty [] fault some e = grind (arith, common_steps, entries_none, first_cut tree [] [] left (All-nil (λ b. b ≢ nul)) some)
   tree_faulty (b ∷ text) fault some e = grind (
     arith,
@@ -84,7 +84,7 @@ module _ (options : Options) (tree : ParsedObject) (size left : ℕ) {a b old mi
   tree_goes c new entry bound gives = goes sofar _ c new entry.refused (IfSome_then b gives (λ rest (named, first, after, many, appends, found).
       (entry_said options tree named, _, after, tree_entry options tree left rest entry.len named bound.0 bound.1 many first, appends, found)))
 
-  pub tree_faults : (new : Option (List ℕ)) (fault : Fault) → 0 < left → IfSome b (λ rest. EntryGives options tree left rest b mid new (Ok (Err fault)))
+  pub tree_faults : (new : Option (List ℕ)) (fault : Malformation) → 0 < left → IfSome b (λ rest. EntryGives options tree left rest b mid new (Ok (Err fault)))
       → IfSome a (λ text. FollowsRule (tree_report options tree size text) b old new (Ok (Err fault)))
   tree_faults new fault some gives = ends sofar new (Err fault) (IfSome_then b gives (λ rest e.
       (nothing, tree_faulty options tree left rest fault some e.0, e.1)))
@@ -92,7 +92,7 @@ module _ (options : Options) (tree : ParsedObject) (size left : ℕ) {a b old mi
   pub tree_ends : left ≡ 0 → IfSome a (λ text. FollowsRule (tree_report options tree size text) b old mid (Ok (Ok refused)))
   tree_ends none = IfSome_then a sofar.known (λ text so. grind (arith, append-nil, tree_ended))
 
-  pub tree_stops : (c new : Option (List ℕ)) (stop : RunError) (r : Result (Result Bool Fault) RunError) → 0 < left → r ≡ Err stop
+  pub tree_stops : (c new : Option (List ℕ)) (stop : RunError) (r : Result (Result Bool Malformation) RunError) → 0 < left → r ≡ Err stop
       → IfSome b (λ rest. stop ≢ Write → AppendsPrefixOf mid new (first_said options tree (first_entry tree left rest)).lines)
       → IfSome a (λ text. FollowsRule (tree_report options tree size text) c old new r)
   tree_stops c new stop r some is begun =

@@ -6,7 +6,7 @@ use Rattle.gix_validate.specs.Component.{all_protections}
 use Rattle.gix_validate.specs.ComponentLaws.{no_protections}
 use Rattle.check_trees.specs.Options.{Options}
 use Rattle.gix_validate.specs.Pieces.{pieces}
-use Rattle.program.specs.Arguments.{OptionRule, Effect, Unknown, Sets, NeedsValue, Invalid}
+use Rattle.cli.specs.Arguments.{OptionRule, Effect, Unknown, Sets, NeedsValue, Invalid}
 
 -- a byte before the first of these texts
 abbrev pub onto : ℕ → List (List ℕ) → List (List ℕ)
@@ -41,25 +41,25 @@ protections_of list = if bytes_eq list (codes "none") then Some no_protections e
 
 -- without options every switch is on, and nothing more
 abbrev pub no_options : Options
-no_options = record { protections = all_protections; modules = false; whole = false; accepted = pieces [] }
+no_options = record { protections = all_protections; modules = false; needs_end = false; accepted = pieces [] }
 
 -- the options with the switches that a list asks for
 abbrev pub protected_by : List ℕ → Options → Option ComponentOptions → Effect Options
 protected_by list options None = Invalid list (codes "windows, hfs or ntfs, separated by commas, or none")
-protected_by list options (Some on) = Sets (record { protections = on; modules = options.modules; whole = options.whole; accepted = options.accepted })
+protected_by list options (Some on) = Sets (record { protections = on; modules = options.modules; needs_end = options.needs_end; accepted = options.accepted })
 
 -- What an option does. The names of `--accept` are between the slashes of its value.
 abbrev pub rule : OptionRule Options
 rule name None options =
     if bytes_eq name (codes "--modules")
-    then Sets (record { protections = options.protections; modules = true; whole = options.whole; accepted = options.accepted }) else
+    then Sets (record { protections = options.protections; modules = true; needs_end = options.needs_end; accepted = options.accepted }) else
     if bytes_eq name (codes "--end")
-    then Sets (record { protections = options.protections; modules = options.modules; whole = true; accepted = options.accepted }) else
+    then Sets (record { protections = options.protections; modules = options.modules; needs_end = true; accepted = options.accepted }) else
     if bytes_eq name (codes "--protect") then NeedsValue else
     if bytes_eq name (codes "--accept") then NeedsValue else
     Unknown
 rule name (Some value) options =
     if bytes_eq name (codes "--protect") then protected_by value options (protections_of value) else
     if bytes_eq name (codes "--accept")
-    then Sets (record { protections = options.protections; modules = options.modules; whole = options.whole; accepted = pieces value }) else
+    then Sets (record { protections = options.protections; modules = options.modules; needs_end = options.needs_end; accepted = pieces value }) else
     Unknown

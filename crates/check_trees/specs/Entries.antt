@@ -5,27 +5,27 @@ use Rattle.std.specs.Str.{byte}
 use Rattle.gix_validate.specs.declared.path.ComponentMode.{ComponentMode}
 use Rattle.gix_validate.specs.declared.path.ComponentMode.TheVariants.{Symlink}
 use Rattle.gix_validate.specs.Faults.{when}
-use Rattle.streams.specs.declared.outcome.Fault.{Fault}
-use Rattle.streams.specs.declared.outcome.Fault.TheVariants.{TooLong, Entry}
-use Rattle.streams.specs.Texts.{split_once, number_of}
-use Rattle.streams.specs.Reports.{longest}
+use Rattle.git_input.specs.declared.outcome.Malformation.{Malformation}
+use Rattle.git_input.specs.declared.outcome.Malformation.TheVariants.{TooLong, Entry}
+use Rattle.git_input.specs.Texts.{split_once, number_of}
+use Rattle.git_input.specs.Reports.{longest}
 
 -- the byte that ends an entry's name
 abbrev pub nul : ℕ
 nul = 0x00
 
 -- The file type is in the bits from 12 on of a mode's number, where Git looks: 1010 is a symbolic link.
-abbrev pub kind_of : ℕ → Option ComponentMode
-kind_of number = when (number / 4096 % 16 == 10) Symlink
+abbrev pub mode_of : ℕ → Option ComponentMode
+mode_of number = when (number / 4096 % 16 == 10) Symlink
 
 -- 1000 there is a file.
 abbrev pub is_file : ℕ → Bool
 is_file number = number / 4096 % 16 == 8
 
--- the mode of an entry, what it means for the name, whether it is that of a file, and the name
+-- the digits of an entry's mode, what it means for the name, whether it is that of a file, and the name
 pub record ParsedModeAndName : Type 0 where
-  pub mode : List ℕ
-  pub kind : Option ComponentMode
+  pub digits : List ℕ
+  pub mode : Option ComponentMode
   pub is_file : Bool
   pub name : List ℕ
 
@@ -35,7 +35,7 @@ pub record ParsedEntry : Type 0 where
   pub id : List ℕ
 
 abbrev pub named : List ℕ → List ℕ → ℕ → ParsedModeAndName
-named mode name number = record { mode = mode; kind = kind_of number; is_file = is_file number; name = name }
+named digits name number = record { digits = digits; mode = mode_of number; is_file = is_file number; name = name }
 
 -- what is before the NUL of an entry: a mode in octal digits, a space and a name
 unfoldable pub parsed_front : List ℕ → Option ParsedModeAndName
@@ -44,17 +44,17 @@ parsed_front front =
     (split_once (byte " ") front)
 
 -- an entry of these bytes, whose id has `width` bytes and begins after so many; `short` is what it means that the bytes end before
-abbrev pub entry_at : Fault → ℕ → List ℕ → ℕ → Option ParsedModeAndName → Result (ParsedEntry × List ℕ) Fault
+abbrev pub entry_at : Malformation → ℕ → List ℕ → ℕ → Option ParsedModeAndName → Result (ParsedEntry × List ℕ) Malformation
 entry_at short width bytes start None = Err Entry
 entry_at short width bytes start (Some front) =
     if nat_lt (length bytes) (start + width) then Err short
     else Ok (record { front = front; id = take width (drop start bytes) }, drop (start + width) bytes)
 
 -- the same, where it is known what is before the NUL, if there is one within the limit
-abbrev pub entry_with : Fault → ℕ → List ℕ → Option (List ℕ × List ℕ) → Result (ParsedEntry × List ℕ) Fault
+abbrev pub entry_with : Malformation → ℕ → List ℕ → Option (List ℕ × List ℕ) → Result (ParsedEntry × List ℕ) Malformation
 entry_with short width bytes None = Err (if nat_lt (length bytes) longest then short else TooLong)
 entry_with short width bytes (Some parts) = entry_at short width bytes (length parts.0 + 1) (parsed_front parts.0)
 
 -- The entry at the front of what is left of a tree, and what follows it, or what is wrong with it.
-unfoldable pub entry_of : Fault → ℕ → List ℕ → Result (ParsedEntry × List ℕ) Fault
+unfoldable pub entry_of : Malformation → ℕ → List ℕ → Result (ParsedEntry × List ℕ) Malformation
 entry_of short width bytes = entry_with short width bytes (split_once nul (take longest bytes))

@@ -10,7 +10,7 @@ use Rattle.check_trees.specs.declared.check.CheckOptions.{CheckOptions}
 pub record Options : Type 0 where
   pub protections : ComponentOptions
   pub modules : Bool
-  pub whole : Bool
+  pub needs_end : Bool
   pub accepted : List (List ℕ)
 
 -- the options as the code has them: the names are the texts between the slashes of one text
@@ -18,7 +18,7 @@ abbrev pub as_options : CheckOptions → Options
 as_options options = record {
   protections = options.protections;
   modules = options.modules;
-  whole = options.whole;
+  needs_end = options.needs_end;
   accepted = pieces options.accepted.now;
 }
 

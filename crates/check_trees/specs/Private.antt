@@ -2,13 +2,13 @@
 use Rattle.std.specs.Prelude.{◌≡◌, ◌≢◌, ℕ, ◌-◌, ◌/◌, ◌≤◌, nat_lt, Bool, List, [], length, take, drop, Option}
 use Rattle.std.specs.Prelude.{Some, Result, Ok, Err}
 use Rattle.std.specs.Io.KnownBytes.{Appends}
-use Rattle.streams.specs.declared.outcome.Fault.{Fault}
-use Rattle.program.specs.declared.outcome.RunError.{RunError}
-use Rattle.program.specs.declared.outcome.RunError.TheVariants.{Write}
-use Rattle.streams.specs.Headers.{ParsedObject}
-use Rattle.streams.specs.Reports.{Said, nothing, Step}
-use Rattle.program.specs.Writes.{AppendsPrefixOf}
-use Rattle.streams.specs.Promises.{ReadsUpTo, ReadsExactly, or_cut, judged_with_rest}
+use Rattle.git_input.specs.declared.outcome.Malformation.{Malformation}
+use Rattle.cli.specs.declared.outcome.RunError.{RunError}
+use Rattle.cli.specs.declared.outcome.RunError.TheVariants.{Write}
+use Rattle.git_input.specs.Headers.{ParsedObject}
+use Rattle.git_input.specs.Reports.{Said, nothing, Step}
+use Rattle.cli.specs.Writes.{AppendsPrefixOf}
+use Rattle.git_input.specs.Promises.{ReadsUpTo, ReadsExactly, or_cut, judged_with_rest}
 use Rattle.check_trees.specs.Options.{Options}
 use Rattle.check_trees.specs.declared.check.Checked.{Checked}
 use Rattle.check_trees.specs.declared.check.Finding.{Finding}
@@ -19,7 +19,7 @@ use Rattle.check_trees.specs.Report.{entry_said, entries, short_of}
 
 -- what is before an entry's NUL, as the code has it
 abbrev pub as_front : ModeAndName → ParsedModeAndName
-as_front front = record { mode = front.mode.now; kind = front.kind; is_file = front.is_file; name = front.name.now }
+as_front front = record { digits = front.digits.now; mode = front.mode; is_file = front.is_file; name = front.name.now }
 
 -- this was said, or its lines were begun, except that nothing is said of a failed write
 abbrev pub Says : Said → Option (List ℕ) → Option (List ℕ) → Result Bool RunError → Type 0
@@ -32,15 +32,15 @@ tree_report options tree size text =
     let cut = nat_lt (length text) size in judged_with_rest (or_cut cut (entries options (short_of cut) tree (take size text))) (drop size text)
 
 -- the first entry of a tree that has so many bytes left
-abbrev pub first_entry : ParsedObject → ℕ → List ℕ → Result (ParsedEntry × List ℕ) Fault
+abbrev pub first_entry : ParsedObject → ℕ → List ℕ → Result (ParsedEntry × List ℕ) Malformation
 first_entry tree left text = entry_of (short_of (nat_lt (length text) left)) (length tree.id / 2) (take left text)
 
-abbrev pub first_said : Options → ParsedObject → Result (ParsedEntry × List ℕ) Fault → Said
+abbrev pub first_said : Options → ParsedObject → Result (ParsedEntry × List ℕ) Malformation → Said
 first_said options tree (Ok entry) = entry_said options tree entry.0
 first_said options tree (Err fault) = nothing
 
 abbrev pub EntryGives : Options → ParsedObject → ℕ → List ℕ → Option (List ℕ) → Option (List ℕ) → Option (List ℕ)
-    → Result (Result Checked Fault) RunError → Type 0
+    → Result (Result Checked Malformation) RunError → Type 0
 EntryGives options tree left text new before after (Ok (Ok checked)) =
     (entry : ParsedEntry) × (first_entry tree left text ≡ Ok (entry, take (left - checked.len) (drop checked.len text)))
     × (new ≡ Some (drop checked.len text)) × (checked.len ≤ length text)
@@ -49,7 +49,7 @@ EntryGives options tree left text new before after (Ok (Err fault)) = (first_ent
 EntryGives options tree left text new before after (Err stop) = stop ≢ Write → AppendsPrefixOf before after (first_said options tree (first_entry tree left text)).lines
 
 -- no more was read than the entry, or than was left of the tree
-abbrev pub EntryReads : ℕ → Option (List ℕ) → Option (List ℕ) → Result Checked Fault → Type 0
+abbrev pub EntryReads : ℕ → Option (List ℕ) → Option (List ℕ) → Result Checked Malformation → Type 0
 EntryReads left old new (Ok checked) = ReadsUpTo checked.len old new
 EntryReads left old new (Err fault) = ReadsUpTo left old new
 

@@ -9,15 +9,15 @@ use Rattle.gix_validate.specs.declared.path.ComponentError.TheVariants.{WindowsI
 use Rattle.gix_validate.specs.declared.path.ComponentMode.TheVariants.{Symlink}
 use Rattle.gix_validate.specs.Component.{fault_of, text_of}
 use Rattle.gix_validate.specs.Quoted.{quoted}
-use Rattle.streams.specs.declared.header.Kind.{Kind}
-use Rattle.streams.specs.declared.header.Kind.TheVariants.{Blob, Tree, Commit, Tag}
-use Rattle.streams.specs.declared.outcome.Fault.{Fault}
-use Rattle.streams.specs.declared.outcome.Fault.TheVariants.{Ended, Entry}
-use Rattle.streams.specs.Texts.{line_end, hex_pair}
-use Rattle.streams.specs.Headers.{ParsedObject}
-use Rattle.streams.specs.Reports as stream
-use Rattle.streams.specs.Reports.{Said, nothing, then_said}
-use Rattle.streams.specs.Objects.{Judged, ObjectRule, object_report}
+use Rattle.git_input.specs.declared.header.Kind.{Kind}
+use Rattle.git_input.specs.declared.header.Kind.TheVariants.{Blob, Tree, Commit, Tag}
+use Rattle.git_input.specs.declared.outcome.Malformation.{Malformation}
+use Rattle.git_input.specs.declared.outcome.Malformation.TheVariants.{Ended, Entry}
+use Rattle.git_input.specs.Texts.{line_end, hex_pair}
+use Rattle.git_input.specs.Headers.{ParsedObject}
+use Rattle.git_input.specs.Reports as stream
+use Rattle.git_input.specs.Reports.{Said, nothing, then_said}
+use Rattle.git_input.specs.Objects.{Judged, ObjectRule, object_report}
 use Rattle.check_trees.specs.Options.{Options, protections_for}
 use Rattle.check_trees.specs.declared.check.Finding.{Finding}
 use Rattle.check_trees.specs.declared.check.Finding.TheVariants.{Accepted, Modules, Refused}
@@ -41,7 +41,7 @@ in_path (Some (b ∷ path)) = codes " (in " ++ shown_path (b ∷ path) ++ codes 
 
 -- the tree's id, the mode and the quoted name
 abbrev pub place : ParsedObject → ParsedModeAndName → List ℕ
-place tree front = tree.id ++ codes " " ++ front.mode ++ codes " " ++ quoted front.name
+place tree front = tree.id ++ codes " " ++ front.digits ++ codes " " ++ quoted front.name
 
 -- the line of an entry with this fault
 abbrev pub refused_line : ParsedObject → ParsedModeAndName → ComponentError → List ℕ
@@ -74,7 +74,7 @@ finding_by modules None = if modules then Modules else Accepted
 abbrev pub finding_of : Options → ParsedModeAndName → Finding
 finding_of options front =
     let protections = protections_for options front.name in
-    finding_by (options.modules && front.is_file && is_gitmodules protections front.name) (fault_of protections front.kind front.name)
+    finding_by (options.modules && front.is_file && is_gitmodules protections front.name) (fault_of protections front.mode front.name)
 
 abbrev pub finding_said : ParsedObject → ParsedEntry → Finding → Said
 finding_said tree entry Accepted = nothing
@@ -88,24 +88,24 @@ entry_said options tree entry = finding_said tree entry (finding_of options entr
 -- ---- a tree
 
 -- The entries of a tree, one after the other until its bytes are used up. (`fuel` is at least their number.)
-abbrev pub entries_then : (List ℕ → Judged) → Options → ParsedObject → Result (ParsedEntry × List ℕ) Fault → Judged
+abbrev pub entries_then : (List ℕ → Judged) → Options → ParsedObject → Result (ParsedEntry × List ℕ) Malformation → Judged
 entries_then more options tree (Err fault) = (nothing, Some fault)
 entries_then more options tree (Ok entry) = let others = more entry.1 in (then_said (entry_said options tree entry.0) others.0, others.1)
 
-abbrev pub entries_within : ℕ → Options → Fault → ParsedObject → List ℕ → Judged
+abbrev pub entries_within : ℕ → Options → Malformation → ParsedObject → List ℕ → Judged
 entries_within zero options short tree bytes = (nothing, None)
 entries_within (suc fuel) options short tree [] = (nothing, None)
 entries_within (suc fuel) options short tree (b ∷ bytes) =
     entries_then (entries_within fuel options short tree) options tree (entry_of short (length tree.id / 2) (b ∷ bytes))
 
 -- a tree of these bytes; `short` is what it means that they end within an entry
-unfoldable pub entries : Options → Fault → ParsedObject → List ℕ → Judged
+unfoldable pub entries : Options → Malformation → ParsedObject → List ℕ → Judged
 entries options short tree bytes = entries_within (length bytes) options short tree bytes
 
 -- ---- a stream
 
 -- an entry that is cut short runs past its tree, if the input does not end there
-abbrev pub short_of : Bool → Fault
+abbrev pub short_of : Bool → Malformation
 short_of cut = if cut then Ended else Entry
 
 abbrev pub judged_by_kind : Options → Bool → ParsedObject → List ℕ → Kind → Judged
@@ -120,4 +120,4 @@ tree_rule options cut object bytes = judged_by_kind options cut object bytes obj
 
 -- the report of a text
 abbrev pub report : Options → List ℕ → stream.Report
-report options text = object_report (tree_rule options) options.whole text
+report options text = object_report (tree_rule options) options.needs_end text

@@ -3,35 +3,35 @@ use Rattle.std.specs.Prelude.{◌≡◌, ◌≢◌, ◌↔◌, ℕ, ◌+◌, ◌
 use Rattle.std.specs.List.{AllByRecursion}
 use Rattle.std.specs.Str.{byte}
 use Rattle.gix_validate.specs.Component.{fault_of}
-use Rattle.streams.specs.declared.outcome.Verdict.{Verdict}
-use Rattle.streams.specs.declared.outcome.Verdict.TheVariants.{Clean}
-use Rattle.streams.specs.Texts.{number_of}
-use Rattle.streams.specs.Headers.{ParsedObject}
-use Rattle.streams.specs.Reports.{longest, Said, all_said}
-use Rattle.streams.specs.declared.header.Kind.TheVariants.{Tree}
-use Rattle.streams.specs.Spelled.{Spelled, Present, Absent, IsSpelled, spelling, end_of}
+use Rattle.git_input.specs.declared.outcome.Verdict.{Verdict}
+use Rattle.git_input.specs.declared.outcome.Verdict.TheVariants.{Clean}
+use Rattle.git_input.specs.Texts.{number_of}
+use Rattle.git_input.specs.Headers.{ParsedObject}
+use Rattle.git_input.specs.Reports.{longest, Said, all_said}
+use Rattle.git_input.specs.declared.header.Kind.TheVariants.{Tree}
+use Rattle.git_input.specs.Spelled.{Spelled, Present, Absent, IsSpelled, spelling, end_of}
 use Rattle.check_trees.specs.Options.{Options, protections_for}
-use Rattle.check_trees.specs.Entries.{nul, kind_of, named}
+use Rattle.check_trees.specs.Entries.{nul, mode_of, named}
 use Rattle.check_trees.specs.Report.{entry_said, tree_rule}
 
 -- an entry of a tree: its mode and that as a number, its name, and the id of what it names
 pub record Item : Type 0 where
-  pub mode : List ℕ
+  pub digits : List ℕ
   pub number : ℕ
   pub name : List ℕ
   pub id : List ℕ
 
 abbrev pub IsItem : ℕ → Item → Type 0
 IsItem width item =
-    (number_of 8 item.mode ≡ Some item.number) × All (λ b. b ≢ nul) item.name × (length item.id ≡ width)
-    × (length item.mode + length item.name + 2 ≤ longest)
+    (number_of 8 item.digits ≡ Some item.number) × All (λ b. b ≢ nul) item.name × (length item.id ≡ width)
+    × (length item.digits + length item.name + 2 ≤ longest)
 
 abbrev pub item_bytes : Item → List ℕ
-item_bytes item = item.mode ++ byte " " ∷ item.name ++ nul ∷ item.id
+item_bytes item = item.digits ++ byte " " ∷ item.name ++ nul ∷ item.id
 
 -- what is said of an entry of this tree
 abbrev pub item_said : Options → ParsedObject → Item → Said
-item_said options tree item = entry_said options tree (record { front = named item.mode item.name item.number; id = item.id })
+item_said options tree item = entry_said options tree (record { front = named item.digits item.name item.number; id = item.id })
 
 -- a tree of these bytes: its entries, whose ids are as long as its own, and what is said of them
 pub record IsTree (options : Options) (tree : ParsedObject) (bytes : List ℕ) (said : Said) : Type 0 where
@@ -52,7 +52,7 @@ IsReadAsItems options =
 pub record IsAcceptedTree (options : Options) (tree : ParsedObject) (bytes : List ℕ) : Type 0 where
   pub items : List Item
   pub each : AllByRecursion (IsItem (length tree.id / 2)) items
-  pub accepted : AllByRecursion (λ item. fault_of (protections_for options item.name) (kind_of item.number) item.name ≡ None) items
+  pub accepted : AllByRecursion (λ item. fault_of (protections_for options item.name) (mode_of item.number) item.name ≡ None) items
   pub bytes_are : bytes ≡ flat_map item_bytes items
 
 abbrev pub IsAcceptedObject : Options → Spelled → Type 0
@@ -62,9 +62,9 @@ IsAcceptedObject options (Absent id) = ⊤
 -- a stream each of whose trees is accepted
 pub record IsAcceptedStream (options : Options) (text : List ℕ) : Type 0 where
   pub stream : List Spelled
-  pub each : AllByRecursion (IsSpelled (tree_rule options) options.whole) stream
+  pub each : AllByRecursion (IsSpelled (tree_rule options) options.needs_end) stream
   pub accepted : AllByRecursion (IsAcceptedObject options) stream
-  pub text_is : text ≡ flat_map spelling stream ++ end_of options.whole
+  pub text_is : text ≡ flat_map spelling stream ++ end_of options.needs_end
 
 -- A run finds a text clean if and only if it is such a stream.
 abbrev pub IsCleanIff : Options → Verdict → List ℕ → Type 0

@@ -1,14 +1,14 @@
 //! The program's options (docs/RULES.md, "The report of trees").
 
 ghost use Rattle.std.specs.Prelude.{◌≡◌, Some, None};
-ghost use Rattle.program.specs.Arguments.{effect_of};
+ghost use Rattle.cli.specs.Arguments.{effect_of};
 ghost use Rattle.check_trees.specs.Arguments.{no_options, protections_of, rule, switched_on};
 ghost use Rattle.check_trees.specs.Options.{Options, as_options};
 
 use crate::check::CheckOptions;
+use cli::arguments::{Options, Setting};
 use gix_validate::path::ComponentOptions;
 use memchr::memchr;
-use program::arguments::{Options, Setting};
 
 /// If there are several lists of protections or of names, the last one counts.
 impl<'a> Options<'a> for CheckOptions<'a> {
@@ -24,7 +24,7 @@ impl<'a> Options<'a> for CheckOptions<'a> {
         CheckOptions {
             protections: ComponentOptions::default(),
             modules: false,
-            whole: false,
+            needs_end: false,
             accepted: "",
         }
     }
@@ -47,7 +47,7 @@ fn set_alone<'a>(options: CheckOptions<'a>, name: &str) -> Setting<'a, CheckOpti
             ..options
         }),
         "--end" => Setting::Set(CheckOptions {
-            whole: true,
+            needs_end: true,
             ..options
         }),
         "--protect" | "--accept" => Setting::NeedsValue,

@@ -4,10 +4,10 @@ ghost use Rattle.std.specs.Prelude.{◌≡◌, ◌<◌, ◌≤◌, Some, false, 
 ghost use Rattle.std.proofs.Common.{ap, subst};
 ghost use Rattle.std.specs.List.{list_any};
 ghost use Rattle.std.specs.Str.{bytes_eq};
-ghost use Rattle.streams.specs.Reports.{PrintsAtMost};
-ghost use Rattle.streams.specs.Objects.{IsWholeStream, object_reach};
-ghost use Rattle.streams.specs.Promises.{Runs, FollowsRule, ReadsUpTo, as_object};
-ghost use Rattle.streams.specs.Spelled.{IsReportedInOrder, IsWellFormedOnlyIfSpelled};
+ghost use Rattle.git_input.specs.Reports.{PrintsAtMost};
+ghost use Rattle.git_input.specs.Objects.{IsWholeStream, object_reach};
+ghost use Rattle.git_input.specs.Promises.{Runs, FollowsRule, ReadsUpTo, as_object};
+ghost use Rattle.git_input.specs.Spelled.{IsReportedInOrder, IsWellFormedOnlyIfSpelled};
 ghost use Rattle.gix_validate.specs.Component.{fault_of};
 ghost use Rattle.gix_validate.specs.Pieces.{pieces};
 ghost use Rattle.check_trees.specs.Options.{as_options, protections_for};
@@ -18,18 +18,18 @@ ghost use Rattle.check_trees.specs.Private.{EntryGives, EntryReads, PassesId, Sa
 use crate::entry::{ModeAndName, front_of};
 use crate::report::{set_modules_line, set_refused_line};
 use bstr::BStr;
+use cli::outcome::RunError;
+use git_input::header::{Kind, Object};
+use git_input::input::{Found, read_before, read_bytes, skip};
+use git_input::lines::{Buffers, MAX_LINE};
+use git_input::objects;
+use git_input::objects::ObjectCheck;
+use git_input::outcome::{Malformation, Verdict};
+use git_input::runs::Check;
 use gix_validate::path;
 use gix_validate::path::{ComponentError, ComponentMode, ComponentOptions};
-use program::outcome::RunError;
 use std::alloc::Global;
 use std::io::{BufRead, Write};
-use streams::header::{Kind, Object};
-use streams::input::{Found, read_before, read_bytes, skip};
-use streams::lines::{Buffers, LONGEST};
-use streams::objects;
-use streams::objects::ObjectCheck;
-use streams::outcome::{Fault, Verdict};
-use streams::runs::Check;
 
 /// How the input is checked.
 #[derive(Clone, Copy)]
@@ -38,9 +38,9 @@ pub struct CheckOptions<'a> {
     pub protections: ComponentOptions,
     /// Whether files that a checkout reads as `.gitmodules` are listed too (`--modules`).
     pub modules: bool,
-    /// Whether the input has to be whole (`--end`): no object is missing, and the line `..end
+    /// Whether the input needs its end line (`--end`): no object is missing, and the line `..end
     /// missing` ends it.
-    pub whole: bool,
+    pub needs_end: bool,
     /// The names to which the rules of Windows do not apply, separated by slashes (`--accept`).
     pub accepted: &'a str,
 }
@@ -75,13 +75,13 @@ pub fn run<R: BufRead, W: Write>(
     ensures runs { Runs (report (as_options options.entry)) object_reach (R.remaining input.old) (R.remaining input.new)
         (W.contents output.old) (W.contents output.new) result }
     ensures clean { IfOk result (λ verdict. IfSome (R.remaining input.old) (IsCleanIff (as_options options.entry) verdict)) }
-    ensures spelled { IsReportedInOrder (tree_rule (as_options options.entry)) options.entry.whole }
-    ensures well_formed { IsWellFormedOnlyIfSpelled (tree_rule (as_options options.entry)) options.entry.whole }
-    ensures whole { IsWholeStream (tree_rule (as_options options.entry)) options.entry.whole }
+    ensures spelled { IsReportedInOrder (tree_rule (as_options options.entry)) options.entry.needs_end }
+    ensures well_formed { IsWellFormedOnlyIfSpelled (tree_rule (as_options options.entry)) options.entry.needs_end }
+    ensures whole { IsWholeStream (tree_rule (as_options options.entry)) options.entry.needs_end }
     ensures items { IsReadAsItems (as_options options.entry) }
     ensures linear { PrintsAtMost 32 (report (as_options options.entry)) }
 {
-    objects::run(alloc, options, options.whole, input, output)
+    objects::run(alloc, options, options.needs_end, input, output)
 }
 
 impl<'a> Check<'a> for CheckOptions<'a> {
@@ -108,14 +108,14 @@ impl ObjectCheck for CheckOptions<'_> {
         input: &mut R,
         output: &mut W,
         buffers: &mut Buffers,
-    ) -> Result<Result<bool, Fault>, RunError> {
+    ) -> Result<Result<bool, Malformation>, RunError> {
         if object.kind == Kind::Tree {
             return check_tree(self, object, input, output, buffers);
         }
         if skip(input, object.size)? {
             Ok(Ok(false))
         } else {
-            Ok(Err(Fault::Ended))
+            Ok(Err(Malformation::Ended))
         }
     }
 }
@@ -127,7 +127,7 @@ fn check_tree<R: BufRead, W: Write>(
     input: &mut R,
     output: &mut W,
     buffers: &mut Buffers,
-) -> Result<Result<bool, Fault>, RunError>
+) -> Result<Result<bool, Malformation>, RunError>
     ensures gives { IfSome (R.remaining input.old) (λ text. FollowsRule (tree_report (as_options options.entry) (as_object tree.entry) tree.entry.size text)
         (R.remaining input.new) (W.contents output.old) (W.contents output.new) result) }
     ensures within { IfOk result (λ _. ReadsUpTo tree.entry.size (R.remaining input.old) (R.remaining input.new)) }
@@ -160,7 +160,7 @@ fn check_entry<R: BufRead, W: Write>(
     input: &mut R,
     output: &mut W,
     buffers: &mut Buffers,
-) -> Result<Result<Checked, Fault>, RunError>
+) -> Result<Result<Checked, Malformation>, RunError>
     requires { 0 < left }
     ensures bound { IfOk result (λ checked. IfOk checked (λ entry. (0 < entry.len) × (entry.len ≤ left))) }
     ensures gives { IfSome (R.remaining input.old) (λ text.
@@ -168,25 +168,25 @@ fn check_entry<R: BufRead, W: Write>(
         (W.contents output.old) (W.contents output.new) result) }
     ensures within { IfOk result (EntryReads left (R.remaining input.old) (R.remaining input.new)) }
 {
-    let limit = left.min(LONGEST);
+    let limit = left.min(MAX_LINE);
     match read_before(input, 0, limit as usize, &mut buffers.read)? {
         Found::Byte => {}
-        Found::Limit if left < LONGEST => return Ok(Err(Fault::Entry)),
-        Found::Limit => return Ok(Err(Fault::TooLong)),
-        Found::End => return Ok(Err(Fault::Ended)),
+        Found::Limit if left < MAX_LINE => return Ok(Err(Malformation::Entry)),
+        Found::Limit => return Ok(Err(Malformation::TooLong)),
+        Found::End => return Ok(Err(Malformation::Ended)),
     }
     let Some(front) = front_of(&buffers.read) else {
-        return Ok(Err(Fault::Entry));
+        return Ok(Err(Malformation::Entry));
     };
     let finding = finding_of(options, front);
     let front_len = buffers.read.len() as u64 + 1;
     let id_len = tree.id.len() as u64 / 2;
     let id_left = id_len.min(left - front_len);
     if !pass_id(&finding, input, id_left, &mut buffers.part)? {
-        return Ok(Err(Fault::Ended));
+        return Ok(Err(Malformation::Ended));
     }
     if id_left < id_len {
-        return Ok(Err(Fault::Entry));
+        return Ok(Err(Malformation::Entry));
     }
     let refused = say(
         finding,
@@ -218,12 +218,12 @@ fn finding_of(options: CheckOptions<'_>, front: ModeAndName<'_>) -> Finding
     let protections = protections_for(options, front.name);
     let may_be_listed = options.modules && front.is_file;
     // A name that is valid for a symbolic link is valid for any entry.
-    let kind = if may_be_listed {
+    let mode = if may_be_listed {
         Some(ComponentMode::Symlink)
     } else {
-        front.kind
+        front.mode
     };
-    match path::component(BStr::new(front.name), kind, protections) {
+    match path::component(BStr::new(front.name), mode, protections) {
         Ok(_) => Finding::Accepted,
         Err(fault) if may_be_listed => finding_of_file(protections, front, fault),
         Err(fault) => Finding::Refused(fault),
@@ -261,9 +261,9 @@ fn finding_of_file(
     front: ModeAndName<'_>,
     as_symlink: ComponentError,
 ) -> Finding
-    ensures { result ≡ finding_by (is_gitmodules_fault (Some as_symlink)) (fault_of protections front.entry.kind front.entry.name.now) }
+    ensures { result ≡ finding_by (is_gitmodules_fault (Some as_symlink)) (fault_of protections front.entry.mode front.entry.name.now) }
 {
-    match path::component(BStr::new(front.name), front.kind, protections) {
+    match path::component(BStr::new(front.name), front.mode, protections) {
         Err(fault) => Finding::Refused(fault),
         Ok(_) if matches!(as_symlink, ComponentError::SymlinkedGitModules) => Finding::Modules,
         Ok(_) => Finding::Accepted,

@@ -3,18 +3,18 @@
 ghost use Rattle.std.specs.Prelude.{◌≡◌};
 ghost use Rattle.std.specs.Option.{option_map};
 ghost use Rattle.std.specs.Str.{bytes_eq};
-ghost use Rattle.check_trees.specs.Entries.{is_file, kind_of, parsed_front};
+ghost use Rattle.check_trees.specs.Entries.{is_file, mode_of, parsed_front};
 ghost use Rattle.check_trees.specs.Private.{as_front};
 
+use git_input::text::{number_of, split_once};
 use gix_validate::path::ComponentMode;
-use streams::text::{number_of, split_once};
 
-/// The part of an entry that is before the NUL: the mode, what it means for the name, whether it is
-/// that of a file, and the name.
+/// The part of an entry that is before the NUL: the digits of the mode, what the mode means for the
+/// name, whether it is that of a file, and the name.
 #[derive(Clone, Copy)]
 pub(crate) struct ModeAndName<'a> {
-    pub(crate) mode: &'a [u8],
-    pub(crate) kind: Option<ComponentMode>,
+    pub(crate) digits: &'a [u8],
+    pub(crate) mode: Option<ComponentMode>,
     pub(crate) is_file: bool,
     pub(crate) name: &'a [u8],
 }
@@ -27,17 +27,17 @@ pub(crate) fn front_of(front: &[u8]) -> Option<ModeAndName<'_>>
     // Most entries are files that are not executable.
     if front.len() >= 7 && is_word(&front[..7], b"100644 ") {
         return Some(ModeAndName {
-            mode: &front[..6],
-            kind: None,
+            digits: &front[..6],
+            mode: None,
             is_file: true,
             name: &front[7..],
         });
     }
-    let (mode, name) = split_once(b' ', front)?;
-    let number = number_of(8, mode)?;
+    let (digits, name) = split_once(b' ', front)?;
+    let number = number_of(8, digits)?;
     Some(ModeAndName {
-        mode,
-        kind: kind_of(number),
+        digits,
+        mode: mode_of(number),
         is_file: is_file(number),
         name,
     })
@@ -54,15 +54,15 @@ fn is_word<const N: usize>(text: &[u8], word: &[u8; N]) -> bool
 }
 
 /// What a mode means for the name: the file type is in the bits from 12 on.
-fn kind_of(mode: u64) -> Option<ComponentMode>
-    ensures { result ≡ kind_of mode }
+fn mode_of(number: u64) -> Option<ComponentMode>
+    ensures { result ≡ mode_of number }
 {
-    (mode / 0o10000 % 16 == 0o12).then_some(ComponentMode::Symlink)
+    (number / 0o10000 % 16 == 0o12).then_some(ComponentMode::Symlink)
 }
 
 /// Whether a mode is that of a file.
-fn is_file(mode: u64) -> bool
-    ensures { result ≡ is_file mode }
+fn is_file(number: u64) -> bool
+    ensures { result ≡ is_file number }
 {
-    mode / 0o10000 % 16 == 0o10
+    number / 0o10000 % 16 == 0o10
 }

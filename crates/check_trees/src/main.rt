@@ -8,12 +8,12 @@ mod entry;
 mod report;
 
 use check::CheckOptions;
-use program::arguments::arguments;
-use program::fail;
-use program::messages::Messages;
+use cli::arguments::arguments;
+use cli::fail;
+use cli::messages::Messages;
+use git_input::runs::{Program, answer, buffers};
 use std::env;
 use std::process::ExitCode;
-use streams::runs::{Program, answer, buffers};
 
 const HELP: &str = "\
 Prints a line for each entry of a Git tree whose name is refused:

@@ -12,19 +12,19 @@
 
 ghost use Rattle.std.specs.Prelude.{◌≡◌, ◌++◌, OnOk};
 ghost use Rattle.std.specs.Option.{option_map};
-ghost use Rattle.streams.specs.Promises.{as_object};
+ghost use Rattle.git_input.specs.Promises.{as_object};
 ghost use Rattle.check_trees.specs.Report.{in_path, modules_line, place, refused_line, shown_path};
 ghost use Rattle.check_trees.specs.Private.{as_front};
 
 use crate::entry::ModeAndName;
+use git_input::header::Object;
+use git_input::output::{push_hex, push_quoted};
 use gix_validate::path::ComponentError;
 use std::alloc::AllocError;
 use std::io::Write;
-use streams::header::Object;
-use streams::output::{push_hex, push_quoted};
 
 /// How many bytes of a path are displayed at most.
-const LONGEST_PATH: usize = 128;
+const MAX_PATH: usize = 128;
 
 /// Replaces the last line with that of a refused entry. Most entries have none.
 #[cold]
@@ -101,7 +101,7 @@ fn push_place(
 {
     line.extend_from_slice(tree.id)?;
     line.push(b' ')?;
-    line.extend_from_slice(front.mode)?;
+    line.extend_from_slice(front.digits)?;
     line.push(b' ')?;
     push_quoted(line, front.name)
 }
@@ -121,15 +121,15 @@ fn push_path(line: &mut Vec<u8>, rest: Option<&[u8]>) -> Result<(), AllocError>
     }
 }
 
-/// Appends a quoted path, or the first [`LONGEST_PATH`] bytes of it and dots.
+/// Appends a quoted path, or the first [`MAX_PATH`] bytes of it and dots.
 #[tactic(auto, using(std::proofs::lemmas::Bool::Decides::nat_tests))]
 fn push_shown(line: &mut Vec<u8>, path: &[u8]) -> Result<(), AllocError>
     ensures { OnOk result (line.new.items ≡ line.old.items ++ shown_path path.now) }
 {
-    if path.len() <= LONGEST_PATH {
+    if path.len() <= MAX_PATH {
         return push_quoted(line, path);
     }
-    let front = &path[..LONGEST_PATH];
+    let front = &path[..MAX_PATH];
     push_quoted(line, front)?;
     line.extend_from_slice(b"...")?;
     Ok(())

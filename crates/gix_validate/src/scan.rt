@@ -13,7 +13,7 @@ use crate::lanes::{LANES, first_lane, halves, pairs, quarters};
 use std::simd::prelude::*;
 
 /// The length of four blocks.
-pub(crate) const FOUR: usize = 4 * LANES;
+pub(crate) const FOUR_BLOCKS: usize = 4 * LANES;
 
 /// What is searched for.
 pub(crate) trait Pattern {
@@ -157,16 +157,16 @@ fn first_of_parts<P: Pattern>(
 /// last four overlap those before them.
 #[inline(always)]
 pub(crate) fn has<P: Pattern>(text: &[u8]) -> bool
-    requires { FOUR < length text.now }
+    requires { FOUR_BLOCKS < length text.now }
     ensures { result ≡ list_any (λ b. P.hit b b) text.now }
 {
-    let last = text.len() - FOUR;
+    let last = text.len() - FOUR_BLOCKS;
     let mut at = 0;
     while at < last {
         if four_have::<P>(text, at) {
             return true;
         }
-        at += FOUR;
+        at += FOUR_BLOCKS;
     }
     four_have::<P>(text, last)
 }
@@ -174,8 +174,8 @@ pub(crate) fn has<P: Pattern>(text: &[u8]) -> bool
 /// Whether a byte of the four blocks from this offset on is a hit.
 #[inline(always)]
 fn four_have<P: Pattern>(text: &[u8], at: usize) -> bool
-    requires { at + FOUR ≤ length text.now }
-    ensures { result ≡ list_any (λ b. P.hit b b) (chunk at FOUR text.now) }
+    requires { at + FOUR_BLOCKS ≤ length text.now }
+    ensures { result ≡ list_any (λ b. P.hit b b) (chunk at FOUR_BLOCKS text.now) }
 {
     block_has::<P>(text, at)
         | block_has::<P>(text, at + LANES)

@@ -3,15 +3,15 @@
 ghost use Rattle.std.specs.Prelude.{◌≡◌, ◌+◌, ◌*◌, ◌<◌, ◌≤◌, length, Some};
 ghost use Rattle.std.specs.Option.{ForSome};
 ghost use Rattle.gix_validate.specs.Quoted.{escape_of, hex_digit};
-ghost use Rattle.gix_validate.specs.declared.text.TheConstants.{LONGEST};
+ghost use Rattle.gix_validate.specs.declared.text.TheConstants.{MAX_TEXT};
 
 use arrayvec::ArrayString;
 use std::fmt;
 
 /// How many bytes the longest text has: that of `ComponentError::WindowsIllegalCharacter`.
-pub const LONGEST: usize = 134;
+pub const MAX_TEXT: usize = 134;
 
-/// What an error prints (docs/RULES.md, "Printed texts"): at most [`LONGEST`] bytes.
+/// What an error prints (docs/RULES.md, "Printed texts"): at most [`MAX_TEXT`] bytes.
 ///
 /// `Display` of the error prints it, too. A caller who can't use that, as one who writes to a buffer
 /// of a fixed length, appends the words, and then, between double quotes, each byte by [`escape`].
@@ -21,8 +21,8 @@ pub struct Text<'a> {
     pub words: &'static str,
     /// The bytes that follow the words, between double quotes.
     pub quoted: Option<&'a [u8]>,
-    pub ghost words_fit: { length words.now ≤ LONGEST },
-    pub ghost all_fits: { ForSome quoted (λ bytes. length words.now + 4 * length bytes.now + 2 ≤ LONGEST) },
+    pub ghost words_fit: { length words.now ≤ MAX_TEXT },
+    pub ghost all_fits: { ForSome quoted (λ bytes. length words.now + 4 * length bytes.now + 2 ≤ MAX_TEXT) },
 }
 
 impl Text<'_> {
@@ -30,7 +30,7 @@ impl Text<'_> {
 
     /// The text that is nothing but words.
     pub(crate) fn plain(words: &'static str) -> Text<'static>
-        requires { length words.now ≤ LONGEST }
+        requires { length words.now ≤ MAX_TEXT }
         ensures { printed result ≡ words.now }
     {
         Text {

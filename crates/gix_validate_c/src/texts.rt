@@ -1,7 +1,7 @@
 //! The printed texts of faults.
 //!
 //! Each function returns the length in bytes of the text of the name's fault, or 0 if it has none.
-//! No text has more than [`LONGEST_TEXT`] bytes. If the whole text fits, it is written to the start
+//! No text has more than [`MAX_TEXT`] bytes. If the whole text fits, it is written to the start
 //! of the caller's buffer, and the rest of the buffer stays as it was. Otherwise nothing is written.
 //! No NUL byte ends it.
 //!
@@ -21,7 +21,7 @@ use crate::fault::Fault;
 use crate::flags;
 use arrayvec::ArrayString;
 use bstr::BStr;
-pub use gix_validate::text::LONGEST as LONGEST_TEXT;
+pub use gix_validate::text::MAX_TEXT;
 use gix_validate::text::{Text, escape};
 use gix_validate::{path, reference, submodule, tag};
 
@@ -35,7 +35,7 @@ pub extern "C" fn gix_validate_tag_text(name: &[u8], text: &mut [u8]) -> usize
     ensures length { result ≡ length (text_by tag.text_of (tag.fault_of name.now)) }
     ensures bytes { text.new ≡ with_text (text_by tag.text_of (tag.fault_of name.now)) text.old }
     ensures none { (result ≡ 0) ↔ IsTrue (tag.is_tag_name name.now) }
-    ensures longest { result ≤ LONGEST_TEXT }
+    ensures longest { result ≤ MAX_TEXT }
 {
     write_text(tag::name(BStr::new(name)), text)
 }
@@ -50,7 +50,7 @@ pub extern "C" fn gix_validate_partial_text(name: &[u8], text: &mut [u8]) -> usi
     ensures length { result ≡ length (text_by text_of (partial_fault_of name.now)) }
     ensures bytes { text.new ≡ with_text (text_by text_of (partial_fault_of name.now)) text.old }
     ensures none { (result ≡ 0) ↔ IsTrue (is_partial_name name.now) }
-    ensures longest { result ≤ LONGEST_TEXT }
+    ensures longest { result ≤ MAX_TEXT }
 {
     write_text(reference::name_partial(BStr::new(name)), text)
 }
@@ -65,7 +65,7 @@ pub extern "C" fn gix_validate_full_text(name: &[u8], text: &mut [u8]) -> usize
     ensures length { result ≡ length (text_by text_of (full_fault_of name.now)) }
     ensures bytes { text.new ≡ with_text (text_by text_of (full_fault_of name.now)) text.old }
     ensures none { (result ≡ 0) ↔ IsTrue (is_full_name name.now) }
-    ensures longest { result ≤ LONGEST_TEXT }
+    ensures longest { result ≤ MAX_TEXT }
 {
     write_text(reference::name(BStr::new(name)), text)
 }
@@ -80,7 +80,7 @@ pub extern "C" fn gix_validate_branch_text(name: &[u8], text: &mut [u8]) -> usiz
     ensures length { result ≡ length (text_by text_of (branch_fault_of name.now)) }
     ensures bytes { text.new ≡ with_text (text_by text_of (branch_fault_of name.now)) text.old }
     ensures none { (result ≡ 0) ↔ IsTrue (is_branch_name name.now) }
-    ensures longest { result ≤ LONGEST_TEXT }
+    ensures longest { result ≤ MAX_TEXT }
 {
     write_text(reference::branch_name(BStr::new(name)), text)
 }
@@ -95,7 +95,7 @@ pub extern "C" fn gix_validate_submodule_text(name: &[u8], text: &mut [u8]) -> u
     ensures length { result ≡ length (text_by submodule.text_of (submodule.fault_of name.now)) }
     ensures bytes { text.new ≡ with_text (text_by submodule.text_of (submodule.fault_of name.now)) text.old }
     ensures none { (result ≡ 0) ↔ IsTrue (submodule.is_submodule_name name.now) }
-    ensures longest { result ≤ LONGEST_TEXT }
+    ensures longest { result ≤ MAX_TEXT }
 {
     write_text(submodule::name(BStr::new(name)), text)
 }
@@ -112,7 +112,7 @@ pub extern "C" fn gix_validate_component_text(name: &[u8], flags: u32, text: &mu
     ensures bytes { let fault = component.fault_of (options_of flags) (mode_of flags) name.now in
         text.new ≡ with_text (text_by component.text_of fault) text.old }
     ensures none { (result ≡ 0) ↔ IsTrue (component.is_component (options_of flags) (mode_of flags) name.now) }
-    ensures longest { result ≤ LONGEST_TEXT }
+    ensures longest { result ≤ MAX_TEXT }
 {
     let answer = path::component(
         BStr::new(name),
@@ -129,7 +129,7 @@ fn write_text<E: Fault + Drop>(answer: Result<BStr<'_>, E>, buffer: &mut [u8]) -
         (λ _. buffer.new ≡ buffer.old)
         (λ fault. buffer.new ≡ with_text (E.text fault) buffer.old) }
     ensures none { (result ≡ 0) ↔ IsOk answer.entry }
-    ensures longest { result ≤ LONGEST_TEXT }
+    ensures longest { result ≤ MAX_TEXT }
 {
     match answer {
         Ok(_) => 0,
@@ -138,7 +138,7 @@ fn write_text<E: Fault + Drop>(answer: Result<BStr<'_>, E>, buffer: &mut [u8]) -
 }
 
 /// The text in a buffer that holds the longest of them.
-fn rendered(text: Text<'_>) -> ArrayString<LONGEST_TEXT>
+fn rendered(text: Text<'_>) -> ArrayString<MAX_TEXT>
     ensures { result.bytes ≡ printed text.entry }
 {
     let mut shown = ArrayString::new();

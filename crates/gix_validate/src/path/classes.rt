@@ -13,14 +13,14 @@ ghost use Rattle.gix_validate.specs.Private.Classes.{has_class, any_class, class
 
 use crate::lanes::{LANES, classify, halves, has_nonzero, nonzero_lanes, pairs, quarters};
 use crate::reference::Slash;
-use crate::scan::{self, FOUR, Pattern};
+use crate::scan::{self, FOUR_BLOCKS, Pattern};
 use std::simd::prelude::*;
 
 /// The length of four blocks. A name of at most this length is checked in one go.
-pub(super) const SHORT: usize = FOUR;
+pub(super) const SHORT: usize = FOUR_BLOCKS;
 
 /// The length of two blocks.
-const TWO: usize = 2 * LANES;
+const TWO_BLOCKS: usize = 2 * LANES;
 
 // The classes of bytes, a bit for each. The bytes of a class have one high nibble, except the
 // control bytes, which have two.
@@ -138,14 +138,14 @@ pub(super) fn classes_of(name: &[u8]) -> u8x16
     requires short { length name.now ≤ SHORT }
     ensures { HaveClassesOf result name.now }
 {
-    if name.len() >= 8 && name.len() <= TWO {
+    if name.len() >= 8 && name.len() <= TWO_BLOCKS {
         let last = name.len() - 8;
         let front = halves(name, 0, last.min(8));
         let back = halves(name, name.len().saturating_sub(LANES), last);
         return classes_in(front) | classes_in(back);
     }
-    if name.len() > TWO {
-        let last = name.len() - TWO;
+    if name.len() > TWO_BLOCKS {
+        let last = name.len() - TWO_BLOCKS;
         return classes_at(name, 0)
             | classes_at(name, LANES)
             | classes_at(name, last)

@@ -4,7 +4,7 @@ use Rattle.check_submodules.proofs.ReportedSections.{each_name_reported, each_he
 use Rattle.check_submodules.proofs.check.run.Goals as goal
 
 pub returns-clause-clean : goal.returns-clause-clean
-returns-clause-clean g c = clean_run c.args.options.whole _ _ c.run.ensures.clean
+returns-clause-clean g c = clean_run c.args.options.needs_end _ _ c.run.ensures.clean
 
 pub returns-clause-names : goal.returns-clause-names
 returns-clause-names g c = each_name_reported
@@ -13,4 +13,4 @@ pub returns-clause-headers : goal.returns-clause-headers
 returns-clause-headers g c = each_header_reported
 
 pub returns-clause-linear : goal.returns-clause-linear
-returns-clause-linear g c = linear_report c.args.options.whole
+returns-clause-linear g c = linear_report c.args.options.needs_end

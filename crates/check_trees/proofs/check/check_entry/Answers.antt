@@ -1,7 +1,7 @@
 use Rattle.check_trees.specs.Options.{as_options}
 use Rattle.std.proofs.Common.{◌∙◌, ap, arith}
 use Rattle.std.proofs.lemmas.Grind.{common_steps}
-use Rattle.streams.specs.Promises.{as_object}
+use Rattle.git_input.specs.Promises.{as_object}
 use Rattle.check_trees.specs.Entries.{parsed_front}
 use Rattle.check_trees.proofs.FirstEntry.{gives_past, gives_long, gives_cut, gives_malformed, gives_id_cut, gives_id_past, gives_stop, gives_entry}
 use Rattle.check_trees.proofs.EntryReads.{entry_within}
@@ -10,12 +10,12 @@ use Rattle.check_trees.proofs.check.check_entry.Goals as goal
 pub returns-in-Limit-clause-gives : goal.returns-in-Limit-clause-gives
 returns-in-Limit-clause-gives g c =
     gives_past (as_options c.args.options) (as_object c.args.tree) _ _ c.min-limit.ensures
-    (rw c.in-Limit.is at c.in_ok-read_before.ensures.read) c.if-left-lt-LONGEST.true
+    (rw c.in-Limit.is at c.in_ok-read_before.ensures.read) c.if-left-lt-MAX_LINE.true
 
 pub returns-in-Limit-2-clause-gives : goal.returns-in-Limit-2-clause-gives
 returns-in-Limit-2-clause-gives g c =
     gives_long (as_options c.args.options) (as_object c.args.tree) _ _ c.min-limit.ensures
-    (rw c.in-Limit-2.is at c.in_ok-read_before.ensures.read) c.if-left-lt-LONGEST.false
+    (rw c.in-Limit-2.is at c.in_ok-read_before.ensures.read) c.if-left-lt-MAX_LINE.false
 
 pub returns-in-End-clause-gives : goal.returns-in-End-clause-gives
 returns-in-End-clause-gives g c =

@@ -1,6 +1,6 @@
 use Rattle.std.proofs.Common.{◌-◌, arith}
-use Rattle.streams.proofs.ReportSoFar.{starts}
-use Rattle.streams.proofs.LinesStop.{up_to_none, up_to_more}
+use Rattle.git_input.proofs.ReportSoFar.{starts}
+use Rattle.git_input.proofs.LinesStop.{up_to_none, up_to_more}
 use Rattle.check_trees.proofs.TreeEntries.{tree_goes, tree_faults, tree_ends, tree_stops}
 use Rattle.check_trees.proofs.check.check_tree.Goals as goal
 

@@ -1,8 +1,8 @@
 -- no more was read than the entries so far;
 -- what was said of the entries so far is appended, and what is said of those that are left follows
 use Rattle.std.proofs.Common.{◌-◌, ◌≤◌}
-use Rattle.streams.specs.Promises.{ReadsUpTo, as_object}
-use Rattle.streams.proofs.ReportSoFar.{SoFar}
+use Rattle.git_input.specs.Promises.{ReadsUpTo, as_object}
+use Rattle.git_input.proofs.ReportSoFar.{SoFar}
 use Rattle.check_trees.specs.Options.{as_options}
 use Rattle.check_trees.specs.Private.{tree_report}
 use Rattle.check_trees.proofs.check.check_tree.Given as goal

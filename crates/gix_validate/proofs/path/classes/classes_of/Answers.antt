@@ -4,15 +4,15 @@ use Rattle.gix_validate.proofs.Blocks.Parts.{one_covers}
 use Rattle.gix_validate.proofs.Blocks.ByteClasses.{classes_of_parts, classes_of_both, classes_of_four}
 use Rattle.gix_validate.proofs.path.classes.classes_of.Goals as goal
 
-pub returns-then-name-gt-TWO : goal.returns-then-name-gt-TWO
-returns-then-name-gt-TWO c = classes_of_four c.args.name.now (length c.args.name.now - 32) _ _ _ _ (omega arith) (omega arith)
-    c.classes_at.ensures c.classes_at-then-name-gt-TWO.ensures c.classes_at-then-name-gt-TWO-2.ensures c.classes_at-then-name-gt-TWO-3.ensures
+pub returns-then-name-gt-TWO_BLOCKS : goal.returns-then-name-gt-TWO_BLOCKS
+returns-then-name-gt-TWO_BLOCKS c = classes_of_four c.args.name.now (length c.args.name.now - 32) _ _ _ _ (omega arith) (omega arith)
+    c.classes_at.ensures c.classes_at-then-name-gt-TWO_BLOCKS.ensures c.classes_at-then-name-gt-TWO_BLOCKS-2.ensures c.classes_at-then-name-gt-TWO_BLOCKS-3.ensures
 
-pub returns-then-name-le-TWO : goal.returns-then-name-le-TWO
-returns-then-name-le-TWO c =
+pub returns-then-name-le-TWO_BLOCKS : goal.returns-then-name-le-TWO_BLOCKS
+returns-then-name-le-TWO_BLOCKS c =
     let n = length c.args.name.now in
     classes_of_both c.min.result c.saturating_sub.result (n - 8) _ _ _ _ _ (omega arith) (omega arith) c.halves-front.ensures c.halves-back.ensures
-    c.classes_in.ensures c.classes_in-then-name-le-TWO.ensures
+    c.classes_in.ensures c.classes_in-then-name-le-TWO_BLOCKS.ensures
 
 pub returns-then-name-ge4 : goal.returns-then-name-ge4
 returns-then-name-ge4 c = classes_of_parts 4 (length c.args.name.now - 4) _ _ _ (omega arith) c.quarters.ensures c.classes_in-then-name-ge4.ensures

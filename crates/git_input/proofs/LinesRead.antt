@@ -1,0 +1,224 @@
+-- A line of an input, and the lines of an input while it is read.
+use Rattle.std.proofs.Common.{◌≡◌, ◌≢◌, ℕ, zero, suc, ◌+◌, ◌<◌, ◌≤◌, Bool, true, false, cond, ◌&&◌, ◌||◌, List, [], ◌∷◌, ◌++◌, All, Option, None, Some}
+use Rattle.std.proofs.Common.{Result, Ok, Err, length, take, drop}
+use Rattle.std.proofs.Common.{refl, ap, ◌∙◌, arith, take_all, append-nil, append_assoc, length-append, length-take, length-drop}
+use Rattle.std.proofs.lemmas.List.{take-append-le}
+use Rattle.std.proofs.lemmas.Option.{IfSome_then, MatchOption-at_some}
+use Rattle.std.proofs.lemmas.Bool.Decides.{nat_tests}
+use Rattle.std.specs.Prelude.{IfSome, IfOk, ⊤}
+use Rattle.std.specs.Str.{bytes_eq}
+use Rattle.std.proofs.lemmas.Slice.Eq.{bytes_eq-Decides}
+use Rattle.std.specs.Io.KnownBytes.{Appends, Consumes}
+use Rattle.std.proofs.KnownBytes.{Appends-nil, Appends-trans}
+use Rattle.gix_validate.specs.Bytes.{is_empty}
+use Rattle.git_input.specs.declared.outcome.Malformation.{Malformation}
+use Rattle.git_input.specs.declared.outcome.Malformation.TheVariants.{TooLong, Ended}
+use Rattle.cli.specs.declared.outcome.RunError.{RunError}
+use Rattle.cli.specs.declared.outcome.RunError.TheVariants.{Write}
+use Rattle.git_input.specs.declared.outcome.Verdict.TheVariants.{Clean, Refused, Malformed}
+use Rattle.git_input.specs.declared.lines.Ending.{Ending}
+use Rattle.git_input.specs.declared.lines.Ending.TheVariants.{Anywhere, EndLine, AfterALine}
+use Rattle.git_input.specs.declared.input.Found.TheVariants.{Byte, Limit, End}
+use Rattle.git_input.specs.Texts.{line_end, split_once}
+use Rattle.git_input.specs.Reports.{longest, Said, nothing, then_said, Step, LineRule, LeavesTheEnd, line_with, line_of, Report, lines_then, end_word, end_line}
+use Rattle.git_input.specs.Reports.{is_end, fault_at_end, at_end, at_end_line, lines_within, lines_from, report, verdict_of}
+use Rattle.cli.specs.Writes.{AppendsPrefixOf}
+use Rattle.git_input.specs.Promises.{FollowsRule, ReadsBefore, is_end_word}
+use Rattle.git_input.proofs.SplitTexts.{drop_both, split_found, split_within, split_short, split_long}
+use Rattle.git_input.specs.Private.{ok_then}
+use Rattle.git_input.proofs.ReportSoFar.{SoFar, when_known, goes, stops, said_nothing}
+
+-- ---- the first line of a text
+
+module _ (rule : LineRule) where
+  pub line_found : (front rest : List ℕ) → All (λ b. b ≢ line_end) front → length front < longest
+      → line_of rule (front ++ line_end ∷ rest) ≡ rule front rest
+  unfolding line_of
+  line_found front rest none few = grind (arith, split_within line_end front rest longest none few, drop_both front (line_end ∷ []) rest)
+
+  line_long : (front rest : List ℕ) → All (λ b. b ≢ line_end) front → length front ≡ longest → line_of rule (front ++ rest) ≡ (nothing, Err TooLong)
+  unfolding line_of
+  line_long front rest none long = grind (arith, nat_tests, length-append, split_long line_end front rest longest none long)
+
+  line_cut : (text : List ℕ) → All (λ b. b ≢ line_end) text → length text < longest → line_of rule text ≡ (nothing, Err Ended)
+  unfolding line_of
+  line_cut text none few = grind (arith, nat_tests, split_short line_end text longest none)
+
+-- ---- the line that ends a text
+
+end_split : split_once line_end end_line ≡ Some (end_word, [])
+end_split = refl
+
+same_parts : (text : List ℕ) {front rest word more : List ℕ} → split_once line_end text ≡ Some (front, rest) → split_once line_end text ≡ Some (word, more)
+    → (front ≡ word) × (rest ≡ more)
+same_parts text p q = grind arith
+
+end_length : (text : List ℕ) → bytes_eq text end_line ≡ true → length text ≡ 14
+end_length text e = ap length ((bytes_eq-Decides text end_line).0 e)
+
+-- it is one line
+end_alone : (front rest : List ℕ) → All (λ b. b ≢ line_end) front → bytes_eq (front ++ line_end ∷ rest) end_line ≡ true
+    → (front ≡ end_word) × (rest ≡ [])
+end_alone front rest none e =
+    let same : front ++ line_end ∷ rest ≡ end_line = (bytes_eq-Decides (front ++ line_end ∷ rest) end_line).0 e in
+    same_parts (front ++ line_end ∷ rest) (split_found line_end front rest none) (ap (split_once line_end) same ∙ end_split)
+
+not_end_line : (ending : Ending) (front rest : List ℕ) → All (λ b. b ≢ line_end) front → (is_end_word ending front && is_empty rest) ≡ false
+    → is_end ending (front ++ line_end ∷ rest) ≡ false
+not_end_line Anywhere front rest none other = refl
+not_end_line AfterALine front rest none other = refl
+not_end_line EndLine front rest none other = grind (arith, end_alone front rest none, bytes_eq-Decides)
+
+not_end_without : (ending : Ending) (text : List ℕ) → split_once line_end text ≡ None → is_end ending text ≡ false
+not_end_without Anywhere text none = refl
+not_end_without AfterALine text none = refl
+not_end_without EndLine text none = grind (arith, bytes_eq-Decides)
+
+not_end_cut : (ending : Ending) (text : List ℕ) → All (λ b. b ≢ line_end) text → is_end ending text ≡ false
+not_end_cut ending text none = not_end_without ending text (grind (arith, split_short line_end text (length text) none, take_all))
+
+not_end_long : (ending : Ending) (front rest : List ℕ) → length front ≡ longest → is_end ending (front ++ rest) ≡ false
+not_end_long Anywhere front rest long = refl
+not_end_long AfterALine front rest long = refl
+not_end_long EndLine front rest long = grind (arith, length-append, end_length (front ++ rest))
+
+-- ---- what the reads give
+
+-- a line that is there is read, and this step gives what the rule says of it
+pub record LineGives (rule : LineRule) (ending : Ending) (a b old new : Option (List ℕ)) (r : Result (Result Bool Malformation) RunError) : Type 0 where
+  pub known : IfSome a (λ text. (0 < length text) × (is_end ending text ≡ false) × FollowsRule (line_of rule text) b old new r)
+
+module _ {rule : LineRule} {ending : Ending} {front : List ℕ} {a b old : Option (List ℕ)} where
+  pub line_gives : (mid : Option (List ℕ)) {c new : Option (List ℕ)} {r : Result (Result Bool Malformation) RunError} → ReadsBefore line_end longest a b front Byte
+      → IfSome b (λ rest. false ≡ (is_end_word ending front && is_empty rest)) → Consumes b mid []
+      → IfSome mid (λ text. FollowsRule (rule front text) c old new r) → LineGives rule ending a c old new r
+  line_gives mid read other kept gives = record { known = grind (arith, append_assoc, length-append, line_found, not_end_line ending front) }
+
+  pub long_gives : ReadsBefore line_end longest a b front Limit → LineGives rule ending a None old old (Ok (Err TooLong))
+  long_gives read = record { known = grind (arith, append-nil, length-append, line_long, not_end_long) }
+
+  pub cut_gives : ReadsBefore line_end longest a b front End → 0 < length front → LineGives rule ending a None old old (Ok (Err Ended))
+  cut_gives read some = record { known = grind (arith, append-nil, length-append, line_cut, not_end_cut) }
+
+-- ---- the lines of a text
+
+module _ (rule : LineRule) (leaves : LeavesTheEnd rule) (ending : Ending) where
+  -- what follows a line is shorter
+  with_shorter : (text : List ℕ) (parts : Option (List ℕ × List ℕ)) → 0 < length text
+      → IfOk (line_with rule text parts).1 (λ rest. length rest < length text)
+  with_shorter text None some = grind arith
+  with_shorter text (Some parts) some =
+      let rest = drop (length parts.0 + 1) text in
+      ok_then (rule parts.0 rest).1 _ _ (leaves parts.0 rest) (λ after (front, is). grind (arith, length-append, length-drop (length parts.0 + 1) text))
+
+  line_shorter : (text : List ℕ) → 0 < length text → IfOk (line_of rule text).1 (λ rest. length rest < length text)
+  unfolding line_of
+  line_shorter text some = with_shorter text (split_once line_end (take longest text)) some
+
+  -- the fuel says nothing, where there is enough
+  lines_enough : (f g number : ℕ) (text : List ℕ) → length text ≤ f → length text ≤ g
+      → lines_within f rule ending number text ≡ lines_within g rule ending number text
+  lines_enough zero zero number text p q = refl
+  lines_enough zero (suc g) number text p q = grind arith
+  lines_enough (suc f) zero number text p q = grind arith
+  lines_enough (suc f) (suc g) number [] p q = refl
+  lines_enough (suc f) (suc g) number (b ∷ text) p q = grind (arith, line_shorter (b ∷ text), lines_enough f g (number + 1))
+
+  pub lines_first : (number : ℕ) (text : List ℕ) → 0 < length text → is_end ending text ≡ false
+      → lines_from rule ending number text ≡ lines_then (lines_from rule ending (number + 1)) number text (line_of rule text)
+  unfolding lines_from
+  lines_first number [] some other = grind arith
+  lines_first number (b ∷ text) some other = grind (arith, line_shorter (b ∷ text), lines_enough)
+
+module _ (rule : LineRule) (ending : Ending) where
+  pub lines_none : (number : ℕ) → lines_from rule ending number [] ≡ at_end ending number
+  unfolding lines_from
+  lines_none number = refl
+
+pub lines_end : (rule : LineRule) (number : ℕ) → lines_from rule EndLine number end_line ≡ at_end_line
+unfolding lines_from
+lines_end rule number = refl
+
+then_begins : (more : List ℕ → Report) (number : ℕ) (text : List ℕ) (first : Step) (a b : Option (List ℕ)) → AppendsPrefixOf a b first.0.lines
+    → AppendsPrefixOf a b (lines_then more number text first).said.lines
+then_begins more number text first a b begins = grind (arith, length-take, take-append-le)
+
+-- ---- an input while it is read
+
+abbrev pub lines_report : LineRule → Ending → ℕ → List ℕ → Said × (Option (ℕ × Malformation) × List ℕ)
+lines_report rule ending number text = let all = lines_from rule ending number text in (all.said, (all.malformed, all.rest))
+
+-- the line that ends a text is all that is left
+is_marked : (ending : Ending) (front rest : List ℕ) → true ≡ (is_end_word ending front && is_empty rest)
+    → (ending ≡ EndLine) × (front ++ line_end ∷ rest ≡ end_line)
+is_marked Anywhere front rest last = grind arith
+is_marked AfterALine front rest last = grind arith
+is_marked EndLine front rest last = grind (arith, bytes_eq-Decides)
+
+marked_rest : (how : Ending) {front : List ℕ} {b after : Option (List ℕ)} → ReadsBefore line_end longest b after front Byte
+    → IfSome after (λ rest. true ≡ (is_end_word how front && is_empty rest)) → IfSome b (λ rest. (how ≡ EndLine) × (rest ≡ end_line))
+marked_rest how read last = grind (arith, append_assoc, is_marked)
+
+marked_report : (rule : LineRule) (how : Ending) (number : ℕ) (rest : List ℕ) → (how ≡ EndLine) × (rest ≡ end_line)
+    → lines_report rule how number rest ≡ (nothing, (None, []))
+marked_report rule how number rest (is, e) = rw (is, e) (ap (λ (all : Report). (all.said, (all.malformed, all.rest))) (lines_end rule number))
+
+said_last : {E : Type 0} (said : Said) (now : Said × E) (end : E) → now ≡ (nothing, end) → ◌≡◌ {A = Said × E} (then_said said now.0, now.1) (said, end)
+said_last said now end e = grind (arith, said_nothing)
+
+module _ (rule : LineRule) (leaves : LeavesTheEnd rule) (ending : Ending) (number : ℕ) {a b old mid : Option (List ℕ)} {refused : Bool}
+    (sofar : SoFar (lines_report rule ending 1) (lines_report rule ending number) a b old mid refused) where
+  pub stream_goes : {c new : Option (List ℕ)} {more : Bool} → LineGives rule ending b c mid new (Ok (Ok more))
+      → SoFar (lines_report rule ending 1) (lines_report rule ending (number + 1)) a c old new (refused || more)
+  stream_goes {c = c} {new = new} {more = more} gives =
+      goes sofar _ c new more (IfSome_then b gives.known (λ rest (some, other, (appends, found, (after, left, is))).
+      ((line_of rule rest).0, after, left, grind (arith, lines_first rule leaves ending number rest), appends, found)))
+
+  pub stream_faults : {new : Option (List ℕ)} {fault : Malformation} → LineGives rule ending b None mid new (Ok (Err fault))
+      → IfSome a (λ text. Appends old new (report rule ending text).said.lines × (Malformed number fault ≡ verdict_of (report rule ending text)))
+  unfolding report
+  stream_faults {new = new} {fault = fault} gives =
+      IfSome_then a sofar.known (λ text (rest, said, there, done, found, all).
+      let (some, other, (appends, is)) = MatchOption-at_some ⊤ _ rest there gives.known in
+      let first : lines_report rule ending number rest ≡ ((line_of rule rest).0, (Some (number, fault), rest)) = grind
+      (arith, lines_first rule leaves ending number rest) in
+      grind (arith, Appends-trans))
+
+  -- nothing is left, and nothing has to be
+  pub stream_ends : {front : List ℕ} {now : Option (List ℕ)} → ReadsBefore line_end longest b now front End → front ≡ [] → None ≡ fault_at_end ending number
+      → IfSome a (λ text. Appends old mid (report rule ending text).said.lines × (cond refused Refused Clean ≡ verdict_of (report rule ending text)))
+  unfolding report
+  stream_ends read none other = IfSome_then a sofar.known (λ text so. grind (arith, append-nil, lines_none))
+
+  -- nothing is left, and something has to be
+  pub stream_breaks : {front : List ℕ} {now : Option (List ℕ)} {fault : Malformation} → ReadsBefore line_end longest b now front End → front ≡ []
+      → Some fault ≡ fault_at_end ending number
+      → IfSome a (λ text. Appends old mid (report rule ending text).said.lines × (Malformed number fault ≡ verdict_of (report rule ending text)))
+  unfolding report
+  stream_breaks read none asked = IfSome_then a sofar.known (λ text so. grind (arith, append-nil, lines_none))
+
+  -- the line that ends the text is all that is left
+  pub stream_marked : {front : List ℕ} {after : Option (List ℕ)} → ReadsBefore line_end longest b after front Byte
+      → IfSome after (λ rest. true ≡ (is_end_word ending front && is_empty rest))
+      → IfSome a (λ text. Appends old mid (report rule ending text).said.lines × (cond refused Refused Clean ≡ verdict_of (report rule ending text)))
+  unfolding report
+  stream_marked read last = IfSome_then a sofar.known (λ text (rest, said, there, done, found, all).
+      let here = MatchOption-at_some ⊤ _ rest there (marked_rest ending read last) in
+      let whole : lines_report rule ending 1 text ≡ (said, (None, [])) =
+      all ∙ said_last said (lines_report rule ending number rest) (None, []) (marked_report rule ending number rest here) in
+      grind arith)
+
+  pub stream_spent : (now : Option (List ℕ)) {front : List ℕ} {after : Option (List ℕ)} → ReadsBefore line_end longest b after front Byte
+      → IfSome after (λ rest. true ≡ (is_end_word ending front && is_empty rest)) → Consumes after now [] → IfSome a (λ _. now ≡ Some [])
+  stream_spent now read last kept = IfSome_then a sofar.known (λ text so. grind (arith, append-nil))
+
+  pub stream_stops : {new : Option (List ℕ)} {stop : RunError} → stop ≢ Write → LineGives rule ending b None mid new (Err stop)
+      → IfSome a (λ text. AppendsPrefixOf old new (report rule ending text).said.lines)
+  unfolding report
+  stream_stops {new = new} {stop = stop} other gives = IfSome_then a (stops sofar (stop ≢ Write) new (IfSome_then b gives.known (λ rest e read.
+      rw (lines_first rule leaves ending number rest e.0 e.1)
+      (then_begins (lines_from rule ending (number + 1)) number rest (line_of rule rest) mid new (e.2 read))))) (λ text begins. begins other)
+
+  pub stream_pauses : IfSome a (λ text. AppendsPrefixOf old mid (report rule ending text).said.lines)
+  unfolding report
+  stream_pauses = IfSome_then a (stops sofar (Unit {0}) mid (when_known b _ (λ rest e _. ([], Appends-nil mid, refl)))) (λ text begins. begins tt)

@@ -1,0 +1,98 @@
+-- A run reads no further than the first malformed line and what can belong to it.
+use Rattle.std.proofs.Common.{◌≡◌, ◌≢◌, ℕ, ◌+◌, ◌<◌, ◌≤◌, Bool, List, [], ◌∷◌, ◌++◌, All, Option, None, Some, Result, Ok, Err, length}
+use Rattle.std.proofs.Common.{arith, append-nil, append_assoc, length-append}
+use Rattle.std.proofs.lemmas.Option.{IfSome_then, MatchOption-at_some}
+use Rattle.std.specs.Prelude.{IfOk, IfSome, ⊤}
+use Rattle.std.specs.Io.KnownBytes.{Consumes}
+use Rattle.std.proofs.KnownBytes.{Consumes-nil, Consumes-trans}
+use Rattle.git_input.specs.declared.outcome.Malformation.{Malformation}
+use Rattle.git_input.specs.declared.lines.Ending.{Ending}
+use Rattle.git_input.specs.declared.input.Found.TheVariants.{Byte, Limit, End}
+use Rattle.git_input.specs.Texts.{line_end}
+use Rattle.git_input.specs.Reports.{longest, LineRule, LeavesTheEnd, Reach, report, extent}
+use Rattle.git_input.specs.Promises.{ReadsBefore, ReadsNext, ReadsUpTo, StopsWithin}
+use Rattle.git_input.proofs.SplitTexts.{split_within, split_short, split_long}
+use Rattle.git_input.proofs.ReportSoFar.{SoFar}
+use Rattle.git_input.proofs.LinesRead.{LineGives, lines_report, lines_first, lines_none}
+
+-- ---- reads
+
+pub up_to_none : (most : ℕ) (a : Option (List ℕ)) → ReadsUpTo most a a
+up_to_none most a = ([], Consumes-nil a, omega arith)
+
+pub up_to_more : (n m most : ℕ) (a b c : Option (List ℕ)) → ReadsUpTo n a b → ReadsUpTo m b c → n + m ≤ most → ReadsUpTo most a c
+up_to_more n m most a b c (front, first, few) (more, next, some) fits =
+    (front ++ more, Consumes-trans a b c front more first next, grind (arith, length-append))
+
+-- where the second read came to its end
+pub up_to_next : {T E : Type 0} (n m : ℕ) (a b c : Option (List ℕ)) (r : Result T E) → ReadsUpTo n a b → IfOk r (λ _. ReadsUpTo m b c)
+    → IfOk r (λ _. ReadsUpTo (n + m) a c)
+up_to_next n m a b c (Ok x) first next = up_to_more n m (n + m) a b c first next (omega arith)
+up_to_next n m a b c (Err stop) first next = tt
+
+pub next_within : (a b : Option (List ℕ)) (byte : Option ℕ) → ReadsNext a b byte → ReadsUpTo 1 a b
+next_within a b (Some byte) next = (byte ∷ [], next, omega arith)
+next_within a b None next = ([], next.0, omega arith)
+
+-- ---- a line and what is read for it
+
+module _ (reach : Reach) where
+  extent_found : (front rest : List ℕ) → All (λ b. b ≢ line_end) front → length front < longest
+      → extent reach (front ++ line_end ∷ rest) ≡ length front + 1 + reach front
+  unfolding extent
+  extent_found front rest none few = grind (arith, split_within line_end front rest longest none few)
+
+  extent_long : (front rest : List ℕ) → All (λ b. b ≢ line_end) front → length front ≡ longest → extent reach (front ++ rest) ≡ longest
+  unfolding extent
+  extent_long front rest none long = grind (arith, split_long line_end front rest longest none long)
+
+  extent_cut : (text : List ℕ) → All (λ b. b ≢ line_end) text → length text < longest → extent reach text ≡ longest
+  unfolding extent
+  extent_cut text none few = grind (arith, split_short line_end text longest none)
+
+  -- a line that is found, and what is read for it
+  pub line_within : (front : List ℕ) (a b mid c : Option (List ℕ)) → ReadsBefore line_end longest a b front Byte → Consumes b mid []
+      → ReadsUpTo (reach front) mid c
+      → IfSome a (λ text. ReadsUpTo (extent reach text) (Some text) c)
+  line_within front None b mid c read kept more = tt
+  line_within front (Some x) None mid c read kept more = absurd read.bytes
+  line_within front (Some x) (Some y) mid c read kept (bytes, next, few) = (
+    (front ++ line_end ∷ []) ++ bytes,
+    Consumes-trans (Some x) (Some y) c (front ++ line_end ∷ []) bytes read.bytes (Consumes-trans (Some y) mid c [] bytes kept next),
+    grind (arith, append_assoc, length-append, extent_found front y read.none read.reach),
+  )
+
+  pub long_within : (front : List ℕ) (a b : Option (List ℕ)) → ReadsBefore line_end longest a b front Limit
+      → IfSome a (λ text. ReadsUpTo (extent reach text) (Some text) b)
+  long_within front None b read = tt
+  long_within front (Some x) None read = absurd read.bytes
+  long_within front (Some x) (Some y) read = (front, read.bytes, grind (arith, extent_long front y read.none read.reach))
+
+  pub cut_within : (front : List ℕ) (a b : Option (List ℕ)) → ReadsBefore line_end longest a b front End
+      → IfSome a (λ text. ReadsUpTo (extent reach text) (Some text) b)
+  cut_within front None b read = tt
+  cut_within front (Some x) None read = absurd read.bytes
+  cut_within front (Some x) (Some y) read = (front, read.bytes, grind (arith, append-nil, extent_cut front read.none read.reach.0))
+
+-- ---- an input while it is read
+
+module _ (rule : LineRule) (leaves : LeavesTheEnd rule) (ending : Ending) (number : ℕ) (reach : Reach) {a b old mid : Option (List ℕ)} {refused : Bool}
+    (sofar : SoFar (lines_report rule ending 1) (lines_report rule ending number) a b old mid refused) where
+  pub faults_within : {new : Option (List ℕ)} {fault : Malformation} (c : Option (List ℕ)) → LineGives rule ending b None mid new (Ok (Err fault))
+      → IfSome b (λ rest. ReadsUpTo (extent reach rest) (Some rest) c) → IfSome a (λ text. StopsWithin reach (report rule ending text) c)
+  unfolding report
+  faults_within c gives within = IfSome_then a sofar.known (λ text (rest, said, there, done, found, all).
+      let (some, other, (appends, is)) = MatchOption-at_some ⊤ _ rest there gives.known in
+      let here = MatchOption-at_some ⊤ _ rest there within in
+      let left : (report rule ending text).rest ≡ rest = grind (arith, lines_first rule leaves ending number rest) in
+      rw left here)
+
+  -- nothing is left
+  pub ends_within : (front : List ℕ) (c : Option (List ℕ)) → ReadsBefore line_end longest b c front End → front ≡ []
+      → IfSome a (λ text. StopsWithin reach (report rule ending text) c)
+  unfolding report
+  ends_within front c read none = IfSome_then a sofar.known (λ text (rest, said, there, done, found, all).
+      let here = MatchOption-at_some ⊤ _ rest there (cut_within reach front b c read) in
+      let is : rest ≡ [] = grind (arith, append-nil) in
+      let left : (report rule ending text).rest ≡ rest = grind (arith, lines_none) in
+      rw left here)

@@ -1,0 +1,7 @@
+-- nothing was read
+use Rattle.std.proofs.Common.{[]}
+use Rattle.std.specs.Io.KnownBytes.{Consumes}
+use Rattle.git_input.proofs.input.read_byte.Given as goal
+
+abbrev pub invariant-loop : goal.invariant-loop
+invariant-loop g l = Consumes (g.R.Read.remaining l.fn.input) (g.R.Read.remaining l.input) []

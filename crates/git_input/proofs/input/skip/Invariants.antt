@@ -1,0 +1,7 @@
+-- what was passed over so far
+use Rattle.std.proofs.Common.{◌≡◌, ℕ, ◌+◌, List, length}
+use Rattle.std.specs.Io.KnownBytes.{Consumes}
+use Rattle.git_input.proofs.input.skip.Given as goal
+
+abbrev pub invariant-loop : goal.invariant-loop
+invariant-loop g l = (bytes : List ℕ) × (length bytes + l.left ≡ l.count) × Consumes (g.R.Read.remaining l.fn.input) (g.R.Read.remaining l.input) bytes

@@ -1,0 +1,54 @@
+-- How a program ends after a run.
+use Rattle.std.specs.Prelude.{◌≡◌, ◌⊎◌, ℕ, ◌==◌, if◌then◌else◌, List, [], ◌++◌, codes, Option, Result, Ok, Err}
+use Rattle.std.specs.Fmt.{decimal}
+use Rattle.std.specs.Io.KnownBytes.{Keeps}
+use Rattle.std.specs.Process.{exit_status}
+use Rattle.std.specs.declared.process.ExitCode.{ExitCode}
+use Rattle.cli.specs.declared.messages.Messages.{Messages}
+use Rattle.cli.specs.declared.outcome.RunError.{RunError}
+use Rattle.cli.specs.declared.outcome.RunError.TheVariants.{Write}
+use Rattle.cli.specs.Messages.{Says, message, stop_text_of}
+use Rattle.git_input.specs.declared.outcome.Malformation.{Malformation}
+use Rattle.git_input.specs.declared.outcome.Malformation.TheVariants.{Header}
+use Rattle.git_input.specs.declared.outcome.Verdict.{Verdict}
+use Rattle.git_input.specs.declared.outcome.Verdict.TheVariants.{Clean, Refused, Malformed}
+use Rattle.git_input.specs.declared.runs.Program.{Program}
+use Rattle.git_input.specs.Messages.{fault_text_of}
+
+-- how a run ends: it may fail
+abbrev pub Ran : Type 0
+Ran = Result Verdict RunError
+
+-- what a message adds if the first line is not a header line
+abbrev pub hint_of : List ℕ → ℕ → Malformation → List ℕ
+hint_of hint number Header = if number == 1 then hint else []
+hint_of hint number fault = []
+
+-- what is said of a malformed part of an input
+abbrev pub malformed_text : Program → ℕ → Malformation → List ℕ
+malformed_text program number fault =
+    codes "malformed input: " ++ program.unit.now ++ codes " " ++ decimal number ++ codes ": " ++ fault_text_of fault
+    ++ hint_of program.hint.now number fault
+
+-- The status after a run and what is said: 0 or 1 and nothing, or 2 and what is malformed, or why the run failed.
+abbrev pub EndsBy : {E : Type 0} → Program → (E → Option (List ℕ)) → (errors said : Messages E) → ExitCode → Ran → Type 0
+EndsBy program contents errors said ended (Ok Clean) = (exit_status ended ≡ 0) × (said ≡ errors)
+EndsBy program contents errors said ended (Ok Refused) = (exit_status ended ≡ 1) × (said ≡ errors)
+EndsBy program contents errors said ended (Ok (Malformed number fault)) =
+    (exit_status ended ≡ 2) × Says contents errors said (message program.name.now (malformed_text program number fault))
+EndsBy program contents errors said ended (Err stop) =
+    (exit_status ended ≡ 2) × Says contents errors said (message program.name.now (stop_text_of stop))
+
+-- There was such a run, and then all that it wrote left the buffer, or writing that failed.
+pub record Finishes (Gives : Option (List ℕ) → Ran → Type 0) (written : Option (List ℕ)) (buffered : List ℕ) (ended : Ran) : Type 0 where
+  pub ran : Ran
+  pub before : Option (List ℕ)
+  pub gave : Gives before ran
+  pub kept : Keeps before written
+  pub flushed : ((buffered ≡ []) × (ended ≡ ran)) ⊎ (ended ≡ Err Write)
+
+-- The input was run, and the program ended by that.
+abbrev pub Checks : {E : Type 0} → (Option (List ℕ) → Ran → Type 0) → Option (List ℕ) → List ℕ → Program
+    → (E → Option (List ℕ)) → (errors said : Messages E) → ExitCode → Type 0
+Checks Gives written buffered program contents errors said ended =
+    (ran : Ran) × Finishes Gives written buffered ran × EndsBy program contents errors said ended ran

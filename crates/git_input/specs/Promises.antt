@@ -1,0 +1,127 @@
+-- What the functions promise of one step, where the reader's and the writer's bytes are known.
+use Rattle.std.specs.Prelude.{◌≡◌, ◌≢◌, ℕ, ◌<◌, ◌≤◌, nat_lt, Bool, true, false, List, [], ◌∷◌, ◌++◌, All, length, take, drop, Option}
+use Rattle.std.specs.Prelude.{Some, None, Result, Ok, Err, IfOk, IfSome, OnErr, OnSome, ⊤, option_map}
+use Rattle.std.specs.Str.{bytes_eq}
+use Rattle.git_input.specs.declared.lines.Ending.{Ending}
+use Rattle.git_input.specs.declared.lines.Ending.TheVariants.{Anywhere, EndLine, AfterALine}
+use Rattle.std.specs.Io.KnownBytes.{Appends, Consumes, IsAtEnd}
+use Rattle.cli.specs.declared.outcome.RunError.{RunError}
+use Rattle.cli.specs.declared.outcome.RunError.TheVariants.{Write}
+use Rattle.cli.specs.Writes.{AppendsPrefixOf}
+use Rattle.gix_validate.specs.Faults.{when}
+use Rattle.git_input.specs.declared.outcome.Malformation.{Malformation}
+use Rattle.git_input.specs.declared.outcome.Malformation.TheVariants.{Ended}
+use Rattle.git_input.specs.declared.outcome.Verdict.{Verdict}
+use Rattle.git_input.specs.declared.input.Found.{Found}
+use Rattle.git_input.specs.declared.input.Found.TheVariants.{Byte, Limit, End}
+use Rattle.git_input.specs.declared.header.Header.{Header}
+use Rattle.git_input.specs.declared.header.Header.TheVariants as header
+use Rattle.git_input.specs.declared.header.Object.{Object}
+use Rattle.git_input.specs.Headers.{ParsedObject, ParsedHeader}
+use Rattle.git_input.specs.Headers as parsed
+use Rattle.git_input.specs.Reports.{Step, Reach, Report, extent, end_word, is_malformed, verdict_of}
+use Rattle.git_input.specs.Objects.{Judged, ObjectRule, after_end}
+
+-- ---- headers as the code has them
+
+abbrev pub as_object : Object → ParsedObject
+as_object object = record { id = object.id.now; kind = object.kind; size = object.size; rest = option_map (λ rest. rest.now) object.rest }
+
+abbrev pub as_parsed : Header → ParsedHeader
+as_parsed header.Missing = parsed.Missing
+as_parsed (header.Object object) = parsed.Object (as_object object)
+
+-- ---- reads and writes
+
+-- what was read for a byte: what is before it, and it alone where it was found
+abbrev pub taken : ℕ → Found → List ℕ → List ℕ
+taken byte Byte front = front ++ byte ∷ []
+taken byte Limit front = front
+taken byte End front = front
+
+-- how far that goes
+abbrev pub Reaches : ℕ → Option (List ℕ) → Option (List ℕ) → List ℕ → Found → Type 0
+Reaches limit old new front Byte = length front < limit
+Reaches limit old new front Limit = length front ≡ limit
+Reaches limit old new front End = (length front < limit) × OnSome old (IsAtEnd new)
+
+-- the front of what was left went to `front`, up to the byte, the limit or the end
+pub record ReadsBefore (byte limit : ℕ) (old new : Option (List ℕ)) (front : List ℕ) (found : Found) : Type 0 where
+  pub bytes : Consumes old new (taken byte found front)
+  pub none : All (λ b. b ≢ byte) front
+  pub reach : Reaches limit old new front found
+
+-- a part of the front went to `front`, and there may be more to come
+abbrev pub Part : ℕ → ℕ → Option (List ℕ) → Option (List ℕ) → List ℕ → Option Found → Type 0
+Part byte limit old new front (Some found) = ReadsBefore byte limit old new front found
+Part byte limit old new front None = Consumes old new front × All (λ b. b ≢ byte) front × (length front ≤ limit)
+
+-- bytes that are shown, cut at the first such byte: the part before it, which takes `used` bytes with it
+abbrev pub IsCutAt : ℕ → List ℕ → List ℕ → ℕ → Option Found → Type 0
+IsCutAt byte shown part used (Some found) = (found ≡ Byte) × All (λ b. b ≢ byte) part × (take used shown ≡ part ++ byte ∷ []) × (used ≤ length shown)
+IsCutAt byte shown part used None = All (λ b. b ≢ byte) part × (part ≡ shown) × (used ≡ length shown)
+
+-- these bytes were skipped or read: as many as were asked for, or else all that were left
+abbrev pub ReadsExactly : ℕ → Option (List ℕ) → Option (List ℕ) → List ℕ → Bool → Type 0
+ReadsExactly count old new bytes true = Consumes old new bytes × (length bytes ≡ count)
+ReadsExactly count old new bytes false = Consumes old new bytes × (length bytes < count) × OnSome old (IsAtEnd new)
+
+-- the next byte was read, if one was left
+abbrev pub ReadsNext : Option (List ℕ) → Option (List ℕ) → Option ℕ → Type 0
+ReadsNext old new (Some byte) = Consumes old new (byte ∷ [])
+ReadsNext old new None = Consumes old new [] × OnSome old (IsAtEnd new)
+
+-- no more than so many bytes were read
+abbrev pub ReadsUpTo : ℕ → Option (List ℕ) → Option (List ℕ) → Type 0
+ReadsUpTo most old new = (bytes : List ℕ) × Consumes old new bytes × (length bytes ≤ most)
+
+-- of a text with this report, no more was read than what is before its first malformed line, and that line with what can belong to it
+abbrev pub StopsWithin : Reach → Report → Option (List ℕ) → Type 0
+StopsWithin reach report new = ReadsUpTo (extent reach report.rest) (Some report.rest) new
+
+-- What a run does by the report of a text, where the bytes that it reads and writes are known. `reach` says what can belong to a line.
+pub record Runs (report : List ℕ → Report) (reach : Reach) (old new before after : Option (List ℕ)) (result : Result Verdict RunError) : Type 0 where
+  -- just the report is written, and decides the verdict
+  pub verdict : IfOk result (λ verdict. IfSome old (λ text. Appends before after (report text).said.lines × (verdict ≡ verdict_of (report text))))
+  -- a text that is well-formed is read to its end
+  pub end : IfOk result (λ verdict. is_malformed verdict ≡ false → OnSome old (IsAtEnd new))
+  pub spent : IfOk result (λ verdict. is_malformed verdict ≡ false → IfSome old (λ _. new ≡ Some []))
+  -- of any other nothing is read after the malformed line and what can belong to it
+  pub within : IfOk result (λ verdict. is_malformed verdict ≡ true → IfSome old (λ text. StopsWithin reach (report text) new))
+  -- where reading or memory fails, a front of the report was written; of a failed write nothing is said
+  pub stopped : result ≢ Err Write → OnErr result (IfSome old (λ text. AppendsPrefixOf before after (report text).said.lines))
+
+-- ---- steps
+
+-- the line has to end the text
+abbrev pub is_end_word : Ending → List ℕ → Bool
+is_end_word Anywhere line = false
+is_end_word AfterALine line = false
+is_end_word EndLine line = bytes_eq line end_word
+
+-- what a step found, and left, is what the rule says of it
+abbrev pub FollowsRule : Step → Option (List ℕ) → Option (List ℕ) → Option (List ℕ) → Result (Result Bool Malformation) RunError → Type 0
+FollowsRule wanted left old new (Ok (Ok refused)) =
+    Appends old new wanted.0.lines × (refused ≡ wanted.0.refused) × ((text : List ℕ) × (left ≡ Some text) × (wanted.1 ≡ Ok text))
+FollowsRule wanted left old new (Ok (Err fault)) = Appends old new wanted.0.lines × (wanted.1 ≡ Err fault)
+FollowsRule wanted left old new (Err stop) = stop ≢ Write → AppendsPrefixOf old new wanted.0.lines
+
+-- what a rule judges of an object, where the text after its header may have fewer bytes than it: then the input ended within it
+abbrev pub or_cut : Bool → Judged → Judged
+or_cut cut (said, Some fault) = (said, Some fault)
+or_cut cut (said, None) = (said, when cut Ended)
+
+abbrev pub judged_with_rest : Judged → List ℕ → Step
+judged_with_rest (said, Some fault) text = (said, Err fault)
+judged_with_rest (said, None) text = (said, Ok text)
+
+-- an object's bytes in the text after its header
+abbrev pub body_step : ObjectRule → ParsedObject → List ℕ → Step
+body_step rule object text =
+    let cut = nat_lt (length text) object.size in judged_with_rest (or_cut cut (rule cut object (take object.size text))) (drop object.size text)
+
+-- the LF after an object was read
+abbrev pub Closes : Bool → List ℕ → Option (List ℕ) → Result (Result Bool Malformation) RunError → Type 0
+Closes refused text new (Ok (Ok found)) = (found ≡ refused) × ((rest : List ℕ) × (new ≡ Some rest) × (after_end text ≡ Ok rest))
+Closes refused text new (Ok (Err fault)) = after_end text ≡ Err fault
+Closes refused text new (Err stop) = ⊤

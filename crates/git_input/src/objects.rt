@@ -1,0 +1,145 @@
+//! A stream of objects, as `git cat-file --batch` prints them.
+
+ghost use Rattle.std.specs.Prelude.{◌≡◌, ◌+◌, Some, false, IfOk, IfSome};
+ghost use Rattle.git_input.specs.Objects.{IsWholeStream, ObjectRule, ending_of, object_reach, object_report, object_rule, object_step};
+ghost use Rattle.git_input.specs.Promises.{Runs, Closes, FollowsRule, ReadsUpTo, as_object, body_step};
+ghost use Rattle.git_input.specs.Spelled.{IsCleanIff, IsReportedInOrder, IsWellFormedOnlyIfSpelled};
+ghost use Rattle.git_input.specs.Private.{object_rule_leaves};
+
+use crate::header::{Header, Object, header_of};
+use crate::input::read_byte;
+use crate::lines;
+use crate::lines::{Buffers, Ending, LineCheck};
+use crate::outcome::{Malformation, Verdict};
+use cli::outcome::RunError;
+use std::alloc::Global;
+use std::io::{BufRead, Write};
+
+/// A rule for objects, and the function that follows it.
+pub trait ObjectCheck: Copy {
+    ghost object_rule: { Self → ObjectRule };
+
+    /// Checks the bytes of an object, writes the lines of the report for it, and returns whether
+    /// something in it is refused.
+    fn check_object<R: BufRead, W: Write>(
+        self,
+        object: Object<'_>,
+        input: &mut R,
+        output: &mut W,
+        buffers: &mut Buffers,
+    ) -> Result<Result<bool, Malformation>, RunError>
+        ensures gives { IfSome (R.remaining input.old) (λ text. FollowsRule (body_step (object_rule self) (as_object object.entry) text)
+            (R.remaining input.new) (W.contents output.old) (W.contents output.new) result) }
+        ensures within { IfOk result (λ _. ReadsUpTo object.entry.size (R.remaining input.old) (R.remaining input.new)) };
+}
+
+/// The rule by which each line is the header of an object.
+#[derive(Clone, Copy)]
+pub struct Objects<C> {
+    check: C,
+    needs_end: bool,
+}
+
+impl<C: ObjectCheck> LineCheck for Objects<C> {
+    ghost line_rule = { λ objects. object_rule (C.object_rule objects.check) objects.needs_end };
+
+    ghost line_reach = { λ objects. object_reach };
+
+    ghost leaves = { λ objects. object_rule_leaves (C.object_rule objects.check) objects.needs_end };
+
+    fn check_line<R: BufRead, W: Write>(
+        self,
+        line: &[u8],
+        input: &mut R,
+        output: &mut W,
+        buffers: &mut Buffers,
+    ) -> Result<Result<bool, Malformation>, RunError> {
+        match header_of(line) {
+            None => Ok(Err(Malformation::Header)),
+            Some(Header::Missing) if self.needs_end => Ok(Err(Malformation::Absent)),
+            Some(Header::Missing) => Ok(Ok(false)),
+            Some(Header::Object(object)) => {
+                check_and_close(self.check, object, input, output, buffers)
+            }
+        }
+    }
+}
+
+/// Checks the bytes of an object, and reads the LF after them.
+fn check_and_close<C: ObjectCheck, R: BufRead, W: Write>(
+    check: C,
+    object: Object<'_>,
+    input: &mut R,
+    output: &mut W,
+    buffers: &mut Buffers,
+) -> Result<Result<bool, Malformation>, RunError>
+    ensures gives { IfSome (R.remaining input.old) (λ text.
+        FollowsRule (object_step (C.object_rule check) (as_object object.entry) text)
+        (R.remaining input.new) (W.contents output.old) (W.contents output.new) result) }
+    ensures within { IfOk result (λ _. ReadsUpTo (object.entry.size + 1) (R.remaining input.old) (R.remaining input.new)) }
+{
+    match check.check_object(object, input, output, buffers)? {
+        Ok(refused) => close(refused, input),
+        Err(fault) => Ok(Err(fault)),
+    }
+}
+
+/// Reads the LF after an object's bytes, and returns `refused` if it is there.
+#[tactic(auto, using(crate::proofs::LinesStop::next_within))]
+fn close<R: BufRead>(refused: bool, input: &mut R) -> Result<Result<bool, Malformation>, RunError>
+    ensures gives { IfSome (R.remaining input.old) (λ text. Closes refused text (R.remaining input.new) result) }
+    ensures within { IfOk result (λ _. ReadsUpTo 1 (R.remaining input.old) (R.remaining input.new)) }
+{
+    match read_byte(input)? {
+        Some(b'\n') => Ok(Ok(refused)),
+        Some(_) => Ok(Err(Malformation::LineEnd)),
+        None => Ok(Err(Malformation::Ended)),
+    }
+}
+
+/// Reads all of `input`, objects as `git cat-file --batch` prints them, and writes what `check`
+/// reports for each (docs/RULES.md, "Streams of objects"). If `needs_end` is set, the last line has to
+/// be `..end missing`, and no object may be missing.
+///
+/// Each line of the report is written as it is found, and `output` is not flushed. A malformed
+/// object ends the run, and what was reported before it is written.
+///
+/// # Errors
+///
+/// [`RunError`] says whether reading, memory or writing failed. If reading or memory did, what was
+/// written is the beginning of the report.
+///
+/// # Memory
+///
+/// It allocates memory for the longest header line, of at most 65,536 bytes, and what `check`
+/// allocates, from `alloc`.
+#[tactic(auto, using(crate::proofs::CleanStreams::object_laws))]
+pub fn run<C: ObjectCheck, R: BufRead, W: Write>(
+    alloc: Global,
+    check: C,
+    needs_end: bool,
+    input: &mut R,
+    output: &mut W,
+) -> Result<Verdict, RunError>
+    ensures runs { Runs (object_report (C.object_rule check) needs_end) object_reach (R.remaining input.old) (R.remaining input.new)
+        (W.contents output.old) (W.contents output.new) result }
+    ensures clean { IfOk result (λ verdict. IfSome (R.remaining input.old) (λ text.
+        IsCleanIff (C.object_rule check) needs_end verdict text)) }
+    ensures spelled { IsReportedInOrder (C.object_rule check) needs_end }
+    ensures well_formed { IsWellFormedOnlyIfSpelled (C.object_rule check) needs_end }
+    ensures whole { IsWholeStream (C.object_rule check) needs_end }
+{
+    let objects = Objects { check, needs_end };
+    lines::run(alloc, objects, ending_of(needs_end), input, output)
+}
+
+/// How a stream has to end.
+fn ending_of(needs_end: bool) -> Ending
+    ensures { result ≡ ending_of needs_end }
+{
+    if needs_end {
+        Ending::EndLine
+    } else {
+        Ending::Anywhere
+    }
+}

@@ -1,8 +1,0 @@
--- the digits of the bytes so far are appended
-use Rattle.std.proofs.Common.{◌≡◌, ◌++◌, take}
-use Rattle.std.specs.Prelude.{flat_map}
-use Rattle.streams.specs.Texts.{hex_pair}
-use Rattle.streams.proofs.output.push_hex.Given as goal
-
-abbrev pub invariant-loop-byte : goal.invariant-loop-byte
-invariant-loop-byte l = l.line.items ≡ l.fn.line.items ++ flat_map hex_pair (take l.byte-index l.bytes)

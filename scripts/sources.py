@@ -69,8 +69,10 @@ def items():
                 top, owner = kind, "" if kind == "fn" else "".join(word[0].upper() + word[1:] for word in name.split("::"))
                 # (`main` calls the functions beside it.)
                 is_shown = kind == "fn" and file.name == "main.rt" or re.search(rf"(?m)^pub \w+ {name}\b", text)
+                # (What an impl of a trait says of a method stands for what the trait says.)
+                is_of_trait = kind == "trait" and is_shown or " for " in it[0]
             if kind == "fn":
-                names, is_public = (owner, name), it["pub"] or is_shown and top in ("fn", "trait")
+                names, is_public = (owner, name), it["pub"] or is_of_trait or is_shown and top == "fn"
             elif kind != "ensures":
                 names, is_public = (owner,), is_shown and top != "trait"
             path = "::".join(it for it in (crate, *modules, *names) if it not in ("lib", "main", ""))

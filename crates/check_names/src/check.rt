@@ -7,7 +7,10 @@ ghost use Rattle.gix_validate.specs.Component.{all_protections, fault_of, text_o
 ghost use Rattle.gix_validate.specs.Sanitized.{sanitized};
 ghost use Rattle.check_names.specs.Answers.{answer_of, answers, device_answer, unknown_kind, verdict};
 ghost use Rattle.check_names.specs.Lines.{lines, request_of};
+ghost use Rattle.check_names.specs.Messages.{Runs};
 
+use crate::options::NoOptions;
+use crate::runs::Check;
 use bstr::BStr;
 pub use cli::outcome::RunError;
 use gix_validate::path::{ComponentMode, ComponentOptions};
@@ -62,6 +65,18 @@ pub fn run<R: Read, W: Write>(alloc: Global, input: &mut R, output: &mut W) -> R
     let text = read_all(alloc, input).map_err(|_| RunError::Read)?;
     let answers = answer_all(alloc, &text).map_err(|_| RunError::Memory)?;
     write_once(&answers, output)
+}
+
+impl Check for NoOptions {
+    ghost gave = { λ R W remaining contents input rest output written ran. Runs remaining contents input rest output written ran };
+
+    fn run<R: Read, W: Write>(
+        alloc: Global,
+        input: &mut R,
+        output: &mut W,
+    ) -> Result<(), RunError> {
+        run(alloc, input, output)
+    }
 }
 
 /// All bytes that the reader has left.

@@ -18,7 +18,7 @@ use Rattle.git_input.specs.declared.lines.Ending.TheVariants.{AfterALine}
 use Rattle.git_input.specs.Reports.{all_said, before_report, at_end_line, lines_from, report, verdict_of}
 use Rattle.git_input.proofs.LinesRead.{lines_none}
 use Rattle.git_input.proofs.CleanStreams.{neither, clean_by}
-use Rattle.check_refs.specs.declared.report.Options.{Options}
+use Rattle.check_refs.specs.declared.options.Options.{Options}
 use Rattle.check_refs.specs.Refs.{ParsedUpdate, is_deletion, name_fault_of, refusal_of, update_refusal_of}
 use Rattle.check_refs.specs.declared.refusal.Refusal.TheVariants.{Name, Replacement}
 use Rattle.check_refs.specs.Report.{said_of, update_rule, refs_report}
@@ -132,5 +132,5 @@ pub clean_if_accepted : (options : Options) (text : List ℕ) (verdict : Verdict
     → (verdict ≡ Clean) ↔ IsAcceptedInput options text
 clean_if_accepted options text verdict is = (λ e. only_accepted options text (sym is ∙ e), λ good. is ∙ accepted_clean options text good)
 
--- what the promises of `check::run` need
+-- what the promises of `check::Options::run` need
 pub ruleset update_laws = (reported_in_order, well_formed_only_if_spelled, clean_if_accepted, linear_report)

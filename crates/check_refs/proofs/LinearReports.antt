@@ -16,7 +16,7 @@ use Rattle.gix_validate.specs.Reference.{reserved, carried, partial_fault_of, fu
 use Rattle.git_input.specs.declared.lines.Ending.TheVariants.{AfterALine}
 use Rattle.git_input.specs.Reports.{PrintsAtMost}
 use Rattle.git_input.proofs.LinearReports.{quoted_length, id_length, IsStepWithin, IsLineWithin, prints_at_most}
-use Rattle.check_refs.specs.declared.report.Options.{Options}
+use Rattle.check_refs.specs.declared.options.Options.{Options}
 use Rattle.check_refs.specs.declared.refusal.Refusal.{Refusal}
 use Rattle.check_refs.specs.declared.refusal.Refusal.TheVariants.{Name, Replacement}
 use Rattle.check_refs.specs.Refs.{ParsedUpdate, parsed_update, name_fault_of, refusal_of, is_deletion, update_refusal_of, refusal_text_of, refused_line}

@@ -8,7 +8,7 @@ use Rattle.git_input.specs.declared.lines.Ending.TheVariants.{AfterALine}
 use Rattle.git_input.specs.Texts.{line_end}
 use Rattle.git_input.specs.Reports.{Said, all_said, then_said, Step, before_report, lines_then, Report, lines_from, line_of, report}
 use Rattle.git_input.proofs.LinesRead.{line_found, lines_first, lines_none}
-use Rattle.check_refs.specs.declared.report.Options.{Options}
+use Rattle.check_refs.specs.declared.options.Options.{Options}
 use Rattle.check_refs.specs.Refs.{ParsedUpdate, parsed_update}
 use Rattle.check_refs.specs.Report.{said_of, step_of, update_rule}
 use Rattle.check_refs.specs.Spelled.{IsSpelled, update_line, spelling, IsReportedInOrder, IsWellFormedOnlyIfSpelled}

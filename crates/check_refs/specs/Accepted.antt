@@ -3,7 +3,7 @@ use Rattle.std.specs.Prelude.{◌≡◌, ◌≢◌, ◌⊎◌, ℕ, IsTrue, List
 use Rattle.std.specs.List.{AllByRecursion}
 use Rattle.gix_validate.specs.Bytes.{begins}
 use Rattle.gix_validate.specs.Reference.{is_branch_name}
-use Rattle.check_refs.specs.declared.report.Options.{Options}
+use Rattle.check_refs.specs.declared.options.Options.{Options}
 use Rattle.check_refs.specs.Refs.{ParsedUpdate, is_deletion}
 use Rattle.check_refs.specs.Spelled.{IsSpelled, spelling}
 

@@ -13,7 +13,7 @@ use Rattle.git_input.specs.Texts.{split_once, is_id}
 use Rattle.check_refs.specs.declared.update.Update.{Update}
 use Rattle.check_refs.specs.declared.refusal.Refusal.{Refusal}
 use Rattle.check_refs.specs.declared.refusal.Refusal.TheVariants.{Name, Replacement}
-use Rattle.check_refs.specs.declared.report.Options.{Options}
+use Rattle.check_refs.specs.declared.options.Options.{Options}
 
 -- ---- a line
 

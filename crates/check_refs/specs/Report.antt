@@ -4,7 +4,7 @@ use Rattle.std.specs.Option.{is_some}
 use Rattle.git_input.specs.declared.lines.Ending.TheVariants.{AfterALine}
 use Rattle.git_input.specs.declared.outcome.Malformation.TheVariants.{Line}
 use Rattle.git_input.specs.Reports.{Said, nothing, Step, LineRule, Report, report}
-use Rattle.check_refs.specs.declared.report.Options.{Options}
+use Rattle.check_refs.specs.declared.options.Options.{Options}
 use Rattle.check_refs.specs.Refs.{ParsedUpdate, parsed_update, update_refusal_of, line_of}
 
 -- what is said of an update: its line, and whether it is refused

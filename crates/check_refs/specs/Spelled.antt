@@ -5,7 +5,7 @@ use Rattle.std.specs.Str.{byte}
 use Rattle.git_input.specs.declared.lines.Ending.TheVariants.{AfterALine}
 use Rattle.git_input.specs.Texts.{line_end, is_id}
 use Rattle.git_input.specs.Reports.{Said, all_said, longest, before_report, lines_from}
-use Rattle.check_refs.specs.declared.report.Options.{Options}
+use Rattle.check_refs.specs.declared.options.Options.{Options}
 use Rattle.check_refs.specs.Refs.{ParsedUpdate, parsed_update}
 use Rattle.check_refs.specs.Report.{said_of, update_rule, refs_report}
 

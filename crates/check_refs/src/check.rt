@@ -1,6 +1,7 @@
 //! The report of an input, line by line.
 
 ghost use Rattle.std.specs.Prelude.{◌≡◌, ◌↔◌, Some, IfOk, IfSome};
+ghost use Rattle.git_input.specs.Ends.{Gives};
 ghost use Rattle.git_input.specs.Promises.{Runs};
 ghost use Rattle.git_input.specs.Reports.{PrintsAtMost};
 ghost use Rattle.check_refs.specs.Accepted.{IsAcceptedInput};
@@ -8,14 +9,60 @@ ghost use Rattle.check_refs.specs.Private.{update_leaves};
 ghost use Rattle.check_refs.specs.Report.{refs_report, update_rule};
 ghost use Rattle.check_refs.specs.Spelled.{IsReportedInOrder, IsWellFormedOnlyIfSpelled};
 
-use crate::report::{Options, push_line};
+use crate::options::Options;
+use crate::report::push_line;
 use crate::update::update_of;
 use cli::outcome::RunError;
 use git_input::lines;
 use git_input::lines::{Buffers, Ending, LineCheck};
 use git_input::outcome::{Malformation, Verdict};
+use git_input::runs::Check;
 use std::alloc::Global;
 use std::io::{BufRead, Write};
+
+impl Check<'_> for Options {
+    ghost gave = { λ options. Gives (refs_report options) (λ line. 0) (IsAcceptedInput options) };
+
+    /// Reads all of `input`, the lines `OLD NEW REF` of a pre-receive hook. Writes a line to `output`
+    /// for each reference whose name is refused and, if new ids are listed, for each new id
+    /// (docs/RULES.md, "The report of references").
+    ///
+    /// ```
+    /// let options = Options { lists_ids: false, allows_replace: false };
+    /// options.run(alloc, &mut input, &mut output)?; // Verdict::Refused
+    /// ```
+    ///
+    /// Each line is written as it is found, and `output` is not flushed. A malformed line ends the run,
+    /// and the lines before it are written. An empty input is malformed. The verdict is `Clean` if and
+    /// only if nothing is malformed and nothing is refused.
+    ///
+    /// # Errors
+    ///
+    /// [`RunError`] says whether reading, memory or writing failed. If reading or memory did, what was
+    /// written is the beginning of the report.
+    ///
+    /// # Memory
+    ///
+    /// It allocates memory for the longest line of the input, of at most 65,536 bytes, and for the
+    /// longest line of the report, from `alloc`.
+    #[tactic(auto, using(crate::proofs::CleanInputs::update_laws))]
+    fn run<R: BufRead, W: Write>(
+        self,
+        alloc: Global,
+        input: &mut R,
+        output: &mut W,
+    ) -> Result<Verdict, RunError>
+        ensures runs { Runs (refs_report self) (λ line. 0) (R.remaining input.old) (R.remaining input.new)
+            (W.contents output.old) (W.contents output.new) result }
+        ensures clean { IfOk result (λ verdict. IfSome (R.remaining input.old) (λ text.
+            (verdict ≡ Verdict.Clean) ↔ IsAcceptedInput self text)) }
+        ensures spelled { IsReportedInOrder self }
+        ensures well_formed { IsWellFormedOnlyIfSpelled self }
+        ensures linear { PrintsAtMost 4 (refs_report self) }
+    {
+        lines::run(alloc, self, Ending::AfterALine, input, output)
+    }
+}
 
 impl LineCheck for Options {
     ghost line_rule = { λ options. update_rule options };
@@ -41,44 +88,4 @@ impl LineCheck for Options {
             .map_err(|_| RunError::Write)?;
         Ok(Ok(refused))
     }
-}
-
-/// Reads all of `input`, the lines `OLD NEW REF` of a pre-receive hook. Writes a line to `output`
-/// for each reference whose name is refused and, if new ids are listed, for each new id
-/// (docs/RULES.md, "The report of references").
-///
-/// ```
-/// let options = Options { lists_ids: false, allows_replace: false };
-/// run(alloc, options, &mut input, &mut output)?; // Verdict::Refused
-/// ```
-///
-/// Each line is written as it is found, and `output` is not flushed. A malformed line ends the run,
-/// and the lines before it are written. An empty input is malformed. The verdict is `Clean` if and
-/// only if nothing is malformed and nothing is refused.
-///
-/// # Errors
-///
-/// [`RunError`] says whether reading, memory or writing failed. If reading or memory did, what was
-/// written is the beginning of the report.
-///
-/// # Memory
-///
-/// It allocates memory for the longest line of the input, of at most 65,536 bytes, and for the
-/// longest line of the report, from `alloc`.
-#[tactic(auto, using(crate::proofs::CleanInputs::update_laws))]
-pub fn run<R: BufRead, W: Write>(
-    alloc: Global,
-    options: Options,
-    input: &mut R,
-    output: &mut W,
-) -> Result<Verdict, RunError>
-    ensures runs { Runs (refs_report options) (λ line. 0) (R.remaining input.old) (R.remaining input.new)
-        (W.contents output.old) (W.contents output.new) result }
-    ensures clean { IfOk result (λ verdict. IfSome (R.remaining input.old) (λ text.
-        (verdict ≡ Verdict.Clean) ↔ IsAcceptedInput options text)) }
-    ensures spelled { IsReportedInOrder options }
-    ensures well_formed { IsWellFormedOnlyIfSpelled options }
-    ensures linear { PrintsAtMost 4 (refs_report options) }
-{
-    lines::run(alloc, options, Ending::AfterALine, input, output)
 }

@@ -8,20 +8,12 @@ ghost use Rattle.std.specs.Prelude.{◌≡◌, ◌++◌, OnOk, IfOk};
 ghost use Rattle.check_refs.specs.Refs.{as_parsed, id_line, refused_line};
 ghost use Rattle.check_refs.specs.Report.{said_of};
 
+use crate::options::Options;
 use crate::refusal::{Refusal, refusal_of};
 use crate::update::{Update, is_deletion};
 use git_input::output::push_quoted;
 use std::alloc::AllocError;
 use std::io::Write;
-
-/// The options of a run.
-#[derive(Clone, Copy)]
-pub struct Options {
-    /// Whether a line is printed for each new id.
-    pub lists_ids: bool,
-    /// Whether names under `refs/replace/` are allowed.
-    pub allows_replace: bool,
-}
 
 /// Appends the line of an update, if it has one, and returns whether its name is refused
 /// (docs/RULES.md, "The report of references").

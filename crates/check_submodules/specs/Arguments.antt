@@ -2,7 +2,7 @@
 use Rattle.std.specs.Prelude.{true, false, if◌then◌else◌, codes, Some, None}
 use Rattle.std.specs.Str.{bytes_eq}
 use Rattle.cli.specs.Arguments.{OptionRule, Unknown, Sets}
-use Rattle.check_submodules.specs.declared.check.Options.{Options}
+use Rattle.check_submodules.specs.declared.options.Options.{Options}
 
 -- without options
 abbrev pub no_options : Options

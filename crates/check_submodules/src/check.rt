@@ -5,6 +5,7 @@
 
 ghost use Rattle.std.specs.Prelude.{false, true, IfOk, IfSome};
 ghost use Rattle.std.proofs.Common.{ap, subst};
+ghost use Rattle.git_input.specs.Ends.{Gives};
 ghost use Rattle.git_input.specs.Objects.{IsWholeStream, object_reach};
 ghost use Rattle.git_input.specs.Promises.{Runs, as_object};
 ghost use Rattle.git_input.specs.Reports.{PrintsAtMost};
@@ -13,6 +14,7 @@ ghost use Rattle.check_submodules.specs.Private.{Reads};
 ghost use Rattle.check_submodules.specs.Report.{report, submodules_rule};
 ghost use Rattle.check_submodules.specs.Spelled.{IsAcceptedStream, IsCleanIff, IsEachHeaderReported, IsEachNameReported};
 
+use crate::options::Options;
 use crate::report::{push_lines, push_too_large};
 use cli::outcome::RunError;
 use git_input::header::{Kind, Object};
@@ -28,65 +30,47 @@ use std::io::{BufRead, Write};
 /// The size in bytes of the largest file that is read.
 const LARGEST: u64 = 16_777_216;
 
-/// How the input is checked.
-#[derive(Clone, Copy)]
-pub struct Options {
-    /// Whether the input needs its end line (`--end`): no object is missing, and the line `..end
-    /// missing` ends it.
-    pub needs_end: bool,
-}
-
-/// Reads all of `input`, objects as `git cat-file --batch` prints them, and writes a line to
-/// `output` for each section of a submodule in a blob whose name is refused, and for each that
-/// can't be read (docs/RULES.md, "The names in a .gitmodules file"). Objects that are not blobs are
-/// skipped. A blob of more than 16,777,216 bytes is skipped too, and has a line that says so.
-///
-/// ```
-/// run(alloc, Options { needs_end: false }, &mut input, &mut output)?; // Verdict::Refused
-/// ```
-///
-/// The lines of a blob are written once all of it is read, and `output` is not flushed. A malformed
-/// object ends the run, and what was found before it is written.
-///
-/// # Errors
-///
-/// [`RunError`] says whether reading, memory or writing failed. If reading or memory did, what was
-/// written is the beginning of the report.
-///
-/// # Memory
-///
-/// It allocates memory for the longest header line, of at most 65,536 bytes, and for the largest
-/// file that is read, its longest name and its lines, from `alloc`.
-pub fn run<R: BufRead, W: Write>(
-    alloc: Global,
-    options: Options,
-    input: &mut R,
-    output: &mut W,
-) -> Result<Verdict, RunError>
-    ensures runs { Runs (report options.needs_end) object_reach (R.remaining input.old) (R.remaining input.new)
-        (W.contents output.old) (W.contents output.new) result }
-    ensures clean { IfOk result (λ verdict. IfSome (R.remaining input.old) (IsCleanIff options.needs_end verdict)) }
-    ensures spelled { IsReportedInOrder submodules_rule options.needs_end }
-    ensures well_formed { IsWellFormedOnlyIfSpelled submodules_rule options.needs_end }
-    ensures whole { IsWholeStream submodules_rule options.needs_end }
-    ensures names { IsEachNameReported }
-    ensures headers { IsEachHeaderReported }
-    ensures linear { PrintsAtMost 17 (report options.needs_end) }
-{
-    objects::run(alloc, options, options.needs_end, input, output)
-}
-
 impl Check<'_> for Options {
-    ghost gave = { λ options input rest output written ran. Runs (report options.needs_end) object_reach input rest output written ran
-        × IfOk ran (λ verdict. IfSome input (IsCleanIff options.needs_end verdict)) };
+    ghost gave = { λ options. Gives (report options.needs_end) object_reach (IsAcceptedStream options.needs_end) };
 
+    /// Reads all of `input`, objects as `git cat-file --batch` prints them, and writes a line to
+    /// `output` for each section of a submodule in a blob whose name is refused, and for each that
+    /// can't be read (docs/RULES.md, "The names in a .gitmodules file"). Objects that are not blobs are
+    /// skipped. A blob of more than 16,777,216 bytes is skipped too, and has a line that says so.
+    ///
+    /// ```
+    /// Options { needs_end: false }.run(alloc, &mut input, &mut output)?; // Verdict::Refused
+    /// ```
+    ///
+    /// The lines of a blob are written once all of it is read, and `output` is not flushed. A malformed
+    /// object ends the run, and what was found before it is written.
+    ///
+    /// # Errors
+    ///
+    /// [`RunError`] says whether reading, memory or writing failed. If reading or memory did, what was
+    /// written is the beginning of the report.
+    ///
+    /// # Memory
+    ///
+    /// It allocates memory for the longest header line, of at most 65,536 bytes, and for the largest
+    /// file that is read, its longest name and its lines, from `alloc`.
     fn run<R: BufRead, W: Write>(
         self,
         alloc: Global,
         input: &mut R,
         output: &mut W,
-    ) -> Result<Verdict, RunError> {
-        run(alloc, self, input, output)
+    ) -> Result<Verdict, RunError>
+        ensures runs { Runs (report self.needs_end) object_reach (R.remaining input.old) (R.remaining input.new)
+            (W.contents output.old) (W.contents output.new) result }
+        ensures clean { IfOk result (λ verdict. IfSome (R.remaining input.old) (IsCleanIff self.needs_end verdict)) }
+        ensures spelled { IsReportedInOrder submodules_rule self.needs_end }
+        ensures well_formed { IsWellFormedOnlyIfSpelled submodules_rule self.needs_end }
+        ensures whole { IsWholeStream submodules_rule self.needs_end }
+        ensures names { IsEachNameReported }
+        ensures headers { IsEachHeaderReported }
+        ensures linear { PrintsAtMost 17 (report self.needs_end) }
+    {
+        objects::run(alloc, self, self.needs_end, input, output)
     }
 }
 

@@ -4,7 +4,7 @@ use Rattle.std.specs.List.{list_any}
 use Rattle.std.specs.Str.{bytes_eq}
 use Rattle.gix_validate.specs.declared.path.ComponentOptions.{ComponentOptions}
 use Rattle.gix_validate.specs.Pieces.{pieces}
-use Rattle.check_trees.specs.declared.check.CheckOptions.{CheckOptions}
+use Rattle.check_trees.specs.declared.options.CheckOptions.{CheckOptions}
 
 -- the options, with the names to which the rules of Windows do not apply
 pub record Options : Type 0 where

@@ -4,6 +4,7 @@ ghost use Rattle.std.specs.Prelude.{◌≡◌, ◌<◌, ◌≤◌, Some, false, 
 ghost use Rattle.std.proofs.Common.{ap, subst};
 ghost use Rattle.std.specs.List.{list_any};
 ghost use Rattle.std.specs.Str.{bytes_eq};
+ghost use Rattle.git_input.specs.Ends.{Gives};
 ghost use Rattle.git_input.specs.Reports.{PrintsAtMost};
 ghost use Rattle.git_input.specs.Objects.{IsWholeStream, object_reach};
 ghost use Rattle.git_input.specs.Promises.{Runs, FollowsRule, ReadsUpTo, as_object};
@@ -16,7 +17,8 @@ ghost use Rattle.check_trees.specs.Spelled.{IsAcceptedStream, IsCleanIff, IsRead
 ghost use Rattle.check_trees.specs.Private.{EntryGives, EntryReads, PassesId, Says, as_front, tree_report};
 
 use crate::entry::{ModeAndName, front_of};
-use crate::report::{set_modules_line, set_refused_line};
+use crate::options::CheckOptions;
+use crate::report::{push_modules, push_refused};
 use bstr::BStr;
 use cli::outcome::RunError;
 use git_input::header::{Kind, Object};
@@ -31,70 +33,46 @@ use gix_validate::path::{ComponentError, ComponentMode, ComponentOptions};
 use std::alloc::Global;
 use std::io::{BufRead, Write};
 
-/// How the input is checked.
-#[derive(Clone, Copy)]
-pub struct CheckOptions<'a> {
-    /// The file systems to protect.
-    pub protections: ComponentOptions,
-    /// Whether files that a checkout reads as `.gitmodules` are listed too (`--modules`).
-    pub modules: bool,
-    /// Whether the input needs its end line (`--end`): no object is missing, and the line `..end
-    /// missing` ends it.
-    pub needs_end: bool,
-    /// The names to which the rules of Windows do not apply, separated by slashes (`--accept`).
-    pub accepted: &'a str,
-}
-
-/// Reads all of `input`, objects as `git cat-file --batch` prints them, and writes a line to
-/// `output` for each entry of a tree whose name [`path::component`] refuses with these options, and
-/// for each file to be listed (docs/RULES.md, "The report of trees").
-///
-/// ```
-/// run(alloc, options, &mut input, &mut output)?; // Verdict::Refused
-/// ```
-///
-/// Each line is written as it is found, and `output` is not flushed. A malformed object ends the
-/// run, and what was found before it is written.
-///
-/// # Errors
-///
-/// [`RunError`] says whether reading, memory or writing failed. If reading or memory did, what was
-/// written is the beginning of the report.
-///
-/// # Memory
-///
-/// It allocates memory for the longest header line, the longest entry and the longest line of the
-/// report, from `alloc`, whatever the sizes of the objects. Each of the first two has at most
-/// 65,536 bytes.
-pub fn run<R: BufRead, W: Write>(
-    alloc: Global,
-    options: CheckOptions<'_>,
-    input: &mut R,
-    output: &mut W,
-) -> Result<Verdict, RunError>
-    ensures runs { Runs (report (as_options options.entry)) object_reach (R.remaining input.old) (R.remaining input.new)
-        (W.contents output.old) (W.contents output.new) result }
-    ensures clean { IfOk result (λ verdict. IfSome (R.remaining input.old) (IsCleanIff (as_options options.entry) verdict)) }
-    ensures spelled { IsReportedInOrder (tree_rule (as_options options.entry)) options.entry.needs_end }
-    ensures well_formed { IsWellFormedOnlyIfSpelled (tree_rule (as_options options.entry)) options.entry.needs_end }
-    ensures whole { IsWholeStream (tree_rule (as_options options.entry)) options.entry.needs_end }
-    ensures items { IsReadAsItems (as_options options.entry) }
-    ensures linear { PrintsAtMost 32 (report (as_options options.entry)) }
-{
-    objects::run(alloc, options, options.needs_end, input, output)
-}
-
 impl<'a> Check<'a> for CheckOptions<'a> {
-    ghost gave = { λ options input rest output written ran. Runs (report (as_options options)) object_reach input rest output written ran
-        × IfOk ran (λ verdict. IfSome input (IsCleanIff (as_options options) verdict)) };
+    ghost gave = { λ options. Gives (report (as_options options)) object_reach (IsAcceptedStream (as_options options)) };
 
+    /// Reads all of `input`, objects as `git cat-file --batch` prints them, and writes a line to
+    /// `output` for each entry of a tree whose name [`path::component`] refuses with these options, and
+    /// for each file to be listed (docs/RULES.md, "The report of trees").
+    ///
+    /// ```
+    /// options.run(alloc, &mut input, &mut output)?; // Verdict::Refused
+    /// ```
+    ///
+    /// Each line is written as it is found, and `output` is not flushed. A malformed object ends the
+    /// run, and what was found before it is written.
+    ///
+    /// # Errors
+    ///
+    /// [`RunError`] says whether reading, memory or writing failed. If reading or memory did, what was
+    /// written is the beginning of the report.
+    ///
+    /// # Memory
+    ///
+    /// It allocates memory for the longest header line, the longest entry and the longest line of the
+    /// report, from `alloc`, whatever the sizes of the objects. Each of the first two has at most
+    /// 65,536 bytes.
     fn run<R: BufRead, W: Write>(
         self,
         alloc: Global,
         input: &mut R,
         output: &mut W,
-    ) -> Result<Verdict, RunError> {
-        run(alloc, self, input, output)
+    ) -> Result<Verdict, RunError>
+        ensures runs { Runs (report (as_options self.entry)) object_reach (R.remaining input.old) (R.remaining input.new)
+            (W.contents output.old) (W.contents output.new) result }
+        ensures clean { IfOk result (λ verdict. IfSome (R.remaining input.old) (IsCleanIff (as_options self.entry) verdict)) }
+        ensures spelled { IsReportedInOrder (tree_rule (as_options self.entry)) self.entry.needs_end }
+        ensures well_formed { IsWellFormedOnlyIfSpelled (tree_rule (as_options self.entry)) self.entry.needs_end }
+        ensures whole { IsWholeStream (tree_rule (as_options self.entry)) self.entry.needs_end }
+        ensures items { IsReadAsItems (as_options self.entry) }
+        ensures linear { PrintsAtMost 32 (report (as_options self.entry)) }
+    {
+        objects::run(alloc, self, self.needs_end, input, output)
     }
 }
 
@@ -298,15 +276,16 @@ fn say<W: Write>(
     ensures { Says (finding_said (as_object tree.entry) (record { front = as_front front.entry; id = id.now }) finding)
         (W.contents output.old) (W.contents output.new) result }
 {
+    line.clear();
     match finding {
         Finding::Accepted => Ok(false),
         Finding::Modules => {
-            set_modules_line(line, tree, front, id).map_err(|_| RunError::Memory)?;
+            push_modules(line, tree, front, id).map_err(|_| RunError::Memory)?;
             output.write_all(line).map_err(|_| RunError::Write)?;
             Ok(false)
         }
         Finding::Refused(fault) => {
-            set_refused_line(line, tree, front, fault).map_err(|_| RunError::Memory)?;
+            push_refused(line, tree, front, fault).map_err(|_| RunError::Memory)?;
             output.write_all(line).map_err(|_| RunError::Write)?;
             Ok(true)
         }

@@ -26,23 +26,10 @@ use std::io::Write;
 /// How many bytes of a path are displayed at most.
 const MAX_PATH: usize = 128;
 
-/// Replaces the last line with that of a refused entry. Most entries have none.
+/// Appends the line of a refused entry. Most entries have none.
 #[cold]
 #[inline(never)]
-pub(crate) fn set_refused_line(
-    line: &mut Vec<u8>,
-    tree: Object<'_>,
-    front: ModeAndName<'_>,
-    fault: ComponentError,
-) -> Result<(), AllocError>
-    ensures { OnOk result (line.new.items ≡ refused_line (as_object tree.entry) (as_front front.entry) fault) }
-{
-    line.clear();
-    push_refused(line, tree, front, fault)
-}
-
-/// Appends the line of a refused entry.
-fn push_refused(
+pub(crate) fn push_refused(
     line: &mut Vec<u8>,
     tree: Object<'_>,
     front: ModeAndName<'_>,
@@ -58,23 +45,10 @@ fn push_refused(
     Ok(())
 }
 
-/// Replaces the last line with that of a file that is read as `.gitmodules`. Its id is in bytes.
+/// Appends the line of a file that is read as `.gitmodules`. Its id is in bytes.
 #[cold]
 #[inline(never)]
-pub(crate) fn set_modules_line(
-    line: &mut Vec<u8>,
-    tree: Object<'_>,
-    front: ModeAndName<'_>,
-    id: &[u8],
-) -> Result<(), AllocError>
-    ensures { OnOk result (line.new.items ≡ modules_line (as_object tree.entry) (as_front front.entry) id.now) }
-{
-    line.clear();
-    push_modules(line, tree, front, id)
-}
-
-/// Appends the line of a file that is read as `.gitmodules`.
-fn push_modules(
+pub(crate) fn push_modules(
     line: &mut Vec<u8>,
     tree: Object<'_>,
     front: ModeAndName<'_>,

@@ -2,7 +2,7 @@
 use Rattle.std.proofs.Common.{◌≡◌, length}
 use Rattle.check_trees.specs.Arguments.{comma_parts, all_switched_on}
 use Rattle.gix_validate.specs.ComponentLaws.{no_protections}
-use Rattle.check_trees.proofs.arguments.protections_of.Given as goal
+use Rattle.check_trees.proofs.options.protections_of.Given as goal
 
 abbrev pub invariant-loop-end : goal.invariant-loop-end
 invariant-loop-end l = all_switched_on (comma_parts l.rest) l.options ≡ all_switched_on (comma_parts l.fn.list) no_protections

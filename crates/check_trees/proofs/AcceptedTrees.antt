@@ -17,10 +17,10 @@ use Rattle.git_input.specs.Objects.{Judged}
 use Rattle.git_input.specs.Spelled as stream
 use Rattle.git_input.specs.Spelled.{Spelled, Present, Absent, IsSpelled, spelled_said, IsCleanStream}
 use Rattle.git_input.proofs.CleanStreams.{neither}
-use Rattle.check_trees.specs.Options.{Options, protections_for}
-use Rattle.check_trees.specs.Entries.{ParsedEntry, mode_of, named}
+use Rattle.check_trees.specs.Options.{Options}
+use Rattle.check_trees.specs.Entries.{ParsedEntry}
 use Rattle.check_trees.specs.Report.{finding_by, finding_said, entries, judged_by_kind, tree_rule}
-use Rattle.check_trees.specs.Spelled.{Item, item_said, IsAcceptedTree, IsAcceptedObject, IsAcceptedStream, IsCleanIff}
+use Rattle.check_trees.specs.Spelled.{Item, entry_of_item, item_said, IsAcceptedTree, IsAcceptedObject, IsAcceptedStream, IsCleanIff}
 use Rattle.check_trees.proofs.SpelledTrees.{entries_spelled, read_as_items}
 
 -- ---- an entry
@@ -33,11 +33,10 @@ refused_by tree entry false None = refl
 
 module _ (options : Options) (tree : ParsedObject) where
   abbrev IsAcceptedItem : Item → Type 0
-  IsAcceptedItem item = fault_of (protections_for options item.name) (mode_of item.number) item.name ≡ None
+  IsAcceptedItem item = fault_of item.protections item.mode item.name ≡ None
 
-  item_refused : (item : Item) → (item_said options tree item).refused ≡ is_some (fault_of (protections_for options item.name) (mode_of item.number) item.name)
-  item_refused item = refused_by tree (record { front = named item.digits item.name item.number; id = item.id }) _
-      (fault_of (protections_for options item.name) (mode_of item.number) item.name)
+  item_refused : (item : Item) → (item_said options tree item).refused ≡ is_some (fault_of item.protections item.mode item.name)
+  item_refused item = refused_by tree (entry_of_item item) _ (fault_of item.protections item.mode item.name)
 
   some_fault : (fault : Option ComponentError) → is_some fault ≡ false → fault ≡ None
   some_fault None e = refl
@@ -67,6 +66,7 @@ module _ (options : Options) where
       record {
         items = tree.items;
         each = tree.each;
+        checked = tree.checked;
         accepted = items_accept options object tree.items (rw tree.said_is at clean);
         bytes_are = tree.bytes_are;
       }
@@ -75,7 +75,7 @@ module _ (options : Options) where
   tree_accepted : (object : ParsedObject) (content : List ℕ) → IsAcceptedTree options object content
       → (entries options Entry object content).0.refused ≡ false
   tree_accepted object content tree =
-      ap (λ (judged : Judged). judged.0.refused) (ap (entries options Entry object) tree.bytes_are ∙ entries_spelled options Entry object tree.items tree.each)
+      ap (λ (judged : Judged). judged.0.refused) (ap (entries options Entry object) tree.bytes_are ∙ entries_spelled options Entry object tree.items tree.each tree.checked)
       ∙ items_accepted options object tree.items tree.accepted
 
   by_kind_accepted : (object : ParsedObject) (content : List ℕ) (kind : Kind) → (kind ≡ Tree → IsAcceptedTree options object content)

@@ -6,3 +6,4 @@ pub mod SpelledTrees
 pub mod AcceptedTrees
 pub mod LinearReports
 pub mod ArgumentWords
+mod Rows

@@ -109,9 +109,9 @@ module _ (tree : ParsedObject) (good : is_id tree.id ≡ true) where
   module _ (options : Options) (short : Malformation) where
     then_length : (more : List ℕ → Judged) (r : Result (ParsedEntry × List ℕ) Malformation) (bytes : List ℕ)
         → ((rest : List ℕ) → length (more rest).0.lines ≤ 32 * length rest)
-        → IfOk r (IsFirst (length tree.id / 2) bytes) → length (entries_then more options tree r).0.lines ≤ 32 * length bytes
+        → IfOk r (IsFirst options (length tree.id / 2) bytes) → length (entries_then more options tree r).0.lines ≤ 32 * length bytes
     then_length more (Err fault) bytes go first = omega arith
-    then_length more (Ok entry) bytes go (item, is, cut, same) =
+    then_length more (Ok entry) bytes go (item, is, by, cut, same) =
         let long : length bytes ≡ length (item_bytes item ++ entry.1) = ap length cut in
         let few = said_length item (finding_of options (named item.digits item.name item.number)) is in
         let lines : length (entry_said options tree entry.0).lines ≤ 32 * length (item_bytes item) = rw same few in
@@ -129,7 +129,7 @@ module _ (tree : ParsedObject) (good : is_id tree.id ≡ true) where
     within_length (suc fuel) [] = omega arith
     within_length (suc fuel) (b ∷ bytes) =
         then_length (entries_within fuel options short tree) (entry_of short (length tree.id / 2) (b ∷ bytes)) (b ∷ bytes)
-        (λ rest. within_length fuel rest) (item_first short (length tree.id / 2) (b ∷ bytes))
+        (λ rest. within_length fuel rest) (item_first options short (length tree.id / 2) (b ∷ bytes))
 
     entries_length : (bytes : List ℕ) → length (entries options short tree bytes).0.lines ≤ 32 * length bytes
     unfolding entries

@@ -2,12 +2,19 @@
 use Rattle.std.proofs.Common.{◌≡◌, ◌≢◌, ℕ, zero, suc, ◌+◌, ◌/◌, ◌<◌, ◌≤◌, Bool, true, false, if◌then◌else◌, List, [], ◌∷◌, ◌++◌, All, Option, None, Some}
 use Rattle.std.proofs.Common.{Result, Ok, Err, length, take, drop}
 use Rattle.std.proofs.Common.{refl, ap, sym, ◌∙◌, arith, append_assoc, length-append, length-take, take-append-drop, drop-drop}
-use Rattle.std.specs.Prelude.{IfSome, IfOk, map, flat_map}
-use Rattle.std.specs.List.{AllByRecursion}
+use Rattle.std.specs.Prelude.{◌%◌, ◌==◌, ◌↔◌, IsTrue, Contains, IfSome, IfOk, map, flat_map}
+use Rattle.std.specs.List.{AllByRecursion, list_any}
 use Rattle.std.proofs.lemmas.List.Elements.{All-from_recursion, All-append, All-cons}
 use Rattle.std.proofs.lemmas.Bool.Decides.{nat_tests}
 use Rattle.std.proofs.lemmas.Grind.{common_steps}
-use Rattle.std.specs.Str.{byte}
+use Rattle.std.specs.Str.{byte, bytes_eq}
+use Rattle.std.proofs.lemmas.Bool.{false≢true}
+use Rattle.std.proofs.lemmas.Map.Views.{Contains-from_any}
+use Rattle.std.proofs.lemmas.Slice.Eq.{bytes_eq-Decides}
+use Rattle.gix_validate.specs.declared.path.ComponentMode.{ComponentMode}
+use Rattle.gix_validate.specs.declared.path.ComponentMode.TheVariants.{Symlink}
+use Rattle.gix_validate.specs.declared.path.ComponentOptions.{ComponentOptions}
+use Rattle.gix_validate.specs.Faults.{when}
 use Rattle.git_input.specs.declared.outcome.Malformation.{Malformation}
 use Rattle.git_input.specs.declared.outcome.Malformation.TheVariants.{Entry}
 use Rattle.git_input.specs.declared.header.Kind.TheVariants.{Tree}
@@ -18,12 +25,96 @@ use Rattle.git_input.specs.Objects.{Judged}
 use Rattle.git_input.proofs.SplitTexts.{split_found, drop_both, IsCut, split_cuts, whole}
 use Rattle.git_input.proofs.SpelledHeaders.{without, number_high}
 use Rattle.git_input.proofs.WellFormedStreams.{each_after}
-use Rattle.check_trees.specs.Options.{Options}
-use Rattle.check_trees.specs.Entries.{nul, named, ParsedModeAndName, ParsedEntry, parsed_front, entry_at, entry_with, entry_of}
-use Rattle.check_trees.specs.Report.{entries_then, entries_within, entries, judged_by_kind, tree_rule}
-use Rattle.check_trees.specs.Spelled.{Item, IsItem, item_bytes, item_said, IsTree, IsReadAsItems}
+use Rattle.check_trees.specs.Options.{Options, protections_for, without_windows}
+use Rattle.check_trees.specs.Entries.{nul, named, mode_of, is_file, ParsedModeAndName, ParsedEntry, parsed_front, entry_at, entry_with, entry_of}
+use Rattle.check_trees.specs.Report.{entry_said, entries_then, entries_within, entries, judged_by_kind, tree_rule}
+use Rattle.check_trees.specs.Spelled.{Item, IsItem, HasType, IsCheckedBy, item_bytes, item_said, IsTree, IsReadAsItems}
 use Rattle.check_trees.proofs.FirstEntry.{entry_found, id_after}
 use Rattle.check_trees.proofs.TreeEntries.{entries_first, entries_none}
+
+-- ---- by which rules a name is checked
+
+any_from : (names : List (List ℕ)) (name : List ℕ) → Contains names name → list_any (λ accepted. bytes_eq accepted name) names ≡ true
+any_from [] name (k, below, is) = absurd (omega arith)
+any_from (first ∷ names) name (zero, below, is) = grind (arith, bytes_eq-Decides first name)
+any_from (first ∷ names) name (suc k, below, is) = grind (arith, any_from names name (k, omega arith, is))
+
+from_any : (names : List (List ℕ)) (name : List ℕ) → list_any (λ accepted. bytes_eq accepted name) names ≡ true → Contains names name
+from_any names name any = Contains-from_any {eq = λ a b. bytes_eq b a} (λ a b same. sym ((bytes_eq-Decides b a).0 same)) name names any
+
+windows_by : (any : Bool) (on : ComponentOptions) (P : Type 0) → ((any ≡ true) ↔ P)
+    → IsTrue (if any then without_windows on else on).protect_windows ↔ (IsTrue on.protect_windows × (P → ⊥))
+windows_by true on P both = (λ off. absurd (false≢true off), λ (is, other). absurd (other (both.0 refl)))
+windows_by false on P both = (λ is. (is, λ there. false≢true (both.1 there)), λ (is, other). is)
+
+others_by : (any : Bool) (on : ComponentOptions)
+    → ((if any then without_windows on else on).protect_hfs ≡ on.protect_hfs) × ((if any then without_windows on else on).protect_ntfs ≡ on.protect_ntfs)
+others_by true on = (refl, refl)
+others_by false on = (refl, refl)
+
+type_is : (number type : ℕ) → type < 16 → ((number / 4096 % 16 == type) ≡ true) ↔ HasType number type
+type_is number type small = (
+  λ is.
+      let same : number / 4096 % 16 ≡ type = grind (arith, nat_tests) in
+      (number / 4096 / 16, number % 4096, omega arith, omega (arith, same)),
+  λ (above, below, few, is). let same : number / 4096 % 16 ≡ type = omega (arith, few, is, small) in grind (arith, nat_tests),
+)
+
+link_by : (test : Bool) (P : Type 0) → ((test ≡ true) ↔ P) → (when test Symlink ≡ Some Symlink) ↔ P
+link_by true P both = (λ e. both.0 refl, λ p. refl)
+link_by false P both = (λ e. absurd (cc), λ p. absurd (false≢true (both.1 p)))
+
+-- an entry with the rules for its name
+abbrev item_by : Options → (digits : List ℕ) (number : ℕ) (name id : List ℕ) → Item
+item_by options digits number name id = record {
+  digits = digits;
+  number = number;
+  name = name;
+  id = id;
+  protections = protections_for options name;
+  mode = mode_of number;
+  is_file = is_file number;
+}
+
+checked_by : (options : Options) (digits : List ℕ) (number : ℕ) (name id : List ℕ) → IsCheckedBy options (item_by options digits number name id)
+checked_by options digits number name id =
+    let any = list_any (λ accepted. bytes_eq accepted name) options.accepted in record {
+      windows = windows_by any options.protections (Contains options.accepted name) (from_any options.accepted name, any_from options.accepted name);
+      hfs = (others_by any options.protections).0;
+      ntfs = (others_by any options.protections).1;
+      link = link_by _ _ (type_is number 10 (omega arith));
+      file = type_is number 8 (omega arith);
+    }
+
+-- there is one way to check a name
+bools : (a b : Bool) (P : Type 0) → (IsTrue a ↔ P) → (IsTrue b ↔ P) → a ≡ b
+bools true true P this that = refl
+bools true false P this that = sym (that.1 (this.0 refl))
+bools false true P this that = this.1 (that.0 refl)
+bools false false P this that = refl
+
+modes : (a b : Option ComponentMode) (P : Type 0) → ((a ≡ Some Symlink) ↔ P) → ((b ≡ Some Symlink) ↔ P) → a ≡ b
+modes None None P this that = refl
+modes None (Some Symlink) P this that = this.1 (that.0 refl)
+modes (Some Symlink) None P this that = sym (that.1 (this.0 refl))
+modes (Some Symlink) (Some Symlink) P this that = refl
+
+abbrev switches : Bool → Bool → Bool → ComponentOptions
+switches windows hfs ntfs = record { protect_windows = windows; protect_hfs = hfs; protect_ntfs = ntfs }
+
+same_switches : (a b : ComponentOptions) → a.protect_windows ≡ b.protect_windows → a.protect_hfs ≡ b.protect_hfs → a.protect_ntfs ≡ b.protect_ntfs → a ≡ b
+same_switches a b windows hfs ntfs =
+    ap (λ on. switches on a.protect_hfs a.protect_ntfs) windows ∙ ap (λ on. switches b.protect_windows on a.protect_ntfs) hfs
+    ∙ ap (switches b.protect_windows b.protect_hfs) ntfs
+
+item_says : (options : Options) (tree : ParsedObject) (item : Item) → IsCheckedBy options item
+    → item_said options tree item ≡ entry_said options tree (record { front = named item.digits item.name item.number; id = item.id })
+item_says options tree item by =
+    let own = checked_by options item.digits item.number item.name item.id in
+    let mode = modes item.mode (mode_of item.number) _ by.link own.link in
+    let file = bools item.is_file (is_file item.number) _ by.file own.file in
+    let on = same_switches item.protections (protections_for options item.name) (bools _ _ _ by.windows own.windows) (by.hfs ∙ sym own.hfs) (by.ntfs ∙ sym own.ntfs) in
+    rw (mode, file, on) refl
 
 -- ---- entries that are written out
 
@@ -52,10 +143,11 @@ entry_spelled short width item more good =
     )
 
 pub entries_spelled : (options : Options) (short : Malformation) (tree : ParsedObject) (items : List Item) → AllByRecursion (IsItem (length tree.id / 2)) items
+    → AllByRecursion (IsCheckedBy options) items
     → entries options short tree (flat_map item_bytes items) ≡ (all_said (map (item_said options tree) items), None)
-entries_spelled options short tree [] each = grind (arith, entries_none)
-entries_spelled options short tree (item ∷ items) (first, each) =
-    grind (arith, common_steps, entries_first, entry_spelled, entries_spelled options short tree items each)
+entries_spelled options short tree [] each checked = grind (arith, entries_none)
+entries_spelled options short tree (item ∷ items) (first, each) (by, checked) =
+    grind (arith, common_steps, entries_first, entry_spelled, item_says options tree item by, entries_spelled options short tree items each checked)
 
 -- ---- an entry that is well-formed
 
@@ -67,9 +159,9 @@ front_is : (front : List ℕ) → IfSome (parsed_front front) (IsFront front)
 unfolding parsed_front
 front_is front = grind (arith, split_cuts (byte " ") front)
 
-abbrev pub IsFirst : ℕ → List ℕ → ParsedEntry × List ℕ → Type 0
-IsFirst width bytes entry =
-    (item : Item) × IsItem width item × (bytes ≡ item_bytes item ++ entry.1)
+abbrev pub IsFirst : Options → ℕ → List ℕ → ParsedEntry × List ℕ → Type 0
+IsFirst options width bytes entry =
+    (item : Item) × IsItem width item × IsCheckedBy options item × (bytes ≡ item_bytes item ++ entry.1)
     × (entry.0 ≡ record { front = named item.digits item.name item.number; id = item.id })
 
 -- what a test lets through
@@ -77,29 +169,30 @@ if_ok : {T : Type 0} (test : Bool) (fault : Malformation) (x : T) (P : T → Typ
 if_ok true fault x P holds = tt
 if_ok false fault x P holds = holds refl
 
-module _ (short : Malformation) (width : ℕ) where
+module _ (options : Options) (short : Malformation) (width : ℕ) where
   item_at : (bytes front : List ℕ) (parsed : Option ParsedModeAndName) → bytes ≡ front ++ nul ∷ drop (length front + 1) bytes → length front < longest
-      → AllByRecursion (λ b. b ≢ nul) front → IfSome parsed (IsFront front) → IfOk (entry_at short width bytes (length front + 1) parsed) (IsFirst width bytes)
+      → AllByRecursion (λ b. b ≢ nul) front → IfSome parsed (IsFront front) → IfOk (entry_at short width bytes (length front + 1) parsed) (IsFirst options width bytes)
   item_at bytes front None cut few none is = tt
-  item_at bytes front (Some parsed) cut few none (number, digits, spelled, same) = if_ok _ short _ (IsFirst width bytes) (λ room.
+  item_at bytes front (Some parsed) cut few none (number, digits, spelled, same) = if_ok _ short _ (IsFirst options width bytes) (λ room.
       let id = take width (drop (length front + 1) bytes) in
       let name_none : AllByRecursion (λ b. b ≢ nul) parsed.name = (each_after (λ b. b ≢ nul) parsed.digits (byte " " ∷ parsed.name) (rw spelled at none)).1 in
       let long : length bytes ≡ length (front ++ nul ∷ drop (length front + 1) bytes) = ap length cut in
       let after : drop (length front + 1) bytes ≡ id ++ drop (length front + 1 + width) bytes =
       rw (← (drop-drop width (length front + 1) bytes)) (sym (take-append-drop width (drop (length front + 1) bytes))) in (
-        record { digits = parsed.digits; number = number; name = parsed.name; id = id },
+        item_by options parsed.digits number parsed.name id,
         (digits, All-from_recursion (λ b. b ≢ nul) parsed.name name_none, grind (arith, nat_tests, length-take, length-append), grind (arith, length-append)),
+        checked_by options parsed.digits number parsed.name id,
         grind (arith, append_assoc),
         ap (λ (front : ParsedModeAndName). record { front = front; id = id }) same,
       ))
 
   item_with : (bytes : List ℕ) (parts : Option (List ℕ × List ℕ)) → IfSome parts (IsCut nul (take longest bytes))
-      → IfOk (entry_with short width bytes parts) (IsFirst width bytes)
+      → IfOk (entry_with short width bytes parts) (IsFirst options width bytes)
   item_with bytes None cut = tt
   item_with bytes (Some parts) cut =
       let all = whole nul bytes parts.0 parts.1 longest cut.0 in item_at bytes parts.0 (parsed_front parts.0) all.0 all.1 cut.1 (front_is parts.0)
 
-  pub item_first : (bytes : List ℕ) → IfOk (entry_of short width bytes) (IsFirst width bytes)
+  pub item_first : (bytes : List ℕ) → IfOk (entry_of short width bytes) (IsFirst options width bytes)
   unfolding entry_of
   item_first bytes = item_with bytes (split_once nul (take longest bytes)) (split_cuts nul (take longest bytes))
 
@@ -111,25 +204,26 @@ module _ (options : Options) (short : Malformation) (tree : ParsedObject) where
 
   tree_then : (more : List ℕ → Judged) (r : Result (ParsedEntry × List ℕ) Malformation) (bytes : List ℕ) (fuel : ℕ) → length bytes ≤ suc fuel
       → ((rest : List ℕ) → length rest ≤ fuel → Goes rest (more rest))
-      → IfOk r (IsFirst (length tree.id / 2) bytes) → Goes bytes (entries_then more options tree r)
+      → IfOk r (IsFirst options (length tree.id / 2) bytes) → Goes bytes (entries_then more options tree r)
   tree_then more (Err fault) bytes fuel many go first none = grind arith
-  tree_then more (Ok entry) bytes fuel many go (item, good, cut, same) none =
+  tree_then more (Ok entry) bytes fuel many go (item, good, by, cut, same) none =
       let long : length bytes ≡ length (item_bytes item ++ entry.1) = ap length cut in
       let others = go entry.1 (grind (arith, length-append)) none in
       record {
         items = item ∷ others.items;
         each = (good, others.each);
+        checked = (by, others.checked);
         bytes_are = cut ∙ ap (λ t. item_bytes item ++ t) others.bytes_are;
-        said_is = rw same (ap (λ said. then_said (item_said options tree item) said) others.said_is);
+        said_is = rw (same, ← (item_says options tree item by)) (ap (λ said. then_said (item_said options tree item) said) others.said_is);
       }
 
   tree_within : (fuel : ℕ) (bytes : List ℕ) → length bytes ≤ fuel → Goes bytes (entries_within fuel options short tree bytes)
-  tree_within zero [] many none = record { items = []; each = tt; bytes_are = refl; said_is = refl }
+  tree_within zero [] many none = record { items = []; each = tt; checked = tt; bytes_are = refl; said_is = refl }
   tree_within zero (b ∷ bytes) many none = grind arith
-  tree_within (suc fuel) [] many none = record { items = []; each = tt; bytes_are = refl; said_is = refl }
+  tree_within (suc fuel) [] many none = record { items = []; each = tt; checked = tt; bytes_are = refl; said_is = refl }
   tree_within (suc fuel) (b ∷ bytes) many none =
       tree_then (entries_within fuel options short tree) (entry_of short (length tree.id / 2) (b ∷ bytes)) (b ∷ bytes) fuel many
-      (λ rest less done. tree_within fuel rest less done) (item_first short (length tree.id / 2) (b ∷ bytes)) none
+      (λ rest less done. tree_within fuel rest less done) (item_first options short (length tree.id / 2) (b ∷ bytes)) none
 
   tree_spelled : (bytes : List ℕ) → Goes bytes (entries options short tree bytes)
   unfolding entries
@@ -148,6 +242,6 @@ read_as_items options tree bytes said is = (
       let items = tree_spelled options Entry tree bytes (ap (λ (judged : Judged). judged.1) read) in
       rw (ap (λ (judged : Judged). judged.0) read) at items,
   λ items.
-      by_kind options tree bytes is ∙ ap (entries options Entry tree) items.bytes_are ∙ entries_spelled options Entry tree items.items items.each
+      by_kind options tree bytes is ∙ ap (entries options Entry tree) items.bytes_are ∙ entries_spelled options Entry tree items.items items.each items.checked
       ∙ ap (λ said. (said, None)) (sym items.said_is),
 )

@@ -29,8 +29,7 @@ pub mod tag;
 fn class() -> Option<&'static (dyn std::error::Error + 'static)> {
     #[cfg(feature = "gix-error")]
     {
-        const CLASS: &gix_error::ClassificationMarker =
-            &gix_error::ClassificationMarker::VALIDATION;
+        const CLASS: &gix_error::ClassificationMarker = &gix_error::ClassificationMarker::VALIDATION;
         Some(CLASS)
     }
     #[cfg(not(feature = "gix-error"))]

@@ -4,6 +4,7 @@
 # A script sets `suite`, its name in messages, and sources this. That reads these words from the script's arguments, and
 # leaves the others:
 #
+#     --help         prints the comment at the head of the script
 #     --list         prints the names of the cases
 #     --case NAME    runs this case alone; it can be given more than once
 #
@@ -11,6 +12,7 @@
 # `no` count. Each check is a line in a file, so that a process that is cut short takes none with it. A case that is due
 # and made no check is a failure, and so is a script that doesn't come to `finish`.
 
+[[ ${1-} != --help ]] || exec sed -n '1d; /^#/!q; /^# shellcheck/q; s/^# \{0,1\}//p' "$0"
 mapfile -t cases < <(sed -n 's/^\(test_[a-z0-9_]*\)() {$/\1/p' "$0")
 chosen=()
 while [[ ${1-} == --list || ${1-} == --case ]]; do
@@ -28,7 +30,7 @@ due=("${chosen[@]}")
 # A folder for the script, which goes when it ends, and the file of checks. The script ends by `leave`, or it fails.
 room=$(mktemp -d) && tally=$(mktemp) || exit
 current=
-trap 'rm -rf -- "$room" "$tally"; echo "$suite: FAILED: it stopped before its end"; exit 1' EXIT
+trap 'rm -rf -- "$room" "$tally"; echo "$suite: FAILED: it stopped before its end${current:+, in $current}"; exit 1' EXIT
 
 # Ends the script. leave STATUS
 leave() {
@@ -50,6 +52,13 @@ check() { if "${@:2}"; then pass; else no "$1"; fi; } # WHAT COMMAND..
 not_run() {
     echo "not run: $1"
     printf 'skip %s\n' "${@:2}" >> "$tally"
+}
+
+# Whether these tools are there. Otherwise says what isn't run. can WHAT TOOL..
+can() {
+    type -P "${@:2}" > "$room/log" && return
+    not_run "$1: needs ${*:2}" "$current"
+    return 1
 }
 
 # Runs a case, if it is to run. try CASE ARGUMENT..

@@ -37,8 +37,8 @@ static size_t count;
 static uint8_t *buffer;
 
 /* So many calls, and the sum of their results, so that no call can be left out. */
-#define EACH(result)                                                                                                   \
-    {                                                                                                                  \
+#define EACH(pass, result)                                                                                             \
+    static size_t pass(void) {                                                                                         \
         size_t sum = 0;                                                                                                \
         for (size_t i = 0; i < count; i++) {                                                                           \
             const uint8_t *bytes = names[i].bytes;                                                                     \
@@ -47,31 +47,30 @@ static uint8_t *buffer;
         }                                                                                                              \
         return sum;                                                                                                    \
     }
-static size_t tag(void) EACH(gix_validate_tag(bytes, len))
-static size_t full(void) EACH(gix_validate_full(bytes, len))
-static size_t submodule(void) EACH(gix_validate_submodule(bytes, len))
-static size_t component(void) EACH(gix_validate_component(bytes, len, 7))
-static size_t sanitize(void) EACH(gix_validate_sanitize(bytes, len, buffer, len + 1))
-static size_t in_place(void) EACH((memcpy(buffer, bytes, len), gix_validate_sanitize_in_place(buffer, len + 1, len)))
+EACH(tag, gix_validate_tag(bytes, len))
+EACH(full, gix_validate_full(bytes, len))
+EACH(submodule, gix_validate_submodule(bytes, len))
+EACH(component, gix_validate_component(bytes, len, 7))
+EACH(sanitize, gix_validate_sanitize(bytes, len, buffer, len + 1))
+EACH(in_place, (memcpy(buffer, bytes, len), gix_validate_sanitize_in_place(buffer, len + 1, len)))
 #ifdef CRATE
 #define OF_CRATE(pass) pass
-static size_t c_tag(void) EACH(crate_tag(bytes, len))
-static size_t c_full(void) EACH(crate_full(bytes, len))
-static size_t c_submodule(void) EACH(crate_submodule(bytes, len))
-static size_t c_component(void) EACH(crate_component(bytes, len, 7))
-static size_t c_sanitize(void) EACH(crate_sanitize(bytes, len, buffer))
+EACH(c_tag, crate_tag(bytes, len))
+EACH(c_full, crate_full(bytes, len))
+EACH(c_submodule, crate_submodule(bytes, len))
+EACH(c_component, crate_component(bytes, len, 7))
+EACH(c_sanitize, crate_sanitize(bytes, len, buffer))
 #else
 #define OF_CRATE(pass) NULL
 #endif
 #ifdef LIBGIT2
 #define OF_LIBGIT2(pass) pass
-static bool is_valid(int (*valid)(int *, const char *), const uint8_t *bytes)
-{
+static bool is_valid(int (*valid)(int *, const char *), const uint8_t *bytes) {
     int result = 0;
     return valid(&result, (const char *)bytes) == 0 && result;
 }
-static size_t l_tag(void) EACH(((void)len, is_valid(git_tag_name_is_valid, bytes)))
-static size_t l_full(void) EACH(((void)len, is_valid(git_reference_name_is_valid, bytes)))
+EACH(l_tag, ((void)len, is_valid(git_tag_name_is_valid, bytes)))
+EACH(l_full, ((void)len, is_valid(git_reference_name_is_valid, bytes)))
 #else
 #define OF_LIBGIT2(pass) NULL
 #endif
@@ -89,15 +88,13 @@ static const struct call {
     {"sanitize_in_place", {in_place, OF_CRATE(c_sanitize), NULL}},
 };
 
-static double now(void)
-{
+static double now(void) {
     struct timespec time;
     clock_gettime(CLOCK_MONOTONIC, &time);
     return (double)time.tv_sec * 1e9 + (double)time.tv_nsec;
 }
 
-static void read_names(const char *path)
-{
+static void read_names(const char *path) {
     FILE *file = fopen(path, "rb");
     char *line = NULL;
     size_t room = 0, longest = 0, capacity = 0;
@@ -130,8 +127,7 @@ static void read_names(const char *path)
 }
 
 /* The nanoseconds a name of the best of the passes in so many milliseconds. */
-static double best_of(size_t (*pass)(void), double milliseconds)
-{
+static double best_of(size_t (*pass)(void), double milliseconds) {
     static volatile size_t sum;
     double best = 1e300;
     for (double start = now(), last = start, next; last < start + 1e6 * milliseconds; last = next) {
@@ -142,8 +138,7 @@ static double best_of(size_t (*pass)(void), double milliseconds)
     return best / (double)count;
 }
 
-int main(int argc, char **argv)
-{
+int main(int argc, char **argv) {
     if (argc < 3) {
         fprintf(stderr, "usage: driver CALL NAMES [MILLISECONDS]\n");
         return 2;

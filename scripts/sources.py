@@ -15,7 +15,7 @@ BEGIN = re.compile(r"""(?mx)^(?P<margin>[ ]{4})? (?P<pub>pub[ ])? (?:pub\([\w ]+
     |[ ]*(?P<member>ghost|ensures)(?:[ ](?P<clause>\w+))?(?::|[ ]=)?[ ]\{)""")
 # The pages that tests/pages runs. A block: the line before it, a comment between them, its language, and its code.
 PAGES = ["README.md", "docs/BINDINGS.md", "docs/RELEASES.md", "docs/RECIPES.md", "docs/RULES.md", "hook/README.md",
-         "bench/README.md", "release/python.md", "release/javascript.md", "bindings/rust/README.md", "docs/TUTORIAL.md"]
+         "bench/README.md", *(f"bindings/{it}/README.md" for it in ("c", "rust", "python", "js")), "docs/TUTORIAL.md"]
 BLOCK = re.compile(r"(?:^([^\n]*)\n\n?)?(?:^<!-- ([^\n]*) -->\n)?^```(\w*)\n(.*?)^```$", re.M | re.S)
 Item = namedtuple("Item", "file offset path clause is_public")
 Edit = namedtuple("Edit", "file crate source old new function clauses is_limit")

@@ -29,15 +29,13 @@ static int is_slow, is_idle;
 /* The requests until one is refused, and the blocks that were given and not given back. */
 static long requests = -1, blocks;
 
-static long number(const char *name)
-{
+static long number(const char *name) {
     const char *text = getenv(name);
     return text == NULL ? -1 : strtol(text, NULL, 10);
 }
 
 /* Before main begins: requests that come earlier are not the program's. */
-__attribute__((constructor)) static void read_settings(void)
-{
+__attribute__((constructor)) static void read_settings(void) {
     is_slow = getenv("DEVICES_SLOW") != NULL;
     is_idle = getenv("DEVICES_IDLE") != NULL;
     input.left = number("DEVICES_READ");
@@ -47,8 +45,7 @@ __attribute__((constructor)) static void read_settings(void)
 }
 
 /* A call that was to move so many bytes: how many it may move, or -1 where it is interrupted. */
-static ssize_t may_move(struct device *device, size_t count)
-{
+static ssize_t may_move(struct device *device, size_t count) {
     if (is_slow && count > 0) {
         device->was_interrupted = !device->was_interrupted;
         if (device->was_interrupted) {
@@ -63,15 +60,13 @@ static ssize_t may_move(struct device *device, size_t count)
 }
 
 /* What a call moved, which counts. */
-static ssize_t moved(struct device *device, ssize_t done)
-{
+static ssize_t moved(struct device *device, ssize_t done) {
     if (device->left > 0 && done > 0)
         device->left -= done;
     return done;
 }
 
-ssize_t read(int descriptor, void *bytes, size_t count)
-{
+ssize_t read(int descriptor, void *bytes, size_t count) {
     if (descriptor != 0)
         return syscall(SYS_read, descriptor, bytes, count);
     ssize_t some = may_move(&input, count);
@@ -84,8 +79,7 @@ ssize_t read(int descriptor, void *bytes, size_t count)
     return moved(&input, syscall(SYS_read, descriptor, bytes, some));
 }
 
-ssize_t write(int descriptor, const void *bytes, size_t count)
-{
+ssize_t write(int descriptor, const void *bytes, size_t count) {
     if (descriptor != 1)
         return syscall(SYS_write, descriptor, bytes, count);
     ssize_t some = may_move(&output, count);
@@ -98,13 +92,11 @@ ssize_t write(int descriptor, const void *bytes, size_t count)
     return moved(&output, syscall(SYS_write, descriptor, bytes, some));
 }
 
-static void note(const char *line, size_t length)
-{
+static void note(const char *line, size_t length) {
     syscall(SYS_write, 2, line, length);
 }
 
-static int is_refused(void)
-{
+static int is_refused(void) {
     if (requests <= 0 || --requests > 0)
         return 0;
     note("refused\n", 8);
@@ -112,28 +104,24 @@ static int is_refused(void)
     return 1;
 }
 
-void *malloc(size_t size)
-{
+void *malloc(size_t size) {
     void *block = is_refused() ? NULL : __libc_malloc(size);
     blocks += block != NULL;
     return block;
 }
 
-void *realloc(void *block, size_t size)
-{
+void *realloc(void *block, size_t size) {
     void *moved_block = is_refused() ? NULL : __libc_realloc(block, size);
     blocks += block == NULL && moved_block != NULL;
     return moved_block;
 }
 
-void free(void *block)
-{
+void free(void *block) {
     blocks -= block != NULL;
     __libc_free(block);
 }
 
-__attribute__((destructor)) static void count_blocks(void)
-{
+__attribute__((destructor)) static void count_blocks(void) {
     if (requests >= 0 && blocks > 0)
         note("kept\n", 5);
 }

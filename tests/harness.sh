@@ -4,14 +4,16 @@
 # A script sets `suite`, its name in messages, and sources this. That reads these words from the script's arguments, and
 # leaves the others:
 #
+#     --help         prints the comment at the head of the script
 #     --list         prints the names of the cases
 #     --case NAME    runs this case alone; it can be given more than once
 #
-# A case is a function test_NAME of the script, which runs it by `try test_NAME` and in the end calls `finish`. `pass` and
+# A case is a function test_NAME of the script, which ends with `run_cases`, or calls `try test_NAME` and at last `finish`. `pass` and
 # `no` count. Each check is a line in a file, so that a process that is cut short takes none with it. A case that is due
 # and made no check is a failure, and so is a script that doesn't come to `finish`.
 
-mapfile -t cases < <(sed -n 's/^\(test_[a-z0-9_]*\)() {$/\1/p' "$0")
+[[ ${1-} != --help ]] || exec sed -n '1d; /^#/!q; /^# shellcheck/q; s/^# \{0,1\}//p' "$0"
+mapfile -t cases < <(sed -n 's/^\(test_[a-z0-9_]*\)() [{(].*/\1/p' "$0")
 chosen=()
 while [[ ${1-} == --list || ${1-} == --case ]]; do
     [[ $1 != --list ]] || { printf '%s\n' "${cases[@]}"; exit; }
@@ -28,7 +30,7 @@ due=("${chosen[@]}")
 # A folder for the script, which goes when it ends, and the file of checks. The script ends by `leave`, or it fails.
 room=$(mktemp -d) && tally=$(mktemp) || exit
 current=
-trap 'rm -rf -- "$room" "$tally"; echo "$suite: FAILED: it stopped before its end"; exit 1' EXIT
+trap 'rm -rf -- "$room" "$tally"; echo "$suite: FAILED: it stopped before its end${current:+, in $current}"; exit 1' EXIT
 
 # Ends the script. leave STATUS
 leave() {
@@ -52,6 +54,13 @@ not_run() {
     printf 'skip %s\n' "${@:2}" >> "$tally"
 }
 
+# Whether these tools are there. Otherwise says what isn't run. can WHAT TOOL..
+can() {
+    type -P "${@:2}" > "$room/log" && return
+    not_run "$1: needs ${*:2}" "$current"
+    return 1
+}
+
 # Runs a case, if it is to run. try CASE ARGUMENT..
 try() {
     [[ " ${chosen[*]} " == *" $1 "* ]] || return 0
@@ -59,6 +68,18 @@ try() {
     "$@"
     current=
 }
+
+# Runs the cases one by one, and ends the script.
+run_cases() {
+    local name
+    for name in "${cases[@]}"; do
+        try "$name"
+    done
+    finish
+}
+
+# The functions of the library that a header declares, in order. declared HEADER
+declared() { sed -n 's/^[a-z0-9_]* \(gix_validate_[a-z_]*\)(.*/\1/p' "$1" | sort; }
 
 # Runs a command in a process of its own, once less than so many run. part MOST COMMAND..
 begun=0

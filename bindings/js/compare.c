@@ -8,13 +8,15 @@
 #include <stdio.h>
 #include <stdlib.h>
 
+/* clang-format off */
 static const char *const parts[] = {
-    "refs/", "heads/", "HEAD", "main", "/", "//", ".", "..", "@", "@{", "{", ".lock", ".lock/", "*", " ", "~", "^", ":", "?",
-    "[", "\\", "\x7f", "\n", "\t", "-", "_", "A", "z", "ä", "🎉", "\x80", "\xff", ".git", ".GIT", "git~1", "GIT~2",
-    ".gitmodules", "gitmod~1", "gi7eb9", "gi7eba", "~1", "con", "NUL", "aux", "com1", "lpt9", "CONIN$", "prn", ".txt", "$",
-    "::$INDEX_ALLOCATION", "c:", "<", "|", "\"", "\xe2\x80\x8c", "\xef\xbb\xbf", "\xe2\x81\xaf", ".g\xe2\x80\x8dit", "i", "I",
-    "t", "T", " .", ". ", "1", "0", "abcdefghijklmnop", "some-longer-name"
+    "refs/", "heads/", "HEAD", "main", "/", "//", ".", "..", "@", "@{", "{", ".lock", ".lock/", "*", " ", "~", "^", ":",
+    "?", "[", "\\", "\x7f", "\n", "\t", "-", "_", "A", "z", "ä", "🎉", "\x80", "\xff", ".git", ".GIT", "git~1", "GIT~2",
+    ".gitmodules", "gitmod~1", "gi7eb9", "gi7eba", "~1", "con", "NUL", "aux", "com1", "lpt9", "CONIN$", "prn", ".txt",
+    "$", "::$INDEX_ALLOCATION", "c:", "<", "|", "\"", "\xe2\x80\x8c", "\xef\xbb\xbf", "\xe2\x81\xaf",
+    ".g\xe2\x80\x8dit", "i", "I", "t", "T", " .", ". ", "1", "0", "abcdefghijklmnop", "some-longer-name"
 };
+/* clang-format on */
 static uint64_t state = 1;
 
 static uint32_t below(uint32_t most) {
@@ -37,12 +39,14 @@ static size_t make(uint8_t *name) {
 }
 
 static uint32_t hash(uint32_t sum, const uint8_t *bytes, size_t length) {
-    for (size_t at = 0; at < length; at++) sum = (sum ^ bytes[at]) * 16777619u;
+    for (size_t at = 0; at < length; at++)
+        sum = (sum ^ bytes[at]) * 16777619u;
     return sum;
 }
 
 static void put(uint32_t number, int bytes) {
-    for (; bytes > 0; bytes--, number >>= 8) putchar((int)(number & 255));
+    for (; bytes > 0; bytes--, number >>= 8)
+        putchar((int)(number & 255));
 }
 
 int main(int count, char **words) {

@@ -50,8 +50,8 @@ __all__ = [
     "fault_offset", "sanitize", "fault_numbers", "faults", "first_invalid", "version",
 ]
 
-_VERSION = (2, 1, 0)
-__version__ = ".".join(map(str, _VERSION))
+_VERSION = (3, 0, 0)
+__version__ = "3.0.0.dev0"
 _TEXT_MAX = 134
 Bytes = Union[bytes, bytearray, memoryview]
 

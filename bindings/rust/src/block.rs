@@ -116,17 +116,17 @@ pub(crate) fn sanitized(name: &BStr) -> BString {
         buffer.push(0); // room for the one byte that the empty name becomes
     }
     // SAFETY: pointer and length are those of a vector that is borrowed alone until the call returns.
-    let repaired =
-        unsafe { gix_validate_sanitize_in_place(buffer.as_mut_ptr(), buffer.len(), name.len()) };
+    let repaired = unsafe { gix_validate_sanitize_in_place(buffer.as_mut_ptr(), buffer.len(), name.len()) };
     buffer.truncate(repaired);
     buffer.into()
 }
 
 #[test]
 fn the_block_has_the_version_of_the_crate() {
-    let version = env!("CARGO_PKG_VERSION").rsplit("dihareku.").next();
-    let number = version.unwrap().split('.').fold(0, |number, part| {
-        number * 1000 + part.parse::<u32>().unwrap()
-    });
+    let version = env!("CARGO_PKG_VERSION").rsplit("dihareku.").next().unwrap();
+    let number = version
+        .trim_end_matches("-dev")
+        .split('.')
+        .fold(0, |number, part| number * 1000 + part.parse::<u32>().unwrap());
     assert_eq!(unsafe { gix_validate_version() }, number);
 }

@@ -1,8 +1,8 @@
 //! Validation of the names that Git uses, and the repair of a bad reference name.
 //!
 //! This is the API of the crate gix-validate 0.13.1. Behind it stand the calls of the Rattle crate `gix_validate_c`,
-//! each with a contract that is proved. `docs/ASSURANCE.md` says what that covers, `docs/BINDINGS.md` what differs
-//! from gix-validate.
+//! each with a contract that is proved. `docs/ASSURANCE.md` says what that covers, `README.md` what differs from
+//! gix-validate.
 //! Beyond that API, [`reference::names`], [`tag::names`] and [`submodule::names`] check the names in a buffer.
 //!
 //! ```
@@ -29,8 +29,7 @@ pub mod tag;
 fn class() -> Option<&'static (dyn std::error::Error + 'static)> {
     #[cfg(feature = "gix-error")]
     {
-        const CLASS: &gix_error::ClassificationMarker =
-            &gix_error::ClassificationMarker::VALIDATION;
+        const CLASS: &gix_error::ClassificationMarker = &gix_error::ClassificationMarker::VALIDATION;
         Some(CLASS)
     }
     #[cfg(not(feature = "gix-error"))]

@@ -14,48 +14,25 @@ fn answer<E: std::error::Error>(name: &BStr, given: Result<&BStr, E>) -> Answer 
     match given {
         Ok(back) => {
             assert_eq!((back.as_ptr(), back.len()), (name.as_ptr(), name.len()));
-            Answer {
-                variant: "Ok".into(),
-                text: None,
-            }
+            Answer { variant: "Ok".into(), text: None }
         }
         Err(error) => {
             assert_eq!(error.source().is_some(), cfg!(feature = "gix-error"));
-            Answer {
-                variant: format!("{error:?}"),
-                text: Some(error.to_string()),
-            }
+            Answer { variant: format!("{error:?}"), text: Some(error.to_string()) }
         }
     }
 }
 
 fn component(name: &BStr, settings: &str) -> Answer {
     let has = |letter| settings.contains::<char>(letter);
-    assert!(
-        settings.chars().all(|letter| "whns".contains(letter)),
-        "unknown settings {settings}"
-    );
-    let options = path::component::Options {
-        protect_windows: has('w'),
-        protect_hfs: has('h'),
-        protect_ntfs: has('n'),
-    };
-    answer(
-        name,
-        path::component(
-            name,
-            has('s').then_some(path::component::Mode::Symlink),
-            options,
-        ),
-    )
+    assert!(settings.chars().all(|letter| "whns".contains(letter)), "unknown settings {settings}");
+    let options = path::component::Options { protect_windows: has('w'), protect_hfs: has('h'), protect_ntfs: has('n') };
+    answer(name, path::component(name, has('s').then_some(path::component::Mode::Symlink), options))
 }
 
 /// The bytes of a quoted text, and what follows its closing quote.
 fn quoted(text: &str) -> (BString, &str) {
-    let (inner, rest) = text
-        .strip_prefix('"')
-        .and_then(|text| text.split_once('"'))
-        .expect("a quoted text");
+    let (inner, rest) = text.strip_prefix('"').and_then(|text| text.split_once('"')).expect("a quoted text");
     let mut pieces = inner.split("\\x");
     let mut bytes = pieces.next().unwrap_or_default().as_bytes().to_vec();
     for piece in pieces {
@@ -90,17 +67,11 @@ fn text_of(text: &str, variant: &str) -> String {
 }
 
 /// The variants' names, without their payloads, of a call for many names.
-fn variants<'a, E: std::error::Error>(
-    given: impl Iterator<Item = Result<&'a BStr, E>>,
-) -> Vec<String> {
+fn variants<'a, E: std::error::Error>(given: impl Iterator<Item = Result<&'a BStr, E>>) -> Vec<String> {
     given
         .map(|given| match given {
             Ok(_) => "Ok".into(),
-            Err(error) => format!("{error:?}")
-                .split(' ')
-                .next()
-                .unwrap_or_default()
-                .into(),
+            Err(error) => format!("{error:?}").split(' ').next().unwrap_or_default().into(),
         })
         .collect()
 }
@@ -135,24 +106,14 @@ fn replay(row: &str) {
         "branch" => answer(name, reference::branch_name(name)),
         "submodule" => answer(name, submodule::name(name)),
         "device" => {
-            assert_eq!(
-                path::component_is_windows_device(name),
-                wanted == "yes",
-                "{row}"
-            );
+            assert_eq!(path::component_is_windows_device(name), wanted == "yes", "{row}");
             return assert!(["yes", "no"].contains(&wanted), "{row}");
         }
         "offset" => {
             let given = tag::fault_offset(name).map_or("none".into(), |offset| offset.to_string());
             return assert_eq!(given, wanted, "{row}");
         }
-        "sanitize" => {
-            return assert_eq!(
-                reference::name_partial_or_sanitize(name),
-                quoted(wanted).0,
-                "{row}"
-            )
-        }
+        "sanitize" => return assert_eq!(reference::name_partial_or_sanitize(name), quoted(wanted).0, "{row}"),
         _ => component(name, call.strip_prefix("component:").expect("a known call")),
     };
     let (word, text) = wanted.split_once(' ').unwrap_or((wanted, ""));
@@ -165,10 +126,8 @@ fn replay(row: &str) {
 
 #[test]
 fn rows() {
-    let rows: Vec<&str> = include_str!("../../../tests/rows")
-        .lines()
-        .filter(|row| !row.is_empty() && !row.starts_with('#'))
-        .collect();
+    let rows: Vec<&str> =
+        include_str!("../../../tests/rows").lines().filter(|row| !row.is_empty() && !row.starts_with('#')).collect();
     assert!(rows.len() > 300);
     rows.into_iter().for_each(replay);
 }

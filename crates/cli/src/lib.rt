@@ -18,7 +18,7 @@ pub mod messages;
 pub mod outcome;
 
 /// The version of the library and of the programs, which `--version` prints.
-pub const VERSION: &str = "2.1.0";
+pub const VERSION: &str = "3.0.0-dev";
 
 /// Says `what`, after the name of the program, and returns the status 2. It does not allocate.
 pub fn fail<D: Display + Drop, E: Write>(name: &str, what: D, errors: &mut Messages<E>) -> ExitCode

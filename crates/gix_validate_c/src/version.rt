@@ -3,9 +3,9 @@
 ghost use Rattle.std.specs.Prelude.{◌≡◌};
 ghost use Rattle.gix_validate_c.specs.Numbers.{version_number};
 
-const MAJOR: u32 = 2;
+const MAJOR: u32 = 3;
 
-const MINOR: u32 = 1;
+const MINOR: u32 = 0;
 
 const PATCH: u32 = 0;
 
@@ -14,7 +14,7 @@ const PATCH: u32 = 0;
 /// 2.1.0 is 2,001,000.
 #[unsafe(no_mangle)]
 pub extern "C" fn gix_validate_version() -> u32
-    ensures { result ≡ version_number 2 1 0 }
+    ensures { result ≡ version_number 3 0 0 }
 {
     MAJOR * 1_000_000 + MINOR * 1_000 + PATCH
 }

@@ -1,7 +1,14 @@
 /* What rows.c needs of Unix, on Windows. */
 #include <windows.h>
 
-enum { PROT_NONE = PAGE_NOACCESS, PROT_READ = 0, PROT_WRITE = PAGE_READWRITE, MAP_PRIVATE, MAP_ANONYMOUS, _SC_PAGESIZE };
+enum {
+    PROT_NONE = PAGE_NOACCESS,
+    PROT_READ = 0,
+    PROT_WRITE = PAGE_READWRITE,
+    MAP_PRIVATE,
+    MAP_ANONYMOUS,
+    _SC_PAGESIZE
+};
 #define MAP_FAILED NULL
 
 static long sysconf(int name) {

@@ -1,0 +1,33 @@
+# shellcheck shell=bash disable=SC2154
+# For release/aarch64 and release/wasm, which set `target`: rt refuses these targets, so this calls rattle, by its documented
+# options. The library gix_validate has to be proved already.
+
+cd -- "$(dirname -- "${BASH_SOURCE[0]}")/../crates/gix_validate_c" || exit 1
+kit=$(dirname -- "$(rt doc)")
+room=$(mktemp -d)
+trap 'rm -rf -- "$room"' EXIT
+options=(--crate-name gix_validate_c --crate-type staticlib src/lib.rt -L "dependency=$kit/rlibs"
+    --antt-project "$kit/rattle/logic/antt-project.json" --extern "gix_validate=../gix_validate/out/rlib/gix_validate.rlib"
+    --target "$target")
+for crate in std bstr arrayvec memchr; do
+    options+=(--extern "$crate=$kit/rlibs/$crate.rlib")
+done
+
+# Runs a command, and shows the end of what it says if it fails. quiet COMMAND..
+quiet() {
+    "$@" > "$room/log" 2>&1 || { tail -n 20 -- "$room/log" >&2; exit 1; }
+}
+
+# Proves the functions for the target, and builds an archive of them by the clang on standard input, which calls that of the kit.
+# (rattle empties its environment.) archive FILE
+archive() {
+    mkdir -p -- "$room/toolchain/bin"
+    ln -s -- "$kit/toolchain/lib" "$room/toolchain/lib"
+    ln -s -- "$kit"/toolchain/bin/* "$room/toolchain/bin/"
+    rm -- "$room/toolchain/bin/clang"
+    cat > "$room/toolchain/bin/clang"
+    chmod +x -- "$room/toolchain/bin/clang"
+    quiet "$kit/bin/rattle" check "${options[@]}" --logic-built "$kit/logic_built" --jobs 2 -o "$room/checked"
+    grep -q '^logic=proved ' "$room/log" || { tail -n 20 -- "$room/log" >&2; exit 1; }
+    quiet "$kit/bin/rattle" build "${options[@]}" --crate-checked "$room/checked" --toolchain "$room/toolchain" --backend llvm -o "$1"
+}

@@ -2,6 +2,7 @@
 import argparse
 import os
 import re
+import subprocess
 import sys
 from collections import namedtuple
 from functools import lru_cache
@@ -25,9 +26,10 @@ def read(path):
     return Path(path).read_text("utf-8")
 
 
-def write_or_check(doc, derive):
+def write_or_check(doc, derive, then=()):
     """Runs a script that gives places of files: what is before each and after it, and the text between. It writes them, or
-    with --check fails if a file has another. The text has as many lines as the old one, or ends with a line."""
+    with --check fails if a file has another. The text has as many lines as the old one, or ends with a line. If it writes, the
+    scripts `then` run."""
     parser = argparse.ArgumentParser(description=doc)
     parser.add_argument("--check", action="store_true")
     is_check = parser.parse_args().check
@@ -42,6 +44,8 @@ def write_or_check(doc, derive):
     differ = [path for path in texts if texts[path] != read(path)]
     for path in [] if is_check else differ:
         Path(path).write_text(texts[path], "utf-8")
+    for script in () if is_check else then:
+        subprocess.run([script], check=True)
     end = f"differs: run {sys.argv[0]}" if is_check else "is written"
     parser.exit(bool(is_check and differ), "".join(f"{path} {end}\n" for path in differ))
 

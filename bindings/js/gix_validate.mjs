@@ -4,11 +4,14 @@
 // what each does, docs/RULES.md the rules, docs/ASSURANCE.md what is proved and what is not.
 import wasm from "./gix_validate_wasm.mjs";
 
-/** The faults by their numbers, which are stable, and those of gix_validate.h. That of a valid name, 0, is null. */
-export const FAULTS = Object.freeze([null, "InvalidByte", "StartsWithSlash", "RepeatedSlash", "RepeatedDot", "LockFileSuffix",
-    "ReflogPortion", "Asterisk", "StartsWithDot", "EndsWithDot", "EndsWithSlash", "Empty", "SomeLowercase", "Reserved",
-    "ParentComponent", "PathSeparator", "WindowsPathPrefix", "WindowsReservedName", "WindowsIllegalCharacter", "DotGitDir",
-    "SymlinkedGitModules", "Relative"]);
+/** The faults by their numbers, which are stable, and those of gix_validate.h. That of a valid name, 0, is null.
+ * `scripts/faults` writes them. */
+export const FAULTS = Object.freeze([null,
+    "InvalidByte", "StartsWithSlash", "RepeatedSlash", "RepeatedDot", "LockFileSuffix", "ReflogPortion", "Asterisk",
+    "StartsWithDot", "EndsWithDot", "EndsWithSlash", "Empty", "SomeLowercase", "Reserved", "ParentComponent",
+    "PathSeparator", "WindowsPathPrefix", "WindowsReservedName", "WindowsIllegalCharacter", "DotGitDir",
+    "SymlinkedGitModules", "Relative"
+]);
 const INVALID_BYTE = 1;
 const TEXT_MAX = 134;
 const SHOWN_MAX = 200;

@@ -18,6 +18,7 @@
 
 #[allow(unsafe_code)]
 mod block;
+mod fault;
 mod many;
 
 pub mod path;

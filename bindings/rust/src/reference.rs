@@ -4,96 +4,49 @@ use bstr::{BStr, BString};
 
 use crate::block::{self, Code, ACCEPTED};
 use crate::many::names_in;
-use crate::tag;
 
 /// The error of [`name()`], [`name_partial()`] and [`branch_name()`].
 pub mod name {
-    use bstr::BString;
     use std::convert::Infallible;
-    use std::fmt;
 
     use crate::tag;
 
-    /// Why a text is not the name of a reference.
-    #[derive(Debug)]
-    #[non_exhaustive]
-    pub enum Error {
-        /// It has a byte below 0x20, DEL, a space, or one of `:` `?` `[` `\` `^` `~`.
-        InvalidByte {
-            /// The first such byte.
-            byte: BString,
-        },
+    crate::fault::faults! {
+        "Why a text is not the name of a reference.":
+        /// It has a byte below 0x20, a space, DEL, or one of `:` `?` `[` `\` `^` `~`. The first is
+        /// `byte`.
+        1 InvalidByte { byte }: "Reference name contains invalid byte: {byte:?}",
         /// It starts with a slash.
-        StartsWithSlash,
+        2 StartsWithSlash: "Reference name cannot start with a slash",
         /// It has two slashes in a row.
-        RepeatedSlash,
+        3 RepeatedSlash: "Reference name cannot contain repeated slashes",
         /// It has two dots in a row.
-        RepeatedDot,
+        4 RepeatedDot: "Reference name cannot contain repeated dots",
         /// A piece between slashes ends in `.lock`.
-        LockFileSuffix,
+        5 LockFileSuffix: "Reference name cannot end with '.lock'",
         /// It has `@{`.
-        ReflogPortion,
-        /// It has an asterisk.
-        Asterisk,
+        6 ReflogPortion: "Reference name cannot contain '@{{'",
+        /// It has a `*`.
+        7 Asterisk: "Reference name cannot contain '*'",
         /// A piece between slashes starts with a dot.
-        StartsWithDot,
-        /// It ends with a dot.
-        EndsWithDot,
-        /// It ends with a slash.
-        EndsWithSlash,
+        8 StartsWithDot: "Reference name cannot start with a dot",
+        /// It ends in a dot.
+        9 EndsWithDot: "Reference name cannot end with a dot",
+        /// It ends in a slash.
+        10 EndsWithSlash: "Reference name cannot end with a slash",
         /// It is empty.
-        Empty,
-        /// It has no slash, and a byte other than `A` to `Z` and `_`, as `main`.
-        SomeLowercase,
-        /// It is reserved: `@`, or, as a branch, `refs/heads/HEAD`.
-        Reserved {
-            /// The name.
-            name: BString,
-        },
-    }
-
-    impl fmt::Display for Error {
-        fn fmt(&self, f: &mut fmt::Formatter<'_>) -> fmt::Result {
-            f.write_str(match self {
-                Error::InvalidByte { byte } => return write!(f, "Reference name contains invalid byte: {byte:?}"),
-                Error::StartsWithSlash => "Reference name cannot start with a slash",
-                Error::RepeatedSlash => "Reference name cannot contain repeated slashes",
-                Error::RepeatedDot => "Reference name cannot contain repeated dots",
-                Error::LockFileSuffix => "Reference name cannot end with '.lock'",
-                Error::ReflogPortion => "Reference name cannot contain '@{'",
-                Error::Asterisk => "Reference name cannot contain '*'",
-                Error::StartsWithDot => "Reference name cannot start with a dot",
-                Error::EndsWithDot => "Reference name cannot end with a dot",
-                Error::EndsWithSlash => "Reference name cannot end with a slash",
-                Error::Empty => "Reference name cannot be empty",
-                Error::SomeLowercase => "Standalone references must be all uppercased, like 'HEAD'",
-                Error::Reserved { name } => {
-                    return write!(f, "Reference name is reserved and cannot be used: {name:?}")
-                }
-            })
-        }
-    }
-
-    impl std::error::Error for Error {
-        fn source(&self) -> Option<&(dyn std::error::Error + 'static)> {
-            crate::class()
-        }
+        11 Empty: "Reference name cannot be empty",
+        /// It has no slash, and a byte other than `A` to `Z` and `_`, as a digit.
+        12 SomeLowercase: "Standalone references must be all uppercased, like 'HEAD'",
+        /// It is reserved: `@`, or as a branch `refs/heads/HEAD`.
+        13 Reserved { name }: "Reference name is reserved and cannot be used: {name:?}",
     }
 
     impl From<tag::name::Error> for Error {
         fn from(error: tag::name::Error) -> Self {
             match error {
                 tag::name::Error::InvalidByte { byte } => Error::InvalidByte { byte },
-                tag::name::Error::StartsWithSlash => Error::StartsWithSlash,
-                tag::name::Error::RepeatedSlash => Error::RepeatedSlash,
-                tag::name::Error::RepeatedDot => Error::RepeatedDot,
-                tag::name::Error::LockFileSuffix => Error::LockFileSuffix,
-                tag::name::Error::ReflogPortion => Error::ReflogPortion,
-                tag::name::Error::Asterisk => Error::Asterisk,
-                tag::name::Error::StartsWithDot => Error::StartsWithDot,
-                tag::name::Error::EndsWithDot => Error::EndsWithDot,
-                tag::name::Error::EndsWithSlash => Error::EndsWithSlash,
-                tag::name::Error::Empty => Error::Empty,
+                other => Error::of(other.number(), "".into()),
             }
         }
     }
@@ -177,16 +130,6 @@ pub fn name_partial_or_sanitize(path: &BStr) -> BString {
 fn accepted(path: &BStr, code: Code) -> Result<&BStr, name::Error> {
     match code {
         ACCEPTED => Ok(path),
-        code => Err(fault(code, path)),
-    }
-}
-
-/// The fault of that number, which `path` has as the name of a reference.
-#[cold]
-fn fault(code: Code, path: &BStr) -> name::Error {
-    match code {
-        12 => name::Error::SomeLowercase,
-        13 => name::Error::Reserved { name: path.to_owned() },
-        _ => tag::fault(code, path).into(),
+        code => Err(name::Error::of(code, path)),
     }
 }

@@ -7,31 +7,12 @@ use crate::many::names_in;
 
 /// The error of [`name()`].
 pub mod name {
-    use std::fmt;
-
-    /// Why a text is not the name of a submodule.
-    #[derive(Debug)]
-    #[non_exhaustive]
-    pub enum Error {
+    crate::fault::faults! {
+        "Why a text is not the name of a submodule.":
         /// It is empty.
-        Empty,
+        11 Empty: "Submodule names cannot be empty",
         /// A part of it is `..`. Both `/` and `\` separate parts.
-        ParentComponent,
-    }
-
-    impl fmt::Display for Error {
-        fn fmt(&self, f: &mut fmt::Formatter<'_>) -> fmt::Result {
-            f.write_str(match self {
-                Error::Empty => "Submodule names cannot be empty",
-                Error::ParentComponent => "Submodules names must not contains '..'",
-            })
-        }
-    }
-
-    impl std::error::Error for Error {
-        fn source(&self) -> Option<&(dyn std::error::Error + 'static)> {
-            crate::class()
-        }
+        14 ParentComponent: "Submodules names must not contains '..'",
     }
 }
 
@@ -49,7 +30,7 @@ pub mod name {
 pub fn name(name: &BStr) -> Result<&BStr, name::Error> {
     match block::submodule(name) {
         ACCEPTED => Ok(name),
-        code => Err(fault(code)),
+        code => Err(name::Error::of(code, name)),
     }
 }
 
@@ -59,13 +40,4 @@ pub fn name(name: &BStr) -> Result<&BStr, name::Error> {
 /// The names are slices of the buffer, and nothing allocates.
 pub fn names(buffer: &BStr, end: u8) -> impl Iterator<Item = Result<&BStr, name::Error>> {
     names_in(buffer, end).map(name)
-}
-
-#[cold]
-fn fault(code: block::Code) -> name::Error {
-    match code {
-        11 => name::Error::Empty,
-        14 => name::Error::ParentComponent,
-        _ => unreachable!("a name of a submodule has no fault {code}"),
-    }
 }

@@ -2,71 +2,36 @@
 
 use bstr::BStr;
 
-use crate::block::{self, Code, ACCEPTED};
+use crate::block::{self, ACCEPTED};
 use crate::many::names_in;
 
 /// The error of [`name()`].
 pub mod name {
-    use bstr::BString;
-    use std::fmt;
-
-    /// Why a text is not the name of a tag.
-    #[derive(Debug)]
-    #[non_exhaustive]
-    pub enum Error {
-        /// It has a byte below 0x20, DEL, a space, or one of `:` `?` `[` `\` `^` `~`.
-        InvalidByte {
-            /// The first such byte.
-            byte: BString,
-        },
+    crate::fault::faults! {
+        "Why a text is not the name of a tag.":
+        /// It has a byte below 0x20, a space, DEL, or one of `:` `?` `[` `\` `^` `~`. The first is
+        /// `byte`.
+        1 InvalidByte { byte }: "A ref must not contain invalid bytes or ascii control characters: {byte:?}",
         /// It starts with a slash.
-        StartsWithSlash,
+        2 StartsWithSlash: "A reference name must not start with a slash '/'",
         /// It has two slashes in a row.
-        RepeatedSlash,
+        3 RepeatedSlash: "Multiple slashes in a row are not allowed as they may change the reference's meaning",
         /// It has two dots in a row.
-        RepeatedDot,
+        4 RepeatedDot: "A ref must not contain '..' as it may be mistaken for a range",
         /// A piece between slashes ends in `.lock`.
-        LockFileSuffix,
+        5 LockFileSuffix: "A ref must not end with '.lock'",
         /// It has `@{`.
-        ReflogPortion,
-        /// It has an asterisk.
-        Asterisk,
+        6 ReflogPortion: "A ref must not contain '@{{' which is a part of a ref-log",
+        /// It has a `*`.
+        7 Asterisk: "A ref must not contain '*' character",
         /// A piece between slashes starts with a dot.
-        StartsWithDot,
-        /// It ends with a dot.
-        EndsWithDot,
-        /// It ends with a slash.
-        EndsWithSlash,
+        8 StartsWithDot: "A ref must not start with a '.'",
+        /// It ends in a dot.
+        9 EndsWithDot: "A ref must not end with a '.'",
+        /// It ends in a slash.
+        10 EndsWithSlash: "A ref must not end with a '/'",
         /// It is empty.
-        Empty,
-    }
-
-    impl fmt::Display for Error {
-        fn fmt(&self, f: &mut fmt::Formatter<'_>) -> fmt::Result {
-            f.write_str(match self {
-                Error::InvalidByte { byte } => {
-                    return write!(f, "A ref must not contain invalid bytes or ascii control characters: {byte:?}")
-                }
-                Error::StartsWithSlash => "A reference name must not start with a slash '/'",
-                Error::RepeatedSlash => {
-                    "Multiple slashes in a row are not allowed as they may change the reference's meaning"
-                }
-                Error::RepeatedDot => "A ref must not contain '..' as it may be mistaken for a range",
-                Error::LockFileSuffix => "A ref must not end with '.lock'",
-                Error::ReflogPortion => "A ref must not contain '@{' which is a part of a ref-log",
-                Error::Asterisk => "A ref must not contain '*' character",
-                Error::StartsWithDot => "A ref must not start with a '.'",
-                Error::EndsWithDot => "A ref must not end with a '.'",
-                Error::EndsWithSlash => "A ref must not end with a '/'",
-                Error::Empty => "A ref must not be empty",
-            })
-        }
-    }
-
-    impl std::error::Error for Error {
-        fn source(&self) -> Option<&(dyn std::error::Error + 'static)> {
-            crate::class()
-        }
+        11 Empty: "A ref must not be empty",
     }
 }
 
@@ -83,7 +48,7 @@ pub mod name {
 pub fn name(input: &BStr) -> Result<&BStr, name::Error> {
     match block::tag(input) {
         ACCEPTED => Ok(input),
-        code => Err(fault(code, input)),
+        code => Err(name::Error::of(code, input)),
     }
 }
 
@@ -118,27 +83,4 @@ pub fn fault_offset(input: &BStr) -> Option<usize> {
 /// ```
 pub fn names(buffer: &BStr, end: u8) -> impl Iterator<Item = Result<&BStr, name::Error>> {
     names_in(buffer, end).map(name)
-}
-
-/// The fault of that number, which `input` has as the name of a tag.
-#[cold]
-pub(crate) fn fault(code: Code, input: &BStr) -> name::Error {
-    use name::Error;
-    match code {
-        1 => {
-            let byte = block::invalid_byte(input).expect("a name whose fault is its invalid byte has one");
-            Error::InvalidByte { byte: vec![byte].into() }
-        }
-        2 => Error::StartsWithSlash,
-        3 => Error::RepeatedSlash,
-        4 => Error::RepeatedDot,
-        5 => Error::LockFileSuffix,
-        6 => Error::ReflogPortion,
-        7 => Error::Asterisk,
-        8 => Error::StartsWithDot,
-        9 => Error::EndsWithDot,
-        10 => Error::EndsWithSlash,
-        11 => Error::Empty,
-        _ => unreachable!("a name of a tag or reference has no fault {code}"),
-    }
 }

@@ -23,12 +23,12 @@ use crate::lanes::{classify, nonzero_lanes};
 use crate::scan::{self, Pattern};
 use std::simd::prelude::*;
 
-// The classes of bytes that may be suspect, a bit for each. The bytes of a class have one high
-// nibble, except the control bytes, which have two. The bytes of the first five classes are suspect
-// anywhere: bad bytes, `*` and `{`. `scripts/bytes` writes the two tables by nibbles.
+// The classes of bytes that may be suspect, a bit for each. Those of bad bytes, `*` and `{` are
+// suspect anywhere. A class has all that have the same high nibble, or one of several that have the
+// same low ones beside them. `scripts/bytes` writes them, and the two tables by nibbles.
 
-/// A byte below 0x20.
-const CONTROL: u8 = 0x01;
+/// A suspect byte from 0x00 to 0x1F.
+const SUSPECT_0X: u8 = 0x01;
 
 /// A suspect byte from 0x20 to 0x2F.
 const SUSPECT_2X: u8 = 0x02;
@@ -49,7 +49,7 @@ const BREAK: u8 = 0x20;
 const LETTER: u8 = 0x40;
 
 /// The classes that are suspect after any byte.
-const ANYWHERE: u8 = CONTROL | SUSPECT_2X | SUSPECT_3X | SUSPECT_5X | SUSPECT_7X;
+const ANYWHERE: u8 = SUSPECT_0X | SUSPECT_2X | SUSPECT_3X | SUSPECT_5X | SUSPECT_7X;
 
 /// The classes that are suspect after a slash.
 const AFTER_SLASH: u8 = ANYWHERE | BREAK;
@@ -60,29 +60,29 @@ const AFTER_DOT: u8 = AFTER_SLASH | LETTER;
 /// The classes that a byte with this low nibble may have.
 #[rattlefmt::skip]
 const CLASSES_BY_LOW_NIBBLE: [u8; 16] = [
-    CONTROL | SUSPECT_2X, // 00
-    CONTROL, // 01
-    CONTROL, // 02
-    CONTROL, // 03
-    CONTROL, // 04
-    CONTROL, // 05
-    CONTROL, // 06
-    CONTROL, // 07
-    CONTROL, // 08
-    CONTROL, // 09
-    CONTROL | SUSPECT_2X | SUSPECT_3X, // 0A
-    CONTROL | SUSPECT_5X | SUSPECT_7X, // 0B
-    CONTROL | LETTER | SUSPECT_5X, // 0C
-    CONTROL, // 0D
-    BREAK | CONTROL | SUSPECT_5X | SUSPECT_7X, // 0E
-    BREAK | CONTROL | SUSPECT_3X | SUSPECT_7X, // 0F
+    SUSPECT_0X | SUSPECT_2X, // 00
+    SUSPECT_0X, // 01
+    SUSPECT_0X, // 02
+    SUSPECT_0X, // 03
+    SUSPECT_0X, // 04
+    SUSPECT_0X, // 05
+    SUSPECT_0X, // 06
+    SUSPECT_0X, // 07
+    SUSPECT_0X, // 08
+    SUSPECT_0X, // 09
+    SUSPECT_0X | SUSPECT_2X | SUSPECT_3X, // 0A
+    SUSPECT_0X | SUSPECT_5X | SUSPECT_7X, // 0B
+    LETTER | SUSPECT_0X | SUSPECT_5X, // 0C
+    SUSPECT_0X, // 0D
+    BREAK | SUSPECT_0X | SUSPECT_5X | SUSPECT_7X, // 0E
+    BREAK | SUSPECT_0X | SUSPECT_3X | SUSPECT_7X, // 0F
 ];
 
 /// The classes that a byte with this high nibble may have. What both tables have for a byte is its
 /// class, or nothing.
 #[rattlefmt::skip]
 const CLASSES_BY_HIGH_NIBBLE: [u8; 16] = [
-    CONTROL, CONTROL, BREAK | SUSPECT_2X, SUSPECT_3X, // 00
+    SUSPECT_0X, SUSPECT_0X, BREAK | SUSPECT_2X, SUSPECT_3X, // 00
     0, SUSPECT_5X, LETTER, SUSPECT_7X, // 04
     0, 0, 0, 0, // 08
     0, 0, 0, 0, // 0C

@@ -40,7 +40,6 @@ pub use sanitize::{name_partial_or_sanitize, sanitize_in_place};
 /// The first eleven are those of [`tag::NameError`].
 #[derive(Debug, Drop)]
 pub enum NameError {
-    /// It has an invalid byte. `byte` is the first of them.
     InvalidByte { byte: u8 },
     StartsWithSlash,
     RepeatedSlash,
@@ -52,7 +51,7 @@ pub enum NameError {
     EndsWithDot,
     EndsWithSlash,
     Empty,
-    /// It has no slash, and a byte other than `A` to `Z` and `_`: a lowercase letter, or a digit.
+    /// It has no slash, and a byte other than `A` to `Z` and `_`, as a digit.
     SomeLowercase,
     /// It is reserved: `@`, or as a branch `refs/heads/HEAD`.
     Reserved { name: ArrayVec<u8, 15> },

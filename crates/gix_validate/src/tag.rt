@@ -19,8 +19,8 @@ use std::slice::from_ref;
 /// Why a name is not a valid tag name. docs/RULES.md, "Printed texts", has what each prints.
 #[derive(Debug, Drop)]
 pub enum NameError {
-    /// It has a bad byte, and `byte` is the first: a control byte, a space, DEL, or one of
-    /// `:` `?` `[` `\` `^` `~`.
+    /// It has a byte below 0x20, a space, DEL, or one of `:` `?` `[` `\` `^` `~`.
+    /// The first is `byte`.
     InvalidByte { byte: u8 },
     /// It starts with a slash.
     StartsWithSlash,
@@ -28,13 +28,13 @@ pub enum NameError {
     RepeatedSlash,
     /// It has two dots in a row.
     RepeatedDot,
-    /// A piece ends in `.lock`.
+    /// A piece between slashes ends in `.lock`.
     LockFileSuffix,
     /// It has `@{`.
     ReflogPortion,
     /// It has a `*`.
     Asterisk,
-    /// A piece starts with a dot.
+    /// A piece between slashes starts with a dot.
     StartsWithDot,
     /// It ends in a dot.
     EndsWithDot,

@@ -4,17 +4,11 @@ use bstr::BStr;
 use gix_validate::path::{self, ComponentError, ComponentMode, ComponentOptions};
 use std::alloc::{AllocError, Global};
 
-/// The letters for a component, one for each setting, in the order of the settings' numbers, or a
-/// dash for what is not recorded: since version 2, a backslash ends an NTFS name, too.
+/// The letters for a component, one for each setting, in the order of the settings' numbers.
 pub fn results(alloc: Global, name: BStr<'_>) -> Result<String, AllocError> {
     let mut letters = String::new(alloc);
-    let is_changed = name.as_bytes().contains(&b'\\');
     for setting in 0..16 {
-        letters.push(if is_changed && setting & 5 == 4 {
-            '-'
-        } else {
-            letter(name, setting)
-        })?;
+        letters.push(letter(name, setting))?;
     }
     Ok(letters)
 }

@@ -11,7 +11,7 @@ ghost use Rattle.git_input.specs.Reports.{PrintsAtMost};
 ghost use Rattle.git_input.specs.Spelled.{IsReportedInOrder, IsWellFormedOnlyIfSpelled};
 ghost use Rattle.check_submodules.specs.Private.{Reads};
 ghost use Rattle.check_submodules.specs.Report.{report, submodules_rule};
-ghost use Rattle.check_submodules.specs.Spelled.{IsAcceptedStream, IsCleanIff, IsEachHeaderReported, IsEachNameReported};
+ghost use Rattle.check_submodules.specs.Spelled.{IsAcceptedStream, IsCleanIff, IsEachSectionReported};
 
 use crate::report::{push_lines, push_too_large};
 use cli::outcome::RunError;
@@ -26,7 +26,7 @@ use std::alloc::Global;
 use std::io::{BufRead, Write};
 
 /// The size in bytes of the largest file that is read.
-const LARGEST: u64 = 16_777_216;
+pub(crate) const LARGEST: u64 = 16_777_216;
 
 /// How the input is checked.
 #[derive(Clone, Copy)]
@@ -69,8 +69,7 @@ pub fn run<R: BufRead, W: Write>(
     ensures spelled { IsReportedInOrder submodules_rule options.needs_end }
     ensures well_formed { IsWellFormedOnlyIfSpelled submodules_rule options.needs_end }
     ensures whole { IsWholeStream submodules_rule options.needs_end }
-    ensures names { IsEachNameReported }
-    ensures headers { IsEachHeaderReported }
+    ensures sections { IsEachSectionReported }
     ensures linear { PrintsAtMost 17 (report options.needs_end) }
 {
     objects::run(alloc, options, options.needs_end, input, output)

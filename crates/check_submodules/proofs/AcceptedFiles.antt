@@ -13,8 +13,8 @@ use Rattle.git_input.specs.declared.header.Kind.TheVariants.{Blob, Tree, Commit,
 use Rattle.git_input.specs.declared.outcome.Verdict.{Verdict}
 use Rattle.git_input.specs.Spelled as stream
 use Rattle.git_input.specs.Spelled.{Spelled, Present, Absent, IsSpelled, spelled_said, IsCleanStream}
-use Rattle.check_submodules.specs.Lines.{line_start, line_if, line_of, lines_of, too_large_line}
-use Rattle.check_submodules.specs.Report.{largest, file_lines, object_lines, submodules_rule}
+use Rattle.check_submodules.specs.Lines.{largest, line_start, line_if, line_of, lines_of, too_large_line}
+use Rattle.check_submodules.specs.Report.{file_lines, object_lines, submodules_rule}
 use Rattle.check_submodules.specs.Spelled.{IsAccepted, IsAcceptedFile, IsAcceptedObject, IsAcceptedStream, IsCleanIff}
 
 -- ---- lines
@@ -37,7 +37,7 @@ none_by : (id name : List ℕ) (offset : ℕ) (fault : Option NameError) → is_
 none_by id name offset None e = refl
 none_by id name offset (Some fault) e = absurd (grind (arith, right_of _ (byte "\n" ∷ []) e))
 
-accepts : (id : List ℕ) (s : ℕ × Option (List ℕ)) → is_empty (line_of id s) ≡ true → IsAccepted s
+pub accepts : (id : List ℕ) (s : ℕ × Option (List ℕ)) → is_empty (line_of id s) ≡ true → IsAccepted s
 accepts id (offset, Some name) e = none_by id name offset (fault_of name) e
 accepts id (offset, None) e = grind (arith, right_of (line_start id offset) (codes "a section can't be read\n") e)
 
@@ -56,7 +56,7 @@ no_lines id (s ∷ all) (first, each) = grind (arith, no_line id s first, no_lin
 -- ---- objects
 
 file_by : (id bytes : List ℕ) (large : Bool) (size : ℕ) → nat_lt largest size ≡ large → is_empty (file_lines id size bytes) ≡ true → IsAcceptedFile size bytes
-file_by id bytes true size is e = absurd (let some : is_empty (too_large_line id) ≡ true = rw is at e in grind (arith, right_of id _ some))
+file_by id bytes true size is e = absurd (let some : is_empty (too_large_line id) ≡ true = rw is at e in grind (arith, right_of _ (codes " bytes\n") some))
 file_by id bytes false size is e = (is, all_accept id (sections 0 bytes) (rw is at e))
 
 not_true : (b : Bool) → not b ≡ false → b ≡ true

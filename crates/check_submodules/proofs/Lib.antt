@@ -1,3 +1,3 @@
-pub mod ReportedSections
 pub mod AcceptedFiles
+pub mod ReportedSections
 pub mod LinearReports

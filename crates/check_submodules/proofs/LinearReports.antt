@@ -20,8 +20,8 @@ use Rattle.git_input.specs.declared.header.Kind.{Kind}
 use Rattle.git_input.specs.declared.header.Kind.TheVariants.{Blob, Tree, Commit, Tag}
 use Rattle.git_input.specs.Reports.{PrintsAtMost}
 use Rattle.git_input.proofs.LinearReports.{quoted_length, id_length, IsObjectWithin, stream_prints_at_most}
-use Rattle.check_submodules.specs.Lines.{line_start, line_if, line_of, lines_of, too_large_line}
-use Rattle.check_submodules.specs.Report.{largest, object_lines, submodules_rule, report}
+use Rattle.check_submodules.specs.Lines.{largest, line_start, line_if, line_of, lines_of, too_large_line}
+use Rattle.check_submodules.specs.Report.{object_lines, submodules_rule, report}
 
 -- ---- a line
 
@@ -268,7 +268,7 @@ module _ (id : List ℕ) (short : length id ≤ 64) where
       → length (cond is (too_large_line id) (lines_of id (sections 0 bytes))) ≤ 17 * length bytes
   file_by true size bytes e whole =
       let many : largest < size = grind (arith, nat_tests) in
-      omega (arith, length-append id (codes " the file is larger than 16777216 bytes\n"))
+      grind (arith, length-append, length-decimal-le 8 largest (omega arith) (omega arith) (omega arith))
   file_by false size bytes e whole =
       let few : size ≤ largest = grind (arith, nat_tests) in omega (arith, sections_within (length bytes) bytes (omega arith) 0 false (omega (arith, few)))
 

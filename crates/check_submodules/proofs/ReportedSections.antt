@@ -1,41 +1,110 @@
--- The line of a section among those of its file.
-use Rattle.std.proofs.Common.{◌≡◌, ◌⊎◌, inl, inr, ℕ, List, [], ◌∷◌, ◌++◌, Some, None, Option, length, ap, sym, subst, arith, append_assoc, zero, suc, codes}
-use Rattle.std.proofs.Common.{refl}
+-- The lines of a file, and where its sections are.
+use Rattle.std.proofs.Common.{◌≡◌, ◌≢◌, ◌⊎◌, inl, inr, ℕ, ◌<◌, List, [], ◌∷◌, ◌++◌, All, Some, None, Option, length, refl, ap, sym, subst, ◌∙◌, arith, zero, suc}
 use Rattle.std.specs.Prelude.{Contains, flat_map}
-use Rattle.std.proofs.lemmas.Grind.{flat_map-append}
+use Rattle.std.specs.List.{AllPairs}
+use Rattle.std.proofs.lemmas.List.Elements.{All-cons, Contains-append_right}
+use Rattle.std.proofs.lemmas.List.Kept.{AllPairs-cons}
 use Rattle.gix_validate.specs.declared.submodule.NameError.{NameError}
-use Rattle.gix_validate.specs.Submodule.{fault_of, text_of}
-use Rattle.gix_validate.specs.Quoted.{quoted}
+use Rattle.gix_validate.specs.Submodule.{fault_of}
+use Rattle.gix_validate.specs.Bytes.{is_empty}
 use Rattle.gitmodules.specs.Sections.{sections}
 use Rattle.gitmodules.specs.Spelled.{SectionAt, name_of}
 use Rattle.gitmodules.proofs.SpelledSections.{each_section_found}
-use Rattle.gitmodules.proofs.ReadSections.{each_header_given, each_name_spelled}
-use Rattle.check_submodules.specs.Lines.{line_start, line_if, line_of, lines_of}
-use Rattle.check_submodules.specs.Spelled.{HasLine, IsEachNameReported, IsEachHeaderReported}
+use Rattle.gitmodules.proofs.ReadSections.{each_header_given, each_name_spelled, in_order}
+use Rattle.check_submodules.specs.Lines.{line_if, line_of, lines_of}
+use Rattle.check_submodules.specs.Spelled.{IsLineOf, IsEachSectionReported}
+use Rattle.check_submodules.proofs.AcceptedFiles.{accepts}
 
-abbrev with_end : List ℕ → List ℕ
-with_end line = line ++ codes "\n"
+abbrev Sections : Type 0
+Sections = List (ℕ × Option (List ℕ))
 
-abbrev AreWhole : List ℕ → Type 0
-AreWhole lines = (own : List (List ℕ)) × (lines ≡ flat_map with_end own)
+abbrev Lines : Type 0
+Lines = List (ℕ × List ℕ)
 
-fault_whole : (id name : List ℕ) (offset : ℕ) (fault : Option NameError) → AreWhole (line_if id offset name fault)
-fault_whole id name offset None = ([], refl)
-fault_whole id name offset (Some fault) = ((line_start id offset ++ quoted name ++ codes " " ++ text_of fault) ∷ [], grind (arith, append_assoc))
+-- a line with its offset, if it isn't empty
+abbrev one : ℕ → List ℕ → Lines
+one offset [] = []
+one offset (b ∷ line) = (offset, b ∷ line) ∷ []
 
-section_whole : (id : List ℕ) (s : ℕ × Option (List ℕ)) → AreWhole (line_of id s)
-section_whole id (offset, Some name) = fault_whole id name offset (fault_of name)
-section_whole id (offset, None) = ((line_start id offset ++ codes "a section can't be read") ∷ [], grind (arith, append_assoc))
+-- the lines of sections, with their offsets
+abbrev found : List ℕ → Sections → Lines
+found id [] = []
+found id (s ∷ all) = one s.0 (line_of id s) ++ found id all
 
-line_among : (id : List ℕ) (all : List (ℕ × Option (List ℕ))) (s : ℕ × Option (List ℕ)) → Contains all s
-    → (above : List (List ℕ)) × (below : List ℕ) × (lines_of id all ≡ flat_map with_end above ++ line_of id s ++ below)
-line_among id [] s (k, below, is) = absurd (omega arith)
-line_among id (x ∷ all) s (zero, below, is) = ([], lines_of id all, ap (λ y. line_of id y ++ lines_of id all) is)
-line_among id (x ∷ all) s (suc k, below, is) =
-    let later : Contains all s = (k, omega arith, is) in
-    let (above, back, there) = line_among id all s later in
-    let (own, whole) = section_whole id x in
-    (own ++ above, back, grind (arith, append_assoc, flat_map-append, there, whole))
+one_line : (offset : ℕ) (line : List ℕ) (rest : Lines) → flat_map (λ (at : ℕ × List ℕ). at.1) (one offset line ++ rest) ≡ line ++ flat_map (λ at. at.1) rest
+one_line offset [] rest = refl
+one_line offset (b ∷ line) rest = refl
+
+found_lines : (id : List ℕ) (all : Sections) → lines_of id all ≡ flat_map (λ (at : ℕ × List ℕ). at.1) (found id all)
+found_lines id [] = refl
+found_lines id (s ∷ all) = ap (λ rest. line_of id s ++ rest) (found_lines id all) ∙ sym (one_line s.0 (line_of id s) (found id all))
+
+-- ---- in order
+
+abbrev AllAfter : {X : Type 0} → ℕ → List (ℕ × X) → Type 0
+AllAfter offset = All (λ at. offset < at.0)
+
+abbrev AreInOrder : {X : Type 0} → List (ℕ × X) → Type 0
+AreInOrder = AllPairs (λ a b. a.0 < b.0)
+
+after_first : (s : ℕ × Option (List ℕ)) (all : Sections) → AreInOrder (s ∷ all) → AllAfter s.0 all
+after_first s all pairs = λ k d below. pairs 0 (suc k) d (omega arith) (omega arith)
+
+without_first : (s : ℕ × Option (List ℕ)) (all : Sections) → AreInOrder (s ∷ all) → AreInOrder all
+without_first s all pairs = λ i j d lower below. pairs (suc i) (suc j) d (omega arith) (omega arith)
+
+after_one : (start offset : ℕ) (line : List ℕ) (rest : Lines) → start < offset → AllAfter start rest → AllAfter start (one offset line ++ rest)
+after_one start offset [] rest first more = more
+after_one start offset (b ∷ line) rest first more = All-cons (λ at. start < at.0) (offset, b ∷ line) rest first more
+
+after_all : (start : ℕ) (id : List ℕ) (all : Sections) → AllAfter start all → AllAfter start (found id all)
+after_all start id [] after = λ k d below. absurd (omega arith)
+after_all start id (s ∷ all) after =
+    after_one start s.0 (line_of id s) (found id all) (after 0 s (omega arith)) (after_all start id all (λ k d below. after (suc k) d (omega arith)))
+
+order_one : (offset : ℕ) (line : List ℕ) (rest : Lines) → AllAfter offset rest → AreInOrder rest → AreInOrder (one offset line ++ rest)
+order_one offset [] rest after pairs = pairs
+order_one offset (b ∷ line) rest after pairs = AllPairs-cons (λ a b. a.0 < b.0) (offset, b ∷ line) rest after pairs
+
+order_all : (id : List ℕ) (all : Sections) → AreInOrder all → AreInOrder (found id all)
+order_all id [] pairs = λ i j d lower below. absurd (omega arith)
+order_all id (s ∷ all) pairs =
+    order_one s.0 (line_of id s) (found id all) (after_all s.0 id all (after_first s all pairs)) (order_all id all (without_first s all pairs))
+
+-- one section is at an offset
+one_at : (all : Sections) (offset : ℕ) (a b : Option (List ℕ)) → AreInOrder all → Contains all (offset, a) → Contains all (offset, b) → a ≡ b
+one_at [] offset a b pairs (k, below, is) there = absurd (omega arith)
+one_at (s ∷ all) offset a b pairs (zero, below, is) (zero, under, was) = ap (λ (s : ℕ × Option (List ℕ)). s.1) (sym is ∙ was)
+one_at (s ∷ all) offset a b pairs (zero, below, is) (suc k, under, was) =
+    let far = after_first s all pairs k (offset, b) (omega arith) in
+    absurd (omega (arith, far, ap (λ (s : ℕ × Option (List ℕ)). s.0) is, ap (λ (s : ℕ × Option (List ℕ)). s.0) was))
+one_at (s ∷ all) offset a b pairs (suc k, below, is) (zero, under, was) =
+    let far = after_first s all pairs k (offset, a) (omega arith) in
+    absurd (omega (arith, far, ap (λ (s : ℕ × Option (List ℕ)). s.0) is, ap (λ (s : ℕ × Option (List ℕ)). s.0) was))
+one_at (s ∷ all) offset a b pairs (suc k, below, is) (suc l, under, was) =
+    one_at all offset a b (without_first s all pairs) (k, omega arith, is) (l, omega arith, was)
+
+-- ---- each line is one of a section
+
+in_one : (offset : ℕ) (line : List ℕ) (rest : Lines) (at : ℕ × List ℕ) → Contains (one offset line ++ rest) at
+    → (((offset, line) ≡ at) × (line ≢ [])) ⊎ Contains rest at
+in_one offset [] rest at there = inr there
+in_one offset (b ∷ line) rest at (zero, below, is) = inl (is, λ none. cc)
+in_one offset (b ∷ line) rest at (suc k, below, is) = inr (k, omega arith, is)
+
+in_found : (id : List ℕ) (all : Sections) (at : ℕ × List ℕ) → Contains (found id all) at
+    → (s : ℕ × Option (List ℕ)) × Contains all s × ((s.0, line_of id s) ≡ at) × (line_of id s ≢ [])
+in_found id [] at (k, below, is) = absurd (omega arith)
+in_found id (s ∷ all) at there =
+    elim (in_one s.0 (line_of id s) (found id all) at there) [
+      | inl (same, some) ↦ (s, (0, omega arith, refl), same, some)
+      | inr later ↦ (let (t, (k, below, is), same, some) = in_found id all at later in (t, (suc k, omega arith, is), same, some))
+    ]
+
+fault_line : (id file : List ℕ) (offset : ℕ) (name : List ℕ) (fault : Option NameError) → SectionAt file offset name → fault_of name ≡ fault
+    → line_if id offset name fault ≢ [] → IsLineOf id file (offset, line_if id offset name fault)
+fault_line id file offset name None at is some = absurd (some refl)
+fault_line id file offset name (Some fault) at is some = inl (name, fault, at, is, refl)
 
 section_found : (file : List ℕ) (offset : ℕ) (name : List ℕ) → SectionAt file offset name → Contains (sections 0 file) (offset, Some name)
 section_found file offset name at =
@@ -44,15 +113,51 @@ section_found file offset name at =
     let at_offset = subst (λ n. Contains (sections 0 file) (n, Some (name_of at.spelled))) at.is_offset in_file in
     subst (λ own. Contains (sections 0 file) (offset, Some own)) at.is_name at_offset
 
-pub each_name_reported : IsEachNameReported
-each_name_reported id file offset name fault at is =
-    let line = line_among id (sections 0 file) (offset, Some name) (section_found file offset name at) in
-    subst (λ own. HasLine id file (line_if id offset name own)) is line
+section_line : (id file : List ℕ) (s : ℕ × Option (List ℕ)) → Contains (sections 0 file) s → line_of id s ≢ [] → IsLineOf id file (s.0, line_of id s)
+section_line id file (offset, Some name) there some = fault_line id file offset name (fault_of name) (each_name_spelled file offset name there) refl some
+section_line id file (offset, None) there some = inr (
+  (each_header_given file offset).1 (None, there),
+  λ name at. (let wrong : None ≡ Some name = one_at (sections 0 file) offset None (Some name) (in_order file) there (section_found file offset name at) in cc),
+  refl,
+)
 
-header_reported : (id file : List ℕ) (offset : ℕ) (name : Option (List ℕ)) → Contains (sections 0 file) (offset, name)
-    → ((own : List ℕ) × SectionAt file offset own) ⊎ HasLine id file (line_start id offset ++ codes "a section can't be read\n")
-header_reported id file offset (Some name) there = inl (name, each_name_spelled file offset name there)
-header_reported id file offset None there = inr (line_among id (sections 0 file) (offset, None) there)
+-- ---- each section has its line
 
-pub each_header_reported : IsEachHeaderReported
-each_header_reported id file offset at = let (name, there) = (each_header_given file offset).0 at in header_reported id file offset name there
+first_found : (offset : ℕ) (line : List ℕ) (rest : Lines) → line ≢ [] → Contains (one offset line ++ rest) (offset, line)
+first_found offset [] rest some = absurd (some refl)
+first_found offset (b ∷ line) rest some = (0, omega arith, refl)
+
+line_found : (id : List ℕ) (all : Sections) (s : ℕ × Option (List ℕ)) → Contains all s → line_of id s ≢ [] → Contains (found id all) (s.0, line_of id s)
+line_found id [] s (k, below, is) some = absurd (omega arith)
+line_found id (x ∷ all) s (zero, below, is) some =
+    subst (λ own. line_of id own ≢ [] → Contains (found id (x ∷ all)) (own.0, line_of id own)) is (first_found x.0 (line_of id x) (found id all)) some
+line_found id (x ∷ all) s (suc k, below, is) some =
+    Contains-append_right (one x.0 (line_of id x)) (found id all) _ (line_found id all s (k, omega arith, is) some)
+
+fault_found : (id file : List ℕ) (offset : ℕ) (name : List ℕ) (fault : NameError) → SectionAt file offset name → fault_of name ≡ Some fault
+    → Contains (found id (sections 0 file)) (offset, line_if id offset name (Some fault))
+fault_found id file offset name fault at is =
+    let there = line_found id (sections 0 file) (offset, Some name) (section_found file offset name at)
+    (λ none. (let fine : fault_of name ≡ None = accepts id (offset, Some name) (ap is_empty none) in cc)) in
+    subst (λ own. Contains (found id (sections 0 file)) (offset, line_if id offset name own)) is there
+
+header_found : (id file : List ℕ) (offset : ℕ) (name : Option (List ℕ)) → Contains (sections 0 file) (offset, name)
+    → ((own : List ℕ) → SectionAt file offset own → ⊥) → Contains (found id (sections 0 file)) (offset, line_of id (offset, None))
+header_found id file offset (Some name) there other = absurd (other name (each_name_spelled file offset name there))
+header_found id file offset None there other = line_found id (sections 0 file) (offset, None) there (λ none. accepts id (offset, None) (ap is_empty none))
+
+line_is_found : (id file : List ℕ) (at : ℕ × List ℕ) → IsLineOf id file at → Contains (found id (sections 0 file)) at
+line_is_found id file (offset, line) (inl (name, fault, at, is, same)) = rw same (fault_found id file offset name fault at is)
+line_is_found id file (offset, line) (inr (at, other, same)) =
+    let (name, there) = (each_header_given file offset).0 at in rw same (header_found id file offset name there other)
+
+pub each_section_reported : IsEachSectionReported
+each_section_reported id file = record {
+  found = found id (sections 0 file);
+  each = λ at. (
+    λ there. (let (s, within, same, some) = in_found id (sections 0 file) at there in subst (IsLineOf id file) same (section_line id file s within some)),
+    line_is_found id file at,
+  );
+  in_order = order_all id (sections 0 file) (in_order file);
+  lines_are = found_lines id (sections 0 file);
+}

@@ -23,6 +23,10 @@ line_of id (offset, None) = line_start id offset ++ codes "a section can't be re
 abbrev pub lines_of : List ℕ → List (ℕ × Option (List ℕ)) → List ℕ
 lines_of id sections = flat_map (line_of id) sections
 
+-- the most bytes of a file that is read
+abbrev pub largest : ℕ
+largest = 16777216
+
 -- the line of a file that is not read
 abbrev pub too_large_line : List ℕ → List ℕ
-too_large_line id = id ++ codes " the file is larger than 16777216 bytes\n"
+too_large_line id = id ++ codes " the file is larger than " ++ decimal largest ++ codes " bytes\n"

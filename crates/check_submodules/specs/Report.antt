@@ -6,11 +6,7 @@ use Rattle.git_input.specs.declared.header.Kind.TheVariants.{Blob, Tree, Commit,
 use Rattle.git_input.specs.Reports.{Said, nothing, Report}
 use Rattle.git_input.specs.Objects.{ObjectRule, object_report}
 use Rattle.gitmodules.specs.Sections.{sections}
-use Rattle.check_submodules.specs.Lines.{lines_of, too_large_line}
-
--- the most bytes of a file that is read
-abbrev pub largest : ℕ
-largest = 16777216
+use Rattle.check_submodules.specs.Lines.{largest, lines_of, too_large_line}
 
 -- the lines of a file of this size
 abbrev pub file_lines : List ℕ → ℕ → List ℕ → List ℕ

@@ -1,6 +1,6 @@
--- Each section that a file has is reported on a line of its own, whatever is before and after it.
-use Rattle.std.specs.Prelude.{◌≡◌, ◌↔◌, ◌⊎◌, ℕ, Bool, false, nat_lt, List, ◌++◌, codes, flat_map, Option, Some, None, ⊤}
-use Rattle.std.specs.List.{AllByRecursion}
+-- The lines of a file, by how its sections are spelled, and the streams of which nothing is refused.
+use Rattle.std.specs.Prelude.{◌≡◌, ◌↔◌, ◌⊎◌, ℕ, ◌<◌, Bool, false, nat_lt, List, ◌++◌, codes, flat_map, Contains, Option, Some, None, ⊤}
+use Rattle.std.specs.List.{AllByRecursion, AllPairs}
 use Rattle.gix_validate.specs.declared.submodule.NameError.{NameError}
 use Rattle.gix_validate.specs.Submodule.{fault_of, text_of}
 use Rattle.gix_validate.specs.Quoted.{quoted}
@@ -10,26 +10,25 @@ use Rattle.git_input.specs.declared.header.Kind.TheVariants.{Blob}
 use Rattle.git_input.specs.declared.outcome.Verdict.{Verdict}
 use Rattle.git_input.specs.declared.outcome.Verdict.TheVariants.{Clean}
 use Rattle.git_input.specs.Spelled.{Spelled, Present, Absent, IsSpelled, spelling, end_of}
-use Rattle.check_submodules.specs.Lines.{line_start, lines_of}
-use Rattle.check_submodules.specs.Report.{largest, submodules_rule}
+use Rattle.check_submodules.specs.Lines.{largest, line_start, lines_of}
+use Rattle.check_submodules.specs.Report.{submodules_rule}
 
--- the lines of a file are whole lines, then these bytes, then others
-abbrev pub HasLine : List ℕ → List ℕ → List ℕ → Type 0
-HasLine id file line =
-    (above : List (List ℕ)) × (below : List ℕ)
-    × (lines_of id (sections 0 file) ≡ flat_map (λ whole. whole ++ codes "\n") above ++ line ++ below)
+-- the line of what is at an offset of a file: of a section whose name has a fault, or of a header that is no section
+abbrev pub IsLineOf : (id file : List ℕ) → ℕ × List ℕ → Type 0
+IsLineOf id file (offset, line) =
+    ((name : List ℕ) × (fault : NameError) × SectionAt file offset name × (fault_of name ≡ Some fault)
+    × (line ≡ line_start id offset ++ quoted name ++ codes " " ++ text_of fault ++ codes "\n"))
+    ⊎ (HeaderAt file offset × ((name : List ℕ) → SectionAt file offset name → ⊥) × (line ≡ line_start id offset ++ codes "a section can't be read\n"))
 
--- a section that is spelled out in a file has the line of its name's fault
-abbrev pub IsEachNameReported : Type 0
-IsEachNameReported =
-    (id file : List ℕ) (offset : ℕ) (name : List ℕ) (fault : NameError) → SectionAt file offset name → fault_of name ≡ Some fault
-    → HasLine id file (line_start id offset ++ quoted name ++ codes " " ++ text_of fault ++ codes "\n")
+-- the lines of a file, each with its offset: all these and no others, each once, in the order of the offsets
+pub record HasLines (id file lines : List ℕ) : Type 0 where
+  pub found : List (ℕ × List ℕ)
+  pub each : (line : ℕ × List ℕ) → Contains found line ↔ IsLineOf id file line
+  pub in_order : AllPairs (λ a b. a.0 < b.0) found
+  pub lines_are : lines ≡ flat_map (λ line. line.1) found
 
--- at a header a section is spelled out, or else there is a line that says that it can't be read
-abbrev pub IsEachHeaderReported : Type 0
-IsEachHeaderReported =
-    (id file : List ℕ) (offset : ℕ) → HeaderAt file offset
-    → ((name : List ℕ) × SectionAt file offset name) ⊎ HasLine id file (line_start id offset ++ codes "a section can't be read\n")
+abbrev pub IsEachSectionReported : Type 0
+IsEachSectionReported = (id file : List ℕ) → HasLines id file (lines_of id (sections 0 file))
 
 -- ---- nothing refused
 

@@ -12,7 +12,7 @@ ghost use Rattle.git_input.specs.Reports.{PrintsAtMost};
 ghost use Rattle.git_input.specs.Spelled.{IsReportedInOrder, IsWellFormedOnlyIfSpelled};
 ghost use Rattle.check_submodules.specs.Private.{Reads};
 ghost use Rattle.check_submodules.specs.Report.{report, submodules_rule};
-ghost use Rattle.check_submodules.specs.Spelled.{IsAcceptedStream, IsCleanIff, IsEachHeaderReported, IsEachNameReported};
+ghost use Rattle.check_submodules.specs.Spelled.{IsAcceptedStream, IsCleanIff, IsEachSectionReported};
 
 use crate::options::Options;
 use crate::report::{push_lines, push_too_large};
@@ -28,7 +28,7 @@ use std::alloc::Global;
 use std::io::{BufRead, Write};
 
 /// The size in bytes of the largest file that is read.
-const LARGEST: u64 = 16_777_216;
+pub(crate) const LARGEST: u64 = 16_777_216;
 
 impl Check<'_> for Options {
     ghost gave = { λ options. Gives (report options.needs_end) object_reach (IsAcceptedStream options.needs_end) };
@@ -66,8 +66,7 @@ impl Check<'_> for Options {
         ensures spelled { IsReportedInOrder submodules_rule self.needs_end }
         ensures well_formed { IsWellFormedOnlyIfSpelled submodules_rule self.needs_end }
         ensures whole { IsWholeStream submodules_rule self.needs_end }
-        ensures names { IsEachNameReported }
-        ensures headers { IsEachHeaderReported }
+        ensures sections { IsEachSectionReported }
         ensures linear { PrintsAtMost 17 (report self.needs_end) }
     {
         objects::run(alloc, self, self.needs_end, input, output)

@@ -5,11 +5,11 @@ ghost use Rattle.gitmodules.specs.Sections.{sections};
 ghost use Rattle.gitmodules.specs.Headers.{section_pair};
 ghost use Rattle.check_submodules.specs.Lines.{line_of, lines_of, line_start, too_large_line};
 
+use crate::check::LARGEST;
 use bstr::BStr;
 use git_input::output::push_quoted;
 use gitmodules::{Section, Sections};
 use gix_validate::submodule;
-use std::alloc::AllocError;
 use std::io;
 use std::io::Write;
 
@@ -81,10 +81,10 @@ fn push_start(id: &[u8], offset: usize, lines: &mut Vec<u8>) -> io::Result<()>
 ///
 /// # Errors
 ///
-/// `AllocError` if `lines` can't grow. The beginning of the line may have been appended then.
-pub(crate) fn push_too_large(id: &[u8], lines: &mut Vec<u8>) -> Result<(), AllocError>
+/// An error if `lines` can't grow. The beginning of the line may have been appended then.
+pub(crate) fn push_too_large(id: &[u8], lines: &mut Vec<u8>) -> io::Result<()>
     ensures { OnOk result (lines.new.items ≡ lines.old.items ++ too_large_line id.now) }
 {
     lines.extend_from_slice(id)?;
-    lines.extend_from_slice(b" the file is larger than 16777216 bytes\n")
+    write!(lines, " the file is larger than {LARGEST} bytes\n")
 }

@@ -1,7 +1,7 @@
 //! A first caller: the branch to push to.
 #![tactic(auto, unfolding(gix_validate::proofs::OnLiterals::names_on_literals))]
 
-ghost use Rattle.std.specs.Prelude.{◌≡◌, IsTrue};
+ghost use Rattle.std.specs.Prelude.{◌≡◌, IsTrue, codes, false};
 ghost use Rattle.bstr.specs.BStr.{bstr_bytes};
 ghost use Rattle.gix_validate.specs.Reference.{is_branch_name};
 
@@ -12,6 +12,7 @@ use gix_validate::reference;
 pub fn branch_to_push<'a>(asked: BStr<'a>) -> BStr<'a>
     ensures branch { IsTrue (is_branch_name (bstr_bytes result)) }
     ensures asked { IsTrue (is_branch_name (bstr_bytes asked.entry)) → result ≡ asked.entry }
+    ensures main { is_branch_name (bstr_bytes asked.entry) ≡ false → bstr_bytes result ≡ codes "refs/heads/main" }
 {
     match reference::branch_name(asked) {
         Ok(name) => name,

@@ -10,3 +10,4 @@ pub mod SpelledStreams
 pub mod WellFormedStreams
 pub mod CleanStreams
 pub mod LinearReports
+mod Rows

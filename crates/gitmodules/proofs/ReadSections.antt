@@ -1,19 +1,19 @@
 -- A section that is found, in the bytes of its file: how its header is spelled.
 use Rattle.std.proofs.Common.{◌≡◌, ◌≢◌, ℕ, ◌+◌, ◌<◌, ◌≤◌, ◌==◌, ◌&&◌, ◌||◌, not, if◌then◌else◌, Bool, true, false, inl, inr, List, [], ◌∷◌, ◌++◌, All, Some}
 use Rattle.std.proofs.Common.{None, Option, codes, map, length, take, drop, refl, ap, sym, subst, ◌∙◌, arith, append_assoc, add-zero, zero, suc}
-use Rattle.std.specs.Prelude.{Contains, option_map}
-use Rattle.std.proofs.lemmas.Bool.{cases_Bool, eqb-true}
+use Rattle.std.specs.Prelude.{nat_lt, Contains, option_map}
+use Rattle.std.proofs.lemmas.Bool.{cases_Bool, cases_lt, agree_below_at, eqb-true}
 use Rattle.std.proofs.lemmas.Bool.Decides.{nat_tests}
 use Rattle.std.proofs.lemmas.Grind.{common_steps}
 use Rattle.std.proofs.lemmas.List.Elements.{All-cons, Contains-append_cases}
 use Rattle.std.proofs.lemmas.List.Kept.{AllPairs-cons}
 use Rattle.std.proofs.lemmas.Slice.Eq.{bytes_eq-Decides}
 use Rattle.std.specs.Char.{to_ascii_lowercase}
-use Rattle.std.specs.List.{AllByRecursion, AllPairs}
+use Rattle.std.specs.List.{AllByRecursion, AllPairs, list_all, list_any}
 use Rattle.std.specs.Str.{byte, bytes_eq}
 use Rattle.gitmodules.specs.Sections.{Header, Named, Unreadable, Other, is_never_in_name, is_blank, is_word_byte, closed, without_blanks, escaped_name}
 use Rattle.gitmodules.specs.Sections.{unescaped, named, quoted_header, header_after_word, header_after_bracket, begun, sections}
-use Rattle.gitmodules.specs.Spelled.{SpelledByte, IsSpelled, HeaderAt, is_other, spelled_name, name_of, section_bytes, IsEachNameSpelled, IsEachHeaderGiven}
+use Rattle.gitmodules.specs.Spelled.{SpelledByte, MayBeInName, IsSpelled, IsBlank, HeaderAt, ends_or_goes_on, is_other, spelled_name, name_of, section_bytes, IsEachNameSpelled, IsEachHeaderGiven}
 use Rattle.gitmodules.specs.Spelled.{IsInOrder}
 use Rattle.gitmodules.proofs.SpelledSections.{in_parts, name_read, word_read, one_of_all, first_of_all}
 
@@ -39,13 +39,16 @@ record IsRead (escaped : Bool) (bytes name : List ℕ) : Type 0 where
   is_name : backslash escaped ++ name ≡ spelled_name spelled
   are_spelled : AllByRecursion IsSpelled spelled
 
+may_be : (b : ℕ) → is_never_in_name b ≡ false → MayBeInName b
+may_be b never = grind (arith, nat_tests)
+
 with_escaped : (b : ℕ) (bytes more : List ℕ) → is_never_in_name b ≡ false → IsRead false bytes more → IsRead true (b ∷ bytes) (b ∷ more)
 with_escaped b bytes more never rest = record {
   after = rest.after;
   spelled = (true, b) ∷ rest.spelled;
   is_bytes = ap (λ xs. b ∷ xs) rest.is_bytes;
   is_name = ap (λ xs. byte "\\" ∷ b ∷ xs) rest.is_name;
-  are_spelled = (never, rest.are_spelled);
+  are_spelled = (may_be b never, rest.are_spelled);
 }
 
 with_backslash : (bytes more : List ℕ) → IsRead true bytes more → IsRead false (byte "\\" ∷ bytes) (byte "\\" ∷ more)
@@ -64,7 +67,7 @@ with_byte b bytes more never quote slash rest = record {
   spelled = (false, b) ∷ rest.spelled;
   is_bytes = ap (λ xs. b ∷ xs) rest.is_bytes;
   is_name = ap (λ xs. b ∷ xs) rest.is_name;
-  are_spelled = ((never, quote, slash), rest.are_spelled);
+  are_spelled = ((may_be b never, quote, slash), rest.are_spelled);
 }
 
 closing : (bytes : List ℕ) → IsRead false (byte "\"" ∷ byte "]" ∷ bytes) []
@@ -113,13 +116,16 @@ name_spelled escaped (b ∷ bytes) name is =
 -- ---- headers
 
 abbrev IsBlanks : List ℕ → Type 0
-IsBlanks blanks = AllByRecursion (λ b. is_blank b ≡ true) blanks
+IsBlanks blanks = AllByRecursion IsBlank blanks
+
+blank_is : (b : ℕ) → is_blank b ≡ true → IsBlank b
+blank_is b blank = grind (arith, nat_tests)
 
 -- the blanks before the rest
 blanks_by : (b : ℕ) (bytes : List ℕ) (blank : Bool) → is_blank b ≡ blank
     → (blanks : List ℕ) × IsBlanks blanks × (bytes ≡ blanks ++ without_blanks bytes)
     → (blanks : List ℕ) × IsBlanks blanks × (b ∷ bytes ≡ blanks ++ (if blank then without_blanks bytes else b ∷ bytes))
-blanks_by b bytes true is (blanks, all, whole) = (b ∷ blanks, (is, all), ap (λ xs. b ∷ xs) whole)
+blanks_by b bytes true is (blanks, all, whole) = (b ∷ blanks, (blank_is b is, all), ap (λ xs. b ∷ xs) whole)
 blanks_by b bytes false is (blanks, all, whole) = ([], tt, refl)
 
 blanks_before : (bytes : List ℕ) → (blanks : List ℕ) × IsBlanks blanks × (bytes ≡ blanks ++ without_blanks bytes)
@@ -160,7 +166,7 @@ after_word_blank b bytes name blank is =
       blanks = b ∷ blanks;
       spelled = read.spelled;
       has_blanks = λ none. cc;
-      are_blanks = (blank, all);
+      are_blanks = (blank_is b blank, all);
       are_spelled = read.are_spelled;
       is_bytes =
           ap (λ xs. b ∷ xs) (whole ∙ ap (λ xs. blanks ++ xs) (quote
@@ -313,9 +319,21 @@ by_blank : (test : Bool) (bytes : List ℕ) → (if test then quoted_header byte
 by_blank true bytes is = quoted_is_some bytes is
 by_blank false bytes is = cc
 
+none_above : (bytes : List ℕ) (b : ℕ) → list_all (λ c. nat_lt c 128) bytes ≡ true → 128 ≤ b → list_any (λ c. b == c) bytes ≡ false
+none_above [] b small above = refl
+none_above (c ∷ bytes) b small above = grind (arith, nat_tests, none_above bytes b)
+
+-- the bytes of a word one by one, and by their ranges
+ends_word : (b : ℕ) → list_any (λ c. b == c) ends_or_goes_on ≡ (b == byte "]" || is_word_byte b)
+ends_word b =
+    elim (cases_lt b 128) [
+      | inl below ↦ agree_below_at (λ b. list_any (λ c. b == c) ends_or_goes_on) (λ b. b == byte "]" || is_word_byte b) 128 b refl below
+      | inr above ↦ (let other : (b == byte "]" || is_word_byte b) ≡ false = grind (arith, nat_tests) in none_above ends_or_goes_on b refl above ∙ sym other)
+    ]
+
 header_is_some : (bytes : List ℕ) → is_other bytes ≡ false → header_after_word bytes ≢ Other
 header_is_some [] some is = cc
-header_is_some (b ∷ bytes) some is = by_blank (is_blank b) (without_blanks bytes) (rw some at is)
+header_is_some (b ∷ bytes) some is = by_blank (is_blank b) (without_blanks bytes) (rw (sym (ends_word b) ∙ some) at is)
 
 header_is_none : (bytes : List ℕ) → header_after_word bytes ≢ Other → is_other bytes ≡ false
 header_is_none [] some = refl
@@ -324,7 +342,7 @@ header_is_none (b ∷ bytes) some =
       | inl ends ↦
           (let solid : is_blank b ≡ false = grind (arith, nat_tests) in
           absurd (some (rw (solid, ends) refl)))
-      | inr goes ↦ goes
+      | inr goes ↦ ends_word b ∙ goes
     ]
 
 given_by : (header : Header) → header ≢ Other → (name : Option (List ℕ)) × ((offset : ℕ) → begun offset header ≡ (offset, name) ∷ [])

@@ -9,8 +9,8 @@ use Rattle.std.proofs.lemmas.Slice.Eq.{bytes_eq-Decides}
 use Rattle.std.specs.Char.{to_ascii_lowercase}
 use Rattle.std.specs.List.{AllByRecursion}
 use Rattle.std.specs.Str.{byte}
-use Rattle.gitmodules.specs.Sections.{Named, is_blank, without_blanks, escaped_name, unescaped, header_after_word, header_after_bracket, begun, sections}
-use Rattle.gitmodules.specs.Spelled.{SpelledByte, IsSpelled, spelled_name, name_of, section_bytes, IsEachSectionFound}
+use Rattle.gitmodules.specs.Sections.{Named, without_blanks, escaped_name, unescaped, header_after_word, header_after_bracket, begun, sections}
+use Rattle.gitmodules.specs.Spelled.{SpelledByte, IsSpelled, IsBlank, spelled_name, name_of, section_bytes, IsEachSectionFound}
 
 name_cut : (name : List SpelledByte) (after : List ℕ) → AllByRecursion IsSpelled name
     → escaped_name false (spelled_name name ++ byte "\"" ∷ byte "]" ∷ after) ≡ Some (spelled_name name)
@@ -23,15 +23,15 @@ name_read [] is = refl
 name_read ((true, b) ∷ name) is = grind (arith, nat_tests, name_read name is.1)
 name_read ((false, b) ∷ name) is = grind (arith, nat_tests, name_read name is.1)
 
-blanks_passed : (blanks after : List ℕ) → AllByRecursion (λ b. is_blank b ≡ true) blanks → without_blanks (blanks ++ byte "\"" ∷ after) ≡ byte "\"" ∷ after
+blanks_passed : (blanks after : List ℕ) → AllByRecursion IsBlank blanks → without_blanks (blanks ++ byte "\"" ∷ after) ≡ byte "\"" ∷ after
 blanks_passed [] after is = refl
-blanks_passed (b ∷ blanks) after is = grind (arith, blanks_passed blanks after is.1)
+blanks_passed (b ∷ blanks) after is = grind (arith, nat_tests, blanks_passed blanks after is.1)
 
-quoted_read : (blanks after : List ℕ) (name : List SpelledByte) → blanks ≢ [] → AllByRecursion (λ b. is_blank b ≡ true) blanks
+quoted_read : (blanks after : List ℕ) (name : List SpelledByte) → blanks ≢ [] → AllByRecursion IsBlank blanks
     → AllByRecursion IsSpelled name → header_after_word (blanks ++ byte "\"" ∷ (spelled_name name ++ byte "\"" ∷ byte "]" ∷ after)) ≡ Named (name_of name)
 quoted_read [] after name some is spelled = absurd (some refl)
 quoted_read (b ∷ blanks) after name some is spelled =
-    grind (arith, blanks_passed blanks (spelled_name name ++ byte "\"" ∷ byte "]" ∷ after) is.1, name_cut name after spelled, name_read name spelled)
+    grind (arith, nat_tests, blanks_passed blanks (spelled_name name ++ byte "\"" ∷ byte "]" ∷ after) is.1, name_cut name after spelled, name_read name spelled)
 
 pub nine : (word : List ℕ) → map to_ascii_lowercase word ≡ codes "submodule" → length word ≡ 9
 nine word is = sym (length-map word to_ascii_lowercase) ∙ ap length is

@@ -1,18 +1,22 @@
 -- How a section of a submodule is spelled in a file, and that the sections found are those that are spelled, whatever is before and after them.
-use Rattle.std.specs.Prelude.{◌≡◌, ◌≢◌, ◌↔◌, ℕ, ◌<◌, Bool, true, false, ◌==◌, ◌||◌, List, [], ◌∷◌, ◌++◌, codes, map, length, Option, Some, Contains}
+-- What may be in a name, a blank and a word is said here again, so that a slip in one of the two shows.
+use Rattle.std.specs.Prelude.{◌≡◌, ◌≢◌, ◌↔◌, ◌⊎◌, ℕ, ◌<◌, Bool, true, false, ◌==◌, List, [], ◌∷◌, ◌++◌, codes, map, length, Option, Some, Contains}
 use Rattle.std.specs.Char.{to_ascii_lowercase}
-use Rattle.std.specs.List.{AllByRecursion, AllPairs}
+use Rattle.std.specs.List.{AllByRecursion, AllPairs, list_any}
 use Rattle.std.specs.Str.{byte}
-use Rattle.gitmodules.specs.Sections.{is_blank, is_never_in_name, is_word_byte, sections}
+use Rattle.gitmodules.specs.Sections.{sections}
 
 -- a byte of a name, and whether a backslash is before it
 abbrev pub SpelledByte : Type 0
 SpelledByte = Bool × ℕ
 
--- Each byte but the three that are never in a name may have a backslash, and a double quote and a backslash must.
+abbrev pub MayBeInName : ℕ → Type 0
+MayBeInName b = (b ≢ 0x00) × (b ≢ 0x0A) × (b ≢ 0xFF)
+
+-- Each byte that may be in a name may have a backslash, and a double quote and a backslash must.
 abbrev pub IsSpelled : SpelledByte → Type 0
-IsSpelled (true, b) = is_never_in_name b ≡ false
-IsSpelled (false, b) = (is_never_in_name b ≡ false) × (b ≢ byte "\"") × (b ≢ byte "\\")
+IsSpelled (true, b) = MayBeInName b
+IsSpelled (false, b) = MayBeInName b × (b ≢ byte "\"") × (b ≢ byte "\\")
 
 abbrev pub spelled_byte : SpelledByte → List ℕ
 spelled_byte (true, b) = byte "\\" ∷ b ∷ []
@@ -26,11 +30,15 @@ abbrev pub name_of : List SpelledByte → List ℕ
 name_of [] = []
 name_of ((escaped, b) ∷ name) = b ∷ name_of name
 
+-- a space, a tab or a carriage return
+abbrev pub IsBlank : ℕ → Type 0
+IsBlank b = (b ≡ 0x20) ⊎ (b ≡ 0x09) ⊎ (b ≡ 0x0D)
+
 -- a section as Git reads it: `[`, the word in any letter case, blanks, the name between double quotes, `]`
 pub record IsSection (word blanks : List ℕ) (name : List SpelledByte) : Type 0 where
   pub is_word : map to_ascii_lowercase word ≡ codes "submodule"
   pub has_blanks : blanks ≢ []
-  pub are_blanks : AllByRecursion (λ b. is_blank b ≡ true) blanks
+  pub are_blanks : AllByRecursion IsBlank blanks
   pub is_spelled : AllByRecursion IsSpelled name
 
 abbrev pub section_bytes : List ℕ → List ℕ → List SpelledByte → List ℕ
@@ -48,10 +56,14 @@ pub record SectionAt (file : List ℕ) (offset : ℕ) (name : List ℕ) : Type 0
   pub is_offset : length before ≡ offset
   pub is_name : name_of spelled ≡ name
 
--- the bytes begin with `]` or with a byte of a word, so the word `submodule` before them is a section without a name, or part of another word
+-- `]`, and the bytes of a word
+abbrev pub ends_or_goes_on : List ℕ
+ends_or_goes_on = codes "]-0123456789ABCDEFGHIJKLMNOPQRSTUVWXYZabcdefghijklmnopqrstuvwxyz"
+
+-- the bytes begin with one of these, so the word `submodule` before them is a section without a name, or part of another word
 abbrev pub is_other : List ℕ → Bool
 is_other [] = false
-is_other (b ∷ bytes) = b == byte "]" || is_word_byte b
+is_other (b ∷ bytes) = list_any (λ c. b == c) ends_or_goes_on
 
 -- the file has a `[` at this offset, and then the word `submodule`, and what follows is no other section
 pub record HeaderAt (file : List ℕ) (offset : ℕ) : Type 0 where

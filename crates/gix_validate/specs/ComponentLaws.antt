@@ -1,13 +1,14 @@
 -- The laws of path components: what else holds of an accepted name, and what never changes an answer.
-use Rattle.std.specs.Prelude.{◌≡◌, ◌≢◌, ℕ, false, not, IsTrue, List, [], codes, Option, None}
+use Rattle.std.specs.Prelude.{◌≡◌, ◌≢◌, ℕ, false, not, IsTrue, List, [], ◌∷◌, ◌++◌, codes, Option, None}
 use Rattle.std.specs.List.{concat, filter}
+use Rattle.std.specs.Str.{byte}
 use Rattle.gix_validate.specs.declared.path.ComponentOptions.{ComponentOptions}
 use Rattle.gix_validate.specs.declared.path.ComponentMode.{ComponentMode}
 use Rattle.gix_validate.specs.Bytes.{lower}
 use Rattle.gix_validate.specs.Pieces.{has_no_slash}
 use Rattle.gix_validate.specs.Units.{units}
 use Rattle.gix_validate.specs.Hfs.{hfs_form, is_ignored_unit}
-use Rattle.gix_validate.specs.Windows.{device_form, is_device}
+use Rattle.gix_validate.specs.Windows.{is_device}
 use Rattle.gix_validate.specs.Component.{fault_of}
 
 -- every switch off
@@ -46,6 +47,8 @@ pub record IsBasicName (x : List ℕ) : Type 0 where
 abbrev pub DeviceIgnoresCase : List ℕ → Type 0
 DeviceIgnoresCase x = is_device x ≡ is_device (lower x)
 
--- names with the same device form are all devices, or all are not
-abbrev pub DeviceGoesByForm : List ℕ → Type 0
-DeviceGoesByForm x = (y : List ℕ) → device_form y ≡ device_form x → is_device y ≡ is_device x
+-- A dot or a colon and whatever follows it, and a space at the end, don't change whether a name is a device.
+pub record DeviceGoesByForm (x : List ℕ) : Type 0 where
+  pub dot : (more : List ℕ) → is_device (x ++ byte "." ∷ more) ≡ is_device x
+  pub colon : (more : List ℕ) → is_device (x ++ byte ":" ∷ more) ≡ is_device x
+  pub space : is_device (x ++ byte " " ∷ []) ≡ is_device x

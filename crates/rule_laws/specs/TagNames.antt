@@ -4,7 +4,8 @@ use Rattle.std.specs.List.{list_all}
 use Rattle.gix_validate.specs.Pieces.{pieces, joined, has_no_slash}
 use Rattle.gix_validate.specs.Tag.{faults_at}
 
--- At each offset of the text at most one line of the table applies, so their order doesn't matter.
+-- At each offset of the text at most one line of the table applies, so their order doesn't matter. (Of a table without lines this holds,
+-- too. That the lines are those that are needed is said by the clauses `grammar` and `answer` of `tag::name` together.)
 abbrev pub HasAtMostOneFaultPerOffset : List ℕ → Type 0
 HasAtMostOneFaultPerOffset x = (i : ℕ) → i < length x → count_by is_some (faults_at x i) ≤ 1
 

@@ -19,6 +19,7 @@ use Rattle.gix_validate.specs.Windows.{device_form, is_device_form, is_device, i
 use Rattle.gix_validate.specs.Component.{conditions, fault_of, is_component}
 use Rattle.gix_validate.specs.ComponentLaws.{HasOnlySwitchesOf, IsValidUnderFewerSwitches, FaultIgnoresCase, FormIsKeptUnits}
 use Rattle.gix_validate.specs.ComponentLaws.{IsBasicName, DeviceIgnoresCase, DeviceGoesByForm}
+use Rattle.gix_validate.proofs.Components.Forms.{form_cut, form_trimmed}
 use Rattle.gix_validate.proofs.Components.HfsForm.{hfs_form-units}
 use Rattle.gix_validate.proofs.Texts.LetterCase.{test-lower_byte, lower-lower, list_any-lower, bytes_eq-lower}
 use Rattle.gix_validate.proofs.Texts.LetterCase.{before_first-lower, without_end-lower, ends-lower}
@@ -80,8 +81,14 @@ unfolding fault_of conditions
 case_law options mode x = grind (arith, kept_by_lower)
 
 pub device_form_law : (x : List ℕ) → DeviceGoesByForm x
-unfolding is_device
-device_form_law x = λ y same. ap is_device_form same
+unfolding is_device device_form
+device_form_law x =
+    let cut = is_among (codes ".:") in
+    let trim : ℕ → Bool = λ b. b == byte " " in record {
+      dot = λ more. ap is_device_form (form_cut cut trim (byte ".") more refl x);
+      colon = λ more. ap is_device_form (form_cut cut trim (byte ":") more refl x);
+      space = ap is_device_form (form_trimmed cut trim (byte " ") refl refl x);
+    }
 
 all_none-first_of : (lines : List (Option ComponentError)) → list_all is_none lines ≡ is_none (first_of lines)
 all_none-first_of [] = refl
@@ -149,5 +156,3 @@ units_law x = hfs_form-units (length x) x (omega arith)
 
 -- what `component` takes from above
 pub ruleset component_laws = (component_grammar_law, fewer_law, case_law, units_law, basic_law)
-
-pub ruleset device_laws = (device_case_law, device_form_law)

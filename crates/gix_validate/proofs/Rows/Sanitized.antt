@@ -72,11 +72,11 @@ repaired_names = refl
 
 piecewise_with_dash : KeepsPieces (codes "a b//c.") (codes "a-b/c-")
 unfolding names_on_literals
-piecewise_with_dash = record { as_many = refl; none_empty = refl; mended = inr refl }
+piecewise_with_dash = record { as_many = refl; none_empty = refl; kept = (λ good. absurd (false≢true good), λ good. inr refl); mended = inr refl }
 
 piecewise_as_mended : KeepsPieces (codes "a b/c.lock") (codes "a-b/c")
 unfolding names_on_literals
-piecewise_as_mended = record { as_many = refl; none_empty = refl; mended = inl refl }
+piecewise_as_mended = record { as_many = refl; none_empty = refl; kept = (λ good. absurd (false≢true good), λ good. absurd (false≢true good)); mended = inl refl }
 
 fewer_pieces : KeepsPieces (codes "a/*") (codes "a") → ⊥
 fewer_pieces keeps = let e : 1 ≡ 2 = keeps.as_many in absurd (omega (arith, e))

@@ -1,5 +1,5 @@
 -- The laws of the sanitised text.
-use Rattle.std.proofs.Common.{◌≡◌, ◌≢◌, ◌⊎◌, ℕ, ◌≤◌, max, true, false, List, [], ◌∷◌, length, map, refl, sym, ap, ◌∙◌, arith, length-append, length-take}
+use Rattle.std.proofs.Common.{◌≡◌, ◌≢◌, ◌⊎◌, inl, inr, ℕ, ◌≤◌, max, true, false, List, [], ◌∷◌, length, map, refl, sym, ap, ◌∙◌, arith, length-append, length-take}
 use Rattle.std.specs.Prelude.{codes, not, ◌↔◌, IsTrue, filter}
 use Rattle.std.specs.List.{list_all}
 use Rattle.std.specs.Str.{byte, bytes_eq}
@@ -12,7 +12,7 @@ use Rattle.gix_validate.specs.Pieces.{pieces, joined, has_no_slash}
 use Rattle.gix_validate.specs.Tag.{is_good_piece, is_tag_name}
 use Rattle.gix_validate.specs.Reference.{is_partial_name}
 use Rattle.gix_validate.specs.Sanitized.{cleaned, cut, nonempty_pieces, mended_pieces, dash_last, dash_last_of, repaired_dot, repaired_at, repaired_nothing}
-use Rattle.gix_validate.specs.Sanitized.{sanitized, IsPiecewise}
+use Rattle.gix_validate.specs.Sanitized.{sanitized, KeepsGood, IsPiecewise}
 use Rattle.gix_validate.proofs.Texts.Endings.{ends-false}
 use Rattle.gix_validate.proofs.Sanitizing.MendedPieces.{mend_good, mend-own, mend_apart, length-mend, is_good_piece-empty}
 use Rattle.gix_validate.proofs.Texts.Pieces.{pieces_apart, pieces-joined}
@@ -94,12 +94,27 @@ none_empty_from : (ps : List (List ℕ)) → list_all is_good_piece ps ≡ true 
 none_empty_from [] h = refl
 none_empty_from (p ∷ ps) h = grind (arith, good_nonempty p, none_empty_from ps)
 
+keeps_own : (ps : List (List ℕ)) → KeepsGood ps (map (λ p. cut (cleaned p)) ps)
+keeps_own [] = tt
+keeps_own (p ∷ []) = λ good. inl (mend-own p good)
+keeps_own (p ∷ q ∷ ps) = (mend-own p, keeps_own (q ∷ ps))
+
+keeps_dashed : (ps : List (List ℕ)) → KeepsGood ps (dash_last_of (map (λ p. cut (cleaned p)) ps))
+keeps_dashed [] = tt
+keeps_dashed (p ∷ []) = λ good. inr (ap dash_last (mend-own p good))
+keeps_dashed (p ∷ q ∷ ps) = (mend-own p, keeps_dashed (q ∷ ps))
+
+keeps_either : (x : List ℕ) (ts : List (List ℕ)) → (ts ≡ mended_pieces x) ⊎ (ts ≡ dash_last_of (mended_pieces x)) → KeepsGood (nonempty_pieces x) ts
+keeps_either x ts (inl own) = rw own (keeps_own (nonempty_pieces x))
+keeps_either x ts (inr dashed) = rw dashed (keeps_dashed (nonempty_pieces x))
+
 -- The text is made piece by piece.
 pub sanitized-piecewise : (x : List ℕ) → IsPiecewise x (sanitized x)
 sanitized-piecewise x = record {
   some = λ some. (let r = sanitized_some x some in record {
     as_many = grind (arith, length-dash_last_of, length-map (nonempty_pieces x) (λ p. cut (cleaned p)));
     none_empty = none_empty_from (pieces (sanitized x)) r.good;
+    kept = keeps_either x (pieces (sanitized x)) r.from;
     mended = r.from;
   });
   none = sanitized_none x;

@@ -17,6 +17,7 @@ mod adjacent;
 mod bytes;
 mod lanes;
 pub mod path;
+mod pieces;
 pub mod reference;
 mod scan;
 pub mod submodule;

@@ -19,16 +19,14 @@ ghost use Rattle.gix_validate.specs.Pieces.{joined};
 ghost use Rattle.gix_validate.specs.Reference.{is_standalone_byte, has_slash_or_stands_alone, is_partial_name, is_full_name, is_branch_name, reserved as reserved_fault, partial_fault_of, full_fault_of, branch_fault_of, text_of};
 ghost use Rattle.gix_validate.specs.Tag.{is_tag_name};
 
-use crate::path::joining::joined;
-use crate::scan::{self, Pattern};
-use crate::tag;
+use crate::pieces::{Slash, joined};
 use crate::text::Text;
+use crate::{scan, tag};
 use arrayvec::ArrayVec;
 use bstr::{BStr, BString};
 use std::alloc::{AllocError, Global};
 use std::error::Error;
 use std::fmt;
-use std::simd::prelude::*;
 use std::slice::from_ref;
 
 mod sanitize;
@@ -241,18 +239,6 @@ fn unless_reserved<'a>(name: BStr<'a>, reserved: &[u8]) -> Result<BStr<'a>, Name
     Err(NameError::Reserved {
         name: ArrayVec::try_from(reserved).unwrap(),
     })
-}
-
-/// A slash.
-pub(crate) enum Slash {}
-
-impl Pattern for Slash {
-    ghost hit = { λ a b. a == byte "/" };
-
-    #[inline(always)]
-    fn hits(front: u8x16, _back: u8x16) -> u64 {
-        front.simd_eq(u8x16::splat(b'/')).to_bitmask()
-    }
 }
 
 /// Whether the name has a slash, or is valid without one.

@@ -12,7 +12,7 @@ ghost use Rattle.gix_validate.specs.Windows.{is_illegal_byte};
 ghost use Rattle.gix_validate.specs.Private.Classes.{has_class, any_class, class_of, HaveClassesOf};
 
 use crate::lanes::{LANES, classify, halves, has_nonzero, nonzero_lanes, pairs, quarters};
-use crate::reference::Slash;
+use crate::pieces::Slash;
 use crate::scan::{self, FOUR_BLOCKS, Pattern};
 use std::simd::prelude::*;
 

@@ -2,7 +2,7 @@
 use Rattle.std.proofs.Common.{◌≡◌, ◌≤◌, ◌++◌, map, take, vec_capacity}
 use Rattle.bstr.specs.BStr.{bstr_bytes}
 use Rattle.gix_validate.specs.Pieces.{joined}
-use Rattle.gix_validate.proofs.path.joining.write_joined.Given as goal
+use Rattle.gix_validate.proofs.pieces.write_joined.Given as goal
 
 abbrev pub invariant-loop-i : goal.invariant-loop-i
 invariant-loop-i l = record {

@@ -3,7 +3,7 @@ use Rattle.std.proofs.Common.{[], arith}
 use Rattle.bstr.specs.declared.bstr.BStr.{BStr}
 use Rattle.bstr.specs.BStr.{bstr_bytes}
 use Rattle.gix_validate.proofs.Components.JoinedParts.{written, fits}
-use Rattle.gix_validate.proofs.path.joining.write_joined.Goals as goal
+use Rattle.gix_validate.proofs.pieces.write_joined.Goals as goal
 use Rattle.std.proofs.lemmas.Grind.{common_steps}
 
 -- what a read past the end gives

@@ -1,7 +1,7 @@
 use Rattle.std.proofs.Common.{eqb}
 use Rattle.std.specs.Str.{byte}
 use Rattle.gix_validate.proofs.Blocks.Lanes.{lane_mask}
-use Rattle.gix_validate.proofs.reference.SlashPattern.hits.Goals as goal
+use Rattle.gix_validate.proofs.pieces.SlashPattern.hits.Goals as goal
 
 pub returns : goal.returns
 returns c = let law = lane_mask eqb c.args.front (byte "/") c.fits-front.0 in record { few = law.0; lanes = law.1 }

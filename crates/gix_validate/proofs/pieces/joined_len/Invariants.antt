@@ -2,7 +2,7 @@
 use Rattle.std.proofs.Common.{◌≡◌, ◌+◌, ◌-◌, ◌<◌, ◌^◌, length, take}
 use Rattle.std.specs.List.{sum_by}
 use Rattle.bstr.specs.BStr.{bstr_bytes}
-use Rattle.gix_validate.proofs.path.joining.joined_len.Given as goal
+use Rattle.gix_validate.proofs.pieces.joined_len.Given as goal
 
 abbrev pub invariant-loop-part : goal.invariant-loop-part
 invariant-loop-part l = record {

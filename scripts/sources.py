@@ -44,10 +44,9 @@ def write_or_check(doc, derive, then=()):
     differ = [path for path in texts if texts[path] != read(path)]
     for path in [] if is_check else differ:
         Path(path).write_text(texts[path], "utf-8")
-    for script in () if is_check else then:
-        subprocess.run([script], check=True)
+    failed = not is_check and any([subprocess.call([script]) for script in then])
     end = f"differs: run {sys.argv[0]}" if is_check else "is written"
-    parser.exit(bool(is_check and differ), "".join(f"{path} {end}\n" for path in differ))
+    parser.exit(bool(failed or is_check and differ), "".join(f"{path} {end}\n" for path in differ))
 
 
 def blocks(page):

@@ -55,7 +55,9 @@ pub mod name {
     impl fmt::Display for Error {
         fn fmt(&self, f: &mut fmt::Formatter<'_>) -> fmt::Result {
             f.write_str(match self {
-                Error::InvalidByte { byte } => return write!(f, "Reference name contains invalid byte: {byte:?}"),
+                Error::InvalidByte { byte } => {
+                    return write!(f, "Reference name contains invalid byte: {byte:?}")
+                }
                 Error::StartsWithSlash => "Reference name cannot start with a slash",
                 Error::RepeatedSlash => "Reference name cannot contain repeated slashes",
                 Error::RepeatedDot => "Reference name cannot contain repeated dots",
@@ -186,7 +188,9 @@ fn accepted(path: &BStr, code: Code) -> Result<&BStr, name::Error> {
 fn fault(code: Code, path: &BStr) -> name::Error {
     match code {
         12 => name::Error::SomeLowercase,
-        13 => name::Error::Reserved { name: path.to_owned() },
+        13 => name::Error::Reserved {
+            name: path.to_owned(),
+        },
         _ => tag::fault(code, path).into(),
     }
 }

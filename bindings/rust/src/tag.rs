@@ -126,8 +126,11 @@ pub(crate) fn fault(code: Code, input: &BStr) -> name::Error {
     use name::Error;
     match code {
         1 => {
-            let byte = block::invalid_byte(input).expect("a name whose fault is its invalid byte has one");
-            Error::InvalidByte { byte: vec![byte].into() }
+            let byte =
+                block::invalid_byte(input).expect("a name whose fault is its invalid byte has one");
+            Error::InvalidByte {
+                byte: vec![byte].into(),
+            }
         }
         2 => Error::StartsWithSlash,
         3 => Error::RepeatedSlash,

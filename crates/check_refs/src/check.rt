@@ -32,14 +32,8 @@ impl Check<'_> for Options {
     /// options.run(alloc, &mut input, &mut output)?; // Verdict::Refused
     /// ```
     ///
-    /// Each line is written as it is found, and `output` is not flushed. A malformed line ends the run,
-    /// and the lines before it are written. An empty input is malformed. The verdict is `Clean` if and
-    /// only if nothing is malformed and nothing is refused.
-    ///
-    /// # Errors
-    ///
-    /// [`RunError`] says whether reading, memory or writing failed. If reading or memory did, what was
-    /// written is the beginning of the report.
+    /// An empty input is malformed. The verdict is `Clean` if and only if nothing is malformed and
+    /// nothing is refused.
     ///
     /// # Memory
     ///

@@ -42,13 +42,7 @@ impl Check<'_> for Options {
     /// Options { needs_end: false }.run(alloc, &mut input, &mut output)?; // Verdict::Refused
     /// ```
     ///
-    /// The lines of a blob are written once all of it is read, and `output` is not flushed. A malformed
-    /// object ends the run, and what was found before it is written.
-    ///
-    /// # Errors
-    ///
-    /// [`RunError`] says whether reading, memory or writing failed. If reading or memory did, what was
-    /// written is the beginning of the report.
+    /// The lines of a blob are written once all of it is read.
     ///
     /// # Memory
     ///

@@ -18,7 +18,7 @@ ghost use Rattle.check_trees.specs.Private.{EntryGives, EntryReads, PassesId, Sa
 
 use crate::entry::{ModeAndName, front_of};
 use crate::options::CheckOptions;
-use crate::report::{push_modules, push_refused};
+use crate::report::{set_modules, set_refused};
 use bstr::BStr;
 use cli::outcome::RunError;
 use git_input::header::{Kind, Object};
@@ -43,14 +43,6 @@ impl<'a> Check<'a> for CheckOptions<'a> {
     /// ```
     /// options.run(alloc, &mut input, &mut output)?; // Verdict::Refused
     /// ```
-    ///
-    /// Each line is written as it is found, and `output` is not flushed. A malformed object ends the
-    /// run, and what was found before it is written.
-    ///
-    /// # Errors
-    ///
-    /// [`RunError`] says whether reading, memory or writing failed. If reading or memory did, what was
-    /// written is the beginning of the report.
     ///
     /// # Memory
     ///
@@ -276,16 +268,15 @@ fn say<W: Write>(
     ensures { Says (finding_said (as_object tree.entry) (record { front = as_front front.entry; id = id.now }) finding)
         (W.contents output.old) (W.contents output.new) result }
 {
-    line.clear();
     match finding {
         Finding::Accepted => Ok(false),
         Finding::Modules => {
-            push_modules(line, tree, front, id).map_err(|_| RunError::Memory)?;
+            set_modules(line, tree, front, id).map_err(|_| RunError::Memory)?;
             output.write_all(line).map_err(|_| RunError::Write)?;
             Ok(false)
         }
         Finding::Refused(fault) => {
-            push_refused(line, tree, front, fault).map_err(|_| RunError::Memory)?;
+            set_refused(line, tree, front, fault).map_err(|_| RunError::Memory)?;
             output.write_all(line).map_err(|_| RunError::Write)?;
             Ok(true)
         }

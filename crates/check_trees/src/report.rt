@@ -26,17 +26,18 @@ use std::io::Write;
 /// How many bytes of a path are displayed at most.
 const MAX_PATH: usize = 128;
 
-/// Appends the line of a refused entry. Most entries have none.
+/// Replaces the last line with that of a refused entry. Most entries have none.
 #[cold]
 #[inline(never)]
-pub(crate) fn push_refused(
+pub(crate) fn set_refused(
     line: &mut Vec<u8>,
     tree: Object<'_>,
     front: ModeAndName<'_>,
     fault: ComponentError,
 ) -> Result<(), AllocError>
-    ensures { OnOk result (line.new.items ≡ line.old.items ++ refused_line (as_object tree.entry) (as_front front.entry) fault) }
+    ensures { OnOk result (line.new.items ≡ refused_line (as_object tree.entry) (as_front front.entry) fault) }
 {
+    line.clear();
     push_place(line, tree, front)?;
     line.push(b' ')?;
     write!(line, "{fault}").map_err(|_| AllocError)?;
@@ -45,17 +46,18 @@ pub(crate) fn push_refused(
     Ok(())
 }
 
-/// Appends the line of a file that is read as `.gitmodules`. Its id is in bytes.
+/// Replaces the last line with that of a file that is read as `.gitmodules`. Its id is in bytes.
 #[cold]
 #[inline(never)]
-pub(crate) fn push_modules(
+pub(crate) fn set_modules(
     line: &mut Vec<u8>,
     tree: Object<'_>,
     front: ModeAndName<'_>,
     id: &[u8],
 ) -> Result<(), AllocError>
-    ensures { OnOk result (line.new.items ≡ line.old.items ++ modules_line (as_object tree.entry) (as_front front.entry) id.now) }
+    ensures { OnOk result (line.new.items ≡ modules_line (as_object tree.entry) (as_front front.entry) id.now) }
 {
+    line.clear();
     line.extend_from_slice(b"modules ")?;
     push_hex(line, id)?;
     line.push(b' ')?;

@@ -51,11 +51,6 @@ pub record ReadsBefore (byte limit : ℕ) (old new : Option (List ℕ)) (front :
   pub none : All (λ b. b ≢ byte) front
   pub reach : Reaches limit old new front found
 
--- a part of the front went to `front`, and there may be more to come
-abbrev pub Part : ℕ → ℕ → Option (List ℕ) → Option (List ℕ) → List ℕ → Option Found → Type 0
-Part byte limit old new front (Some found) = ReadsBefore byte limit old new front found
-Part byte limit old new front None = Consumes old new front × All (λ b. b ≢ byte) front × (length front ≤ limit)
-
 -- bytes that are shown, cut at the first such byte: the part before it, which takes `used` bytes with it
 abbrev pub IsCutAt : ℕ → List ℕ → List ℕ → ℕ → Option Found → Type 0
 IsCutAt byte shown part used (Some found) = (found ≡ Byte) × All (λ b. b ≢ byte) part × (take used shown ≡ part ++ byte ∷ []) × (used ≤ length shown)

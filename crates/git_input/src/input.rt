@@ -1,10 +1,10 @@
 //! Bounded reads that say where the input ends.
 
-ghost use Rattle.std.specs.Prelude.{◌≡◌, ◌≢◌, ◌↔◌, ◌+◌, ◌<◌, ◌≤◌, ℕ, true, List, [], ◌++◌, length, vec_capacity, vec_len, Err, IsOk, IfOk, IfSome, MatchOption, OnErr, OnSome, Some};
+ghost use Rattle.std.specs.Prelude.{◌≡◌, ◌≢◌, ◌↔◌, ◌<◌, ℕ, true, List, [], vec_capacity, Err, IsOk, IfOk, IfSome, OnErr, OnSome, Some};
 ghost use Rattle.std.specs.IoError.{error_kind};
 ghost use Rattle.std.specs.Io.KnownBytes.{Consumes, IsAtEnd};
 ghost use Rattle.gix_validate.specs.Bytes.{is_empty};
-ghost use Rattle.git_input.specs.Promises.{IsCutAt, ReadsBefore, ReadsNext, Part, ReadsExactly};
+ghost use Rattle.git_input.specs.Promises.{IsCutAt, ReadsBefore, ReadsNext, ReadsExactly};
 
 use cli::outcome::RunError;
 use memchr::memchr;
@@ -26,14 +26,14 @@ fn read_again(error: io::Error) -> Result<(), RunError>
     }
 }
 
-/// What the reader has buffered. If the read has to be made again, the function returns this.
+/// What the reader has buffered, in a loop. If the read was interrupted, the loop goes on.
 macro_rules! filled {
-    ($input:expr, $again:expr) => {
+    ($input:expr) => {
         match $input.fill_buf() {
             Ok(available) => available,
             Err(e) => {
                 read_again(e)?;
-                return Ok($again);
+                continue;
             }
         }
     };
@@ -64,43 +64,26 @@ pub fn read_before<R: BufRead>(
 ) -> Result<Found, RunError>
     ensures read { IfOk result (ReadsBefore byte limit (R.remaining input.old) (R.remaining input.new) front.new.items) }
     ensures stop { result ≢ Err RunError.Write }
+    ensures full { result ≡ Err RunError.Memory → vec_capacity front.old < limit }
 {
     front.clear();
     for _ in 0..TURNS {
         if front.len() >= limit {
             return Ok(Found::Limit);
         }
-        let room = limit - front.len();
-        if let Some(found) = append_part(input, byte, room, front)? {
+        let available = filled!(input);
+        if available.is_empty() {
+            return Ok(Found::End);
+        }
+        let shown = &available[..available.len().min(limit - front.len())];
+        let (part, used, found) = cut_at(byte, shown);
+        front.extend_from_slice(part).map_err(|_| RunError::Memory)?;
+        input.consume(used);
+        if let Some(found) = found {
             return Ok(found);
         }
     }
     Err(RunError::Read)
-}
-
-/// Appends what the reader has buffered of these bytes. The result says whether the byte was read
-/// or the input has ended; it is `None` if neither.
-fn append_part<R: BufRead>(
-    input: &mut R,
-    byte: u8,
-    limit: usize,
-    front: &mut Vec<u8>,
-) -> Result<Option<Found>, RunError>
-    requires { 0 < limit }
-    ensures read { IfOk result (λ found. (part : List ℕ) × (front.new.items ≡ front.old.items ++ part)
-        × Part byte limit (R.remaining input.old) (R.remaining input.new) part found) }
-    ensures stop { result ≢ Err RunError.Write }
-    ensures full { result ≡ Err RunError.Memory → vec_capacity front.old < vec_len front.old + limit }
-{
-    let available = filled!(input, None);
-    if available.is_empty() {
-        return Ok(Some(Found::End));
-    }
-    let shown = &available[..available.len().min(limit)];
-    let (part, used, found) = cut_at(byte, shown);
-    front.extend_from_slice(part).map_err(|_| RunError::Memory)?;
-    input.consume(used);
-    Ok(found)
 }
 
 /// The bytes before the first such byte, how many bytes these are together with the byte itself,
@@ -127,39 +110,23 @@ pub fn read_bytes<R: BufRead>(
 ) -> Result<bool, RunError>
     ensures read { IfOk result (ReadsExactly count (R.remaining input.old) (R.remaining input.new) bytes.new.items) }
     ensures stop { result ≢ Err RunError.Write }
+    ensures full { result ≡ Err RunError.Memory → vec_capacity bytes.old < count }
 {
     bytes.clear();
     for _ in 0..TURNS {
         if bytes.len() >= count {
             return Ok(true);
         }
-        let room = count - bytes.len();
-        if read_part(input, room, bytes)? {
+        let available = filled!(input);
+        if available.is_empty() {
             return Ok(false);
         }
+        let part = &available[..available.len().min(count - bytes.len())];
+        bytes.extend_from_slice(part).map_err(|_| RunError::Memory)?;
+        let used = part.len();
+        input.consume(used);
     }
     Err(RunError::Read)
-}
-
-/// Appends at most `count` bytes that the reader has buffered, and returns whether the input has
-/// ended.
-fn read_part<R: BufRead>(input: &mut R, count: usize, bytes: &mut Vec<u8>) -> Result<bool, RunError>
-    requires { 0 < count }
-    ensures read { IfOk result (λ ended. (part : List ℕ) × (bytes.new.items ≡ bytes.old.items ++ part) × (length part ≤ count)
-        × Consumes (R.remaining input.old) (R.remaining input.new) part
-        × (ended ≡ true → (part ≡ []) × OnSome (R.remaining input.old) (IsAtEnd (R.remaining input.new)))) }
-    ensures stop { result ≢ Err RunError.Write }
-    ensures full { result ≡ Err RunError.Memory → vec_capacity bytes.old < vec_len bytes.old + count }
-{
-    let available = filled!(input, false);
-    if available.is_empty() {
-        return Ok(true);
-    }
-    let part = &available[..available.len().min(count)];
-    bytes.extend_from_slice(part).map_err(|_| RunError::Memory)?;
-    let used = part.len();
-    input.consume(used);
-    Ok(false)
 }
 
 /// Skips `count` bytes, and returns whether the input had that many. It does not allocate.
@@ -177,31 +144,15 @@ pub fn skip<R: BufRead>(input: &mut R, count: u64) -> Result<bool, RunError>
         if left == 0 {
             return Ok(true);
         }
-        match skip_part(input, left)? {
-            Some(0) => return Ok(false),
-            Some(skipped) => left -= skipped,
-            None => {}
+        let available = filled!(input);
+        if available.is_empty() {
+            return Ok(false);
         }
+        let skipped = (available.len() as u64).min(left);
+        input.consume(skipped as usize);
+        left -= skipped;
     }
     Err(RunError::Read)
-}
-
-/// Skips at most `count` bytes that the reader has buffered, and returns how many. That is 0 only
-/// at the end of the input.
-fn skip_part<R: BufRead>(input: &mut R, count: u64) -> Result<Option<u64>, RunError>
-    requires { 0 < count }
-    ensures bound { IfOk result (λ skipped. IfSome skipped (λ n. n ≤ count)) }
-    ensures bytes { IfOk result (λ skipped. MatchOption skipped
-        (Consumes (R.remaining input.old) (R.remaining input.new) [])
-        (λ n. (bytes : List ℕ) × (length bytes ≡ n)
-        × Consumes (R.remaining input.old) (R.remaining input.new) bytes
-        × (n ≡ 0 → OnSome (R.remaining input.old) (IsAtEnd (R.remaining input.new))))) }
-    ensures stop { OnErr result (result ≡ Err RunError.Read) }
-{
-    let available = filled!(input, None);
-    let skipped = (available.len() as u64).min(count);
-    input.consume(skipped as usize);
-    Ok(Some(skipped))
 }
 
 /// Reads a byte, if one is left. It does not allocate.
@@ -214,27 +165,14 @@ pub fn read_byte<R: BufRead>(input: &mut R) -> Result<Option<u8>, RunError>
     ensures stop { OnErr result (result ≡ Err RunError.Read) }
 {
     for _ in 0..TURNS {
-        if let Some(byte) = next_part(input)? {
-            return Ok(byte);
-        }
+        let byte = match filled!(input) {
+            [] => return Ok(None),
+            [byte, ..] => *byte,
+        };
+        input.consume(1);
+        return Ok(Some(byte));
     }
     Err(RunError::Read)
-}
-
-/// Reads the next byte, or `None` at the end of the input. The outer `None` means that the read was
-/// interrupted.
-fn next_part<R: BufRead>(input: &mut R) -> Result<Option<Option<u8>>, RunError>
-    ensures byte { IfOk result (λ found. MatchOption found
-        (Consumes (R.remaining input.old) (R.remaining input.new) [])
-        (ReadsNext (R.remaining input.old) (R.remaining input.new))) }
-    ensures stop { OnErr result (result ≡ Err RunError.Read) }
-{
-    let byte = match filled!(input, None) {
-        [] => return Ok(Some(None)),
-        [byte, ..] => *byte,
-    };
-    input.consume(1);
-    Ok(Some(Some(byte)))
 }
 
 /// Returns whether the input has ended. It consumes no byte, and does not allocate.
@@ -249,21 +187,9 @@ pub fn is_at_end<R: BufRead>(input: &mut R) -> Result<bool, RunError>
     ensures stop { OnErr result (result ≡ Err RunError.Read) }
 {
     for _ in 0..TURNS {
-        if let Some(ended) = look(input)? {
-            return Ok(ended);
-        }
+        let ended = filled!(input).is_empty();
+        input.consume(0);
+        return Ok(ended);
     }
     Err(RunError::Read)
-}
-
-/// Whether the input has ended. `None` means that the read was interrupted.
-fn look<R: BufRead>(input: &mut R) -> Result<Option<bool>, RunError>
-    ensures known { IfOk result (λ found. IfSome found (λ ended. IfSome (R.remaining input.old) (λ rest. ended ≡ is_empty rest))) }
-    ensures kept { IfOk result (λ found. Consumes (R.remaining input.old) (R.remaining input.new) []) }
-    ensures spent { IfOk result (λ found. found ≡ Some true → OnSome (R.remaining input.old) (IsAtEnd (R.remaining input.new))) }
-    ensures stop { OnErr result (result ≡ Err RunError.Read) }
-{
-    let ended = filled!(input, None).is_empty();
-    input.consume(0);
-    Ok(Some(ended))
 }

@@ -97,17 +97,9 @@ fn close<R: BufRead>(refused: bool, input: &mut R) -> Result<Result<bool, Malfor
     }
 }
 
-/// Reads all of `input`, objects as `git cat-file --batch` prints them, and writes what `check`
-/// reports for each (docs/RULES.md, "Streams of objects"). If `needs_end` is set, the last line has to
-/// be `..end missing`, and no object may be missing.
-///
-/// Each line of the report is written as it is found, and `output` is not flushed. A malformed
-/// object ends the run, and what was reported before it is written.
-///
-/// # Errors
-///
-/// [`RunError`] says whether reading, memory or writing failed. If reading or memory did, what was
-/// written is the beginning of the report.
+/// Does what [`lines::run`] does for objects as `git cat-file --batch` prints them (docs/RULES.md,
+/// "Streams of objects"). If `needs_end` is set, the last line has to be `..end missing`, and no
+/// object may be missing.
 ///
 /// # Memory
 ///

@@ -39,7 +39,14 @@ pub struct Program<'p> {
 pub trait Check<'a>: Options<'a> {
     ghost gave: { Self → Option (List ℕ) → Option (List ℕ) → Option (List ℕ) → Option (List ℕ) → Ran → Type 0 };
 
-    /// Reads all of `input`, and writes the lines of the report to `output`.
+    /// Reads all of `input`, and writes the lines of the report to `output`, each as it is found.
+    /// `output` is not flushed. A malformed part ends the run, and what was found before it is
+    /// written.
+    ///
+    /// # Errors
+    ///
+    /// [`RunError`] says whether reading, memory or writing failed. If reading or memory did, what
+    /// was written is the beginning of the report.
     fn run<R: BufRead, W: Write>(
         self,
         alloc: Global,

@@ -1,13 +1,16 @@
-use Rattle.std.proofs.Common.{◌++◌, arith, append-nil, length-append}
+use Rattle.std.proofs.Common.{◌≤◌, ◌++◌, length, take, subst, arith, length-append, length-take-le}
+use Rattle.std.specs.Io.BufRead.{FillKeeps}
+use Rattle.std.proofs.BufReadLemmas.{Consumes_shown}
 use Rattle.std.proofs.KnownBytes.{Consumes-trans}
-use Rattle.git_input.proofs.input.skip.Goals.{in-Some, in-None}
 use Rattle.git_input.proofs.input.skip.Goals as goal
 
 pub loop-preserved : goal.loop-preserved
 loop-preserved g c =
     let (bytes, whole, read) = c.loop.invariant in
-    elim c.match-branch-2.branch [
-      | in-Some w ↦ let (more, long, next, _) = rw w.in-Some.is at c.in_ok-skip_part.ensures.bytes in
-          (bytes ++ more, grind (arith, length-append), Consumes-trans _ _ _ bytes more read next)
-      | in-None w ↦ (bytes, grind arith, grind (arith, append-nil, Consumes-trans, rw w.in-None.is at c.in_ok-skip_part.ensures.bytes))
-    ]
+    let shown = c.in-Ok.available.now in
+    let n = c.min-skipped.result in
+    let within : n ≤ length shown = omega (arith, c.min-skipped.ensures) in
+    let rested = c.fill_buf.follows.lender-at-none in
+    let filled = subst (FillKeeps _ (g.R.Read.remaining rested) (g.R.BufRead.consumable_len rested)) c.in-Ok.is c.fill_buf.follows.holds-at-none in
+    let moved = Consumes_shown _ _ _ _ shown n within c.in-Ok.ensures.front c.in-Ok.ensures.end filled.0 filled.1 c.consume.ensures.bytes in
+    (bytes ++ take n shown, grind (arith, length-append, length-take-le n shown within, c.min-skipped.ensures), Consumes-trans _ _ _ bytes (take n shown) read moved.0)

@@ -1,11 +1,11 @@
 -- The definitions of the sanitised text, computed on literals.
-use Rattle.std.proofs.Common.{◌≡◌, refl, [], ◌∷◌, ◌++◌, inl, inr, arith}
+use Rattle.std.proofs.Common.{◌≡◌, refl, [], ◌∷◌, ◌++◌, inl, inr, ap, arith}
 use Rattle.std.proofs.lemmas.Bool.{false≢true}
-use Rattle.std.specs.Prelude.{codes}
+use Rattle.std.specs.Prelude.{slice_index, codes}
 use Rattle.std.specs.Str.{byte}
 use Rattle.gix_validate.proofs.OnLiterals.{names_on_literals}
 use Rattle.gix_validate.proofs.Rows.Tables.{Gives}
-use Rattle.gix_validate.specs.Sanitized.{Dots, Other, runs, cleaned, cut, dash_last_of, mended_pieces, nonempty_pieces, sanitized, KeepsPieces}
+use Rattle.gix_validate.specs.Sanitized.{Dots, Other, runs, cleaned, cut, dash_last_of, mended_pieces, nonempty_pieces, sanitized, KeepsGood, KeepsPieces}
 
 runs_of_pieces : Gives runs
     ((codes "a..b.", Other (byte "a") ∷ Dots ∷ Other (byte "b") ∷ Dots ∷ [])  -- between bytes
@@ -80,6 +80,14 @@ piecewise_as_mended = record { as_many = refl; none_empty = refl; kept = (λ goo
 
 fewer_pieces : KeepsPieces (codes "a/*") (codes "a") → ⊥
 fewer_pieces keeps = let e : 1 ≡ 2 = keeps.as_many in absurd (omega (arith, e))
+
+good_piece_changed : KeepsGood (codes "a b" ∷ codes "c" ∷ []) (codes "a-b" ∷ codes "x" ∷ []) → ⊥
+unfolding names_on_literals
+good_piece_changed keeps =
+    elim (keeps.1 refl) [
+      | inl same ↦ (let e : byte "x" ≡ byte "c" = ap (λ t. slice_index t 0) same in omega (arith, e))
+      | inr dashed ↦ (let e : byte "x" ≡ byte "-" = ap (λ t. slice_index t 0) dashed in omega (arith, e))
+    ]
 
 empty_piece : KeepsPieces (codes "a/*") (codes "a/") → ⊥
 empty_piece keeps = false≢true keeps.none_empty

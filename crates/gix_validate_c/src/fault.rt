@@ -16,7 +16,7 @@ pub(crate) trait Fault {
 
     /// The number of the fault. A fault that several types share has one number. The numbers never
     /// change, and a new fault takes the next one.
-    fn number(&self) -> u32
+    fn number(&self) -> u8
         ensures number { result ≡ number self.now }
         ensures some { 1 ≤ result };
 
@@ -34,7 +34,7 @@ impl Fault for tag::NameError {
 
     ghost text = { text_of };
 
-    fn number(&self) -> u32 {
+    fn number(&self) -> u8 {
         match self {
             Self::InvalidByte { .. } => 1,
             Self::StartsWithSlash => 2,
@@ -63,7 +63,7 @@ impl Fault for reference::NameError {
 
     ghost text = { text_of };
 
-    fn number(&self) -> u32 {
+    fn number(&self) -> u8 {
         match self {
             Self::InvalidByte { .. } => 1,
             Self::StartsWithSlash => 2,
@@ -94,7 +94,7 @@ impl Fault for submodule::NameError {
 
     ghost text = { text_of };
 
-    fn number(&self) -> u32 {
+    fn number(&self) -> u8 {
         match self {
             Self::Empty => 11,
             Self::ParentComponent => 14,
@@ -114,7 +114,7 @@ impl Fault for ComponentError {
 
     ghost text = { text_of };
 
-    fn number(&self) -> u32 {
+    fn number(&self) -> u8 {
         match self {
             Self::Empty => 11,
             Self::PathSeparator => 15,
@@ -133,7 +133,7 @@ impl Fault for ComponentError {
 }
 
 /// The number of the result: that of the fault, or 0.
-pub(crate) fn code<E: Fault + Drop>(answer: Result<BStr<'_>, E>) -> u32
+pub(crate) fn code<E: Fault + Drop>(answer: Result<BStr<'_>, E>) -> u8
     ensures number { MatchResult answer.entry (λ _. result ≡ 0) (λ fault. result ≡ E.number fault) }
     ensures none { (result ≡ 0) ↔ IsOk answer.entry }
 {

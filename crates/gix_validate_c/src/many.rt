@@ -13,16 +13,17 @@
 //!
 //! The functions never fail and don't allocate. The buffer and the array may not overlap.
 
-ghost use Rattle.std.specs.Prelude.{◌≡◌, ◌<◌, ◌≤◌, ℕ, List, [], ◌∷◌, length, map, take, drop, MatchOption, IfSome};
+ghost use Rattle.std.specs.Prelude.{◌≡◌, ◌<◌, ◌≤◌, [], ◌∷◌, length, map, take, drop, MatchOption, IfSome};
 ghost use Rattle.gix_validate.specs.Tag as tag;
 ghost use Rattle.gix_validate.specs.Reference.{partial_fault_of, full_fault_of, branch_fault_of};
 ghost use Rattle.gix_validate.specs.Submodule as submodule;
 ghost use Rattle.gix_validate_c.specs.Numbers.{code_by, tag_number, reference_number, submodule_number};
 ghost use Rattle.gix_validate.specs.Pieces.{names_in};
 
-use crate::fault::code;
+use crate::fault::{Fault, code};
 use bstr::BStr;
 use memchr::memchr;
+use typed_names::{Branch, Full, Partial, Rule, Submodule, Tag};
 
 /// Checks the names as [`gix_validate_tag`] does.
 ///
@@ -104,71 +105,13 @@ pub extern "C" fn gix_validate_submodule_many(names: &[u8], end: u8, faults: &mu
     write_numbers::<Submodule>(names, end, faults)
 }
 
-/// A kind of name. Its check is not the function that C calls for one name: a second caller would
-/// keep the compiler from inlining that one.
-trait Kind {
-    ghost number_of: { List ℕ → ℕ };
-
-    /// Returns 0 if the name is of this kind, and otherwise the number of its fault.
-    fn number(name: &[u8]) -> u8
-        ensures { result ≡ number_of name.now };
-}
-
-struct Tag;
-
-impl Kind for Tag {
-    ghost number_of = { λ name. code_by tag_number (tag.fault_of name) };
-
-    fn number(name: &[u8]) -> u8 {
-        code(gix_validate::tag::name(BStr::new(name))) as u8
-    }
-}
-
-struct Partial;
-
-impl Kind for Partial {
-    ghost number_of = { λ name. code_by reference_number (partial_fault_of name) };
-
-    fn number(name: &[u8]) -> u8 {
-        code(gix_validate::reference::name_partial(BStr::new(name))) as u8
-    }
-}
-
-struct Full;
-
-impl Kind for Full {
-    ghost number_of = { λ name. code_by reference_number (full_fault_of name) };
-
-    fn number(name: &[u8]) -> u8 {
-        code(gix_validate::reference::name(BStr::new(name))) as u8
-    }
-}
-
-struct Branch;
-
-impl Kind for Branch {
-    ghost number_of = { λ name. code_by reference_number (branch_fault_of name) };
-
-    fn number(name: &[u8]) -> u8 {
-        code(gix_validate::reference::branch_name(BStr::new(name))) as u8
-    }
-}
-
-struct Submodule;
-
-impl Kind for Submodule {
-    ghost number_of = { λ name. code_by submodule_number (submodule.fault_of name) };
-
-    fn number(name: &[u8]) -> u8 {
-        code(gix_validate::submodule::name(BStr::new(name))) as u8
-    }
-}
-
 /// Writes the numbers of the names, as many as fit, and returns how many names there are.
-fn write_numbers<K: Kind>(names: &[u8], end: u8, numbers: &mut [u8]) -> usize
+fn write_numbers<R: Rule>(names: &[u8], end: u8, numbers: &mut [u8]) -> usize
+where
+    R::Fault: Fault + Drop,
     ensures count { result ≡ length (names_in end names.now) }
-    ensures numbers { take result numbers.new
-        ≡ take (length numbers.old) (map K.number_of (names_in end names.now)) }
+    ensures numbers { take result numbers.new ≡ take (length numbers.old)
+        (map (λ name. code_by R.Fault.number (R.fault_of name)) (names_in end names.now)) }
     ensures rest { drop result numbers.new ≡ drop result numbers.old }
     ensures bounds { result ≤ length names.now }
 {
@@ -176,12 +119,22 @@ fn write_numbers<K: Kind>(names: &[u8], end: u8, numbers: &mut [u8]) -> usize
     let mut rest = names;
     while let Some((name, after)) = first_name(rest, end) {
         if count < numbers.len() {
-            numbers[count] = K::number(name);
+            numbers[count] = number::<R>(name);
         }
         count += 1;
         rest = after;
     }
     count
+}
+
+/// Returns 0 if the rule accepts the name, and otherwise the number of its fault. (It doesn't call the
+/// function that C calls for one name: a second caller would keep the compiler from inlining that.)
+fn number<R: Rule>(name: &[u8]) -> u8
+where
+    R::Fault: Fault + Drop,
+    ensures { result ≡ code_by R.Fault.number (R.fault_of name.now) }
+{
+    code(R::check(BStr::new(name)))
 }
 
 /// The first name in the buffer, without the byte that ends it, and what follows that byte.

@@ -37,7 +37,7 @@ pub extern "C" fn gix_validate_tag(name: &[u8]) -> u32
     ensures grammar { (result ≡ 0) ↔ IsTrue (tag.is_tag_name name.now) }
     ensures range { result ≤ 11 }
 {
-    code(tag::name(BStr::new(name)))
+    code(tag::name(BStr::new(name))).into()
 }
 
 /// Returns 0 if this is a valid partial reference name, and otherwise the number of its fault
@@ -56,7 +56,7 @@ pub extern "C" fn gix_validate_partial(name: &[u8]) -> u32
     ensures range { result ≤ 13 }
     ensures as_tag { let number = code_by tag_number (tag.fault_of name.now) in 1 ≤ number → result ≡ number }
 {
-    code(reference::name_partial(BStr::new(name)))
+    code(reference::name_partial(BStr::new(name))).into()
 }
 
 /// Returns 0 if this is a valid full reference name, and otherwise the number of its fault
@@ -75,7 +75,7 @@ pub extern "C" fn gix_validate_full(name: &[u8]) -> u32
     ensures range { result ≤ 13 }
     ensures as_tag { let number = code_by tag_number (tag.fault_of name.now) in 1 ≤ number → result ≡ number }
 {
-    code(reference::name(BStr::new(name)))
+    code(reference::name(BStr::new(name))).into()
 }
 
 /// Returns 0 if this is a valid full name of a branch, and otherwise the number of its fault
@@ -94,7 +94,7 @@ pub extern "C" fn gix_validate_branch(name: &[u8]) -> u32
     ensures range { result ≤ 13 }
     ensures as_tag { let number = code_by tag_number (tag.fault_of name.now) in 1 ≤ number → result ≡ number }
 {
-    code(reference::branch_name(BStr::new(name)))
+    code(reference::branch_name(BStr::new(name))).into()
 }
 
 /// Returns 0 if this is a valid submodule name, and otherwise the number of its fault
@@ -112,7 +112,7 @@ pub extern "C" fn gix_validate_submodule(name: &[u8]) -> u32
     ensures grammar { (result ≡ 0) ↔ IsTrue (submodule.is_submodule_name name.now) }
     ensures range { (result ≡ 0) ⊎ (result ≡ 11) ⊎ (result ≡ 14) }
 {
-    code(submodule::name(BStr::new(name)))
+    code(submodule::name(BStr::new(name))).into()
 }
 
 /// Returns 0 if this is a valid path component, and otherwise the number of its fault
@@ -134,11 +134,12 @@ pub extern "C" fn gix_validate_component(name: &[u8], flags: u32) -> u32
     ensures low_bits { let low = flags % 16 in
         result ≡ code_by component_number (component.fault_of (options_of low) (mode_of low) name.now) }
 {
-    code(path::component(
+    let answer = path::component(
         BStr::new(name),
         flags::mode_of(flags),
         flags::options_of(flags),
-    ))
+    );
+    code(answer).into()
 }
 
 /// Returns the invalid byte if the fault of the tag name is `InvalidByte`, and otherwise 256.

@@ -14,7 +14,6 @@ use Rattle.std.proofs.lemmas.Slice.Eq.{bytes_eq-Decides}
 use Rattle.gix_validate.specs.declared.path.ComponentMode.{ComponentMode}
 use Rattle.gix_validate.specs.declared.path.ComponentMode.TheVariants.{Symlink}
 use Rattle.gix_validate.specs.declared.path.ComponentOptions.{ComponentOptions}
-use Rattle.gix_validate.specs.Faults.{when}
 use Rattle.git_input.specs.declared.outcome.Malformation.{Malformation}
 use Rattle.git_input.specs.declared.outcome.Malformation.TheVariants.{Entry}
 use Rattle.git_input.specs.declared.header.Kind.TheVariants.{Tree}
@@ -25,7 +24,7 @@ use Rattle.git_input.specs.Objects.{Judged}
 use Rattle.git_input.proofs.SplitTexts.{split_found, drop_both, IsCut, split_cuts, whole}
 use Rattle.git_input.proofs.SpelledHeaders.{without, number_high}
 use Rattle.git_input.proofs.WellFormedStreams.{each_after}
-use Rattle.check_trees.specs.Options.{Options, protections_for, without_windows}
+use Rattle.check_trees.specs.Options.{Options, protections_for}
 use Rattle.check_trees.specs.Entries.{nul, named, mode_of, is_file, ParsedModeAndName, ParsedEntry, parsed_front, entry_at, entry_with, entry_of}
 use Rattle.check_trees.specs.Report.{entry_said, entries_then, entries_within, entries, judged_by_kind, tree_rule}
 use Rattle.check_trees.specs.Spelled.{Item, IsItem, HasType, IsCheckedBy, item_bytes, item_said, IsTree, IsReadAsItems}
@@ -42,14 +41,6 @@ any_from (first ∷ names) name (suc k, below, is) = grind (arith, any_from name
 from_any : (names : List (List ℕ)) (name : List ℕ) → list_any (λ accepted. bytes_eq accepted name) names ≡ true → Contains names name
 from_any names name any = Contains-from_any {eq = λ a b. bytes_eq b a} (λ a b same. sym ((bytes_eq-Decides b a).0 same)) name names any
 
-windows_by : (any : Bool) (on : ComponentOptions) (P : Type 0) → ((any ≡ true) ↔ P)
-    → IsTrue (if any then without_windows on else on).protect_windows ↔ (IsTrue on.protect_windows × (P → ⊥))
-windows_by any on P both = grind (arith, false≢true)
-
-others_by : (any : Bool) (on : ComponentOptions)
-    → ((if any then without_windows on else on).protect_hfs ≡ on.protect_hfs) × ((if any then without_windows on else on).protect_ntfs ≡ on.protect_ntfs)
-others_by any on = grind arith
-
 type_is : (number type : ℕ) → type < 16 → ((number / 4096 % 16 == type) ≡ true) ↔ HasType number type
 type_is number type small = (
   λ is.
@@ -57,9 +48,6 @@ type_is number type small = (
       (number / 4096 / 16, number % 4096, omega arith, omega (arith, same)),
   λ (above, below, few, is). let same : number / 4096 % 16 ≡ type = omega (arith, few, is, small) in grind (arith, nat_tests),
 )
-
-link_by : (test : Bool) (P : Type 0) → ((test ≡ true) ↔ P) → (when test Symlink ≡ Some Symlink) ↔ P
-link_by test P both = grind (arith, false≢true)
 
 -- an entry with the rules for its name
 abbrev item_by : Options → (digits : List ℕ) (number : ℕ) (name id : List ℕ) → Item
@@ -74,7 +62,7 @@ item_by options digits number name id = record {
 }
 
 checked_by : (options : Options) (digits : List ℕ) (number : ℕ) (name id : List ℕ) → IsCheckedBy options (item_by options digits number name id)
-checked_by options digits number name id = grind (arith, windows_by, from_any, any_from, others_by, link_by, type_is)
+checked_by options digits number name id = grind (arith, nat_tests, false≢true, from_any, any_from, type_is)
 
 -- there is one way to check a name
 bools : (a b : Bool) (P : Type 0) → (IsTrue a ↔ P) → (IsTrue b ↔ P) → a ≡ b

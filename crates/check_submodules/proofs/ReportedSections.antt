@@ -32,8 +32,7 @@ found id [] = []
 found id (s ∷ all) = one s.0 (line_of id s) ++ found id all
 
 one_line : (offset : ℕ) (line : List ℕ) (rest : Lines) → flat_map (λ (at : ℕ × List ℕ). at.1) (one offset line ++ rest) ≡ line ++ flat_map (λ at. at.1) rest
-one_line offset [] rest = refl
-one_line offset (b ∷ line) rest = refl
+one_line offset line rest = grind arith
 
 found_lines : (id : List ℕ) (all : Sections) → lines_of id all ≡ flat_map (λ (at : ℕ × List ℕ). at.1) (found id all)
 found_lines id [] = refl
@@ -54,8 +53,7 @@ without_first : (s : ℕ × Option (List ℕ)) (all : Sections) → AreInOrder (
 without_first s all pairs = λ i j d lower below. pairs (suc i) (suc j) d (omega arith) (omega arith)
 
 after_one : (start offset : ℕ) (line : List ℕ) (rest : Lines) → start < offset → AllAfter start rest → AllAfter start (one offset line ++ rest)
-after_one start offset [] rest first more = more
-after_one start offset (b ∷ line) rest first more = All-cons (λ at. start < at.0) (offset, b ∷ line) rest first more
+after_one start offset line rest first more = grind (arith, All-cons)
 
 after_all : (start : ℕ) (id : List ℕ) (all : Sections) → AllAfter start all → AllAfter start (found id all)
 after_all start id [] after = λ k d below. absurd (omega arith)
@@ -63,8 +61,7 @@ after_all start id (s ∷ all) after =
     after_one start s.0 (line_of id s) (found id all) (after 0 s (omega arith)) (after_all start id all (λ k d below. after (suc k) d (omega arith)))
 
 order_one : (offset : ℕ) (line : List ℕ) (rest : Lines) → AllAfter offset rest → AreInOrder rest → AreInOrder (one offset line ++ rest)
-order_one offset [] rest after pairs = pairs
-order_one offset (b ∷ line) rest after pairs = AllPairs-cons (λ a b. a.0 < b.0) (offset, b ∷ line) rest after pairs
+order_one offset line rest after pairs = grind (arith, AllPairs-cons)
 
 order_all : (id : List ℕ) (all : Sections) → AreInOrder all → AreInOrder (found id all)
 order_all id [] pairs = λ i j d lower below. absurd (omega arith)
@@ -88,9 +85,7 @@ one_at (s ∷ all) offset a b pairs (suc k, below, is) (suc l, under, was) =
 
 in_one : (offset : ℕ) (line : List ℕ) (rest : Lines) (at : ℕ × List ℕ) → Contains (one offset line ++ rest) at
     → (((offset, line) ≡ at) × (line ≢ [])) ⊎ Contains rest at
-in_one offset [] rest at there = inr there
-in_one offset (b ∷ line) rest at (zero, below, is) = inl (is, λ none. cc)
-in_one offset (b ∷ line) rest at (suc k, below, is) = inr (k, omega arith, is)
+in_one offset line rest at there = grind arith
 
 in_found : (id : List ℕ) (all : Sections) (at : ℕ × List ℕ) → Contains (found id all) at
     → (s : ℕ × Option (List ℕ)) × Contains all s × ((s.0, line_of id s) ≡ at) × (line_of id s ≢ [])
@@ -103,8 +98,7 @@ in_found id (s ∷ all) at there =
 
 fault_line : (id file : List ℕ) (offset : ℕ) (name : List ℕ) (fault : Option NameError) → SectionAt file offset name → fault_of name ≡ fault
     → line_if id offset name fault ≢ [] → IsLineOf id file (offset, line_if id offset name fault)
-fault_line id file offset name None at is some = absurd (some refl)
-fault_line id file offset name (Some fault) at is some = inl (name, fault, at, is, refl)
+fault_line id file offset name fault at is some = grind arith
 
 section_found : (file : List ℕ) (offset : ℕ) (name : List ℕ) → SectionAt file offset name → Contains (sections 0 file) (offset, Some name)
 section_found file offset name at =
@@ -124,8 +118,7 @@ section_line id file (offset, None) there some = inr (
 -- ---- each section has its line
 
 first_found : (offset : ℕ) (line : List ℕ) (rest : Lines) → line ≢ [] → Contains (one offset line ++ rest) (offset, line)
-first_found offset [] rest some = absurd (some refl)
-first_found offset (b ∷ line) rest some = (0, omega arith, refl)
+first_found offset line rest some = grind arith
 
 line_found : (id : List ℕ) (all : Sections) (s : ℕ × Option (List ℕ)) → Contains all s → line_of id s ≢ [] → Contains (found id all) (s.0, line_of id s)
 line_found id [] s (k, below, is) some = absurd (omega arith)

@@ -14,7 +14,6 @@ use Rattle.std.proofs.lemmas.Slice.Eq.{bytes_eq-Decides}
 use Rattle.gix_validate.specs.declared.path.ComponentMode.{ComponentMode}
 use Rattle.gix_validate.specs.declared.path.ComponentMode.TheVariants.{Symlink}
 use Rattle.gix_validate.specs.declared.path.ComponentOptions.{ComponentOptions}
-use Rattle.gix_validate.specs.Faults.{when}
 use Rattle.git_input.specs.declared.outcome.Malformation.{Malformation}
 use Rattle.git_input.specs.declared.outcome.Malformation.TheVariants.{Entry}
 use Rattle.git_input.specs.declared.header.Kind.TheVariants.{Tree}
@@ -25,7 +24,7 @@ use Rattle.git_input.specs.Objects.{Judged}
 use Rattle.git_input.proofs.SplitTexts.{split_found, drop_both, IsCut, split_cuts, whole}
 use Rattle.git_input.proofs.SpelledHeaders.{without, number_high}
 use Rattle.git_input.proofs.WellFormedStreams.{each_after}
-use Rattle.check_trees.specs.Options.{Options, protections_for, without_windows}
+use Rattle.check_trees.specs.Options.{Options, protections_for}
 use Rattle.check_trees.specs.Entries.{nul, named, mode_of, is_file, ParsedModeAndName, ParsedEntry, parsed_front, entry_at, entry_with, entry_of}
 use Rattle.check_trees.specs.Report.{entry_said, entries_then, entries_within, entries, judged_by_kind, tree_rule}
 use Rattle.check_trees.specs.Spelled.{Item, IsItem, HasType, IsCheckedBy, item_bytes, item_said, IsTree, IsReadAsItems}
@@ -42,16 +41,6 @@ any_from (first ∷ names) name (suc k, below, is) = grind (arith, any_from name
 from_any : (names : List (List ℕ)) (name : List ℕ) → list_any (λ accepted. bytes_eq accepted name) names ≡ true → Contains names name
 from_any names name any = Contains-from_any {eq = λ a b. bytes_eq b a} (λ a b same. sym ((bytes_eq-Decides b a).0 same)) name names any
 
-windows_by : (any : Bool) (on : ComponentOptions) (P : Type 0) → ((any ≡ true) ↔ P)
-    → IsTrue (if any then without_windows on else on).protect_windows ↔ (IsTrue on.protect_windows × (P → ⊥))
-windows_by true on P both = (λ off. absurd (false≢true off), λ (is, other). absurd (other (both.0 refl)))
-windows_by false on P both = (λ is. (is, λ there. false≢true (both.1 there)), λ (is, other). is)
-
-others_by : (any : Bool) (on : ComponentOptions)
-    → ((if any then without_windows on else on).protect_hfs ≡ on.protect_hfs) × ((if any then without_windows on else on).protect_ntfs ≡ on.protect_ntfs)
-others_by true on = (refl, refl)
-others_by false on = (refl, refl)
-
 type_is : (number type : ℕ) → type < 16 → ((number / 4096 % 16 == type) ≡ true) ↔ HasType number type
 type_is number type small = (
   λ is.
@@ -59,10 +48,6 @@ type_is number type small = (
       (number / 4096 / 16, number % 4096, omega arith, omega (arith, same)),
   λ (above, below, few, is). let same : number / 4096 % 16 ≡ type = omega (arith, few, is, small) in grind (arith, nat_tests),
 )
-
-link_by : (test : Bool) (P : Type 0) → ((test ≡ true) ↔ P) → (when test Symlink ≡ Some Symlink) ↔ P
-link_by true P both = (λ e. both.0 refl, λ p. refl)
-link_by false P both = (λ e. absurd (cc), λ p. absurd (false≢true (both.1 p)))
 
 -- an entry with the rules for its name
 abbrev item_by : Options → (digits : List ℕ) (number : ℕ) (name id : List ℕ) → Item
@@ -77,35 +62,17 @@ item_by options digits number name id = record {
 }
 
 checked_by : (options : Options) (digits : List ℕ) (number : ℕ) (name id : List ℕ) → IsCheckedBy options (item_by options digits number name id)
-checked_by options digits number name id =
-    let any = list_any (λ accepted. bytes_eq accepted name) options.accepted in record {
-      windows = windows_by any options.protections (Contains options.accepted name) (from_any options.accepted name, any_from options.accepted name);
-      hfs = (others_by any options.protections).0;
-      ntfs = (others_by any options.protections).1;
-      link = link_by _ _ (type_is number 10 (omega arith));
-      file = type_is number 8 (omega arith);
-    }
+checked_by options digits number name id = grind (arith, nat_tests, false≢true, from_any, any_from, type_is)
 
 -- there is one way to check a name
 bools : (a b : Bool) (P : Type 0) → (IsTrue a ↔ P) → (IsTrue b ↔ P) → a ≡ b
-bools true true P this that = refl
-bools true false P this that = sym (that.1 (this.0 refl))
-bools false true P this that = this.1 (that.0 refl)
-bools false false P this that = refl
+bools a b P this that = grind arith
 
 modes : (a b : Option ComponentMode) (P : Type 0) → ((a ≡ Some Symlink) ↔ P) → ((b ≡ Some Symlink) ↔ P) → a ≡ b
-modes None None P this that = refl
-modes None (Some Symlink) P this that = this.1 (that.0 refl)
-modes (Some Symlink) None P this that = sym (that.1 (this.0 refl))
-modes (Some Symlink) (Some Symlink) P this that = refl
-
-abbrev switches : Bool → Bool → Bool → ComponentOptions
-switches windows hfs ntfs = record { protect_windows = windows; protect_hfs = hfs; protect_ntfs = ntfs }
+modes a b P this that = grind arith
 
 same_switches : (a b : ComponentOptions) → a.protect_windows ≡ b.protect_windows → a.protect_hfs ≡ b.protect_hfs → a.protect_ntfs ≡ b.protect_ntfs → a ≡ b
-same_switches a b windows hfs ntfs =
-    ap (λ on. switches on a.protect_hfs a.protect_ntfs) windows ∙ ap (λ on. switches b.protect_windows on a.protect_ntfs) hfs
-    ∙ ap (switches b.protect_windows b.protect_hfs) ntfs
+same_switches a b windows hfs ntfs = grind arith
 
 item_says : (options : Options) (tree : ParsedObject) (item : Item) → IsCheckedBy options item
     → item_said options tree item ≡ entry_said options tree (record { front = named item.digits item.name item.number; id = item.id })

@@ -72,12 +72,8 @@ order_all id (s ∷ all) pairs =
 one_at : (all : Sections) (offset : ℕ) (a b : Option (List ℕ)) → AreInOrder all → Contains all (offset, a) → Contains all (offset, b) → a ≡ b
 one_at [] offset a b pairs (k, below, is) there = absurd (omega arith)
 one_at (s ∷ all) offset a b pairs (zero, below, is) (zero, under, was) = ap (λ (s : ℕ × Option (List ℕ)). s.1) (sym is ∙ was)
-one_at (s ∷ all) offset a b pairs (zero, below, is) (suc k, under, was) =
-    let far = after_first s all pairs k (offset, b) (omega arith) in
-    absurd (omega (arith, far, ap (λ (s : ℕ × Option (List ℕ)). s.0) is, ap (λ (s : ℕ × Option (List ℕ)). s.0) was))
-one_at (s ∷ all) offset a b pairs (suc k, below, is) (zero, under, was) =
-    let far = after_first s all pairs k (offset, a) (omega arith) in
-    absurd (omega (arith, far, ap (λ (s : ℕ × Option (List ℕ)). s.0) is, ap (λ (s : ℕ × Option (List ℕ)). s.0) was))
+one_at (s ∷ all) offset a b pairs (zero, below, is) (suc k, under, was) = grind (arith, after_first s all pairs k (offset, b))
+one_at (s ∷ all) offset a b pairs (suc k, below, is) (zero, under, was) = grind (arith, after_first s all pairs k (offset, a))
 one_at (s ∷ all) offset a b pairs (suc k, below, is) (suc l, under, was) =
     one_at all offset a b (without_first s all pairs) (k, omega arith, is) (l, omega arith, was)
 

@@ -104,17 +104,13 @@ keeps_dashed [] = tt
 keeps_dashed (p ∷ []) = λ good. inr (ap dash_last (mend-own p good))
 keeps_dashed (p ∷ q ∷ ps) = (mend-own p, keeps_dashed (q ∷ ps))
 
-keeps_either : (x : List ℕ) (ts : List (List ℕ)) → (ts ≡ mended_pieces x) ⊎ (ts ≡ dash_last_of (mended_pieces x)) → KeepsGood (nonempty_pieces x) ts
-keeps_either x ts (inl own) = rw own (keeps_own (nonempty_pieces x))
-keeps_either x ts (inr dashed) = rw dashed (keeps_dashed (nonempty_pieces x))
-
 -- The text is made piece by piece.
 pub sanitized-piecewise : (x : List ℕ) → IsPiecewise x (sanitized x)
 sanitized-piecewise x = record {
   some = λ some. (let r = sanitized_some x some in record {
     as_many = grind (arith, length-dash_last_of, length-map (nonempty_pieces x) (λ p. cut (cleaned p)));
     none_empty = none_empty_from (pieces (sanitized x)) r.good;
-    kept = keeps_either x (pieces (sanitized x)) r.from;
+    kept = grind (arith, r.from, keeps_own (nonempty_pieces x), keeps_dashed (nonempty_pieces x));
     mended = r.from;
   });
   none = sanitized_none x;

@@ -22,21 +22,23 @@
 #[cfg(test)]
 mod agree;
 #[cfg(test)]
-mod callers;
-#[cfg(test)]
-mod component;
+mod examples;
 #[cfg(test)]
 mod members;
 #[cfg(test)]
-mod names;
+mod path;
 #[cfg(test)]
 mod printed;
+#[cfg(test)]
+mod reference;
 #[cfg(test)]
 mod refused_memory;
 #[cfg(test)]
 mod rows;
 #[cfg(test)]
-mod sanitized;
+mod sanitize;
+#[cfg(test)]
+mod submodule;
 #[cfg(test)]
 mod tests;
 #[cfg(test)]

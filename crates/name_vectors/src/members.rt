@@ -13,14 +13,14 @@ ghost use Rattle.gix_validate.specs.Tag.{text_of as tag_text_of};
 ghost use Rattle.typed_names.specs.Names.{name_bytes, name_text, component_bytes};
 
 use crate::agree::{expect, expect_told};
-use crate::component::DEVICE_NAME;
-use crate::names::{RESERVED, SOME_LOWERCASE};
-use crate::text::joined;
+use crate::path::DEVICE_NAME;
+use crate::reference::{RESERVED, SOME_LOWERCASE};
 use bstr::BStr;
 use gix_validate::path::{ComponentError, ComponentMode, ComponentOptions};
 use gix_validate::{reference, submodule, tag};
 use std::alloc::{AllocError, Global};
 use std::convert::AsSlice;
+use std::process::Abort;
 use std::test::Fail;
 use typed_names::{
     BranchName, Component, FullName, Name, PartialName, Pieces, Rule, SubmoduleName, TagName,
@@ -201,117 +201,88 @@ fn parts_of(text: &[u8]) -> Result<(Pieces<'_>, Option<TagName<'_>>), Fail> {
     Ok((name.pieces(), name.after_first_slash()))
 }
 
-/// What `Debug` prints of each typed name, which no contract says.
-const DEBUGGED: &str = "TagName { name: \"refs/a\" }, PartialName { name: \"refs/a\" }, \
-    FullName { name: \"refs/a\" }, BranchName { name: \"refs/a\" }, SubmoduleName { name: \"refs/a\" }";
+/// Panics if `Debug`, which no contract says, prints something else.
+fn expect_debugged<R: Rule>(
+    rt: &(impl Abort + AllocGlobal),
+    name: Name<'_, R>,
+    wanted: &[u8],
+) -> Result<(), AllocError> {
+    let text = format!(in rt.alloc(); "{name:?}")?;
+    expect(rt, ("Debug", name.as_slice()), wanted, text.as_bytes());
+    Ok(())
+}
 
 #[test]
 fn prints_typed_names(rt: HostRuntime) -> Result<(), Fail> {
-    let alloc = rt.alloc();
     let branch = BranchName::new(BStr::from("refs/a"))?;
     let full = full_of(branch);
     let partial = partial_of(full);
     let tag = tag_of(partial);
     let submodule = SubmoduleName::new(BStr::from("refs/a"))?;
-    let text = format!(in alloc; "{tag:?}, {partial:?}, {full:?}, {branch:?}, {submodule:?}")?;
-    assert_eq!(rt; text.as_str(), DEBUGGED);
-    let text = printed_name(alloc, &TagName::new(BStr::new(b"caf\xC3\xA9/\xFF"))?)?;
-    assert_eq!(rt; text.as_bytes(), b"caf\xC3\xA9/\xEF\xBF\xBD".as_slice());
+    expect_debugged(&rt, tag, b"TagName { name: \"refs/a\" }")?;
+    expect_debugged(&rt, partial, b"PartialName { name: \"refs/a\" }")?;
+    expect_debugged(&rt, full, b"FullName { name: \"refs/a\" }")?;
+    expect_debugged(&rt, branch, b"BranchName { name: \"refs/a\" }")?;
+    expect_debugged(&rt, submodule, b"SubmoduleName { name: \"refs/a\" }")?;
+    let name = TagName::new(BStr::new(b"caf\xC3\xA9/\xFF"))?;
+    let text = printed_name(rt.alloc(), &name)?;
+    let wanted = b"caf\xC3\xA9/\xEF\xBF\xBD";
+    expect(&rt, ("Display", name.as_slice()), wanted, text.as_bytes());
     let name = Component::new(BStr::new(b"caf\xC3\xA9 \xFF"), None, default_options())?;
-    let text = printed_component(alloc, &name)?;
-    assert_eq!(rt; text.as_bytes(), b"caf\xC3\xA9 \xEF\xBF\xBD".as_slice());
-    assert_eq!(rt; listed(alloc, tag)?.len(), 2);
+    let text = printed_component(rt.alloc(), &name)?;
+    let wanted = b"caf\xC3\xA9 \xEF\xBF\xBD";
+    expect(&rt, ("Display", name.as_slice()), wanted, text.as_bytes());
+    assert_eq!(rt; listed(rt.alloc(), tag)?.len(), 2);
     Ok(())
 }
 
-/// A name, its pieces, and what follows its slashes, one after the other.
-type Parts = (
-    &'static [u8],
-    &'static [&'static [u8]],
-    &'static [&'static [u8]],
-);
-
-const PARTS: &[Parts] = &[
-    (
-        b"refs/heads/main",
-        &[b"refs", b"heads", b"main"],
-        &[b"heads/main", b"main"],
-    ),
-    (b"a./b", &[b"a.", b"b"], &[b"b"]),
-    (b"v1.2.3", &[b"v1.2.3"], &[]),
-];
+/// Checks the pieces of a name, and what follows its slashes, which outlive it.
+fn expect_parts(
+    rt: &(impl Abort + AllocGlobal),
+    text: &[u8],
+    pieces: &[&[u8]],
+    rests: &[&[u8]],
+) -> Result<(), Fail> {
+    let (mut left, mut rest) = parts_of(text)?;
+    for piece in pieces {
+        let came = next_of(&mut left).unwrap_or(BStr::new(b""));
+        expect(rt, ("pieces", text), piece, came.as_bytes());
+    }
+    assert!(rt; next_of(&mut left).is_none());
+    for wanted in rests {
+        let name = rest.expect(rt, "a slash");
+        expect(rt, ("after_first_slash", text), wanted, name.as_slice());
+        rest = name.after_first_slash();
+    }
+    assert!(rt; rest.is_none());
+    Ok(())
+}
 
 #[test]
 fn parts_outlive_the_name_that_gave_them(rt: HostRuntime) -> Result<(), Fail> {
-    for (text, wanted, rests) in PARTS {
-        let bytes = joined(rt.alloc(), text, b"", b"")?;
-        let (mut pieces, mut rest) = parts_of(&bytes)?;
-        for piece in *wanted {
-            let came = next_of(&mut pieces).unwrap_or(BStr::new(b""));
-            expect(&rt, ("pieces", text), piece, came.as_bytes());
-        }
-        assert!(rt; next_of(&mut pieces).is_none());
-        for wanted in *rests {
-            let name = rest.expect(&rt, "a slash");
-            expect(
-                &rt,
-                ("after_first_slash", text),
-                wanted,
-                name.as_bstr().as_bytes(),
-            );
-            rest = name.after_first_slash();
-        }
-        assert!(rt; rest.is_none());
-    }
-    Ok(())
+    let pieces: &[&[u8]] = &[b"refs", b"heads", b"main"];
+    expect_parts(&rt, b"refs/heads/main", pieces, &[b"heads/main", b"main"])?;
+    expect_parts(&rt, b"a./b", &[b"a.", b"b"], &[b"b"])?;
+    expect_parts(&rt, b"v1.2.3", &[b"v1.2.3"], &[])
 }
 
 #[test]
 fn checks_typed_names(rt: HostRuntime) -> Result<(), Fail> {
-    let alloc = rt.alloc();
-    let name = PartialName::new(BStr::from("@")).map(|name| name.as_bstr());
-    expect_told(
-        &rt,
-        alloc,
-        ("PartialName::new", b"@"),
-        (RESERVED, b"@"),
-        name,
-    )?;
-    let name = FullName::new(BStr::from("V1")).map(|name| name.as_bstr());
-    expect_told(
-        &rt,
-        alloc,
-        ("FullName::new", b"V1"),
-        (SOME_LOWERCASE[1], b""),
-        name,
-    )?;
+    let told = PartialName::new(BStr::from("@")).map(|name| name.as_bstr());
+    expect_told(&rt, ("PartialName", b"@"), (RESERVED, b"@"), told)?;
+    let told = FullName::new(BStr::from("V1")).map(|name| name.as_bstr());
+    expect_told(&rt, ("FullName", b"V1"), (SOME_LOWERCASE[1], b""), told)?;
     let tag = tag_of(partial_of(FullName::new(BStr::from("HEAD"))?));
-    expect(
-        &rt,
-        ("TagName::from", b"HEAD"),
-        b"HEAD",
-        tag.as_bstr().as_bytes(),
-    );
-    let name = Component::new(BStr::from("CON"), None, default_options());
-    let name = name.map(|name| name.as_bstr());
-    expect_told(
-        &rt,
-        alloc,
-        ("Component::new", b"CON"),
-        (DEVICE_NAME, b""),
-        name,
-    )?;
+    expect(&rt, ("TagName", b"HEAD"), b"HEAD", tag.as_slice());
+    let told = Component::new(BStr::from("CON"), None, default_options());
+    let told = told.map(|name| name.as_bstr());
+    expect_told(&rt, ("Component", b"CON"), (DEVICE_NAME, b""), told)?;
     let windows = ComponentOptions {
         protect_windows: true,
         protect_hfs: false,
         protect_ntfs: false,
     };
     let name = Component::new(BStr::from("CON"), None, windows)?;
-    expect(
-        &rt,
-        ("Component::new", b"CON"),
-        b"CON",
-        name.as_bstr().as_bytes(),
-    );
+    expect(&rt, ("Component", b"CON"), b"CON", name.as_slice());
     Ok(())
 }

@@ -1,15 +1,14 @@
 //! What errors print (docs/RULES.md, "Printed texts"), with a quoted byte or name.
 
 use crate::agree::expect;
-use crate::component::{
-    DEVICE_NAME, GIT, ILLEGAL, MODULES, NO_COMPONENT, PREFIX, RELATIVE, SEPARATOR,
-};
 use crate::members::{component_text, converted, reference_text, submodule_text, tag_text};
-use crate::names::{
+use crate::path::{DEVICE_NAME, GIT, ILLEGAL, MODULES, NO_COMPONENT, PREFIX, RELATIVE, SEPARATOR};
+use crate::reference::{
     ASTERISK, EMPTY, ENDS_WITH_DOT, ENDS_WITH_SLASH, INVALID_BYTE, LOCK_FILE_SUFFIX,
-    NO_SUBMODULE_NAME, PARENT_COMPONENT, REFLOG_PORTION, REPEATED_DOT, REPEATED_SLASH, RESERVED,
-    SOME_LOWERCASE, STARTS_WITH_DOT, STARTS_WITH_SLASH,
+    REFLOG_PORTION, REPEATED_DOT, REPEATED_SLASH, RESERVED, SOME_LOWERCASE, STARTS_WITH_DOT,
+    STARTS_WITH_SLASH,
 };
+use crate::submodule::{NO_SUBMODULE_NAME, PARENT_COMPONENT};
 use crate::text::joined;
 use arrayvec::ArrayVec;
 use gix_validate::path::ComponentError;
@@ -37,12 +36,8 @@ fn prints_tag_and_reference_errors(rt: HostRuntime) -> Result<(), AllocError> {
         expect(&rt, ("reference::NameError", b""), text[1], said.as_bytes());
     }
     let said = reference_text(alloc, &reference::NameError::SomeLowercase)?;
-    expect(
-        &rt,
-        ("SomeLowercase", b""),
-        SOME_LOWERCASE[1],
-        said.as_bytes(),
-    );
+    let wanted = SOME_LOWERCASE[1];
+    expect(&rt, ("SomeLowercase", b""), wanted, said.as_bytes());
     Ok(())
 }
 
@@ -123,32 +118,23 @@ fn quotes_bytes(rt: HostRuntime) -> Result<(), AllocError> {
         let error = tag::NameError::InvalidByte { byte };
         let said = tag_text(alloc, &error)?;
         let wanted = printed(alloc, INVALID_BYTE[0], &[byte])?;
-        expect(&rt, ("tag InvalidByte", &[byte]), &wanted, said.as_bytes());
+        expect(&rt, ("tag", &[byte]), &wanted, said.as_bytes());
         let said = reference_text(alloc, &converted(error))?;
         let wanted = printed(alloc, INVALID_BYTE[1], &[byte])?;
-        expect(
-            &rt,
-            ("reference InvalidByte", &[byte]),
-            &wanted,
-            said.as_bytes(),
-        );
+        expect(&rt, ("reference", &[byte]), &wanted, said.as_bytes());
     }
     Ok(())
 }
 
 /// The bytes that have a short escape, and the escape.
+#[rattlefmt::skip]
 const SHORT_ESCAPES: &[(u8, &[u8])] = &[
-    (0x00, b"\\0"),
-    (0x09, b"\\t"),
-    (0x0A, b"\\n"),
-    (0x0D, b"\\r"),
-    (0x22, b"\\\""),
-    (0x5C, b"\\\\"),
+    (0x00, b"\\0"), (0x09, b"\\t"), (0x0A, b"\\n"), (0x0D, b"\\r"), (0x22, b"\\\""), (0x5C, b"\\\\"),
 ];
 
 /// The text, followed by the bytes in their quoted form if there are any.
 pub(crate) fn printed(alloc: Global, text: &[u8], bytes: &[u8]) -> Result<Vec<u8>, AllocError> {
-    let mut printed = joined(alloc, text, b"", b"")?;
+    let mut printed = Vec::from_slice(alloc, text)?;
     if !bytes.is_empty() {
         printed.extend_from_slice(b"\"")?;
         for byte in bytes {

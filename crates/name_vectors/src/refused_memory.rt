@@ -5,14 +5,13 @@
 //! allocations of its own that this one is the one that fails. In the last test none of the calls'
 //! allocations fails.
 
+use crate::rows::part;
 use bstr::{BStr, BString};
-use gix_validate::path::{self, ComponentError, ComponentOptions};
 use gix_validate::reference::{self, name_partial_or_sanitize};
-use gix_validate::tag;
+use gix_validate::{path, tag};
 use std::alloc::{AllocError, Global};
 use std::process::Abort;
 use std::test::Fail;
-use typed_names::Component;
 
 /// How each call is printed, and what it has to return.
 const CALLS: [(&str, &[u8]); 4] = [
@@ -24,11 +23,6 @@ const CALLS: [(&str, &[u8]); 4] = [
 
 /// The names and the components that are joined, one after the other.
 const INPUTS: &[u8; 19] = b"@v1.0src.githuba.rs";
-
-/// The name of an entry, as the join of components needs it.
-fn part(name: &[u8]) -> Result<Component<'_>, ComponentError> {
-    Component::new(BStr::new(name), None, ComponentOptions::default())
-}
 
 /// What the call at this index returns. Each allocates once.
 fn given(
@@ -51,15 +45,9 @@ fn given(
     })
 }
 
-/// Prints the outcome of a call.
-fn say<R: Print>(rt: &R, call: &str, outcome: &str) -> Result<(), Fail> {
-    println!(rt; "{call}: {outcome}")?;
-    Ok(())
-}
-
 /// Allocates until the given allocation of the calls is the one that fails, and then makes each
 /// call, and once more if its allocation fails. The inputs are as they were then.
-fn check_with_refused<R: Abort + AllocGlobal + Print>(rt: &R, request: usize) -> Result<(), Fail> {
+fn check_with_refused(rt: &(impl Abort + AllocGlobal + Print), request: usize) -> Result<(), Fail> {
     for _ in request..5 {
         Vec::from_slice(rt.alloc(), b" ")?;
     }
@@ -69,13 +57,13 @@ fn check_with_refused<R: Abort + AllocGlobal + Print>(rt: &R, request: usize) ->
         let right = match given(rt.alloc(), call, &inputs)? {
             Ok(name) => name.as_bytes() == wanted,
             Err(AllocError) => {
-                say(rt, name, "refused")?;
+                println!(rt; "{name}: refused")?;
                 assert!(rt; inputs == *INPUTS);
                 given(rt.alloc(), call, &inputs)??.as_bytes() == wanted
             }
         };
         assert!(rt; right);
-        say(rt, name, "answered")?;
+        println!(rt; "{name}: answered")?;
     }
     Ok(())
 }

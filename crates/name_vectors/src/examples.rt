@@ -1,6 +1,7 @@
 //! Calls of the functions in `examples` that may fail: that each can succeed, and what it prints if
 //! not. (What they return is in their contracts.)
 
+use crate::agree::expect;
 use bstr::BStr;
 use examples::branches::{full_branch_name, remote_tracking_name};
 use examples::checkout::Place;
@@ -8,10 +9,11 @@ use examples::ref_store::{ObjectId, RefStore};
 use examples::repair::repair;
 use examples::settings::submodule_names;
 use gix_validate::path::{ComponentMode, ComponentOptions};
-use std::alloc::{AllocError, Global};
+use std::alloc::AllocError;
 use std::fmt::Display;
+use std::process::Abort;
 use std::test::Fail;
-use typed_names::{Component, FullName, join};
+use typed_names::FullName;
 
 #[test]
 fn makes_names(rt: HostRuntime) -> Result<(), Fail> {
@@ -21,57 +23,42 @@ fn makes_names(rt: HostRuntime) -> Result<(), Fail> {
     let mut store = RefStore::new(alloc);
     store.set(name, ObjectId([1; 20]))?;
     let tracked = remote_tracking_name(alloc, BStr::from("origin"), BStr::from("topic/a"))?;
-    assert_eq!(rt;
-        tracked.as_bstr(),
-        BStr::from("refs/remotes/origin/topic/a")
-    );
+    let wanted = b"refs/remotes/origin/topic/a";
+    expect(&rt, ("tracked", b"topic/a"), wanted, tracked.as_bytes());
     Ok(())
 }
 
 #[test]
 fn walks_down_a_tree(rt: HostRuntime) -> Result<(), Fail> {
-    let alloc = rt.alloc();
-    let mut place = Place::top(alloc, ComponentOptions::default());
+    let mut place = Place::top(rt.alloc(), ComponentOptions::default());
     place.enter(BStr::from(".gitmodules"), None)?;
-    assert_eq!(rt; place.path(alloc)?.as_bstr(), BStr::from(".gitmodules"));
-    Ok(())
-}
-
-#[test]
-fn joins_components(rt: HostRuntime) -> Result<(), Fail> {
-    let options = ComponentOptions::default();
-    let folder = Component::new(BStr::from("src"), None, options)?;
-    let hidden = Component::new(BStr::from(".github"), None, options)?;
-    let file = Component::new(BStr::from("a.rs"), None, options)?;
-    let path = join(rt.alloc(), &[folder, hidden, file])?;
-    assert_eq!(rt; path.as_bstr(), BStr::from("src/.github/a.rs"));
+    let path = place.path(rt.alloc())?;
+    expect(&rt, ("path", b""), b".gitmodules", path.as_bytes());
     Ok(())
 }
 
 #[test]
 fn repairs_and_reads_names(rt: HostRuntime) -> Result<(), Fail> {
-    let alloc = rt.alloc();
-    let mut name = Vec::new(alloc);
+    let mut name = Vec::new(rt.alloc());
     repair(&mut name)?;
-    assert_eq!(rt; BStr::new(&name), BStr::from("-"));
-    let names = submodule_names(
-        alloc,
-        b"[submodule \"a\"]\n[core]\n [SubModule\t\"b\\/c\"] # old\n",
-    )?;
-    assert_eq!(rt; names.len(), 2);
+    expect(&rt, ("repair", b""), b"-", &name);
+    let text = b"[submodule \"a\"]\n[core]\n [SubModule\t\"b\\/c\"] # old\n";
+    assert_eq!(rt; submodule_names(rt.alloc(), text)?.len(), 2);
     Ok(())
 }
 
-/// Whether the call failed, and its error prints this text.
-fn is_refused<T: Drop, E: Display + Drop>(
-    alloc: Global,
+/// Panics if the call succeeded, or its error prints another text.
+fn expect_refused<T: Drop, E: Display + Drop>(
+    rt: &(impl Abort + AllocGlobal),
     told: Result<T, E>,
     text: &[u8],
-) -> Result<bool, AllocError> {
-    match told {
-        Ok(_) => Ok(false),
-        Err(error) => Ok(error.to_string(alloc)?.as_bytes() == text),
-    }
+) -> Result<(), AllocError> {
+    let Err(error) = told else {
+        panic!(rt; "a call succeeded");
+    };
+    let came = error.to_string(rt.alloc())?;
+    expect(rt, ("error", b""), text, came.as_bytes());
+    Ok(())
 }
 
 #[test]
@@ -79,25 +66,21 @@ fn calls_are_refused(rt: HostRuntime) -> Result<(), AllocError> {
     let alloc = rt.alloc();
     let text = b"Reference name is reserved and cannot be used: \"refs/heads/HEAD\"";
     let told = full_branch_name(alloc, BStr::from("HEAD"));
-    assert!(rt; is_refused(alloc, told, text)?);
+    expect_refused(&rt, told, text)?;
     let text = b"remote: A ref must not contain invalid bytes or ascii control characters: \" \"";
     let told = remote_tracking_name(alloc, BStr::from("a b"), BStr::from("a b"));
-    assert!(rt; is_refused(alloc, told, text)?);
+    expect_refused(&rt, told, text)?;
     let text = b"branch: A ref must not contain '..' as it may be mistaken for a range";
     let told = remote_tracking_name(alloc, BStr::from("origin"), BStr::from("a..b"));
-    assert!(rt; is_refused(alloc, told, text)?);
+    expect_refused(&rt, told, text)?;
     let mut place = Place::top(alloc, ComponentOptions::default());
     let text = b"The .gitmodules file must not be a symlink";
     let told = place.enter(BStr::from(".gitmodules"), Some(ComponentMode::Symlink));
-    assert!(rt; is_refused(alloc, told, text)?);
+    expect_refused(&rt, told, text)?;
     let text = b"the section at offset 16: Submodules names must not contains '..'";
-    let told = submodule_names(
-        alloc,
-        b"[submodule \"a\"]\n[submodule \"..\"]\n[submodule.b]\n",
-    );
-    assert!(rt; is_refused(alloc, told, text)?);
+    let names = b"[submodule \"a\"]\n[submodule \"..\"]\n[submodule.b]\n";
+    expect_refused(&rt, submodule_names(alloc, names), text)?;
     let text = b"the section at offset 7 can't be read";
-    let told = submodule_names(alloc, b"[core]\n[submodule.b]\n");
-    assert!(rt; is_refused(alloc, told, text)?);
-    Ok(())
+    let names = b"[core]\n[submodule.b]\n";
+    expect_refused(&rt, submodule_names(alloc, names), text)
 }

@@ -17,7 +17,7 @@ pub(crate) fn sanitized(alloc: Global, text: &[u8]) -> Result<Vec<u8>, AllocErro
         rest = rest.get(piece.len().saturating_add(1)..).unwrap_or(b"");
     }
     if name.is_empty() || name.as_slice() == b"@".as_slice() {
-        return joined(alloc, b"-", b"", b"");
+        return Vec::from_slice(alloc, b"-");
     }
     match name.strip_suffix(b".") {
         Some(front) => joined(alloc, front, b"-", b""),

@@ -16,11 +16,6 @@ unfolding at_first_offset
 at_first_offset_none f zero h = refl
 at_first_offset_none f (suc n) h = grind (arith, at_first_offset_none f n)
 
-pub none_below : {A : Type 0} (f : ℕ → Option A) (n k : ℕ) → k < n → at_first_offset f n ≡ None → f k ≡ None
-unfolding at_first_offset
-none_below f zero k small none = grind arith
-none_below f (suc n) k small none = grind (arith, none_below f n k)
-
 -- equal functions give the same
 pub at_first_offset_same : {A : Type 0} (f g : ℕ → Option A) (n : ℕ) → ((i : ℕ) → i < n → f i ≡ g i) → at_first_offset f n ≡ at_first_offset g n
 unfolding at_first_offset

@@ -1,16 +1,17 @@
 # shellcheck shell=bash disable=SC2154
 # For release/aarch64 and release/wasm, which set `target`: rt refuses these targets, so this calls rattle, by its documented
-# options. The library gix_validate has to be proved already.
+# options. The libraries below have to be proved already.
 
 cd -- "$(dirname -- "${BASH_SOURCE[0]}")/../crates/gix_validate_c" || exit 1
 kit=$(dirname -- "$(rt doc)")
 room=$(mktemp -d)
 trap 'rm -rf -- "$room"' EXIT
 options=(--crate-name gix_validate_c --crate-type staticlib src/lib.rt -L "dependency=$kit/rlibs"
-    --antt-project "$kit/rattle/logic/antt-project.json" --extern "gix_validate=../gix_validate/out/rlib/gix_validate.rlib"
-    --target "$target")
-for crate in std bstr arrayvec memchr; do
-    options+=(--extern "$crate=$kit/rlibs/$crate.rlib")
+    --antt-project "$kit/rattle/logic/antt-project.json" --target "$target")
+for crate in std $(sed -n 's/^gix_validate_c staticlib: //p' ../../crates.txt); do
+    rlib=../$crate/out/rlib/$crate.rlib
+    [[ -d ../$crate ]] || rlib=$kit/rlibs/$crate.rlib
+    options+=(--extern "$crate=$rlib")
 done
 
 # Runs a command, and shows the end of what it says if it fails. quiet COMMAND..

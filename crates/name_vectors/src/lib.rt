@@ -22,7 +22,7 @@
 #[cfg(test)]
 mod agree;
 #[cfg(test)]
-mod examples;
+mod callers;
 #[cfg(test)]
 mod members;
 #[cfg(test)]

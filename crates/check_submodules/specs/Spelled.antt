@@ -13,7 +13,7 @@ use Rattle.git_input.specs.Spelled.{Spelled, Present, Absent, IsSpelled, spellin
 use Rattle.check_submodules.specs.Lines.{largest, line_start, lines_of}
 use Rattle.check_submodules.specs.Report.{submodules_rule}
 
--- the line of what is at an offset of a file: of a section whose name has a fault, or of a header that is no section
+-- the line of what is at an offset of a file: of a section whose name has a fault, or of a header that isn't a section
 abbrev pub IsLineOf : (id file : List ℕ) → ℕ × List ℕ → Type 0
 IsLineOf id file (offset, line) =
     ((name : List ℕ) × (fault : NameError) × SectionAt file offset name × (fault_of name ≡ Some fault)

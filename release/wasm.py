@@ -9,9 +9,10 @@ import re
 import sys
 
 
-def lookup(index, table, first):
-    """What rattle writes for a lookup, from register `first` on, and the register of the result. The bytes of the index
-    count by their low four bits, and those with the highest bit set give 0."""
+def swizzled(found):
+    """A lookup at once, if this is what rattle writes for one, from register `first` on. The bytes of the index count by
+    their low four bits, and those with the highest bit set give 0."""
+    first, index, table = map(int, found.groups())
     values = [f"and <16 x i8> %r{index}, splat (i8 15)"]
     for lane in range(16):
         at = first + len(values)
@@ -30,33 +31,24 @@ def lookup(index, table, first):
     result = first + len(values) + 1
     values += [f"icmp sge <16 x i8> %r{index}, zeroinitializer",
                f"select <16 x i1> %r{result - 1}, <16 x i8> {joined}, <16 x i8> zeroinitializer"]
-    return "".join(f"  %r{at} = {value}\n" for at, value in enumerate(values, first)), result
+    if found[0] != "".join(f"  %r{at} = {value}\n" for at, value in enumerate(values, first)):
+        return found[0]
+    return (f"  %l{result} = load <16 x i8>, ptr %r{table}, align 1\n"
+            f"  %i{result} = and <16 x i8> %r{index}, splat (i8 -113)\n"  # (0x8F; from 16 on `swizzle` gives 0)
+            f"  %r{result} = call <16 x i8> @llvm.wasm.swizzle(<16 x i8> %l{result}, <16 x i8> %i{result})\n")
 
 
 def lookups(code):
-    count = 0
-
-    def rewritten(found):
-        nonlocal count
-        first, index, table = map(int, found.groups())
-        written, result = lookup(index, table, first)
-        if found[0] != written:
-            return found[0]
-        count += 1
-        return (f"  %l{count} = load <16 x i8>, ptr %r{table}, align 1\n"
-                f"  %i{count} = and <16 x i8> %r{index}, splat (i8 -113)\n"  # (0x8F; from 16 on `swizzle` gives 0)
-                f"  %r{result} = call <16 x i8> @llvm.wasm.swizzle(<16 x i8> %l{count}, <16 x i8> %i{count})\n")
-
-    code = re.sub(r"  %r(\d+) = and <16 x i8> %r(\d+), splat \(i8 15\)\n(?:.*\n){4}.* = getelementptr i8, ptr %r(\d+), .*\n(?:.*\n){109}",
-                  rewritten, code)
-    if count == 0:
+    code = re.sub(r"  %r(\d+) = and <16 x i8> %r(\d+), splat \(i8 15\)\n"
+                  r"(?:.*\n){4}.* = getelementptr i8, ptr %r(\d+), .*\n(?:.*\n){109}", swizzled, code)
+    if "@llvm.wasm.swizzle" not in code:
         raise SystemExit("wasm.py: the code has no lookup as rattle wrote it")
     return code + "\ndeclare <16 x i8> @llvm.wasm.swizzle(<16 x i8>, <16 x i8>)\n"
 
 
 def addresses(text):
-    """Puts `i32.wrap_i64` around the first operand of these instructions, unless it is there. (wasm-opt writes an operand
-    on lines of its own, whose first and last have one space more.)"""
+    """Puts `i32.wrap_i64` around the first operand of these instructions, unless it is there. (wasm-opt writes an
+    operand on lines of its own, whose first and last have one space more.)"""
     operand = r"\2 \((?!i32\.wrap_i64).*\n(?:\2  .*\n)*(?:\2 \)\n)?"
     return re.sub(rf"(?m)^(( *)\(v128\.load\d+_(?:splat|zero|lane).*\n)({operand})", r"\1(i32.wrap_i64\n\3)\n", text)
 

@@ -42,8 +42,7 @@ for command in release.glob("bin/*"):
     page += re.sub("(?m)[.:]$", "", text.partition("\n\n")[0]) + f"\n.SH DESCRIPTION\n.nf\n{text}\n.fi\n"
     (folder / "man1" / f"{command.name}.1").write_text(page, encoding="utf-8")
 
-header = release / "include" / "gix_validate.h"
-parts = re.split(r"(?ms)^/\*(.*?)\*/\n", header.read_text(encoding="ascii"))
+parts = re.split(r"(?ms)^/\*(.*?)\*/\n", (release / "include" / "gix_validate.h").read_text(encoding="ascii"))
 declared = re.findall(r"(?m)^(?:static inline )?\w[\w ]*[ *](gix_validate_\w+)\(", "".join(parts[::2]))
 page = f'.TH GIX_VALIDATE 3 "{day}" "gix-validate {version}"\n.SH NAME\n{", ".join(["gix_validate", *declared])} \\- names that Git uses\n'
 page += ".nh\n.ad l\n.SH SYNOPSIS\n.nf\n#include <gix_validate.h>\n.fi\n.SH DESCRIPTION\n"

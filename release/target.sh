@@ -22,7 +22,7 @@ quiet() {
 # Proves the functions for the target, and builds an archive of them by the clang on standard input, which calls that of the kit.
 # (rattle empties its environment.) archive FILE
 archive() {
-    cp -r --symbolic-link -- "$kit/toolchain" "$room"
+    cp -rL --symbolic-link -- "$kit/toolchain" "$room"
     install -m 755 -- /dev/stdin "$room/toolchain/bin/clang"
     quiet "$kit/bin/rattle" check "${options[@]}" --logic-built "$kit/logic_built" --jobs 2 -o "$room/checked"
     grep -q '^logic=proved ' "$room/log" || { tail -n 20 -- "$room/log" >&2; exit 1; }

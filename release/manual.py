@@ -1,12 +1,15 @@
-"""The manual gix_validate(3), made of the header, and a link to it for each function.
+"""The manuals of a release: of each command what it prints for --help, and gix_validate(3), made of the header, with a
+link to it for each function.
 
-    manual.py HEADER FOLDER VERSION DAY
+    manual.py RELEASE VERSION DAY
 """
 import re
+import subprocess
 import sys
 from pathlib import Path
 
-header, folder, version, day = Path(sys.argv[1]), Path(sys.argv[2]), *sys.argv[3:]
+release, version, day = Path(sys.argv[1]), *sys.argv[2:]
+folder = release / "share" / "man"
 
 
 def literal(text):
@@ -33,11 +36,17 @@ def prose(text):
     return page
 
 
-parts = re.split(r"(?ms)^/\*(.*?)\*/\n", header.read_text(encoding="ascii"))
+for command in release.glob("bin/*"):
+    text = literal(subprocess.check_output([command, "--help"], encoding="utf-8").rstrip("\n"))
+    page = f'.TH {command.name.upper()} 1 "{day}" "gix-validate {version}"\n.SH NAME\n{command.name} \\- '
+    page += re.sub("(?m)[.:]$", "", text.partition("\n\n")[0]) + f"\n.SH DESCRIPTION\n.nf\n{text}\n.fi\n"
+    (folder / "man1" / f"{command.name}.1").write_text(page, encoding="utf-8")
+
+parts = re.split(r"(?ms)^/\*(.*?)\*/\n", (release / "include" / "gix_validate.h").read_text(encoding="ascii"))
 declared = re.findall(r"(?m)^(?:static inline )?\w[\w ]*[ *](gix_validate_\w+)\(", "".join(parts[::2]))
 page = f'.TH GIX_VALIDATE 3 "{day}" "gix-validate {version}"\n.SH NAME\n{", ".join(["gix_validate", *declared])} \\- names that Git uses\n'
 page += ".nh\n.ad l\n.SH SYNOPSIS\n.nf\n#include <gix_validate.h>\n.fi\n.SH DESCRIPTION\n"
 page += "".join(prose(comment) + code(behind) for comment, behind in zip(parts[1::2], parts[2::2])).removeprefix(".PP\n")
-(folder / "gix_validate.3").write_text(page, encoding="ascii")
+(folder / "man3" / "gix_validate.3").write_text(page, encoding="ascii")
 for name in declared:
-    (folder / f"{name}.3").symlink_to("gix_validate.3")
+    (folder / "man3" / f"{name}.3").symlink_to("gix_validate.3")

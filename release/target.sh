@@ -22,12 +22,8 @@ quiet() {
 # Proves the functions for the target, and builds an archive of them by the clang on standard input, which calls that of the kit.
 # (rattle empties its environment.) archive FILE
 archive() {
-    mkdir -p -- "$room/toolchain/bin"
-    ln -s -- "$kit/toolchain/lib" "$room/toolchain/lib"
-    ln -s -- "$kit"/toolchain/bin/* "$room/toolchain/bin/"
-    rm -- "$room/toolchain/bin/clang"
-    cat > "$room/toolchain/bin/clang"
-    chmod +x -- "$room/toolchain/bin/clang"
+    cp -rL --symbolic-link -- "$kit/toolchain" "$room"
+    install -m 755 -- /dev/stdin "$room/toolchain/bin/clang"
     quiet "$kit/bin/rattle" check "${options[@]}" --logic-built "$kit/logic_built" --jobs 2 -o "$room/checked"
     grep -q '^logic=proved ' "$room/log" || { tail -n 20 -- "$room/log" >&2; exit 1; }
     quiet "$kit/bin/rattle" build "${options[@]}" --crate-checked "$room/checked" --toolchain "$room/toolchain" --backend llvm -o "$1"

@@ -29,12 +29,14 @@ def read(path):
 def write_or_check(doc, derive, then=()):
     """Runs a script that gives places of files: what is before each and after it, and the text between. It writes them, or
     with --check fails if a file has another. The text has as many lines as the old one, or ends with a line. If it writes, the
-    scripts `then` run."""
+    scripts `then` run. It writes nothing if the script gives strings, too, which say what is wrong."""
     parser = argparse.ArgumentParser(description=doc)
     parser.add_argument("--check", action="store_true")
     is_check = parser.parse_args().check
-    texts = {}
-    for path, before, after, new in derive():
+    places, texts = [*derive()], {}
+    if faults := [it for it in places if isinstance(it, str)]:
+        raise SystemExit("\n".join(faults))
+    for path, before, after, new in places:
         text = texts.get(path) or read(path)
         head, _, rest = text.partition(before)
         old, end, tail = rest.partition(after)

@@ -8,9 +8,9 @@
 #     --list         prints the names of the cases
 #     --case NAME    runs this case alone; it can be given more than once
 #
-# A case is a function test_NAME of the script, which ends with `run_cases`, or calls `try` for each of `chosen` and at last
-# `finish`. `pass` and `no` count. Each check is a line in a file, so that a process that is cut short takes none with it. A
-# case that is chosen and made no check is a failure, and so is a script that doesn't come to `finish`.
+# A case is a function test_NAME of the script, which ends with `run_cases`, or calls `try` for each of `chosen` and
+# then `finish`. `pass` and `no` count. Each check is a line in a file, so that a process that is cut short takes none
+# with it. A case that is chosen and made no check is a failure, and so is a script that doesn't come to `finish`.
 
 [[ ${1-} != --help ]] || exec sed -n '1d; /^#/!q; /^# shellcheck/q; s/^# \{0,1\}//p' "$0"
 mapfile -t cases < <(sed -n 's/^\(test_[a-z0-9_]*\)() [{(].*/\1/p' "$0")

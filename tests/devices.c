@@ -44,7 +44,7 @@ __attribute__((constructor)) static void read_settings(void) {
     requests = number("DEVICES_MEMORY");
 }
 
-/* A call that was to move so many bytes: how many it may move, or -1 where it is interrupted. */
+/* A call that was to move so many bytes: how many it moves, which count, or -1 where it is interrupted. */
 static ssize_t may_move(struct device *device, size_t count) {
     if (is_slow && count > 0) {
         device->was_interrupted = !device->was_interrupted;
@@ -56,14 +56,9 @@ static ssize_t may_move(struct device *device, size_t count) {
     }
     if (device->left >= 0 && count > (size_t)device->left)
         count = (size_t)device->left;
+    if (device->left > 0)
+        device->left -= (long)count;
     return (ssize_t)count;
-}
-
-/* What a call moved, which counts. */
-static ssize_t moved(struct device *device, ssize_t done) {
-    if (device->left > 0 && done > 0)
-        device->left -= done;
-    return done;
 }
 
 ssize_t read(int descriptor, void *bytes, size_t count) {
@@ -76,7 +71,7 @@ ssize_t read(int descriptor, void *bytes, size_t count) {
         errno = EIO;
         return -1;
     }
-    return moved(&input, syscall(SYS_read, descriptor, bytes, some));
+    return syscall(SYS_read, descriptor, bytes, some);
 }
 
 ssize_t write(int descriptor, const void *bytes, size_t count) {
@@ -89,7 +84,7 @@ ssize_t write(int descriptor, const void *bytes, size_t count) {
         errno = ENOSPC;
         return is_idle ? 0 : -1;
     }
-    return moved(&output, syscall(SYS_write, descriptor, bytes, some));
+    return syscall(SYS_write, descriptor, bytes, some);
 }
 
 static void note(const char *line, size_t length) {

@@ -8,24 +8,21 @@
 #     --list         prints the names of the cases
 #     --case NAME    runs this case alone; it can be given more than once
 #
-# A case is a function test_NAME of the script, which ends with `run_cases`, or calls `try test_NAME` and at last `finish`. `pass` and
-# `no` count. Each check is a line in a file, so that a process that is cut short takes none with it. A case that is due
-# and made no check is a failure, and so is a script that doesn't come to `finish`.
+# A case is a function test_NAME of the script, which ends with `run_cases`, or calls `try` for each of `chosen` and
+# then `finish`. `pass` and `no` count. Each check is a line in a file, so that a process that is cut short takes none
+# with it. A case that is chosen and made no check is a failure, and so is a script that doesn't come to `finish`.
 
 [[ ${1-} != --help ]] || exec sed -n '1d; /^#/!q; /^# shellcheck/q; s/^# \{0,1\}//p' "$0"
 mapfile -t cases < <(sed -n 's/^\(test_[a-z0-9_]*\)() [{(].*/\1/p' "$0")
+[[ ${1-} != --list ]] || { printf '%s\n' "${cases[@]}"; exit; }
 chosen=()
-while [[ ${1-} == --list || ${1-} == --case ]]; do
-    [[ $1 != --list ]] || { printf '%s\n' "${cases[@]}"; exit; }
-    if [[ " ${cases[*]} " != *" ${2:-no name} "* ]]; then
-        echo "$suite: there is no case '${2-}'; --list prints their names" >&2
-        exit 2
-    fi
+while [[ ${1-} == --case ]]; do
+    [[ " ${cases[*]} " == *" ${2:-no name} "* ]] ||
+        { echo "$suite: there is no case '${2-}'; --list prints their names" >&2; exit 2; }
     chosen+=("$2")
     shift 2
 done
 ((${#chosen[@]} > 0)) || chosen=("${cases[@]}")
-due=("${chosen[@]}")
 
 # A folder for the script, which goes when it ends, and the file of checks. The script ends by `leave`, or it fails.
 room=$(mktemp -d) && tally=$(mktemp) || exit
@@ -61,19 +58,19 @@ can() {
     return 1
 }
 
-# Runs a case, if it is to run. try CASE ARGUMENT..
+# Runs a case. try CASE
 try() {
-    [[ " ${chosen[*]} " == *" $1 "* ]] || return 0
     current=$1
-    "$@"
+    "$1"
     current=
 }
 
-# Runs the cases one by one, and ends the script.
+# Runs the cases that are chosen one by one, each from the folder that is the current one now, and ends the script.
 run_cases() {
-    local name
-    for name in "${cases[@]}"; do
+    local name folder=$PWD
+    for name in "${chosen[@]}"; do
         try "$name"
+        cd -- "$folder" || exit
     done
     finish
 }
@@ -81,27 +78,12 @@ run_cases() {
 # The functions of the library that a header declares, in order. declared HEADER
 declared() { sed -n 's/^[a-z0-9_]* \(gix_validate_[a-z_]*\)(.*/\1/p' "$1" | sort; }
 
-# Runs a command in a process of its own, once less than so many run. part MOST COMMAND..
-begun=0
-part() {
-    while (($(jobs -rp | wc -l) >= $1)); do
-        wait -n || true
-    done
-    begun=$((begun + 1))
-    { "${@:2}"; echo end >> "$tally"; } > "$room/part $begun" 2>&1 &
-}
-
-# Waits for all parts, and shows what they printed.
-end_parts() {
-    wait
-    cat -- "$room/part "*
-    (($(grep -c -x end -- "$tally") == begun)) || no 'a part stopped before its end'
-}
+script() { rm -f -- "$1"; printf '%s\n' '#!/bin/sh' "${@:2}" > "$1"; chmod +x "$1"; } # FILE LINE..
 
 # Prints the last line. The status is 0 if each check passed.
 finish() {
     local name passed count
-    for name in "${due[@]}"; do
+    for name in "${chosen[@]}"; do
         grep -q -x -e "[a-z]* $name" -- "$tally" || no "$name: it made no check"
     done
     passed=$(grep -c '^pass' -- "$tally") || true

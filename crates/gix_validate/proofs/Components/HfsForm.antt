@@ -91,8 +91,7 @@ begins_from_unit (suc (suc (suc n))) x h = grind arith
 
 three_bytes : (a b c : ℕ) (x : List ℕ) → (a ≡ 0xE2) ⊎ (a ≡ 0xEF) → is_next b ≡ true → is_next c ≡ true → first_unit_len (a ∷ b ∷ c ∷ x) ≡ 3
 unfolding first_unit_len whole_sequences
-three_bytes a b c x (inl e) second third = rw (e, second, third)
-three_bytes a b c x (inr e) second third = rw (e, second, third)
+three_bytes a b c x lead second third = grind (arith, nat_tests)
 
 -- an ignored character is a unit
 three : (a b c : ℕ) (x : List ℕ) → is_ignored a b c ≡ true → first_unit_len (a ∷ b ∷ c ∷ x) ≡ 3

@@ -1,5 +1,5 @@
 -- The laws of path components, proved of their definitions.
-use Rattle.std.proofs.Common.{◌≡◌, ℕ, ◌+◌, Bool, true, false, is_none, is_some, Option, Some, None, List, [], ◌∷◌, length, refl, sym, ap, arith}
+use Rattle.std.proofs.Common.{◌≡◌, ℕ, ◌+◌, Bool, true, false, is_none, is_some, Option, Some, None, List, [], ◌∷◌, length, refl, sym, arith}
 use Rattle.std.specs.Prelude.{codes, slice_index, IsTrue}
 use Rattle.std.specs.Bool.{◌==◌}
 use Rattle.std.specs.List.{list_all}
@@ -82,13 +82,7 @@ case_law options mode x = grind (arith, kept_by_lower)
 
 pub device_form_law : (x : List ℕ) → DeviceGoesByForm x
 unfolding is_device device_form
-device_form_law x =
-    let cut = is_among (codes ".:") in
-    let trim : ℕ → Bool = λ b. b == byte " " in record {
-      dot = λ more. ap is_device_form (form_cut cut trim (byte ".") more refl x);
-      colon = λ more. ap is_device_form (form_cut cut trim (byte ":") more refl x);
-      space = ap is_device_form (form_trimmed cut trim (byte " ") refl refl x);
-    }
+device_form_law x = grind (arith, nat_tests, form_cut, form_trimmed)
 
 all_none-first_of : (lines : List (Option ComponentError)) → list_all is_none lines ≡ is_none (first_of lines)
 all_none-first_of [] = refl

@@ -41,11 +41,8 @@ is_kept a b = not (a == byte " ") && not (b == byte ".")
 
 ntfs_after : (n : ℕ) (x : List ℕ) (i : ℕ) → i + n ≤ length x → ((k : ℕ) → i ≤ k → k < i + n → at_both is_kept x x k ≡ false)
     → is_empty (ntfs_form (drop (i + n) x)) ≡ is_empty (ntfs_form (drop i x))
-ntfs_after zero x i room all = grind arith
-ntfs_after (suc n) x i room all =
-    let first = all i (omega arith) (omega arith) in
-    let rest = ntfs_after n x (i + 1) (omega arith) (λ k from to. all k (omega arith) (omega arith)) in
-    grind (arith, nat_tests, ntfs_left x i (omega arith), rest, first)
+ntfs_after zero x i room all = grind (arith, nat_tests)
+ntfs_after (suc n) x i room all = grind (arith, nat_tests, ntfs_left, ntfs_after n x (i + 1))
 
 -- Spaces and dots in front leave it to the first other byte whether there is a form.
 pub ntfs_ended : (x : List ℕ) (i : ℕ) → IsFirst (at_both is_kept x x) (length x) i → is_empty (ntfs_form x) ≡ is_ntfs_cut (get_or x i 0)
@@ -81,5 +78,4 @@ pub git_by_first : (x : List ℕ) → is_git_form (lower (ntfs_form x))
     ≡ cond (eqb (get_or x 0 0) (byte ".")) (bytes_eq (lower (ntfs_form (drop 1 x))) (codes "git"))
     (eqb (lower_byte (get_or x 0 0)) (byte "g") && bytes_eq (lower (ntfs_form x)) (codes "git~1"))
 unfolding is_git_form lower_byte
-git_by_first [] = grind (arith, ntfs_form-none)
-git_by_first (b ∷ x) = grind (arith, dot_stays, ntfs_other)
+git_by_first x = grind (arith, nat_tests, ntfs_form-none, dot_stays, ntfs_other)

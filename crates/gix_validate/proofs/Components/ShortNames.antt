@@ -33,9 +33,7 @@ abbrev pub is_tilde_number : List ℕ → Bool
 is_tilde_number x = slice_index x 0 == byte "~" && (nat_le (byte "1") (slice_index x 1) && nat_le (slice_index x 1) (byte "9")) && list_all is_digit (drop 2 x)
 
 number_is_plain : (x : List ℕ) → is_tilde_number x ≡ true → list_all stays_in_form x ≡ true
-number_is_plain [] number = grind arith
-number_is_plain (b ∷ []) number = grind arith
-number_is_plain (b ∷ d ∷ x) number = grind (arith, nat_tests, digits_are_plain x)
+number_is_plain x number = grind (arith, nat_tests, digits_are_plain)
 
 short_by_parts : (k : ℕ) (f : List ℕ) → is_short_name k f ≡ (length f == 8 && (bytes_eq (take k f) (take k (codes "gi7eba")) && is_tilde_number (drop k f)))
 short_by_parts k f = rw (get_or-drop k f 0 0, get_or-drop k f 1 0, drop-drop 2 k f) (grind arith)
@@ -112,8 +110,7 @@ dot_or_none x = grind (arith, ntfs_form-at)
 -- A name that begins with a dot does if and only if the form of what follows is `gitmodules`.
 pub modules_at_dot : (x : List ℕ) → get_or x 0 0 ≡ byte "."
     → is_modules_form (lower (ntfs_form x)) ≡ bytes_eq (lower (ntfs_form (drop 1 x))) (codes "gitmodules")
-modules_at_dot [] at = grind arith
-modules_at_dot (b ∷ x) at = grind (arith, common_steps, other_is_plain, whole_is_modules, dot_or_none, dot_stays)
+modules_at_dot x at = grind (arith, nat_tests, common_steps, other_is_plain, whole_is_modules, dot_or_none, dot_stays)
 
 number_lower : (x : List ℕ) → is_tilde_number (lower x) ≡ is_tilde_number x
 unfolding lower_byte

@@ -50,8 +50,7 @@ each_may_follow-front before (b ∷ f) r h = grind (arith, each_may_follow-front
 
 dash_follows : (before : Option ℕ) → may_follow before (byte "-") ≡ true
 unfolding is_bad is_refused
-dash_follows None = refl
-dash_follows (Some a) = grind arith
+dash_follows before = grind (arith, nat_tests)
 
 -- A dash may follow each byte, and first.
 pub each_may_follow-dash : (before : Option ℕ) (f : List ℕ) → each_may_follow before f ≡ true → each_may_follow before (f ++ codes "-") ≡ true
@@ -74,17 +73,13 @@ added_by before [] = []
 added_by before (b ∷ p) = added before b ++ added_by (Some b) p
 
 dot_before-twice : (rs : List Run) → dot_before (dot_before rs) ≡ dot_before rs
-dot_before-twice [] = refl
-dot_before-twice (Dots ∷ rs) = refl
-dot_before-twice (Other b ∷ rs) = refl
+dot_before-twice rs = grind (arith, nat_tests)
 
 -- The runs of a piece give what its bytes add, and the same after a dot.
 runs_added : (p : List ℕ) → ((before : Option ℕ) → is_after (byte ".") before ≡ false → bytes_of before (runs p) ≡ added_by before p)
     × ((before : Option ℕ) → bytes_of before (dot_before (runs p)) ≡ byte_of before Dots ∷ added_by (Some (byte ".")) p)
-runs_added [] = (λ before h. refl, λ before. refl)
-runs_added (b ∷ p) =
-    let rest = runs_added p in
-    (λ before h. grind (arith, nat_tests, rest.0 (Some b), rest.1 before), λ before. grind (arith, nat_tests, dot_before-twice, rest.0 (Some b), rest.1 before))
+runs_added [] = grind (arith, nat_tests)
+runs_added (b ∷ p) = grind (arith, nat_tests, dot_before-twice, runs_added p)
 
 pub cleaned-added : (p : List ℕ) → cleaned p ≡ added_by None p
 unfolding cleaned
@@ -96,8 +91,7 @@ length-added before (b ∷ p) = grind (arith, length-added (Some b) p)
 
 added-own : (before : Option ℕ) (b : ℕ) → may_follow before b ≡ true → added before b ≡ b ∷ []
 unfolding is_refused
-added-own None b h = grind (arith, nat_tests)
-added-own (Some a) b h = grind (arith, nat_tests)
+added-own before b h = grind (arith, nat_tests)
 
 -- A piece whose bytes may each follow the one before stays as it is.
 added_by-own : (before : Option ℕ) (p : List ℕ) → each_may_follow before p ≡ true → added_by before p ≡ p
@@ -112,12 +106,10 @@ allowed_kept b = (grind (arith, nat_tests), grind (arith, nat_tests), grind (ari
 
 marks_follow : (before : Option ℕ) → is_after (byte ".") before ≡ false → may_follow before (byte_of before Dots) ≡ true
 unfolding is_bad is_refused
-marks_follow None h = refl
-marks_follow (Some a) h = grind (arith, nat_tests)
+marks_follow before h = grind (arith, nat_tests)
 
 others_follow : (before : Option ℕ) (b : ℕ) → (b == byte ".") ≡ false → may_follow before (byte_of before (Other b)) ≡ true
-others_follow None b h = grind (arith, nat_tests, allowed_kept b, dash_follows None)
-others_follow (Some a) b h = grind (arith, nat_tests, allowed_kept b, dash_follows (Some a))
+others_follow before b h = grind (arith, nat_tests, allowed_kept, dash_follows)
 
 -- What may follow a byte may follow what is written for it.
 follow_written : (before : Option ℕ) (b : ℕ) (t : List ℕ) → each_may_follow (Some b) t ≡ true
@@ -141,8 +133,7 @@ added-apart before (b ∷ p) h = grind (arith, nat_tests, added-apart (Some b) p
 
 -- A piece that is not empty leaves something.
 pub cleaned_some : (p : List ℕ) → is_empty p ≡ false → is_empty (cleaned p) ≡ false
-cleaned_some [] h = grind arith
-cleaned_some (b ∷ p) h = grind (arith, common_steps, cleaned-added (b ∷ p))
+cleaned_some p h = grind (arith, nat_tests, common_steps, cleaned-added)
 
 pub is_good_piece-empty : is_good_piece [] ≡ false
 unfolding is_good_piece

@@ -63,8 +63,7 @@ pub MendedUpTo-start : (text : List ℕ) (n : ℕ) → n ≤ length text → Non
 MendedUpTo-start text n within quiet = record { written = omega arith; long = refl; gives = gives_front text n within quiet }
 
 pub before_front : (x : List ℕ) (n : ℕ) → n ≢ 0 → get_or (byte "/" ∷ x) n 0 ≡ get_or x (n - 1) 0
-before_front x zero some = absurd (some refl)
-before_front x (suc n) some = let e : suc n - 1 ≡ n = omega arith in rw e refl
+before_front x n some = grind (arith, nat_tests)
 
 MendedUpTo-later : (whole text new : List ℕ) (end read previous i b : ℕ) → MendedUpTo whole text end read previous → read < length text
     → length new ≡ length text → drop (end + 1) new ≡ drop (end + 1) text → i ≤ read + 1
@@ -116,9 +115,7 @@ MendedUpTo-slash whole text new end read previous n so_far room slash same withi
 -- At the end of the text the last piece ends.
 pub mended_text : (whole text : List ℕ) (end read previous : ℕ) → MendedUpTo whole text end read previous → length text ≤ read
     → finished (take end text) previous ≡ joined (mended_pieces whole)
-mended_text whole text end read previous so_far last =
-    let gives : GivesWhole whole (take end text) previous [] = rw (sym (drop_all read text last)) so_far.gives in
-    GivesWhole-end whole (take end text) previous gives
+mended_text whole text end read previous so_far last = grind (arith, nat_tests, GivesWhole, drop_all, GivesWhole-end)
 
 -- The front that was mended, and then repaired, is the sanitised text.
 pub sanitized-in_place : (whole front rest new : List ℕ) (m n : ℕ) → m ≤ length front → take m front ≡ joined (mended_pieces whole)

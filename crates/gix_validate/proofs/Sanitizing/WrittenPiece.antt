@@ -46,8 +46,7 @@ cut-slash [] p = grind (arith, is_locks-slash [] p)
 cut-slash (b ∷ s) p = grind (arith, is_locks-slash (b ∷ s) p, cut-slash s p)
 
 cut-slashed : (texts : List (List ℕ)) (piece : List ℕ) → cut (slashed texts ++ piece) ≡ slashed texts ++ cut piece
-cut-slashed [] piece = refl
-cut-slashed (p ∷ ps) piece = grind (arith, append_assoc, cut-slash (joined (p ∷ ps)) piece)
+cut-slashed texts piece = grind (arith, nat_tests, append_assoc, cut-slash)
 
 closed-slashed : (texts : List (List ℕ)) (piece : List ℕ) (previous : ℕ) → is_empty piece ≡ is_slash previous
     → closed (slashed texts ++ piece) previous ≡ slashed (texts ++ kept piece) ++ []
@@ -82,13 +81,7 @@ GivesWhole-start text = record { texts = []; piece = []; is = refl; begun = refl
 -- A byte of a piece adds to it.
 pub GivesWhole-byte : (whole written : List ℕ) (previous b : ℕ) (rest : List ℕ) → GivesWhole whole written previous (b ∷ rest) → is_slash b ≡ false
     → GivesWhole whole (written ++ added (in_piece previous) b) b rest
-GivesWhole-byte whole written previous b rest so_far other = record {
-  texts = so_far.texts;
-  piece = so_far.piece ++ added (in_piece previous) b;
-  is = grind (arith, so_far.is, append_assoc);
-  begun = grind (arith, nat_tests, so_far.begun);
-  gives = rw other (sym (mended_from-byte so_far.texts so_far.piece (in_piece previous) b rest other) ∙ so_far.gives);
-}
+GivesWhole-byte whole written previous b rest so_far other = grind (arith, nat_tests, added, append_assoc, mended_from-byte)
 
 -- A slash ends the piece.
 pub GivesWhole-slash : (whole written : List ℕ) (previous b : ℕ) (rest : List ℕ) → GivesWhole whole written previous (b ∷ rest) → is_slash b ≡ true
@@ -106,5 +99,4 @@ GivesWhole-slash whole written previous b rest so_far slash = record {
 
 -- Where no rest is left, the last piece ends.
 pub GivesWhole-end : (whole written : List ℕ) (previous : ℕ) → GivesWhole whole written previous [] → finished written previous ≡ joined (mended_pieces whole)
-GivesWhole-end whole written previous so_far =
-    grind (arith, finished-slashed so_far.texts so_far.piece previous so_far.begun, so_far.is, so_far.gives, append-nil)
+GivesWhole-end whole written previous so_far = grind (arith, nat_tests, finished-slashed, append-nil)

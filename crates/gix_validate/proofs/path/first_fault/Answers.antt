@@ -8,14 +8,10 @@ use Rattle.gix_validate.proofs.path.first_fault.Goals.{then-windows, else-window
 use Rattle.gix_validate.proofs.path.first_fault.Goals.{then-not-is_empty+then-name-le-SHORT+else-is_relative+else-not-has_class+else-has_class}
 
 pub first_fault_of_ordinary-requires : goal.first_fault_of_ordinary-requires
-first_fault_of_ordinary-requires c =
-    let tell = classes_tell c.classes_of-classes.result c.args.name.now c.type_inv.name c.classes_of-classes.ensures in
-    grind (arith, nat_tests, tell.classed, ordinary_by_looks c.args.name.now)
+first_fault_of_ordinary-requires c = grind (arith, nat_tests, classes_tell, ordinary_by_looks)
 
 pub returns-then-not-may_be_special : goal.returns-then-not-may_be_special
-returns-then-not-may_be_special c =
-    let tell = classes_tell c.classes_of-classes.result c.args.name.now c.type_inv.name c.classes_of-classes.ensures in
-    grind (arith, nat_tests, tell.classed, ordinary_passes c.args.options c.args.mode c.args.name.now)
+returns-then-not-may_be_special c = grind (arith, nat_tests, classes_tell, ordinary_passes)
 
 pub returns-then-not-ends_illegally : goal.returns-then-not-ends_illegally
 returns-then-not-ends_illegally c = c.first_fault_of_ordinary.ensures c.args.options.protect_hfs

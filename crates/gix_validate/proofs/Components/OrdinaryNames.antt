@@ -164,3 +164,6 @@ relative_by_ends [] some few = absurd (omega arith)
 relative_by_ends (p ∷ []) some few = grind arith
 relative_by_ends (p ∷ q ∷ []) some few = grind arith
 relative_by_ends (p ∷ q ∷ r ∷ x) some few = absurd (omega arith)
+
+-- what the search for the first fault takes from above
+pub ruleset first_faults = (relative_fault, separator_fault, ordinary_by_looks, ordinary_passes, unprotected_fault)

@@ -126,3 +126,6 @@ length-joined_mended ((b ∷ p) ∷ q ∷ ps) = grind (arith, length-append, len
 pub length-sanitized : (x : List ℕ) → (1 ≤ length (sanitized x)) × (length (sanitized x) ≤ max 1 (length x))
 unfolding sanitized
 length-sanitized x = grind (arith, nat_tests, length-joined_mended, join_with_byte-slice_split (byte "/") x, cond_both, length-append, length-take)
+
+-- what the repair takes from above
+pub ruleset sanitized_laws = (sanitized-partial, sanitized-unchanged, sanitized-sanitized, sanitized-piecewise, length-sanitized)

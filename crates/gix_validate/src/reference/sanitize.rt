@@ -38,6 +38,7 @@ use std::alloc::{AllocError, Global};
 /// # Memory
 ///
 /// It allocates once, before it writes a byte: the length of `path`, or one byte if that is empty.
+#[tactic(auto, using(crate::proofs::Sanitizing::Laws::sanitized_laws))]
 pub fn name_partial_or_sanitize(alloc: Global, path: BStr<'_>) -> Result<BString, AllocError>
     ensures text { IfOk result (λ name. bstring_bytes name ≡ sanitized (bstr_bytes path.entry)) }
     ensures partial { IfOk result (λ name. IsTrue (is_partial_name (bstring_bytes name))) }

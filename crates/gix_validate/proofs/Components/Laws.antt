@@ -1,5 +1,5 @@
 -- The laws of path components, proved of their definitions.
-use Rattle.std.proofs.Common.{◌≡◌, ℕ, ◌+◌, Bool, true, false, is_none, is_some, Option, Some, None, List, [], ◌∷◌, length, refl, sym, arith}
+use Rattle.std.proofs.Common.{◌≡◌, ℕ, ◌+◌, Bool, true, false, is_none, is_some, Option, None, List, [], ◌∷◌, length, refl, sym, arith}
 use Rattle.std.specs.Prelude.{codes, slice_index, IsTrue}
 use Rattle.std.specs.Bool.{◌==◌}
 use Rattle.std.specs.List.{list_all}
@@ -56,10 +56,8 @@ is_ignored-lower a b c = grind (arith, nat_tests)
 
 hfs_form-lower : (x : List ℕ) → hfs_form (lower x) ≡ lower (hfs_form x)
 unfolding hfs_form
-hfs_form-lower [] = refl
-hfs_form-lower (a ∷ []) = refl
-hfs_form-lower (a ∷ b ∷ []) = refl
 hfs_form-lower (a ∷ b ∷ c ∷ x) = grind (arith, is_ignored-lower, hfs_form-lower x, hfs_form-lower (b ∷ c ∷ x))
+hfs_form-lower _ = refl
 
 ntfs_form-lower : (x : List ℕ) → ntfs_form (lower x) ≡ lower (ntfs_form x)
 unfolding ntfs_form
@@ -86,8 +84,7 @@ device_form_law x = grind (arith, nat_tests, form_cut, form_trimmed)
 
 all_none-first_of : (lines : List (Option ComponentError)) → list_all is_none lines ≡ is_none (first_of lines)
 all_none-first_of [] = refl
-all_none-first_of (None ∷ lines) = all_none-first_of lines
-all_none-first_of (Some fault ∷ lines) = refl
+all_none-first_of (line ∷ lines) = grind (arith, all_none-first_of lines)
 
 -- A text is a component if and only if it has no fault.
 pub component_grammar_law : (options : ComponentOptions) (mode : Option ComponentMode) (x : List ℕ)
@@ -102,8 +99,7 @@ AllNone (line ∷ lines) = (line ≡ None) × AllNone lines
 
 AllNone-from_first : (lines : List (Option ComponentError)) → first_of lines ≡ None → AllNone lines
 AllNone-from_first [] none = tt
-AllNone-from_first (None ∷ lines) none = (refl, AllNone-from_first lines none)
-AllNone-from_first (Some fault ∷ lines) none = absurd (cc)
+AllNone-from_first (line ∷ lines) none = grind (arith, AllNone-from_first lines)
 
 pub first_from_AllNone : (lines : List (Option ComponentError)) → AllNone lines → None ≡ first_of lines
 first_from_AllNone [] none = refl

@@ -1,5 +1,5 @@
 -- Ordinary names: no condition but the one on devices refuses one.
-use Rattle.std.proofs.Common.{◌≡◌, ℕ, zero, suc, ◌-◌, ◌<◌, ◌≤◌, Bool, true, false, not, ◌&&◌, ◌||◌, eqb, Option, None, Some, List}
+use Rattle.std.proofs.Common.{◌≡◌, ℕ, ◌-◌, ◌<◌, ◌≤◌, Bool, true, false, not, ◌&&◌, ◌||◌, eqb, Option, None, Some, List}
 use Rattle.std.proofs.Common.{[], ◌∷◌, ◌++◌, length, get_or, refl, ◌∙◌, arith, codes}
 use Rattle.std.specs.Prelude.{slice_index, is_some}
 use Rattle.std.specs.Bool.{◌==◌}
@@ -25,37 +25,30 @@ use Rattle.gix_validate.proofs.Texts.Endings.{ends_read}
 use Rattle.gix_validate.proofs.Components.HfsForm.{hfs_form_same}
 use Rattle.std.proofs.lemmas.Bool.Decides.{nat_tests}
 use Rattle.gix_validate.proofs.Components.Forms.{form, form_at}
-use Rattle.std.proofs.lemmas.List.Folds.{list_any_none}
+use Rattle.std.proofs.lemmas.List.Folds.{list_any_none, list_any_at}
+use Rattle.std.proofs.lemmas.Grind.{common_steps}
 
 abbrev is_tilde : ℕ → Bool
 is_tilde b = b == byte "~"
 
 -- what a name without classed bytes has none of
 
-any_weaker : (p q : ℕ → Bool) → ((b : ℕ) → p b ≡ false → q b ≡ false) → (x : List ℕ) → list_any p x ≡ false → list_any q x ≡ false
-any_weaker p q less [] none = grind arith
-any_weaker p q less (b ∷ x) none = grind (arith, any_weaker p q less x)
-
 unclassed : (x : List ℕ) → list_any is_classed x ≡ false
     → (list_any is_illegal_byte x ≡ false) × (list_any is_lead x ≡ false) × (is_among x (byte "/") ≡ false) × (is_among x (byte "\\") ≡ false)
     × (list_any is_tilde x ≡ false)
 unfolding is_classed
-unclassed x none =
-    let no = λ (q : ℕ → Bool) (less : (b : ℕ) → is_classed b ≡ false → q b ≡ false). any_weaker is_classed q less x none in
-    let slash = no (λ b. byte "/" == b) (λ b off. grind arith) in
-    let backslash = no (λ b. byte "\\" == b) (λ b off. grind arith) in
-    (no is_illegal_byte (λ b off. grind arith), no is_lead (λ b off. grind arith), slash, backslash, no is_tilde (λ b off. grind arith))
+unclassed [] none = grind arith
+unclassed (b ∷ x) none = grind (arith, unclassed x)
 
 uncut : (x : List ℕ) → list_any is_classed x ≡ false → list_any (is_among (codes ":\\")) x ≡ false
 unfolding is_classed is_illegal_byte
-uncut x none = any_weaker is_classed (is_among (codes ":\\")) (λ b off. grind arith) x none
+uncut [] none = refl
+uncut (b ∷ x) none = grind (arith, uncut x)
 
 -- a name with no illegal byte has no prefix
 pub legal_no_prefix : (x : List ℕ) (n : ℕ) → list_any is_illegal_byte x ≡ false → (slice_index x n == byte ":") ≡ false
 unfolding is_illegal_byte
-legal_no_prefix [] n legal = refl
-legal_no_prefix (b ∷ x) zero legal = grind arith
-legal_no_prefix (b ∷ x) (suc n) legal = grind (arith, legal_no_prefix x n)
+legal_no_prefix x n legal = grind (arith, common_steps, list_any_at)
 
 -- the NTFS form
 
@@ -138,32 +131,23 @@ relative_fault options mode x dots = grind (arith, bytes_eq-Decides)
 
 pub ruleset faults_of_ordinary = (ordinary_fault, git_fault, modules_fault)
 
--- a name that has a separator is neither empty nor `.` or `..`, so no condition comes first
-parted_no_dots : (windows : Bool) (x : List ℕ) → (is_among x (byte "/") || (windows && is_among x (byte "\\"))) ≡ true
-    → (bytes_eq x (codes ".") || bytes_eq x (codes "..")) ≡ false
-parted_no_dots windows x has = grind (arith, bytes_eq-Decides)
-
 pub separator_fault : (options : ComponentOptions) (mode : Option ComponentMode) (x : List ℕ)
     → (is_among x (byte "/") || (options.protect_windows && is_among x (byte "\\"))) ≡ true → fault_of options mode x ≡ Some PathSeparator
 unfolding fault_of conditions
-separator_fault options mode x has = grind (arith, nat_tests, parted_no_dots)
-
-longer : (x word : List ℕ) → length word < length x → bytes_eq x word ≡ false
-longer x word long = grind (arith, bytes_eq-Decides)
+separator_fault options mode x has = grind (arith, nat_tests, bytes_eq-Decides)
 
 -- Without protections a name that is longer than `.gitmodules` is refused for a slash alone.
 pub unprotected_fault : (options : ComponentOptions) (mode : Option ComponentMode) (x : List ℕ) → options.protect_windows ≡ false
     → options.protect_hfs ≡ false → options.protect_ntfs ≡ false → 11 < length x → is_among x (byte "/") ≡ false → fault_of options mode x ≡ None
 unfolding fault_of conditions
-unprotected_fault options mode x windows hfs ntfs long whole = grind (arith, nat_tests, length-map, longer)
+unprotected_fault options mode x windows hfs ntfs long whole = grind (arith, nat_tests, length-map, bytes_eq-Decides)
 
 -- A name of one or two bytes is `.` or `..` if its first and its last are dots.
 pub relative_by_ends : (x : List ℕ) → 1 ≤ length x → length x < 3
     → (bytes_eq x (codes ".") || bytes_eq x (codes "..")) ≡ (get_or x 0 0 == byte "." && get_or x (length x - 1) 0 == byte ".")
-relative_by_ends [] some few = absurd (omega arith)
 relative_by_ends (p ∷ []) some few = grind arith
 relative_by_ends (p ∷ q ∷ []) some few = grind arith
-relative_by_ends (p ∷ q ∷ r ∷ x) some few = absurd (omega arith)
+relative_by_ends _ some few = absurd (omega arith)
 
 -- what the search for the first fault takes from above
 pub ruleset first_faults = (relative_fault, separator_fault, ordinary_by_looks, ordinary_passes, unprotected_fault)

@@ -26,8 +26,7 @@ mended_of ps = map (λ p. cut (cleaned p)) (filter (λ p. not (is_empty p)) ps)
 
 mended_of-good : (ps : List (List ℕ)) → list_all is_good_piece (mended_of ps) ≡ true
 mended_of-good [] = refl
-mended_of-good ([] ∷ ps) = mended_of-good ps
-mended_of-good ((b ∷ p) ∷ ps) = grind (arith, mend_good (b ∷ p) refl, mended_of-good ps)
+mended_of-good (p ∷ ps) = grind (arith, mend_good, mended_of-good ps)
 
 mended_of-apart : (ps : List (List ℕ)) → list_all has_no_slash ps ≡ true → list_all has_no_slash (mended_of ps) ≡ true
 mended_of-apart [] h = refl
@@ -69,14 +68,10 @@ sanitized_some x some =
     (λ none. some (nil_from_length (nonempty_pieces x) (grind (arith, length-map (nonempty_pieces x) (λ p. cut (cleaned p))))))
     (mended_of-good (pieces x)) (mended_of-apart (pieces x) (pieces_apart x))
 
-partial_dash : is_partial_name (codes "-") ≡ true
-unfolding is_partial_name is_tag_name is_good_piece is_bad
-partial_dash = refl
-
 -- The sanitised text is a partial name.
 pub sanitized-partial : (x : List ℕ) → is_partial_name (sanitized x) ≡ true
-unfolding is_partial_name is_tag_name
-sanitized-partial x = grind (arith, nat_tests, sanitized_none, partial_dash, sanitized_some, and_from, not_from_false)
+unfolding is_partial_name is_tag_name is_good_piece is_bad
+sanitized-partial x = grind (arith, nat_tests, sanitized_none, sanitized_some, and_from, not_from_false)
 
 -- A partial name stays as it is.
 pub sanitized-own : (x : List ℕ) → is_partial_name x ≡ true → sanitized x ≡ x

@@ -102,7 +102,7 @@ added_by-own before (b ∷ p) h = grind (arith, and_parts, added-own before b, a
 allowed_kept : (b : ℕ) → (is_refused (allowed b) ≡ false) × ((allowed b == byte ".") ≡ (b == byte "."))
     × ((allowed b == byte "@") ≡ (b == byte "@")) × ((allowed b == byte "{") ≡ (b == byte "{"))
 unfolding is_bad is_refused
-allowed_kept b = (grind (arith, nat_tests), grind (arith, nat_tests), grind (arith, nat_tests), grind (arith, nat_tests))
+allowed_kept b = grind (arith, nat_tests)
 
 marks_follow : (before : Option ℕ) → is_after (byte ".") before ≡ false → may_follow before (byte_of before Dots) ≡ true
 unfolding is_bad is_refused
@@ -115,8 +115,7 @@ others_follow before b h = grind (arith, nat_tests, allowed_kept, dash_follows)
 follow_written : (before : Option ℕ) (b : ℕ) (t : List ℕ) → each_may_follow (Some b) t ≡ true
     → each_may_follow (Some (byte_of before (if b == byte "." then Dots else Other b))) t ≡ true
 follow_written before b [] h = grind arith
-follow_written None b (c ∷ t) h = grind (arith, nat_tests, allowed_kept b)
-follow_written (Some a) b (c ∷ t) h = grind (arith, nat_tests, allowed_kept b)
+follow_written before b (c ∷ t) h = grind (arith, nat_tests, allowed_kept b)
 
 -- Of a cleaned piece each byte may follow the one before.
 added_follows : (before : Option ℕ) (p : List ℕ) → each_may_follow before (added_by before p) ≡ true
@@ -167,17 +166,12 @@ mend_apart p apart =
 pub length-mend : (p : List ℕ) → length (cut (cleaned p)) ≤ length p
 length-mend p = grind (arith, cleaned-added, length-cut, length-added)
 
-is_empty-dash : (f : List ℕ) → is_empty (f ++ codes "-") ≡ false
-is_empty-dash [] = refl
-is_empty-dash (b ∷ f) = refl
-
 -- A good piece stays one with a dash for its last byte.
 pub dash_last-good : (p : List ℕ) → is_good_piece p ≡ true → is_good_piece (dash_last p) ≡ true
 dash_last-good p good =
     let f = take (length p - 1) p in
-    let front = each_may_follow-front None f (drop (length p - 1) p) in
-    let follows = each_may_follow-dash None f (grind (arith, is_good_piece-bytes, take-append-drop (length p - 1) p)) in
-    is_good_piece-from (dash_last p) (is_empty-dash f) follows
+    is_good_piece-from (dash_last p) (grind arith)
+    (grind (arith, is_good_piece-bytes, take-append-drop (length p - 1) p, each_may_follow-front None f (drop (length p - 1) p), each_may_follow-dash None f))
     (λ g e. grind (arith, same_from_push f (g ++ codes ".loc") (byte "-") (byte "k"), append_assoc))
 
 pub dash_last-apart : (p : List ℕ) → has_no_slash p ≡ true → has_no_slash (dash_last p) ≡ true

@@ -14,7 +14,9 @@ use Rattle.gix_validate.specs.Private.TagWalk.{may_be_faulty}
 use Rattle.gix_validate.specs.Pieces.{is_slash, joined}
 use Rattle.gix_validate.specs.Sanitized.{Dots, Other, byte_of, mended_pieces, repaired_dot, repaired_at, repaired_nothing, sanitized}
 use Rattle.gix_validate.proofs.Texts.Endings.{ends-no}
-use Rattle.gix_validate.proofs.TagNames.ClearTexts.{no_lock, pair_quiet}
+use Rattle.gix_validate.proofs.TagNames.ClearTexts.{no_lock, pair_quiet, clear_is_partial}
+use Rattle.gix_validate.proofs.Sanitizing.Laws.{sanitized-own, sanitized_laws}
+use Rattle.std.proofs.Common.{length-take}
 use Rattle.gix_validate.proofs.Sanitizing.LockSuffixes.{cut-own}
 use Rattle.gix_validate.proofs.Sanitizing.MendedPieces.{added}
 use Rattle.gix_validate.proofs.Sanitizing.WrittenPiece.{in_piece, closed, finished, GivesWhole, GivesWhole-start, GivesWhole-slash}
@@ -136,3 +138,6 @@ pub repaired_none : (buf : List ℕ) (end : ℕ) → 1 ≤ length buf → end �
     → take 1 (set buf 0 (byte "-")) ≡ repaired_nothing (repaired_at (repaired_dot (take end buf)))
 repaired_none [] end some none = absurd (omega arith)
 repaired_none (b ∷ buf) end some none = ap (λ v. repaired_nothing (repaired_at (repaired_dot (take v (b ∷ buf))))) (sym none)
+
+-- what the repair in a buffer takes from above
+pub ruleset in_place = (length-take, clear_is_partial, sanitized-own, sanitized_laws, sanitized-in_place, rest-in_place)

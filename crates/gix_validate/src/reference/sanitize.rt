@@ -97,6 +97,7 @@ fn fill_sanitized(name: &mut Vec<u8>, path: &[u8]) -> Result<(), AllocError>
 /// It never fails and doesn't allocate. It looks at the name once: at sixteen bytes at a time up to
 /// the first that may have to change, and from there on byte by byte. Most valid partial names have
 /// no such byte.
+#[tactic(auto, using(crate::proofs::Sanitizing::OneBuffer::in_place))]
 pub fn sanitize_in_place(buf: &mut [u8], len: usize) -> usize
     requires some { 1 ≤ length buf.old }
     requires within { len ≤ length buf.old }

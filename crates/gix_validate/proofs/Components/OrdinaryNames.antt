@@ -114,22 +114,18 @@ pub ordinary_passes : (options : ComponentOptions) (mode : Option ComponentMode)
 ordinary_passes options mode x some classed end special = grind (arith, nat_tests, ordinary_by_looks, ordinary_fault)
 
 -- `.git` and `.gitmodules` in any letter case
-pub git_fault : (options : ComponentOptions) (mode : Option ComponentMode) (x : List ℕ) → bytes_eq (lower x) (codes ".git") ≡ true
-    → fault_of options mode x ≡ Some DotGitDir
+pub special_fault : (options : ComponentOptions) (mode : Option ComponentMode) (x : List ℕ)
+    → (bytes_eq (lower x) (codes ".git") ≡ true → fault_of options mode x ≡ Some DotGitDir)
+    × (bytes_eq (lower x) (codes ".gitmodules") ≡ true → fault_of options mode x ≡ when (is_some mode) SymlinkedGitModules)
 unfolding components_on_literals
-git_fault options mode x git = grind (arith, case_law, bytes_eq-Decides)
-
-pub modules_fault : (options : ComponentOptions) (mode : Option ComponentMode) (x : List ℕ) → bytes_eq (lower x) (codes ".gitmodules") ≡ true
-    → fault_of options mode x ≡ when (is_some mode) SymlinkedGitModules
-unfolding components_on_literals
-modules_fault options mode x modules = grind (arith, case_law, bytes_eq-Decides)
+special_fault options mode x = grind (arith, case_law, bytes_eq-Decides)
 
 pub relative_fault : (options : ComponentOptions) (mode : Option ComponentMode) (x : List ℕ) → (bytes_eq x (codes ".") || bytes_eq x (codes "..")) ≡ true
     → fault_of options mode x ≡ Some Relative
-unfolding components_on_literals
+unfolding fault_of conditions
 relative_fault options mode x dots = grind (arith, bytes_eq-Decides)
 
-pub ruleset faults_of_ordinary = (ordinary_fault, git_fault, modules_fault)
+pub ruleset faults_of_ordinary = (ordinary_fault, special_fault)
 
 pub separator_fault : (options : ComponentOptions) (mode : Option ComponentMode) (x : List ℕ)
     → (is_among x (byte "/") || (options.protect_windows && is_among x (byte "\\"))) ≡ true → fault_of options mode x ≡ Some PathSeparator

@@ -54,8 +54,7 @@ dash_follows before = grind (arith, nat_tests)
 
 -- A dash may follow each byte, and first.
 pub each_may_follow-dash : (before : Option ℕ) (f : List ℕ) → each_may_follow before f ≡ true → each_may_follow before (f ++ codes "-") ≡ true
-unfolding is_bad is_refused
-each_may_follow-dash before [] h = grind arith
+each_may_follow-dash before [] h = grind (arith, dash_follows)
 each_may_follow-dash before (b ∷ f) h = grind (arith, each_may_follow-dash (Some b) f)
 
 -- the byte before is this one
@@ -89,14 +88,11 @@ length-added : (before : Option ℕ) (p : List ℕ) → length (added_by before 
 length-added before [] = grind arith
 length-added before (b ∷ p) = grind (arith, length-added (Some b) p)
 
-added-own : (before : Option ℕ) (b : ℕ) → may_follow before b ≡ true → added before b ≡ b ∷ []
-unfolding is_refused
-added-own before b h = grind (arith, nat_tests)
-
 -- A piece whose bytes may each follow the one before stays as it is.
 added_by-own : (before : Option ℕ) (p : List ℕ) → each_may_follow before p ≡ true → added_by before p ≡ p
+unfolding is_refused
 added_by-own before [] h = grind arith
-added_by-own before (b ∷ p) h = grind (arith, and_parts, added-own before b, added_by-own (Some b) p)
+added_by-own before (b ∷ p) h = grind (arith, nat_tests, added_by-own (Some b) p)
 
 -- an allowed byte is one that a good piece may have, and is a dot, `@` or `{` only if the byte is
 allowed_kept : (b : ℕ) → (is_refused (allowed b) ≡ false) × ((allowed b == byte ".") ≡ (b == byte "."))

@@ -61,8 +61,9 @@ gives_front x (suc n) within quiet =
     rw (add-one n) at (gives_more x n (omega (arith, within)) (λ k below. quiet k (omega (arith, below))) so_far)
 
 -- Bytes that aren't suspect are mended already.
-pub MendedUpTo-start : (text : List ℕ) (n : ℕ) → n ≤ length text → NoneBelow (suspect_at text) n → MendedUpTo text text n n (get_or (byte "/" ∷ text) n 0)
-MendedUpTo-start text n within quiet = record { written = omega arith; long = refl; gives = gives_front text n within quiet }
+pub MendedUpTo-start : (text : List ℕ) (n previous : ℕ) → n ≤ length text → NoneBelow (suspect_at text) n → previous ≡ get_or (byte "/" ∷ text) n 0
+    → MendedUpTo text text n n previous
+MendedUpTo-start text n previous within quiet is = record { written = omega arith; long = refl; gives = rw is (gives_front text n within quiet) }
 
 pub before_front : (x : List ℕ) (n : ℕ) → n ≢ 0 → get_or (byte "/" ∷ x) n 0 ≡ get_or x (n - 1) 0
 before_front x n some = grind (arith, nat_tests)

@@ -32,11 +32,10 @@ skips range = agree_below (λ k. is_within range (k + byte "a")) (λ k. is_withi
 
 fitting_len-lower : (row : List (ℕ × ℕ)) → list_all skips row ≡ true → (x : List ℕ) → fitting_len row (lower x) ≡ fitting_len row x
 unfolding skips
-fitting_len-lower [] ok x = refl
-fitting_len-lower (range ∷ row) ok [] = refl
 fitting_len-lower (range ∷ row) ok (b ∷ x) =
     let parts = and_parts _ _ ok in
     rw (test-lower_byte (is_within range) parts.0 b, fitting_len-lower row parts.1 x)
+fitting_len-lower _ ok _ = refl
 
 table-lower : (rows : List (List (ℕ × ℕ))) → list_all (list_all skips) rows ≡ true → (x : List ℕ)
     → (whole_len rows (lower x) ≡ whole_len rows x) × (begun_len rows (lower x) ≡ begun_len rows x)

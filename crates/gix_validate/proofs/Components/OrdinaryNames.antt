@@ -1,5 +1,5 @@
 -- Ordinary names: no condition but the one on devices refuses one.
-use Rattle.std.proofs.Common.{◌≡◌, ℕ, ◌-◌, ◌<◌, ◌≤◌, Bool, true, false, not, ◌&&◌, ◌||◌, eqb, Option, None, Some, List}
+use Rattle.std.proofs.Common.{◌≡◌, ℕ, ◌-◌, ◌<◌, ◌≤◌, Bool, true, false, ◌&&◌, ◌||◌, Option, None, Some, List}
 use Rattle.std.proofs.Common.{[], ◌∷◌, ◌++◌, length, get_or, refl, ◌∙◌, arith, codes}
 use Rattle.std.specs.Prelude.{slice_index, is_some}
 use Rattle.std.specs.Bool.{◌==◌}
@@ -17,7 +17,7 @@ use Rattle.gix_validate.specs.Units.{first_unit_len}
 use Rattle.gix_validate.specs.Ntfs.{ntfs_form, is_git_form, is_modules_form, is_short_name}
 use Rattle.gix_validate.specs.Windows.{is_device, is_illegal, is_illegal_byte}
 use Rattle.gix_validate.specs.Component.{conditions, fault_of}
-use Rattle.gix_validate.specs.Private.Ordinary.{is_lead, is_classed, has_ordinary_bytes}
+use Rattle.gix_validate.specs.Private.Ordinary.{is_lead, is_classed}
 use Rattle.gix_validate.proofs.Components.Laws.{case_law}
 use Rattle.gix_validate.proofs.OnLiterals.{components_on_literals}
 use Rattle.gix_validate.proofs.Texts.LetterCase.{list_any-lower}
@@ -76,42 +76,25 @@ no_form f clean git modules =
 
 -- an ordinary name
 
-ordinary_parts : (x : List ℕ) → has_ordinary_bytes x ≡ true → (0 < length x) × (ends x (codes ".") ≡ false) × (ends x (codes " ") ≡ false)
-    × (list_any is_classed x ≡ false)
-unfolding has_ordinary_bytes
-ordinary_parts x ordinary = grind arith
-
 -- a text that ends otherwise is another text
 other_end : (x : List ℕ) → ends x (codes ".") ≡ false → (bytes_eq x (codes ".") || bytes_eq x (codes "..")) ≡ false
 other_end x other = grind (arith, bytes_eq-Decides)
 
-pub ordinary_fault : (options : ComponentOptions) (mode : Option ComponentMode) (x : List ℕ) → has_ordinary_bytes x ≡ true
+pub ordinary_fault : (options : ComponentOptions) (mode : Option ComponentMode) (x : List ℕ) → 1 ≤ length x
+    → (ends x (codes ".") || ends x (codes " ")) ≡ false → list_any is_classed x ≡ false
     → bytes_eq (lower x) (codes ".git") ≡ false → bytes_eq (lower x) (codes ".gitmodules") ≡ false
     → fault_of options mode x ≡ when (options.protect_windows && options.protect_ntfs && is_device x) WindowsReservedName
 unfolding fault_of conditions is_illegal ntfs_form
-ordinary_fault options mode [] ordinary git modules = absurd (omega (arith, (ordinary_parts [] ordinary).0))
-ordinary_fault options mode (b ∷ x) ordinary git modules =
-    let has = ordinary_parts (b ∷ x) ordinary in
-    let none = unclassed (b ∷ x) has.3 in
+ordinary_fault options mode [] some end classed git modules = absurd (omega arith)
+ordinary_fault options mode (b ∷ x) some end classed git modules =
+    let ends = or_parts _ _ end in
+    let none = unclassed (b ∷ x) classed in
     let hfs = hfs_form_same (b ∷ x) none.1 in
     let last : is_among (codes " .") (get_or (b ∷ x) (length x) 0) ≡ false = grind (arith, ends_read) in
-    let ntfs = form_same (is_among (codes ":\\")) (is_among (codes " .")) b x (uncut (b ∷ x) has.3) last in
+    let ntfs = form_same (is_among (codes ":\\")) (is_among (codes " .")) b x (uncut (b ∷ x) classed) last in
     let forms = no_form (lower (b ∷ x)) (list_any-lower is_tilde refl (b ∷ x) ∙ none.4) git modules in
     let colon = legal_no_prefix (b ∷ x) (first_unit_len (b ∷ x)) none.0 in
-    rw (other_end (b ∷ x) has.1, none.2, none.3, colon, hfs, ntfs, forms.0, forms.1, git, modules, none.0, has.1, has.2) (grind arith)
-
--- the test by its parts
-
-pub ordinary_by_looks : (x : List ℕ)
-    → has_ordinary_bytes x ≡ ((not (eqb (length x) 0) && not (ends x (codes ".") || ends x (codes " "))) && not (list_any is_classed x))
-unfolding has_ordinary_bytes
-ordinary_by_looks x = grind arith
-
-pub ordinary_passes : (options : ComponentOptions) (mode : Option ComponentMode) (x : List ℕ) → 1 ≤ length x → list_any is_classed x ≡ false
-    → (ends x (codes ".") || ends x (codes " ")) ≡ false
-    → (is_device x || (bytes_eq (lower x) (codes ".git") || bytes_eq (lower x) (codes ".gitmodules"))) ≡ false
-    → fault_of options mode x ≡ None
-ordinary_passes options mode x some classed end special = grind (arith, nat_tests, ordinary_by_looks, ordinary_fault)
+    rw (other_end (b ∷ x) ends.0, none.2, none.3, colon, hfs, ntfs, forms.0, forms.1, git, modules, none.0, ends.0, ends.1) (grind arith)
 
 -- `.git` and `.gitmodules` in any letter case
 pub special_fault : (options : ComponentOptions) (mode : Option ComponentMode) (x : List ℕ)
@@ -146,4 +129,4 @@ relative_by_ends (p ∷ q ∷ []) some few = grind arith
 relative_by_ends _ some few = absurd (omega arith)
 
 -- what the search for the first fault takes from above
-pub ruleset first_faults = (relative_fault, separator_fault, ordinary_by_looks, ordinary_passes, unprotected_fault)
+pub ruleset first_faults = (relative_fault, separator_fault, ordinary_fault, unprotected_fault)

@@ -1,5 +1,5 @@
 -- The laws of the sanitised text.
-use Rattle.std.proofs.Common.{◌≡◌, ◌≢◌, ◌⊎◌, inl, inr, ℕ, ◌≤◌, max, true, false, List, [], ◌∷◌, length, map, refl, sym, ap, ◌∙◌, arith, length-append, length-take}
+use Rattle.std.proofs.Common.{◌≡◌, ◌≢◌, ◌⊎◌, ℕ, ◌≤◌, max, true, false, List, [], ◌∷◌, length, map, refl, sym, ap, ◌∙◌, arith, length-append, length-take}
 use Rattle.std.specs.Prelude.{codes, not, ◌↔◌, IsTrue, filter}
 use Rattle.std.specs.List.{list_all}
 use Rattle.std.specs.Str.{byte, bytes_eq}
@@ -89,15 +89,9 @@ none_empty_from : (ps : List (List ℕ)) → list_all is_good_piece ps ≡ true 
 none_empty_from [] h = refl
 none_empty_from (p ∷ ps) h = grind (arith, good_nonempty p, none_empty_from ps)
 
-keeps_own : (ps : List (List ℕ)) → KeepsGood ps (map (λ p. cut (cleaned p)) ps)
-keeps_own [] = tt
-keeps_own (p ∷ []) = λ good. inl (mend-own p good)
-keeps_own (p ∷ q ∷ ps) = (mend-own p, keeps_own (q ∷ ps))
-
-keeps_dashed : (ps : List (List ℕ)) → KeepsGood ps (dash_last_of (map (λ p. cut (cleaned p)) ps))
-keeps_dashed [] = tt
-keeps_dashed (p ∷ []) = λ good. inr (ap dash_last (mend-own p good))
-keeps_dashed (p ∷ q ∷ ps) = (mend-own p, keeps_dashed (q ∷ ps))
+keeps : (ps : List (List ℕ)) → KeepsGood ps (map (λ p. cut (cleaned p)) ps) × KeepsGood ps (dash_last_of (map (λ p. cut (cleaned p)) ps))
+keeps (p ∷ q ∷ ps) = grind (arith, mend-own, keeps (q ∷ ps))
+keeps _ = grind (arith, mend-own)
 
 -- The text is made piece by piece.
 pub sanitized-piecewise : (x : List ℕ) → IsPiecewise x (sanitized x)
@@ -105,7 +99,7 @@ sanitized-piecewise x = record {
   some = λ some. (let r = sanitized_some x some in record {
     as_many = grind (arith, length-dash_last_of, length-map (nonempty_pieces x) (λ p. cut (cleaned p)));
     none_empty = none_empty_from (pieces (sanitized x)) r.good;
-    kept = grind (arith, r.from, keeps_own (nonempty_pieces x), keeps_dashed (nonempty_pieces x));
+    kept = grind (arith, r.from, keeps (nonempty_pieces x));
     mended = r.from;
   });
   none = sanitized_none x;

@@ -1,5 +1,5 @@
 -- What was written, and the rest that is not yet read, decide the mended pieces of the whole text.
-use Rattle.std.proofs.Common.{◌≡◌, ℕ, ◌-◌, true, false, cond, List, [], ◌∷◌, ◌++◌, length, take, refl, sym, ap, ◌∙◌, arith, length-append, append_assoc}
+use Rattle.std.proofs.Common.{◌≡◌, ℕ, ◌-◌, true, false, cond, List, [], ◌∷◌, ◌++◌, length, take, refl, sym, arith, length-append, append_assoc}
 use Rattle.std.proofs.Common.{append-nil}
 use Rattle.std.specs.Prelude.{codes, if◌then◌else◌, Option, Some, None}
 use Rattle.std.specs.Str.{byte}
@@ -89,12 +89,9 @@ pub GivesWhole-slash : (whole written : List ℕ) (previous b : ℕ) (rest : Lis
 GivesWhole-slash whole written previous b rest so_far slash = record {
   texts = so_far.texts ++ kept so_far.piece;
   piece = [];
-  is = ap (λ v. closed v previous) so_far.is ∙ closed-slashed so_far.texts so_far.piece previous so_far.begun;
+  is = grind (arith, closed-slashed, so_far.is, so_far.begun);
   begun = sym slash;
-  gives =
-      let split : pieces (b ∷ rest) ≡ [] ∷ pieces rest = rw slash refl in
-      rw slash (sym (mended_from-next so_far.texts so_far.piece (in_piece previous) (pieces rest))
-      ∙ (ap (mended_from so_far.texts so_far.piece (in_piece previous)) (sym split) ∙ so_far.gives));
+  gives = grind (arith, nat_tests, slash, mended_from-next so_far.texts so_far.piece (in_piece previous) (pieces rest), so_far.gives);
 }
 
 -- Where no rest is left, the last piece ends.

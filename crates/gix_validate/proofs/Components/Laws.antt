@@ -19,6 +19,7 @@ use Rattle.gix_validate.specs.Windows.{device_form, is_device_form, is_device, i
 use Rattle.gix_validate.specs.Component.{conditions, fault_of, is_component}
 use Rattle.gix_validate.specs.ComponentLaws.{HasOnlySwitchesOf, IsValidUnderFewerSwitches, FaultIgnoresCase, FormIsKeptUnits}
 use Rattle.gix_validate.specs.ComponentLaws.{IsBasicName, DeviceIgnoresCase, DeviceGoesByForm}
+use Rattle.gix_validate.proofs.OnLiterals.{components_on_literals}
 use Rattle.gix_validate.proofs.Components.Forms.{form_cut, form_trimmed}
 use Rattle.gix_validate.proofs.Components.HfsForm.{hfs_form-units}
 use Rattle.gix_validate.proofs.Texts.LetterCase.{test-lower_byte, lower-lower, list_any-lower, bytes_eq-lower}
@@ -105,19 +106,15 @@ first_from_AllNone [] none = refl
 first_from_AllNone (line ∷ lines) none = rw none.0 (first_from_AllNone lines none.1)
 
 -- A name that is plainly a word has forms that stand for it too.
-plain_forms : (word : List ℕ) (test : List ℕ → Bool) → hfs_form word ≡ word → test (ntfs_form word) ≡ true → (x : List ℕ)
-    → bytes_eq (lower x) word ≡ true → (bytes_eq (lower (hfs_form x)) word ≡ true) × (test (lower (ntfs_form x)) ≡ true)
-plain_forms word test hfs ntfs x plain = grind (arith, bytes_eq-Decides, hfs_form-lower, ntfs_form-lower)
-
 git_forms : (x : List ℕ) → bytes_eq (lower x) (codes ".git") ≡ true
     → (bytes_eq (lower (hfs_form x)) (codes ".git") ≡ true) × (is_git_form (lower (ntfs_form x)) ≡ true)
-unfolding hfs_form is_ignored ntfs_form is_git_form
-git_forms = plain_forms (codes ".git") is_git_form refl refl
+unfolding components_on_literals
+git_forms x plain = rw (sym (hfs_form-lower x), sym (ntfs_form-lower x)) (grind (arith, bytes_eq-Decides))
 
 modules_forms : (x : List ℕ) → bytes_eq (lower x) (codes ".gitmodules") ≡ true
     → (bytes_eq (lower (hfs_form x)) (codes ".gitmodules") ≡ true) × (is_modules_form (lower (ntfs_form x)) ≡ true)
-unfolding hfs_form is_ignored ntfs_form is_modules_form
-modules_forms = plain_forms (codes ".gitmodules") is_modules_form refl refl
+unfolding components_on_literals
+modules_forms x plain = rw (sym (hfs_form-lower x), sym (ntfs_form-lower x)) (grind (arith, bytes_eq-Decides))
 
 none_under_fewer : (options fewer : ComponentOptions) (mode other : Option ComponentMode) → HasOnlySwitchesOf fewer options
     → (IsTrue (is_some other) → IsTrue (is_some mode)) → (x : List ℕ) → AllNone (conditions options mode x) → fault_of fewer other x ≡ None

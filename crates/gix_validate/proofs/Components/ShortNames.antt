@@ -80,17 +80,12 @@ eight_long x other modules = grind (arith, common_steps, other_is_plain, ntfs_fo
 -- A name that begins with no dot stands for `.gitmodules` if and only if its first eight bytes do, and the form ends after them.
 pub modules_elsewhere : (x : List ℕ) → eqb (lower_byte (get_or x 0 0)) (byte ".") ≡ false → 8 ≤ length x
     → is_modules_form (lower (ntfs_form x)) ≡ (is_modules_form (lower (take 8 x)) && is_empty (ntfs_form (drop 8 x)))
-modules_elsewhere x other long = bool_same _ _ forward back
-  where
-    forward : is_modules_form (lower (ntfs_form x)) ≡ true → (is_modules_form (lower (take 8 x)) && is_empty (ntfs_form (drop 8 x))) ≡ true
-    forward modules = grind (arith, eight_long, form_is_front x)
-
-    back : (is_modules_form (lower (take 8 x)) && is_empty (ntfs_form (drop 8 x))) ≡ true → is_modules_form (lower (ntfs_form x)) ≡ true
-    back both =
-        let parts = and_parts (is_modules_form (lower (take 8 x))) (is_empty (ntfs_form (drop 8 x))) both in
-        let eight : length (lower (take 8 x)) ≡ 8 = length-map (take 8 x) lower_byte ∙ length-take-le 8 x long in
-        let plain = (other_is_plain (lower (take 8 x)) (not_eleven _ eight) parts.0).1 in
-        ap (λ f. is_modules_form (lower f)) (plain_front 8 x (sym (list_all-lower stays_in_form refl (take 8 x)) ∙ plain) parts.1) ∙ parts.0
+modules_elsewhere x other long =
+    let eight : length (lower (take 8 x)) ≡ 8 = length-map (take 8 x) lower_byte ∙ length-take-le 8 x long in
+    bool_same _ _ (λ modules. grind (arith, eight_long, form_is_front x)) (λ both.
+    let parts = and_parts (is_modules_form (lower (take 8 x))) (is_empty (ntfs_form (drop 8 x))) both in
+    let plain = (other_is_plain (lower (take 8 x)) (not_eleven _ eight) parts.0).1 in
+    ap (λ f. is_modules_form (lower f)) (plain_front 8 x (sym (list_all-lower stays_in_form refl (take 8 x)) ∙ plain) parts.1) ∙ parts.0)
 
 -- With fewer bytes it never does.
 pub modules_too_short : (x : List ℕ) → eqb (lower_byte (get_or x 0 0)) (byte ".") ≡ false → length x < 8 → is_modules_form (lower (ntfs_form x)) ≡ false

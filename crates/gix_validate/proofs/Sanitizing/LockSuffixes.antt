@@ -70,8 +70,7 @@ cut_open t f e = grind (arith, cut_front t, cut-append, length-cut, length-appen
 
 pub cut_lock : (t : List ℕ) (n : ℕ) → n ≤ length t → ends (take n t) (codes ".lock") ≡ true → (5 ≤ n) × (cut (take (n - 5) t) ≡ cut (take n t))
 cut_lock t n within lock =
-    let e = ends-true (take n t) (codes ".lock") lock in
-    grind (arith, length-take, length-append, take-take, cut-append (take (n - 5) t) (codes ".lock") refl)
+    grind (arith, ends-true (take n t) (codes ".lock"), length-take, length-append, take-take, cut-append (take (n - 5) t) (codes ".lock") refl)
 
 pub cut_none : (t : List ℕ) → ends t (codes ".lock") ≡ false → cut t ≡ t
 cut_none t none = cut-own t (ends-no t (codes ".lock") none)

@@ -117,9 +117,7 @@ follow_written before b (c ∷ t) h = grind (arith, nat_tests, allowed_kept b)
 added_follows : (before : Option ℕ) (p : List ℕ) → each_may_follow before (added_by before p) ≡ true
 added_follows before [] = grind arith
 added_follows before (b ∷ p) =
-    let rest = added_follows (Some b) p in
-    let follow = follow_written before b (added_by (Some b) p) rest in
-    grind (arith, nat_tests, marks_follow before, others_follow before b)
+    grind (arith, nat_tests, marks_follow before, others_follow before b, follow_written before b (added_by (Some b) p), added_follows (Some b) p)
 
 -- A cleaned piece has no slash where the piece has none.
 added-apart : (before : Option ℕ) (p : List ℕ) → has_no_slash p ≡ true → has_no_slash (added_by before p) ≡ true
@@ -146,9 +144,8 @@ is_good_piece-from p some follows other = grind (arith, is_good_piece-bytes, end
 pub mend_good : (p : List ℕ) → is_empty p ≡ false → is_good_piece (cut (cleaned p)) ≡ true
 mend_good p some =
     let follows : each_may_follow None (cleaned p) ≡ true = grind (arith, cleaned-added p, added_follows None p) in
-    let front = each_may_follow-front None (cut (cleaned p)) (drop (length (cut (cleaned p))) (cleaned p)) in
     is_good_piece-from (cut (cleaned p)) (cut_some (cleaned p) (cleaned_some p some) follows)
-    (grind (arith, cut_front (cleaned p))) (cut_open (cleaned p))
+    (grind (arith, cut_front (cleaned p), each_may_follow-front None (cut (cleaned p)) (drop (length (cut (cleaned p))) (cleaned p)))) (cut_open (cleaned p))
 
 -- A good piece stays as it is.
 pub mend-own : (p : List ℕ) → is_good_piece p ≡ true → cut (cleaned p) ≡ p

@@ -63,10 +63,6 @@ mended_from-next : (texts : List (List ℕ)) (piece : List ℕ) (before : Option
     → mended_from texts piece before ([] ∷ ps) ≡ mended_from (texts ++ kept piece) [] None ps
 mended_from-next texts piece before ps = grind (arith, append-nil, append_assoc, mended_from-start)
 
-mended_from-byte : (texts : List (List ℕ)) (piece : List ℕ) (before : Option ℕ) (b : ℕ) (rest : List ℕ) → is_slash b ≡ false
-    → mended_from texts piece before (pieces (b ∷ rest)) ≡ mended_from texts (piece ++ added before b) (Some b) (pieces rest)
-mended_from-byte texts piece before b rest h = grind (arith, nat_tests, append_assoc, append-nil)
-
 -- After what is written, and this byte, the rest still gives what the whole gives.
 pub record GivesWhole (whole written : List ℕ) (previous : ℕ) (rest : List ℕ) : Type 0 where
   pub texts : List (List ℕ)
@@ -81,7 +77,7 @@ GivesWhole-start text = record { texts = []; piece = []; is = refl; begun = refl
 -- A byte of a piece adds to it.
 pub GivesWhole-byte : (whole written : List ℕ) (previous b : ℕ) (rest : List ℕ) → GivesWhole whole written previous (b ∷ rest) → is_slash b ≡ false
     → GivesWhole whole (written ++ added (in_piece previous) b) b rest
-GivesWhole-byte whole written previous b rest so_far other = grind (arith, nat_tests, added, append_assoc, mended_from-byte)
+GivesWhole-byte whole written previous b rest so_far other = grind (arith, nat_tests, added, append_assoc, append-nil)
 
 -- A slash ends the piece.
 pub GivesWhole-slash : (whole written : List ℕ) (previous b : ℕ) (rest : List ℕ) → GivesWhole whole written previous (b ∷ rest) → is_slash b ≡ true

@@ -5,7 +5,6 @@ use Rattle.std.specs.Prelude.{IsTrue, ◌==◌, map, nat_le}
 use Rattle.std.specs.List.{list_all, list_any}
 use Rattle.std.specs.Str.{byte, bytes_eq}
 use Rattle.std.proofs.lemmas.Bool.Decides.{nat_tests}
-use Rattle.std.proofs.lemmas.Bool.{false_from_ne_true}
 use Rattle.std.proofs.lemmas.Slice.Eq.{bytes_eq-Decides}
 use Rattle.std.proofs.Math.Bool.{or-false}
 use Rattle.std.proofs.lemmas.Grind.{common_steps}
@@ -140,15 +139,9 @@ low_bits : (b l : ℕ) → lower_byte b ≡ l → b % 32 ≡ l % 32
 unfolding lower_byte
 low_bits b l e = grind arith
 
-three_letters : (a b c : ℕ) (x rest : List ℕ) → bytes_eq (lower (a ∷ b ∷ c ∷ x)) (byte "." ∷ byte "g" ∷ byte "i" ∷ rest) ≡ true
-    → (lower_byte a ≡ byte ".") × (lower_byte b ≡ byte "g") × (lower_byte c ≡ byte "i")
-three_letters a b c x rest e = grind (arith, bytes_eq-Decides)
-
 pub front_bits : (x rest : List ℕ) → bits_of x ≡ 0 → bytes_eq (lower x) (byte "." ∷ byte "g" ∷ byte "i" ∷ rest) ≡ false
 unfolding bits
-front_bits (a ∷ b ∷ c ∷ x) rest none = false_from_ne_true _ (λ e.
-    let same = three_letters a b c x rest e in
-    absurd (omega (arith, rw (low_bits a (byte ".") same.0, low_bits b (byte "g") same.1, low_bits c (byte "i") same.2) at none)))
+front_bits (a ∷ b ∷ c ∷ x) rest none = grind (arith, nat_tests, low_bits)
 front_bits _ rest none = grind arith
 
 pub same_length : (x word : List ℕ) → bytes_eq (lower x) word ≡ true → length x ≡ length word

@@ -59,9 +59,8 @@ locks_none _ h other = grind arith
 -- A text that does not end in `.lock` is left as it is.
 pub cut-own : (t : List ℕ) → ((f : List ℕ) → t ≢ f ++ codes ".lock") → cut t ≡ t
 cut-own t other =
-    let rest = drop (length (cut t)) t in
     let front = cut_front t in
-    let none = locks_none rest front.1 (λ f e. other (cut t ++ f) (front.0 ∙ (ap (λ v. cut t ++ v) e ∙ sym (append_assoc (cut t) f (codes ".lock"))))) in
+    let none = locks_none (drop (length (cut t)) t) front.1 (λ f e. other (cut t ++ f) (grind (arith, append_assoc))) in
     grind (arith, append-nil)
 
 -- What is left does not end in `.lock`.

@@ -110,10 +110,8 @@ pub MendedUpTo-slash : (whole text new : List ℕ) (end read previous n : ℕ) �
     → take n new ≡ closed (take end text) previous
     → drop (end + 1) new ≡ drop (end + 1) text → MendedUpTo whole new n (read + 1) (get_or text read 0)
 MendedUpTo-slash whole text new end read previous n so_far room slash same within written rest =
-    let b = get_or text read 0 in
-    let gives : GivesWhole whole (take end text) previous (b ∷ drop (read + 1) text) = rw (drop_more text read 0 room) at so_far.gives in
-    MendedUpTo-later whole text new end read previous n b so_far room same rest (omega (arith, so_far.written, within))
-    (rw (sym written) at (GivesWhole-slash _ _ _ _ _ gives slash))
+    let slashed = GivesWhole-slash whole (take end text) previous (get_or text read 0) (drop (read + 1) text) in
+    grind (arith, nat_tests, GivesWhole, slashed, drop_more text read 0, MendedUpTo-later whole text new end read previous n)
 
 -- At the end of the text the last piece ends.
 pub mended_text : (whole text : List ℕ) (end read previous : ℕ) → MendedUpTo whole text end read previous → length text ≤ read

@@ -94,9 +94,7 @@ fn fill_sanitized(name: &mut Vec<u8>, path: &[u8]) -> Result<(), AllocError>
 /// sanitize_in_place(&mut buffer, 3); // 2, and the buffer begins with `-a` and ends in `zz`
 /// ```
 ///
-/// It never fails and doesn't allocate. It looks at the name once: at sixteen bytes at a time up to
-/// the first that may have to change, and from there on byte by byte. Most valid partial names have
-/// no such byte.
+/// It never fails and doesn't allocate.
 #[tactic(auto, using(crate::proofs::Sanitizing::OneBuffer::in_place))]
 pub fn sanitize_in_place(buf: &mut [u8], len: usize) -> usize
     requires some { 1 ≤ length buf.old }

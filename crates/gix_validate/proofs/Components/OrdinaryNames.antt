@@ -32,7 +32,6 @@ abbrev is_tilde : ℕ → Bool
 is_tilde b = b == byte "~"
 
 -- what a name without classed bytes has none of
-
 unclassed : (x : List ℕ) → list_any is_classed x ≡ false
     → (list_any is_illegal_byte x ≡ false) × (list_any is_lead x ≡ false) × (is_among x (byte "/") ≡ false) × (is_among x (byte "\\") ≡ false)
     × (list_any is_tilde x ≡ false)
@@ -49,8 +48,6 @@ uncut (b ∷ x) none = grind (arith, uncut x)
 pub legal_no_prefix : (x : List ℕ) (n : ℕ) → list_any is_illegal_byte x ≡ false → (slice_index x n == byte ":") ≡ false
 unfolding is_illegal_byte
 legal_no_prefix x n legal = grind (arith, common_steps, list_any_at)
-
--- the NTFS form
 
 -- a form from which nothing is cut
 form_same : (cut trim : ℕ → Bool) (b : ℕ) (x : List ℕ) → list_any cut (b ∷ x) ≡ false → trim (get_or (b ∷ x) (length x) 0) ≡ false
@@ -73,8 +70,6 @@ no_form f clean git modules =
     let digits = list_any_none (λ digit. bytes_eq f (codes "gitmod~" ++ digit ∷ [])) (codes "1234") (λ k d h. other_word f _ clean refl) in
     let short = list_any_none (λ k. is_short_name k f) (0 ∷ 1 ∷ 2 ∷ 3 ∷ 4 ∷ 5 ∷ 6 ∷ []) (λ k d h. no_short_name _ f clean) in
     (rw (git, other_word f (codes "git~1") clean refl) refl, rw (modules, digits, short) refl)
-
--- an ordinary name
 
 -- a text that ends otherwise is another text
 other_end : (x : List ℕ) → ends x (codes ".") ≡ false → (bytes_eq x (codes ".") || bytes_eq x (codes "..")) ≡ false

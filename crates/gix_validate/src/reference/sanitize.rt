@@ -95,7 +95,6 @@ fn fill_sanitized(name: &mut Vec<u8>, path: &[u8]) -> Result<(), AllocError>
 /// ```
 ///
 /// It never fails and doesn't allocate.
-#[tactic(auto, using(crate::proofs::Sanitizing::OneBuffer::in_place))]
 pub fn sanitize_in_place(buf: &mut [u8], len: usize) -> usize
     requires some { 1 ≤ length buf.old }
     requires within { len ≤ length buf.old }

@@ -1,13 +1,24 @@
-use Rattle.std.proofs.Common.{◌≡◌, take, subst, arith}
+use Rattle.std.proofs.Common.{◌≡◌, true, take, subst, sym, refl, arith}
+use Rattle.gix_validate.specs.Reference.{is_partial_name}
 use Rattle.gix_validate.specs.Sanitized.{sanitized, IsPiecewise}
 use Rattle.gix_validate.proofs.Sanitizing.OneBuffer.{in_place}
 use Rattle.gix_validate.proofs.Sanitizing.Laws.{sanitized-own, sanitized-partial, sanitized-unchanged, sanitized-sanitized, sanitized-piecewise}
 use Rattle.gix_validate.proofs.reference.sanitize.sanitize_in_place.Goals as goal
 
-pub returns-then-clear-len-clause-piecewise : goal.returns-then-clear-len-clause-piecewise
-returns-then-clear-len-clause-piecewise c =
+pub returns-then-clear-len : goal.returns-then-clear-len
+returns-then-clear-len c =
     let whole = take c.args.len c.args.buf.now in
-    subst (IsPiecewise whole) (sanitized-own whole (grind (arith, in_place))) (sanitized-piecewise whole)
+    let partial : is_partial_name whole ≡ true = grind (arith, in_place) in
+    let own = sanitized-own whole partial in
+    record {
+      bounds = grind (arith, in_place);
+      text = sym own;
+      partial = partial;
+      unchanged = (λ _. partial, λ _. refl);
+      again = own;
+      piecewise = subst (IsPiecewise whole) own (sanitized-piecewise whole);
+      rest = refl;
+    }
 
 pub returns : goal.returns
 returns c =

@@ -43,10 +43,7 @@ in_front : (x : List ℕ) (w : ℕ) (ws : List ℕ) → 1 ≤ w → lower_byte w
     → bytes_eq (lower (device_form x)) (w ∷ ws) ≡ (eqb (lower_byte (get_or x 0 0)) w && bytes_eq (lower (device_form (drop 1 x))) ws)
 unfolding device_form lower_byte
 in_front [] w ws some small plain = grind arith
-in_front (b ∷ x) w ws some small plain =
-    ap (λ v. bytes_eq (lower (device_form (b ∷ x))) (v ∷ ws)) (sym small)
-    ∙ word_head is_device_cut is_device_trimmed device_keeps b x w ws plain
-    ∙ ap (λ v. eqb (lower_byte b) v && bytes_eq (lower (device_form x)) ws) small
+in_front (b ∷ x) w ws some small plain = rw small at (word_head is_device_cut is_device_trimmed device_keeps b x w ws plain)
 
 -- the byte is the small letter or its capital
 abbrev pub is_letter : ℕ → ℕ → Bool

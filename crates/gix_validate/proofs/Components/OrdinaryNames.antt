@@ -82,14 +82,12 @@ pub ordinary_fault : (options : ComponentOptions) (mode : Option ComponentMode) 
 unfolding fault_of conditions is_illegal ntfs_form
 ordinary_fault options mode [] some end classed git modules = absurd (omega arith)
 ordinary_fault options mode (b ∷ x) some end classed git modules =
-    let ends = or_parts _ _ end in
+    let ends = or_parts (ends (b ∷ x) (codes ".")) (ends (b ∷ x) (codes " ")) end in
     let none = unclassed (b ∷ x) classed in
-    let hfs = hfs_form_same (b ∷ x) none.1 in
-    let last : is_among (codes " .") (get_or (b ∷ x) (length x) 0) ≡ false = grind (arith, ends_read) in
-    let ntfs = form_same (is_among (codes ":\\")) (is_among (codes " .")) b x (uncut (b ∷ x) classed) last in
+    let ntfs = form_same (is_among (codes ":\\")) (is_among (codes " .")) b x (uncut (b ∷ x) classed) (grind (arith, ends_read)) in
     let forms = no_form (lower (b ∷ x)) (list_any-lower is_tilde refl (b ∷ x) ∙ none.4) git modules in
-    let colon = legal_no_prefix (b ∷ x) (first_unit_len (b ∷ x)) none.0 in
-    rw (other_end (b ∷ x) ends.0, none.2, none.3, colon, hfs, ntfs, forms.0, forms.1, git, modules, none.0, ends.0, ends.1) (grind arith)
+    rw (other_end (b ∷ x) ends.0, none.2, none.3, legal_no_prefix (b ∷ x) (first_unit_len (b ∷ x)) none.0, hfs_form_same (b ∷ x) none.1, ntfs, forms.0, forms.1,
+    git, modules, none.0, ends.0, ends.1) (grind arith)
 
 -- `.git` and `.gitmodules` in any letter case
 pub special_fault : (options : ComponentOptions) (mode : Option ComponentMode) (x : List ℕ)

@@ -1,9 +1,7 @@
 -- What a caller unfolds so that the rules of names are computed on literals.
-use Rattle.std.proofs.Common.{◌≡◌, refl, None}
-use Rattle.std.specs.Prelude.{⊤, codes}
+use Rattle.std.specs.Prelude.{⊤}
 use Rattle.gix_validate.specs.Bytes.{is_bad, lower_byte}
 use Rattle.gix_validate.specs.Component.{conditions, fault_of as component_fault_of, is_component}
-use Rattle.gix_validate.specs.ComponentLaws.{no_protections}
 use Rattle.gix_validate.specs.Faults.{at_first_offset}
 use Rattle.gix_validate.specs.Hfs.{hfs_form, is_ignored}
 use Rattle.gix_validate.specs.Ntfs.{ntfs_form, is_git_form, is_modules_form}
@@ -25,11 +23,3 @@ unfoldable pub components_on_literals : ⊤
 unfolding component_fault_of is_component conditions lower_byte first_unit_len whole_sequences hfs_form is_ignored ntfs_form
     is_git_form is_modules_form device_form devices is_device_form is_device is_illegal_byte is_illegal
 components_on_literals = tt
-
-repair_computed : sanitized (codes "refs//heads/../x.lock") ≡ codes "refs/heads/-/x"
-unfolding names_on_literals
-repair_computed = refl
-
-component_computed : component_fault_of no_protections None (codes "src") ≡ None
-unfolding components_on_literals
-component_computed = refl

@@ -1,6 +1,6 @@
 -- Partial, full and branch names: a slash in a name, and two tag names that a slash joins.
-use Rattle.std.proofs.Common.{◌≡◌, ℕ, true, false, IsTrue, List, [], ◌∷◌, ◌⊎◌, suc, arith, sym, ◌-◌, ◌++◌, ◌<◌, length, drop, length-append}
-use Rattle.std.specs.Prelude.{All, Contains, ◌==◌, Option, Some, None, is_some}
+use Rattle.std.proofs.Common.{◌≡◌, ℕ, true, false, IsTrue, List, [], ◌∷◌, ◌⊎◌, arith, ◌++◌, length}
+use Rattle.std.specs.Prelude.{All, Contains, ◌==◌, Option, is_some}
 use Rattle.std.specs.List.{list_any}
 use Rattle.std.specs.Str.{byte}
 use Rattle.std.proofs.lemmas.Slice.Eq.{bytes_eq-Decides}
@@ -12,13 +12,14 @@ use Rattle.gix_validate.specs.Tag.{is_good_piece, is_tag_name}
 use Rattle.gix_validate.specs.Private.Scan.{Finds, at_both}
 use Rattle.gix_validate.proofs.Blocks.Parts.{none_at}
 use Rattle.gix_validate.proofs.Texts.Pieces.{pieces_some}
+use Rattle.gix_validate.proofs.Texts.Endings.{ends_read}
 use Rattle.std.proofs.lemmas.Grind.{common_steps}
+use Rattle.std.proofs.lemmas.Bool.Decides.{nat_tests}
 
 -- The first slash, or none, says whether a text has one.
 pub slash_found : (x : List ℕ) (found : Option ℕ) → Finds (at_both (λ a b. a == byte "/") x x) (length x) (length x) found
     → is_some found ≡ list_any (λ b. b == byte "/") x
-slash_found x None none = sym ((none_at (λ b. b == byte "/") x).1 none)
-slash_found x (Some i) first = sym (list_any_at (λ b. b == byte "/") x i 0 first.within first.here)
+slash_found x found finds = grind (arith, nat_tests, none_at, list_any_at)
 
 -- What the search for a slash says of a text.
 pub may_stand : (x : List ℕ) → has_slash_or_stands_alone x ≡ true → Contains x (byte "/") ⊎ All (λ b. IsTrue (is_standalone_byte b)) x
@@ -37,15 +38,6 @@ pub pieces-at_slash : (a b : List ℕ) → pieces (a ++ byte "/" ∷ b) ≡ piec
 pieces-at_slash [] b = grind arith
 pieces-at_slash (c ∷ a) b = grind (arith, pieces_some, pieces-at_slash a b)
 
--- The end of the second text is that of the whole.
-drop-joined : (a b : List ℕ) (s : ℕ) → 0 < length b → drop (length (a ++ s ∷ b) - 1) (a ++ s ∷ b) ≡ drop (length b - 1) b
-drop-joined [] b s some =
-    let e : suc (length b) - 1 ≡ suc (length b - 1) = omega arith in
-    rw e
-drop-joined (d ∷ a) b s some =
-    let e : suc (length (a ++ s ∷ b)) - 1 ≡ suc (length (a ++ s ∷ b) - 1) = omega (arith, length-append {A = ℕ} a (s ∷ b)) in
-    rw e (drop-joined a b s some)
-
 pub joined_is_full : (a b : List ℕ) → IsTrue (is_tag_name a) → IsTrue (is_tag_name b) → IsTrue (is_full_name (joined (a ∷ b ∷ [])))
 unfolding is_full_name is_partial_name is_tag_name is_good_piece
-joined_is_full a b ha hb = grind (arith, common_steps, drop-joined, pieces-at_slash, list_all-append, list_any-append)
+joined_is_full a b ha hb = grind (arith, common_steps, ends_read, pieces-at_slash, list_all-append, list_any-append)

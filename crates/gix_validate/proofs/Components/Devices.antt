@@ -13,7 +13,7 @@ use Rattle.gix_validate.specs.Bytes.{is_empty, is_among, lower, lower_byte, begi
 use Rattle.gix_validate.specs.Ntfs.{is_digit}
 use Rattle.gix_validate.specs.Windows.{device_form, devices, is_device, is_device_form}
 use Rattle.gix_validate.specs.Private.Forms.{stays_in_form}
-use Rattle.gix_validate.specs.declared.path.windows.TheConstants.{BY_FIRST, BY_SECOND, BY_THIRD, DEVICES, DOT_GIT}
+use Rattle.gix_validate.specs.declared.path.windows.TheConstants.{BY_FIRST, BY_SECOND, BY_THIRD, DEVICES}
 use Rattle.gix_validate.proofs.Texts.Words.{device_keeps, word_head, none_left, form_left, form_all_left, form_word}
 
 abbrev pub is_device_cut : ℕ → Bool
@@ -43,10 +43,7 @@ in_front : (x : List ℕ) (w : ℕ) (ws : List ℕ) → 1 ≤ w → lower_byte w
     → bytes_eq (lower (device_form x)) (w ∷ ws) ≡ (eqb (lower_byte (get_or x 0 0)) w && bytes_eq (lower (device_form (drop 1 x))) ws)
 unfolding device_form lower_byte
 in_front [] w ws some small plain = grind arith
-in_front (b ∷ x) w ws some small plain =
-    ap (λ v. bytes_eq (lower (device_form (b ∷ x))) (v ∷ ws)) (sym small)
-    ∙ word_head is_device_cut is_device_trimmed device_keeps b x w ws plain
-    ∙ ap (λ v. eqb (lower_byte b) v && bytes_eq (lower (device_form x)) ws) small
+in_front (b ∷ x) w ws some small plain = rw small at (word_head is_device_cut is_device_trimmed device_keeps b x w ws plain)
 
 -- the byte is the small letter or its capital
 abbrev pub is_letter : ℕ → ℕ → Bool
@@ -70,11 +67,8 @@ is_word word = eqb (length word) 3 && list_all is_small word
 letters_head : (x word ws : List ℕ) → is_word word ≡ true
     → bytes_eq (lower (device_form x)) (word ++ ws) ≡ (are_letters x word && bytes_eq (lower (device_form (drop 3 x))) ws)
 unfolding are_letters
-letters_head x [] ws word = grind arith
-letters_head x (l ∷ []) ws word = grind arith
-letters_head x (l ∷ m ∷ []) ws word = grind arith
 letters_head x (l ∷ m ∷ n ∷ []) ws word = grind (arith, letter_head)
-letters_head x (l ∷ m ∷ n ∷ k ∷ rest) ws word = grind arith
+letters_head x _ ws word = grind arith
 
 -- which of the six words may have letters with these low bits, a bit for each
 unfoldable pub bits : ℕ → ℕ → ℕ → ℕ
@@ -137,40 +131,21 @@ pub no_stem : (x : List ℕ) → bit_and (bits_of x) DEVICES ≡ 0 → is_device
 unfolding bits is_small
 no_stem x none = grind (arith, nat_tests, device_by_letters, no_word)
 
-pub device_no_word : (x : List ℕ) → bits_of x ≡ 0 → is_device x ≡ false
-device_no_word x none = no_stem x (ap (λ n. bit_and n DEVICES) none)
-
--- the front of `.git` has its bit
+-- without bits no front of `.git`
 low_bits : (b l : ℕ) → lower_byte b ≡ l → b % 32 ≡ l % 32
 unfolding lower_byte
 low_bits b l e = grind arith
 
-front_at : (a b c : ℕ) → lower_byte a ≡ byte "." → lower_byte b ≡ byte "g" → lower_byte c ≡ byte "i" → bits (a % 32) (b % 32) (c % 32) ≡ DOT_GIT
+pub front_bits : (x rest : List ℕ) → bits_of x ≡ 0 → bytes_eq (lower x) (byte "." ∷ byte "g" ∷ byte "i" ∷ rest) ≡ false
 unfolding bits
-front_at a b c ea eb ec = rw (low_bits a (byte ".") ea, low_bits b (byte "g") eb, low_bits c (byte "i") ec) refl
-
-three_letters : (a b c : ℕ) (x rest : List ℕ) → bytes_eq (lower (a ∷ b ∷ c ∷ x)) (byte "." ∷ byte "g" ∷ byte "i" ∷ rest) ≡ true
-    → (lower_byte a ≡ byte ".") × (lower_byte b ≡ byte "g") × (lower_byte c ≡ byte "i")
-three_letters a b c x rest e = grind (arith, bytes_eq-Decides)
-
-front_bits : (x rest : List ℕ) → bytes_eq (lower x) (byte "." ∷ byte "g" ∷ byte "i" ∷ rest) ≡ true → bits_of x ≡ DOT_GIT
-unfolding bits
-front_bits [] rest e = grind arith
-front_bits (a ∷ []) rest e = grind arith
-front_bits (a ∷ b ∷ []) rest e = grind arith
-front_bits (a ∷ b ∷ c ∷ x) rest e = let same = three_letters a b c x rest e in front_at a b c same.0 same.1 same.2
+front_bits (a ∷ b ∷ c ∷ x) rest none = grind (arith, nat_tests, low_bits)
+front_bits _ rest none = grind arith
 
 pub same_length : (x word : List ℕ) → bytes_eq (lower x) word ≡ true → length x ≡ length word
 same_length x word e = grind (arith, bytes_eq-Decides, length-map)
 
-pub git_bits : (x : List ℕ) → bits_of x ≡ 0 → bytes_eq (lower x) (codes ".git") ≡ false
-git_bits x none = grind (arith, nat_tests, front_bits x (codes "t"))
-
-pub modules_bits : (x : List ℕ) → bits_of x ≡ 0 → bytes_eq (lower x) (codes ".gitmodules") ≡ false
-modules_bits x none = grind (arith, nat_tests, front_bits x (codes "tmodules"))
-
 -- what the tables say of a device, of `.git` and of `.gitmodules`
-pub ruleset special_bits = (nat_tests, device_short, no_stem, device_no_word, git_bits, modules_bits, same_length)
+pub ruleset special_bits = (nat_tests, device_short, no_stem, front_bits, same_length)
 
 digit_first : (x set : List ℕ) → list_all is_digit set ≡ true
     → is_any (digits set) x ≡ (list_any (eqb (get_or x 0 0)) set && is_empty (device_form (drop 1 x)))

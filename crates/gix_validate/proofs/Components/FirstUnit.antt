@@ -1,15 +1,8 @@
 -- The first unit by the row of the table that has its first byte.
-use Rattle.std.proofs.Common.{◌≡◌, ℕ, ◌<◌, ◌≤◌, Bool, true, false, not, cond, List, [], ◌∷◌, length, drop, get_or, ◌⊎◌, ◌∙◌, refl, arith, max, None}
-use Rattle.std.specs.Prelude.{unwrap_or}
-use Rattle.std.specs.List.{list_all}
-use Rattle.std.specs.Str.{byte}
+use Rattle.std.proofs.Common.{◌≡◌, ℕ, ◌<◌, ◌≤◌, Bool, true, cond, List, [], ◌∷◌, length, drop, get_or, ◌⊎◌, ◌∙◌, refl, arith}
 use Rattle.std.proofs.lemmas.List.{at_drop_all}
-use Rattle.std.proofs.lemmas.Bool.{agree_below_at}
 use Rattle.std.proofs.lemmas.Bool.Decides.{nat_tests}
-use Rattle.gix_validate.specs.Units.{is_within, fitting_len, whole_len, begun_len, whole_sequences, first_unit_len}
-
-abbrev Row : Type 0
-Row = List (ℕ × ℕ)
+use Rattle.gix_validate.specs.Units.{is_within, fitting_len, whole_sequences, first_unit_len}
 
 abbrev pub begins_row : List (ℕ × ℕ) → ℕ → Bool
 begins_row [] b = true
@@ -20,35 +13,15 @@ abbrev pub row_for : List (List (ℕ × ℕ)) → ℕ → List (ℕ × ℕ)
 row_for [] b = (b, b) ∷ []
 row_for (row ∷ rows) b = cond (begins_row row b) row (row_for rows b)
 
--- the byte begins none of the rows
-abbrev pub is_quiet : List Row → ℕ → Bool
-is_quiet rows b = list_all (λ row. not (begins_row row b)) rows
-
--- the byte begins one row at most, and each row has a range
-abbrev pub is_alone : List Row → ℕ → Bool
-is_alone [] b = true
-is_alone ([] ∷ rows) b = false
-is_alone ((range ∷ row) ∷ rows) b = cond (is_within range b) (is_quiet rows b) (is_alone rows b)
-
-quiet_rows : (rows : List Row) (b : ℕ) (x : List ℕ) → is_quiet rows b ≡ true → (whole_len rows (b ∷ x) ≡ None) × (begun_len rows (b ∷ x) ≡ 0)
-quiet_rows [] b x quiet = (refl, refl)
-quiet_rows (row ∷ rows) b x quiet = grind (arith, quiet_rows rows b x)
-
-by_rows : (rows : List Row) (b : ℕ) (x : List ℕ) → is_alone rows b ≡ true
-    → unwrap_or (whole_len rows (b ∷ x)) (max 1 (begun_len rows (b ∷ x))) ≡ fitting_len (row_for rows b) (b ∷ x)
-by_rows [] b x alone = grind arith
-by_rows ([] ∷ rows) b x alone = grind arith
-by_rows ((range ∷ row) ∷ rows) b x alone = grind (arith, quiet_rows rows b x, by_rows rows b x)
-
-pub unit_by_row : (x : List ℕ) → 1 ≤ length x → get_or x 0 0 < 256 → first_unit_len x ≡ fitting_len (row_for whole_sequences (get_or x 0 0)) x
+pub unit_by_row : (x : List ℕ) → 1 ≤ length x → first_unit_len x ≡ fitting_len (row_for whole_sequences (get_or x 0 0)) x
 unfolding first_unit_len whole_sequences
-unit_by_row [] some byte = grind arith
-unit_by_row (b ∷ x) some byte = by_rows whole_sequences b x (agree_below_at (is_alone whole_sequences) (λ b. true) 256 b refl byte)
+unit_by_row [] some = grind arith
+unit_by_row (b ∷ x) some = grind (arith, nat_tests)
 
-pub unit_of_one : (x : List ℕ) → get_or x 0 0 < 256 → (get_or x 0 0 < 0xC2) ⊎ (0xF4 < get_or x 0 0) → first_unit_len x ≡ 1
+pub unit_of_one : (x : List ℕ) → (get_or x 0 0 < 0xC2) ⊎ (0xF4 < get_or x 0 0) → first_unit_len x ≡ 1
 unfolding first_unit_len whole_sequences
-unit_of_one [] byte outside = refl
-unit_of_one (b ∷ x) byte outside = grind (arith, nat_tests)
+unit_of_one [] outside = refl
+unit_of_one (b ∷ x) outside = grind (arith, nat_tests)
 
 pub unit_of_none : (x : List ℕ) → length x < 1 → first_unit_len x ≡ 1
 unfolding first_unit_len whole_sequences

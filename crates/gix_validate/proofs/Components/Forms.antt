@@ -1,5 +1,5 @@
 -- The front of a text before a cut, less what is trimmed from its end: what one byte more in front does to it.
-use Rattle.std.proofs.Common.{◌≡◌, ℕ, Bool, true, false, ◌&&◌, cond, List, [], ◌∷◌, ◌++◌, refl, ap, sym, ◌∙◌, arith}
+use Rattle.std.proofs.Common.{◌≡◌, ℕ, Bool, true, false, ◌&&◌, cond, List, [], ◌∷◌, ◌++◌, arith}
 use Rattle.std.specs.List.{before_first}
 use Rattle.std.proofs.lemmas.List.{length-reverse}
 use Rattle.std.proofs.lemmas.List.Folds.{prefix_len-append}
@@ -7,6 +7,7 @@ use Rattle.std.proofs.lemmas.List.Sums.{suffix_len-le-length}
 use Rattle.std.proofs.lemmas.Grind.{reverse_onto}
 use Rattle.gix_validate.specs.Bytes.{is_empty}
 use Rattle.gix_validate.specs.Ntfs.{without_end}
+use Rattle.std.proofs.lemmas.Bool.Decides.{nat_tests}
 
 -- what is before a cut, less what is trimmed from its end
 abbrev pub form : (ℕ → Bool) → (ℕ → Bool) → List ℕ → List ℕ
@@ -23,14 +24,10 @@ form_at cut trim b x = grind (arith, without_end_at)
 
 -- What follows a cut doesn't matter.
 pub form_cut : (cut trim : ℕ → Bool) (c : ℕ) (more : List ℕ) → cut c ≡ true → (x : List ℕ) → form cut trim (x ++ c ∷ more) ≡ form cut trim x
-form_cut cut trim c more cuts [] = form_at cut trim c more ∙ rw cuts refl
-form_cut cut trim c more cuts (b ∷ x) =
-    form_at cut trim b (x ++ c ∷ more) ∙ ap (λ f. cond (cut b) [] (cond (trim b && is_empty f) [] (b ∷ f))) (form_cut cut trim c more cuts x)
-    ∙ sym (form_at cut trim b x)
+form_cut cut trim c more cuts [] = grind (arith, nat_tests, form_at)
+form_cut cut trim c more cuts (b ∷ x) = grind (arith, nat_tests, form_at, form_cut cut trim c more cuts x)
 
 -- Nor does a byte to be trimmed at the end.
 pub form_trimmed : (cut trim : ℕ → Bool) (c : ℕ) → cut c ≡ false → trim c ≡ true → (x : List ℕ) → form cut trim (x ++ c ∷ []) ≡ form cut trim x
-form_trimmed cut trim c stays goes [] = form_at cut trim c [] ∙ rw (stays, goes) refl
-form_trimmed cut trim c stays goes (b ∷ x) =
-    form_at cut trim b (x ++ c ∷ []) ∙ ap (λ f. cond (cut b) [] (cond (trim b && is_empty f) [] (b ∷ f))) (form_trimmed cut trim c stays goes x)
-    ∙ sym (form_at cut trim b x)
+form_trimmed cut trim c stays goes [] = grind (arith, nat_tests, form_at)
+form_trimmed cut trim c stays goes (b ∷ x) = grind (arith, nat_tests, form_at, form_trimmed cut trim c stays goes x)

@@ -1,8 +1,8 @@
 -- Joined texts, one text after the other, and how long they are.
-use Rattle.std.proofs.Common.{◌≡◌, ℕ, zero, suc, ◌+◌, ◌-◌, ◌<◌, ◌≤◌, true, List, [], ◌∷◌, ◌++◌, length, take, get_or, map, cond, eqb, ap, append_assoc}
+use Rattle.std.proofs.Common.{◌≡◌, ℕ, zero, suc, ◌+◌, ◌-◌, ◌<◌, ◌≤◌, List, [], ◌∷◌, ◌++◌, length, take, get_or, map, cond, eqb, ap, append_assoc}
 use Rattle.std.proofs.Common.{length-append, arith}
 use Rattle.std.specs.Prelude.{None}
-use Rattle.std.specs.List.{All, list_all, sum_by}
+use Rattle.std.specs.List.{All, sum_by}
 use Rattle.std.specs.Str.{byte}
 use Rattle.std.proofs.lemmas.List.{take_more, get_or-map, length-map}
 use Rattle.std.proofs.lemmas.List.Elements.{All-map}
@@ -16,11 +16,8 @@ use Rattle.std.proofs.lemmas.Grind.{common_steps}
 
 -- The first texts joined are no longer than all.
 pub joined-take-le : (texts : List (List ℕ)) (i : ℕ) → length (joined (take i texts)) ≤ length (joined texts)
-joined-take-le texts zero = grind arith
-joined-take-le [] (suc i) = grind arith
-joined-take-le (text ∷ []) (suc i) = grind (arith, common_steps)
-joined-take-le (text ∷ next ∷ texts) (suc zero) = grind (arith, length-append)
 joined-take-le (text ∷ next ∷ texts) (suc (suc i)) = grind (arith, length-append, joined-take-le (next ∷ texts) (suc i))
+joined-take-le _ _ = grind (arith, common_steps, length-append)
 
 -- The texts and a slash between each two.
 pub length_joined : {X : Type 0} (f : X → List ℕ) (xs : List X) → 0 < length xs → length (joined (map f xs)) ≡ (length xs - 1) + sum_by (λ x. length (f x)) xs
@@ -50,12 +47,10 @@ fits f xs i d start text within same =
 pub basic_parts : {X : Type 0} (f : X → List ℕ) (xs : List X) → All (λ x. fault_of no_protections None (f x) ≡ None) xs → All IsBasicName (map f xs)
 basic_parts f xs accepted = All-map IsBasicName f xs (λ k d within. basic_law no_protections None (f (get_or xs k d)) (accepted k d within))
 
-apart : (texts : List (List ℕ)) → All IsBasicName texts → list_all has_no_slash texts ≡ true
-apart texts basic = list_all-from_AllPass has_no_slash texts (λ k d within. (basic k d within).no_slash)
-
 -- The pieces of what they join to are the parts.
 pub pieces_joined_parts : {X : Type 0} (f : X → List ℕ) (xs : List X) → 0 < length xs → All (λ x. fault_of no_protections None (f x) ≡ None) xs
     → pieces (joined (map f xs)) ≡ map f xs
-pieces_joined_parts f xs some accepted = grind (arith, common_steps, pieces-joined, apart, basic_parts)
+pieces_joined_parts f xs some accepted =
+    grind (arith, common_steps, pieces-joined, list_all-from_AllPass has_no_slash (map f xs) (λ k d within. (basic_parts f xs accepted k d within).no_slash))
 
 pub ruleset joined_path_laws = (pieces_joined_parts, basic_parts)

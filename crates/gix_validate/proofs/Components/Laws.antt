@@ -1,5 +1,5 @@
 -- The laws of path components, proved of their definitions.
-use Rattle.std.proofs.Common.{◌≡◌, ℕ, ◌+◌, Bool, true, false, is_none, is_some, Option, Some, None, List, [], ◌∷◌, length, refl, sym, ap, arith}
+use Rattle.std.proofs.Common.{◌≡◌, ℕ, ◌+◌, Bool, true, false, is_none, is_some, Option, None, List, [], ◌∷◌, length, refl, sym, arith}
 use Rattle.std.specs.Prelude.{codes, slice_index, IsTrue}
 use Rattle.std.specs.Bool.{◌==◌}
 use Rattle.std.specs.List.{list_all}
@@ -19,6 +19,7 @@ use Rattle.gix_validate.specs.Windows.{device_form, is_device_form, is_device, i
 use Rattle.gix_validate.specs.Component.{conditions, fault_of, is_component}
 use Rattle.gix_validate.specs.ComponentLaws.{HasOnlySwitchesOf, IsValidUnderFewerSwitches, FaultIgnoresCase, FormIsKeptUnits}
 use Rattle.gix_validate.specs.ComponentLaws.{IsBasicName, DeviceIgnoresCase, DeviceGoesByForm}
+use Rattle.gix_validate.proofs.OnLiterals.{components_on_literals}
 use Rattle.gix_validate.proofs.Components.Forms.{form_cut, form_trimmed}
 use Rattle.gix_validate.proofs.Components.HfsForm.{hfs_form-units}
 use Rattle.gix_validate.proofs.Texts.LetterCase.{test-lower_byte, lower-lower, list_any-lower, bytes_eq-lower}
@@ -32,11 +33,10 @@ skips range = agree_below (λ k. is_within range (k + byte "a")) (λ k. is_withi
 
 fitting_len-lower : (row : List (ℕ × ℕ)) → list_all skips row ≡ true → (x : List ℕ) → fitting_len row (lower x) ≡ fitting_len row x
 unfolding skips
-fitting_len-lower [] ok x = refl
-fitting_len-lower (range ∷ row) ok [] = refl
 fitting_len-lower (range ∷ row) ok (b ∷ x) =
     let parts = and_parts _ _ ok in
     rw (test-lower_byte (is_within range) parts.0 b, fitting_len-lower row parts.1 x)
+fitting_len-lower _ ok _ = refl
 
 table-lower : (rows : List (List (ℕ × ℕ))) → list_all (list_all skips) rows ≡ true → (x : List ℕ)
     → (whole_len rows (lower x) ≡ whole_len rows x) × (begun_len rows (lower x) ≡ begun_len rows x)
@@ -56,10 +56,8 @@ is_ignored-lower a b c = grind (arith, nat_tests)
 
 hfs_form-lower : (x : List ℕ) → hfs_form (lower x) ≡ lower (hfs_form x)
 unfolding hfs_form
-hfs_form-lower [] = refl
-hfs_form-lower (a ∷ []) = refl
-hfs_form-lower (a ∷ b ∷ []) = refl
 hfs_form-lower (a ∷ b ∷ c ∷ x) = grind (arith, is_ignored-lower, hfs_form-lower x, hfs_form-lower (b ∷ c ∷ x))
+hfs_form-lower _ = refl
 
 ntfs_form-lower : (x : List ℕ) → ntfs_form (lower x) ≡ lower (ntfs_form x)
 unfolding ntfs_form
@@ -82,18 +80,11 @@ case_law options mode x = grind (arith, kept_by_lower)
 
 pub device_form_law : (x : List ℕ) → DeviceGoesByForm x
 unfolding is_device device_form
-device_form_law x =
-    let cut = is_among (codes ".:") in
-    let trim : ℕ → Bool = λ b. b == byte " " in record {
-      dot = λ more. ap is_device_form (form_cut cut trim (byte ".") more refl x);
-      colon = λ more. ap is_device_form (form_cut cut trim (byte ":") more refl x);
-      space = ap is_device_form (form_trimmed cut trim (byte " ") refl refl x);
-    }
+device_form_law x = grind (arith, nat_tests, form_cut, form_trimmed)
 
 all_none-first_of : (lines : List (Option ComponentError)) → list_all is_none lines ≡ is_none (first_of lines)
 all_none-first_of [] = refl
-all_none-first_of (None ∷ lines) = all_none-first_of lines
-all_none-first_of (Some fault ∷ lines) = refl
+all_none-first_of (line ∷ lines) = grind (arith, all_none-first_of lines)
 
 -- A text is a component if and only if it has no fault.
 pub component_grammar_law : (options : ComponentOptions) (mode : Option ComponentMode) (x : List ℕ)
@@ -108,27 +99,22 @@ AllNone (line ∷ lines) = (line ≡ None) × AllNone lines
 
 AllNone-from_first : (lines : List (Option ComponentError)) → first_of lines ≡ None → AllNone lines
 AllNone-from_first [] none = tt
-AllNone-from_first (None ∷ lines) none = (refl, AllNone-from_first lines none)
-AllNone-from_first (Some fault ∷ lines) none = absurd (cc)
+AllNone-from_first (line ∷ lines) none = grind (arith, AllNone-from_first lines)
 
 pub first_from_AllNone : (lines : List (Option ComponentError)) → AllNone lines → None ≡ first_of lines
 first_from_AllNone [] none = refl
 first_from_AllNone (line ∷ lines) none = rw none.0 (first_from_AllNone lines none.1)
 
 -- A name that is plainly a word has forms that stand for it too.
-plain_forms : (word : List ℕ) (test : List ℕ → Bool) → hfs_form word ≡ word → test (ntfs_form word) ≡ true → (x : List ℕ)
-    → bytes_eq (lower x) word ≡ true → (bytes_eq (lower (hfs_form x)) word ≡ true) × (test (lower (ntfs_form x)) ≡ true)
-plain_forms word test hfs ntfs x plain = grind (arith, bytes_eq-Decides, hfs_form-lower, ntfs_form-lower)
-
 git_forms : (x : List ℕ) → bytes_eq (lower x) (codes ".git") ≡ true
     → (bytes_eq (lower (hfs_form x)) (codes ".git") ≡ true) × (is_git_form (lower (ntfs_form x)) ≡ true)
-unfolding hfs_form is_ignored ntfs_form is_git_form
-git_forms = plain_forms (codes ".git") is_git_form refl refl
+unfolding components_on_literals
+git_forms x plain = rw (sym (hfs_form-lower x), sym (ntfs_form-lower x)) (grind (arith, bytes_eq-Decides))
 
 modules_forms : (x : List ℕ) → bytes_eq (lower x) (codes ".gitmodules") ≡ true
     → (bytes_eq (lower (hfs_form x)) (codes ".gitmodules") ≡ true) × (is_modules_form (lower (ntfs_form x)) ≡ true)
-unfolding hfs_form is_ignored ntfs_form is_modules_form
-modules_forms = plain_forms (codes ".gitmodules") is_modules_form refl refl
+unfolding components_on_literals
+modules_forms x plain = rw (sym (hfs_form-lower x), sym (ntfs_form-lower x)) (grind (arith, bytes_eq-Decides))
 
 none_under_fewer : (options fewer : ComponentOptions) (mode other : Option ComponentMode) → HasOnlySwitchesOf fewer options
     → (IsTrue (is_some other) → IsTrue (is_some mode)) → (x : List ℕ) → AllNone (conditions options mode x) → fault_of fewer other x ≡ None

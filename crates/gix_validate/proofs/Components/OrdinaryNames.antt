@@ -1,5 +1,5 @@
 -- Ordinary names: no condition but the one on devices refuses one.
-use Rattle.std.proofs.Common.{◌≡◌, ℕ, zero, suc, ◌-◌, ◌<◌, ◌≤◌, Bool, true, false, not, ◌&&◌, ◌||◌, eqb, Option, None, Some, List}
+use Rattle.std.proofs.Common.{◌≡◌, ℕ, ◌-◌, ◌<◌, ◌≤◌, Bool, true, false, ◌&&◌, ◌||◌, Option, None, Some, List}
 use Rattle.std.proofs.Common.{[], ◌∷◌, ◌++◌, length, get_or, refl, ◌∙◌, arith, codes}
 use Rattle.std.specs.Prelude.{slice_index, is_some}
 use Rattle.std.specs.Bool.{◌==◌}
@@ -17,7 +17,7 @@ use Rattle.gix_validate.specs.Units.{first_unit_len}
 use Rattle.gix_validate.specs.Ntfs.{ntfs_form, is_git_form, is_modules_form, is_short_name}
 use Rattle.gix_validate.specs.Windows.{is_device, is_illegal, is_illegal_byte}
 use Rattle.gix_validate.specs.Component.{conditions, fault_of}
-use Rattle.gix_validate.specs.Private.Ordinary.{is_lead, is_classed, has_ordinary_bytes}
+use Rattle.gix_validate.specs.Private.Ordinary.{is_lead, is_classed}
 use Rattle.gix_validate.proofs.Components.Laws.{case_law}
 use Rattle.gix_validate.proofs.OnLiterals.{components_on_literals}
 use Rattle.gix_validate.proofs.Texts.LetterCase.{list_any-lower}
@@ -25,39 +25,29 @@ use Rattle.gix_validate.proofs.Texts.Endings.{ends_read}
 use Rattle.gix_validate.proofs.Components.HfsForm.{hfs_form_same}
 use Rattle.std.proofs.lemmas.Bool.Decides.{nat_tests}
 use Rattle.gix_validate.proofs.Components.Forms.{form, form_at}
-use Rattle.std.proofs.lemmas.List.Folds.{list_any_none}
+use Rattle.std.proofs.lemmas.List.Folds.{list_any_none, list_any_at}
+use Rattle.std.proofs.lemmas.Grind.{common_steps}
 
 abbrev is_tilde : ℕ → Bool
 is_tilde b = b == byte "~"
 
 -- what a name without classed bytes has none of
-
-any_weaker : (p q : ℕ → Bool) → ((b : ℕ) → p b ≡ false → q b ≡ false) → (x : List ℕ) → list_any p x ≡ false → list_any q x ≡ false
-any_weaker p q less [] none = grind arith
-any_weaker p q less (b ∷ x) none = grind (arith, any_weaker p q less x)
-
 unclassed : (x : List ℕ) → list_any is_classed x ≡ false
     → (list_any is_illegal_byte x ≡ false) × (list_any is_lead x ≡ false) × (is_among x (byte "/") ≡ false) × (is_among x (byte "\\") ≡ false)
     × (list_any is_tilde x ≡ false)
 unfolding is_classed
-unclassed x none =
-    let no = λ (q : ℕ → Bool) (less : (b : ℕ) → is_classed b ≡ false → q b ≡ false). any_weaker is_classed q less x none in
-    let slash = no (λ b. byte "/" == b) (λ b off. grind arith) in
-    let backslash = no (λ b. byte "\\" == b) (λ b off. grind arith) in
-    (no is_illegal_byte (λ b off. grind arith), no is_lead (λ b off. grind arith), slash, backslash, no is_tilde (λ b off. grind arith))
+unclassed [] none = grind arith
+unclassed (b ∷ x) none = grind (arith, unclassed x)
 
 uncut : (x : List ℕ) → list_any is_classed x ≡ false → list_any (is_among (codes ":\\")) x ≡ false
 unfolding is_classed is_illegal_byte
-uncut x none = any_weaker is_classed (is_among (codes ":\\")) (λ b off. grind arith) x none
+uncut [] none = refl
+uncut (b ∷ x) none = grind (arith, uncut x)
 
 -- a name with no illegal byte has no prefix
 pub legal_no_prefix : (x : List ℕ) (n : ℕ) → list_any is_illegal_byte x ≡ false → (slice_index x n == byte ":") ≡ false
 unfolding is_illegal_byte
-legal_no_prefix [] n legal = refl
-legal_no_prefix (b ∷ x) zero legal = grind arith
-legal_no_prefix (b ∷ x) (suc n) legal = grind (arith, legal_no_prefix x n)
-
--- the NTFS form
+legal_no_prefix x n legal = grind (arith, common_steps, list_any_at)
 
 -- a form from which nothing is cut
 form_same : (cut trim : ℕ → Bool) (b : ℕ) (x : List ℕ) → list_any cut (b ∷ x) ≡ false → trim (get_or (b ∷ x) (length x) 0) ≡ false
@@ -81,86 +71,55 @@ no_form f clean git modules =
     let short = list_any_none (λ k. is_short_name k f) (0 ∷ 1 ∷ 2 ∷ 3 ∷ 4 ∷ 5 ∷ 6 ∷ []) (λ k d h. no_short_name _ f clean) in
     (rw (git, other_word f (codes "git~1") clean refl) refl, rw (modules, digits, short) refl)
 
--- an ordinary name
-
-ordinary_parts : (x : List ℕ) → has_ordinary_bytes x ≡ true → (0 < length x) × (ends x (codes ".") ≡ false) × (ends x (codes " ") ≡ false)
-    × (list_any is_classed x ≡ false)
-unfolding has_ordinary_bytes
-ordinary_parts x ordinary = grind arith
-
 -- a text that ends otherwise is another text
 other_end : (x : List ℕ) → ends x (codes ".") ≡ false → (bytes_eq x (codes ".") || bytes_eq x (codes "..")) ≡ false
 other_end x other = grind (arith, bytes_eq-Decides)
 
-pub ordinary_fault : (options : ComponentOptions) (mode : Option ComponentMode) (x : List ℕ) → has_ordinary_bytes x ≡ true
+pub ordinary_fault : (options : ComponentOptions) (mode : Option ComponentMode) (x : List ℕ) → 1 ≤ length x
+    → (ends x (codes ".") || ends x (codes " ")) ≡ false → list_any is_classed x ≡ false
     → bytes_eq (lower x) (codes ".git") ≡ false → bytes_eq (lower x) (codes ".gitmodules") ≡ false
     → fault_of options mode x ≡ when (options.protect_windows && options.protect_ntfs && is_device x) WindowsReservedName
 unfolding fault_of conditions is_illegal ntfs_form
-ordinary_fault options mode [] ordinary git modules = absurd (omega (arith, (ordinary_parts [] ordinary).0))
-ordinary_fault options mode (b ∷ x) ordinary git modules =
-    let has = ordinary_parts (b ∷ x) ordinary in
-    let none = unclassed (b ∷ x) has.3 in
-    let hfs = hfs_form_same (b ∷ x) none.1 in
-    let last : is_among (codes " .") (get_or (b ∷ x) (length x) 0) ≡ false = grind (arith, ends_read) in
-    let ntfs = form_same (is_among (codes ":\\")) (is_among (codes " .")) b x (uncut (b ∷ x) has.3) last in
+ordinary_fault options mode [] some end classed git modules = absurd (omega arith)
+ordinary_fault options mode (b ∷ x) some end classed git modules =
+    let ends = or_parts (ends (b ∷ x) (codes ".")) (ends (b ∷ x) (codes " ")) end in
+    let none = unclassed (b ∷ x) classed in
+    let ntfs = form_same (is_among (codes ":\\")) (is_among (codes " .")) b x (uncut (b ∷ x) classed) (grind (arith, ends_read)) in
     let forms = no_form (lower (b ∷ x)) (list_any-lower is_tilde refl (b ∷ x) ∙ none.4) git modules in
-    let colon = legal_no_prefix (b ∷ x) (first_unit_len (b ∷ x)) none.0 in
-    rw (other_end (b ∷ x) has.1, none.2, none.3, colon, hfs, ntfs, forms.0, forms.1, git, modules, none.0, has.1, has.2) (grind arith)
-
--- the test by its parts
-
-pub ordinary_by_looks : (x : List ℕ)
-    → has_ordinary_bytes x ≡ ((not (eqb (length x) 0) && not (ends x (codes ".") || ends x (codes " "))) && not (list_any is_classed x))
-unfolding has_ordinary_bytes
-ordinary_by_looks x = grind arith
-
-pub ordinary_passes : (options : ComponentOptions) (mode : Option ComponentMode) (x : List ℕ) → 1 ≤ length x → list_any is_classed x ≡ false
-    → (ends x (codes ".") || ends x (codes " ")) ≡ false
-    → (is_device x || (bytes_eq (lower x) (codes ".git") || bytes_eq (lower x) (codes ".gitmodules"))) ≡ false
-    → fault_of options mode x ≡ None
-ordinary_passes options mode x some classed end special = grind (arith, nat_tests, ordinary_by_looks, ordinary_fault)
+    rw (other_end (b ∷ x) ends.0, none.2, none.3, legal_no_prefix (b ∷ x) (first_unit_len (b ∷ x)) none.0, hfs_form_same (b ∷ x) none.1, ntfs, forms.0, forms.1,
+    git, modules, none.0, ends.0, ends.1) (grind arith)
 
 -- `.git` and `.gitmodules` in any letter case
-pub git_fault : (options : ComponentOptions) (mode : Option ComponentMode) (x : List ℕ) → bytes_eq (lower x) (codes ".git") ≡ true
-    → fault_of options mode x ≡ Some DotGitDir
+pub special_fault : (options : ComponentOptions) (mode : Option ComponentMode) (x : List ℕ)
+    → (bytes_eq (lower x) (codes ".git") ≡ true → fault_of options mode x ≡ Some DotGitDir)
+    × (bytes_eq (lower x) (codes ".gitmodules") ≡ true → fault_of options mode x ≡ when (is_some mode) SymlinkedGitModules)
 unfolding components_on_literals
-git_fault options mode x git = grind (arith, case_law, bytes_eq-Decides)
-
-pub modules_fault : (options : ComponentOptions) (mode : Option ComponentMode) (x : List ℕ) → bytes_eq (lower x) (codes ".gitmodules") ≡ true
-    → fault_of options mode x ≡ when (is_some mode) SymlinkedGitModules
-unfolding components_on_literals
-modules_fault options mode x modules = grind (arith, case_law, bytes_eq-Decides)
+special_fault options mode x = grind (arith, case_law, bytes_eq-Decides)
 
 pub relative_fault : (options : ComponentOptions) (mode : Option ComponentMode) (x : List ℕ) → (bytes_eq x (codes ".") || bytes_eq x (codes "..")) ≡ true
     → fault_of options mode x ≡ Some Relative
-unfolding components_on_literals
+unfolding fault_of conditions
 relative_fault options mode x dots = grind (arith, bytes_eq-Decides)
 
-pub ruleset faults_of_ordinary = (ordinary_fault, git_fault, modules_fault)
-
--- a name that has a separator is neither empty nor `.` or `..`, so no condition comes first
-parted_no_dots : (windows : Bool) (x : List ℕ) → (is_among x (byte "/") || (windows && is_among x (byte "\\"))) ≡ true
-    → (bytes_eq x (codes ".") || bytes_eq x (codes "..")) ≡ false
-parted_no_dots windows x has = grind (arith, bytes_eq-Decides)
+pub ruleset faults_of_ordinary = (ordinary_fault, special_fault)
 
 pub separator_fault : (options : ComponentOptions) (mode : Option ComponentMode) (x : List ℕ)
     → (is_among x (byte "/") || (options.protect_windows && is_among x (byte "\\"))) ≡ true → fault_of options mode x ≡ Some PathSeparator
 unfolding fault_of conditions
-separator_fault options mode x has = grind (arith, nat_tests, parted_no_dots)
-
-longer : (x word : List ℕ) → length word < length x → bytes_eq x word ≡ false
-longer x word long = grind (arith, bytes_eq-Decides)
+separator_fault options mode x has = grind (arith, nat_tests, bytes_eq-Decides)
 
 -- Without protections a name that is longer than `.gitmodules` is refused for a slash alone.
 pub unprotected_fault : (options : ComponentOptions) (mode : Option ComponentMode) (x : List ℕ) → options.protect_windows ≡ false
     → options.protect_hfs ≡ false → options.protect_ntfs ≡ false → 11 < length x → is_among x (byte "/") ≡ false → fault_of options mode x ≡ None
 unfolding fault_of conditions
-unprotected_fault options mode x windows hfs ntfs long whole = grind (arith, nat_tests, length-map, longer)
+unprotected_fault options mode x windows hfs ntfs long whole = grind (arith, nat_tests, length-map, bytes_eq-Decides)
 
 -- A name of one or two bytes is `.` or `..` if its first and its last are dots.
 pub relative_by_ends : (x : List ℕ) → 1 ≤ length x → length x < 3
     → (bytes_eq x (codes ".") || bytes_eq x (codes "..")) ≡ (get_or x 0 0 == byte "." && get_or x (length x - 1) 0 == byte ".")
-relative_by_ends [] some few = absurd (omega arith)
 relative_by_ends (p ∷ []) some few = grind arith
 relative_by_ends (p ∷ q ∷ []) some few = grind arith
-relative_by_ends (p ∷ q ∷ r ∷ x) some few = absurd (omega arith)
+relative_by_ends _ some few = absurd (omega arith)
+
+-- what the search for the first fault takes from above
+pub ruleset first_faults = (relative_fault, separator_fault, ordinary_fault, unprotected_fault)

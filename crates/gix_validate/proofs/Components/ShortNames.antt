@@ -1,12 +1,10 @@
 -- NTFS forms that stand for `.gitmodules`: all but `.gitmodules` itself have eight plain bytes.
-use Rattle.std.proofs.Common.{◌≡◌, ℕ, zero, suc, ◌+◌, ◌<◌, ◌≤◌, Bool, true, false, ◌&&◌, ◌||◌, eqb, List, [], ◌∷◌, ◌++◌, length, take, drop, get_or}
+use Rattle.std.proofs.Common.{◌≡◌, ℕ, suc, ◌<◌, ◌≤◌, Bool, true, false, ◌&&◌, ◌||◌, eqb, List, [], ◌∷◌, ◌++◌, length, take, drop, get_or}
 use Rattle.std.proofs.Common.{refl, sym, ap, ◌∙◌, arith, codes, ◌⊎◌, inl, inr}
 use Rattle.std.specs.Prelude.{◌==◌, nat_le, slice_index}
 use Rattle.std.specs.List.{list_all, list_any, range_with_len}
 use Rattle.std.specs.Str.{byte, bytes_eq}
 use Rattle.std.proofs.lemmas.List.{take-map, drop-map, length-map, get_or-drop, drop-drop, take-append-drop, length-take-le}
-use Rattle.std.proofs.lemmas.List.{at_drop_more}
-use Rattle.std.proofs.lemmas.List.FromFn.{get_or-range_with_len}
 use Rattle.std.proofs.lemmas.List.Folds.{list_all-append}
 use Rattle.std.proofs.lemmas.Slice.Eq.{bytes_eq-Decides}
 use Rattle.std.proofs.lemmas.Bool.{or_cases, and_parts, false≢true}
@@ -33,9 +31,7 @@ abbrev pub is_tilde_number : List ℕ → Bool
 is_tilde_number x = slice_index x 0 == byte "~" && (nat_le (byte "1") (slice_index x 1) && nat_le (slice_index x 1) (byte "9")) && list_all is_digit (drop 2 x)
 
 number_is_plain : (x : List ℕ) → is_tilde_number x ≡ true → list_all stays_in_form x ≡ true
-number_is_plain [] number = grind arith
-number_is_plain (b ∷ []) number = grind arith
-number_is_plain (b ∷ d ∷ x) number = grind (arith, nat_tests, digits_are_plain x)
+number_is_plain x number = grind (arith, nat_tests, digits_are_plain)
 
 short_by_parts : (k : ℕ) (f : List ℕ) → is_short_name k f ≡ (length f == 8 && (bytes_eq (take k f) (take k (codes "gi7eba")) && is_tilde_number (drop k f)))
 short_by_parts k f = rw (get_or-drop k f 0 0, get_or-drop k f 1 0, drop-drop 2 k f) (grind arith)
@@ -71,9 +67,8 @@ form_is_front (b ∷ x) = grind (arith, ntfs_form-at, form_is_front x)
 
 -- plain bytes after which nothing of the form is left are the form
 plain_front : (n : ℕ) (x : List ℕ) → list_all stays_in_form (take n x) ≡ true → is_empty (ntfs_form (drop n x)) ≡ true → ntfs_form x ≡ take n x
-plain_front zero x plain none = grind arith
-plain_front (suc n) [] plain none = grind arith
 plain_front (suc n) (b ∷ x) plain none = grind (arith, ntfs_form-at, plain_front n x)
+plain_front _ _ plain none = grind arith
 
 list_all-lower : (p : ℕ → Bool) → SkipsCase p → (x : List ℕ) → list_all p (lower x) ≡ list_all p x
 list_all-lower p skips [] = refl
@@ -85,17 +80,12 @@ eight_long x other modules = grind (arith, common_steps, other_is_plain, ntfs_fo
 -- A name that begins with no dot stands for `.gitmodules` if and only if its first eight bytes do, and the form ends after them.
 pub modules_elsewhere : (x : List ℕ) → eqb (lower_byte (get_or x 0 0)) (byte ".") ≡ false → 8 ≤ length x
     → is_modules_form (lower (ntfs_form x)) ≡ (is_modules_form (lower (take 8 x)) && is_empty (ntfs_form (drop 8 x)))
-modules_elsewhere x other long = bool_same _ _ forward back
-  where
-    forward : is_modules_form (lower (ntfs_form x)) ≡ true → (is_modules_form (lower (take 8 x)) && is_empty (ntfs_form (drop 8 x))) ≡ true
-    forward modules = grind (arith, eight_long, form_is_front x)
-
-    back : (is_modules_form (lower (take 8 x)) && is_empty (ntfs_form (drop 8 x))) ≡ true → is_modules_form (lower (ntfs_form x)) ≡ true
-    back both =
-        let parts = and_parts (is_modules_form (lower (take 8 x))) (is_empty (ntfs_form (drop 8 x))) both in
-        let eight : length (lower (take 8 x)) ≡ 8 = length-map (take 8 x) lower_byte ∙ length-take-le 8 x long in
-        let plain = (other_is_plain (lower (take 8 x)) (not_eleven _ eight) parts.0).1 in
-        ap (λ f. is_modules_form (lower f)) (plain_front 8 x (sym (list_all-lower stays_in_form refl (take 8 x)) ∙ plain) parts.1) ∙ parts.0
+modules_elsewhere x other long =
+    let eight : length (lower (take 8 x)) ≡ 8 = length-map (take 8 x) lower_byte ∙ length-take-le 8 x long in
+    bool_same _ _ (λ modules. grind (arith, eight_long, form_is_front x)) (λ both.
+    let parts = and_parts (is_modules_form (lower (take 8 x))) (is_empty (ntfs_form (drop 8 x))) both in
+    let plain = (other_is_plain (lower (take 8 x)) (not_eleven _ eight) parts.0).1 in
+    ap (λ f. is_modules_form (lower f)) (plain_front 8 x (sym (list_all-lower stays_in_form refl (take 8 x)) ∙ plain) parts.1) ∙ parts.0)
 
 -- With fewer bytes it never does.
 pub modules_too_short : (x : List ℕ) → eqb (lower_byte (get_or x 0 0)) (byte ".") ≡ false → length x < 8 → is_modules_form (lower (ntfs_form x)) ≡ false
@@ -112,8 +102,7 @@ dot_or_none x = grind (arith, ntfs_form-at)
 -- A name that begins with a dot does if and only if the form of what follows is `gitmodules`.
 pub modules_at_dot : (x : List ℕ) → get_or x 0 0 ≡ byte "."
     → is_modules_form (lower (ntfs_form x)) ≡ bytes_eq (lower (ntfs_form (drop 1 x))) (codes "gitmodules")
-modules_at_dot [] at = grind arith
-modules_at_dot (b ∷ x) at = grind (arith, common_steps, other_is_plain, whole_is_modules, dot_or_none, dot_stays)
+modules_at_dot x at = grind (arith, nat_tests, common_steps, other_is_plain, whole_is_modules, dot_or_none, dot_stays)
 
 number_lower : (x : List ℕ) → is_tilde_number (lower x) ≡ is_tilde_number x
 unfolding lower_byte
@@ -134,29 +123,5 @@ pub eight_is_short : (w : List ℕ) → length w ≡ 8
 unfolding is_modules_form
 eight_is_short w eight = grind (arith, length-map, not_eleven)
 
--- a short name with so many letters or more
-unfoldable pub is_short_from : ℕ → List ℕ → Bool
-is_short_from k w = list_any (λ j. is_short_name j w) (drop k (range_with_len 0 7))
-
--- With no letter or more it is any of the seven kinds.
-pub short_from_none : (w : List ℕ) → is_short_from 0 w ≡ list_any (λ j. is_short_name j w) (range_with_len 0 7)
-unfolding is_short_from
-short_from_none w = refl
-
--- With k letters or more: with k letters, or with more.
-pub short_step : (k : ℕ) (w : List ℕ) → k < 7 → is_short_from k w ≡ (is_short_name k w || is_short_from (k + 1) w)
-unfolding is_short_from
-short_step k w few =
-    let at : get_or (range_with_len 0 7) k 0 ≡ k = omega (arith, get_or-range_with_len 0 7 k 0 few) in
-    at_drop_more (list_any (λ j. is_short_name j w)) (range_with_len 0 7) k 0 few ∙ ap (λ j. is_short_name j w || is_short_from (k + 1) w) at
-
--- No short name has seven letters.
-pub short_end : (k : ℕ) (w : List ℕ) → 7 ≤ k → is_short_from k w ≡ false
-unfolding is_short_from
-short_end k w past = grind (arith, common_steps)
-
 -- what stands for `.gitmodules`, by its first byte
 pub ruleset modules_by_first = (common_steps, modules_at_dot, modules_elsewhere, modules_too_short)
-
--- the seven kinds of short names, one after the other
-pub ruleset short_by_letters = (short_from_none, short_step, short_end)

@@ -1,9 +1,9 @@
 -- The definitions of reference names, computed on literals.
-use Rattle.std.proofs.Common.{refl, [], ◌∷◌, true, false, Some, None}
+use Rattle.std.proofs.Common.{refl, [], ◌∷◌, Some, None}
 use Rattle.std.specs.Prelude.{codes}
 use Rattle.gix_validate.proofs.OnLiterals.{names_on_literals}
 use Rattle.gix_validate.proofs.Rows.Tables.{Gives, Judges}
-use Rattle.gix_validate.specs.Reference.{has_slash_or_stands_alone, is_partial_name, is_full_name, is_branch_name, reserved, partial_fault_of}
+use Rattle.gix_validate.specs.Reference.{is_partial_name, is_full_name, is_branch_name, reserved, partial_fault_of}
 use Rattle.gix_validate.specs.Reference.{full_fault_of, branch_fault_of, text_of}
 use Rattle.gix_validate.specs.declared.reference.NameError.TheVariants.{InvalidByte}
 use Rattle.gix_validate.specs.declared.reference.NameError.TheVariants.{Empty}
@@ -13,34 +13,21 @@ use Rattle.gix_validate.specs.declared.reference.NameError.TheVariants.{SomeLowe
 partial_names : Judges partial_fault_of is_partial_name
     ((codes "@", Some (reserved (codes "@")))  -- at alone
     ∷ (codes "a@", None)  -- at last
-    ∷ (codes "@@", None)  -- two ats
     ∷ (codes "@/a", None)  -- at first
     ∷ (codes "main", None)  -- small letters alone
-    ∷ (codes "some-name", None)  -- hyphen inside
     ∷ (codes "a b", Some (InvalidByte 0x20))  -- space
     ∷ ([], Some Empty)  -- nothing
     ∷ [])
 unfolding names_on_literals
 partial_names = (refl, refl)
 
-stand_alone : Gives has_slash_or_stands_alone
-    ((codes "HEAD", true)  -- HEAD may stand alone
-    ∷ (codes "FETCH_HEAD", true)  -- an underscore, too
-    ∷ (codes "V1", false)  -- not a digit
-    ∷ (codes "A-B", false)  -- not a hyphen
-    ∷ (codes "a/b", true)  -- a lowercase letter in a folder
-    ∷ [])
-stand_alone = refl
-
 full_names : Judges full_fault_of is_full_name
     ((codes "HEAD", None)  -- head
     ∷ (codes "FETCH_HEAD", None)  -- fetch head
-    ∷ (codes "_", None)  -- underscore
-    ∷ (codes "refs/lower", None)  -- lower in a folder
     ∷ (codes "a/b", None)  -- folder
     ∷ (codes "refs/heads/HEAD", None)  -- head branch
     ∷ (codes "V1", Some SomeLowercase)  -- digit
-    ∷ (codes "HEAD1", Some SomeLowercase)  -- digit at the end
+    ∷ (codes "A-B", Some SomeLowercase)  -- hyphen
     ∷ (codes "main", Some SomeLowercase)  -- lower alone
     ∷ (0xC3 ∷ 0x89 ∷ [], Some SomeLowercase)  -- two high bytes
     ∷ (codes "@", Some (reserved (codes "@")))  -- at before lowercase
@@ -56,7 +43,6 @@ branch_names : Judges branch_fault_of is_branch_name
     ∷ (codes "refs/heads/HEAD/x", None)  -- below head branch
     ∷ (codes "HEAD", None)  -- head as branch
     ∷ (codes "main", Some SomeLowercase)  -- main as branch
-    ∷ (codes "@", Some (reserved (codes "@")))  -- at as branch
     ∷ [])
 unfolding names_on_literals
 branch_names = (refl, refl)
@@ -64,7 +50,6 @@ branch_names = (refl, refl)
 -- faults, and what they print
 printed : Gives text_of
     ((reserved (codes "refs/heads/HEAD"), codes "Reference name is reserved and cannot be used: \"refs/heads/HEAD\"")  -- reserved
-    ∷ (reserved [], codes "Reference name is reserved and cannot be used: \"\"")  -- no name
     ∷ (InvalidByte 0x1B, codes "Reference name contains invalid byte: \"\\x1b\"")  -- escape
     ∷ (SomeLowercase, codes "Standalone references must be all uppercased, like 'HEAD'")  -- lowercase
     ∷ [])

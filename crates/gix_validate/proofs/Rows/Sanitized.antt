@@ -1,11 +1,11 @@
 -- The definitions of the sanitised text, computed on literals.
-use Rattle.std.proofs.Common.{◌≡◌, refl, [], ◌∷◌, ◌++◌, inl, inr, ap, arith}
+use Rattle.std.proofs.Common.{◌≡◌, refl, [], ◌∷◌, inl, inr, arith}
 use Rattle.std.proofs.lemmas.Bool.{false≢true}
-use Rattle.std.specs.Prelude.{slice_index, codes}
+use Rattle.std.specs.Prelude.{codes}
 use Rattle.std.specs.Str.{byte}
 use Rattle.gix_validate.proofs.OnLiterals.{names_on_literals}
 use Rattle.gix_validate.proofs.Rows.Tables.{Gives}
-use Rattle.gix_validate.specs.Sanitized.{Dots, Other, runs, cleaned, cut, dash_last_of, mended_pieces, nonempty_pieces, sanitized, KeepsGood, KeepsPieces}
+use Rattle.gix_validate.specs.Sanitized.{Dots, Other, runs, cleaned, cut, dash_last_of, mended_pieces, sanitized, KeepsGood, KeepsPieces}
 
 runs_of_pieces : Gives runs
     ((codes "a..b.", Other (byte "a") ∷ Dots ∷ Other (byte "b") ∷ Dots ∷ [])  -- between bytes
@@ -17,12 +17,9 @@ runs_of_pieces = refl
 cleaned_pieces : Gives cleaned
     ((codes "..a", codes "-a")  -- dots at start
     ∷ (codes "a..b", codes "a.b")  -- dots inside
-    ∷ (codes "a...", codes "a.")  -- dots at end
     ∷ (codes "a b:c*d~", codes "a-b-c-d-")  -- bad bytes
     ∷ (codes "@{@@{{", codes "@-@@-{")  -- log portion
     ∷ (codes "@..{", codes "@.{")  -- dots before brace
-    ∷ (codes "*{", codes "-{")  -- star before brace
-    ∷ (codes "a..lock", codes "a.lock")  -- lock after dots
     ∷ (codes "v1.2.3", codes "v1.2.3")  -- plain piece
     ∷ (codes "", codes "")  -- nothing
     ∷ [])
@@ -35,16 +32,12 @@ cut_pieces : Gives cut
     ∷ (codes "a.lock.locks", codes "a.lock.locks")  -- only at end
     ∷ (codes "a.lock.b.lock", codes "a.lock.b")  -- inside stays
     ∷ (codes ".lock.lock", codes "")  -- all
-    ∷ (codes "-lock", codes "-lock")  -- dash
     ∷ (codes "x.lock.", codes "x.lock.")  -- dot after
     ∷ (codes "a.LOCK", codes "a.LOCK")  -- other case
     ∷ (codes "a.lo.lock", codes "a.lo")  -- overlapping
     ∷ [])
 unfolding names_on_literals
 cut_pieces = refl
-
-pieces_not_empty : nonempty_pieces (codes "/a//b/") ≡ codes "a" ∷ codes "b" ∷ []
-pieces_not_empty = refl
 
 pieces_mended : mended_pieces (codes "a b//.lock/x.lock.lock") ≡ codes "a-b" ∷ codes "-lock" ∷ codes "x" ∷ []
 unfolding names_on_literals
@@ -56,7 +49,6 @@ dash_last_piece = refl
 repaired_names : Gives sanitized
     (([], codes "-")  -- empty text
     ∷ (codes "///", codes "-")  -- only slashes
-    ∷ (codes "..a", codes "-a")  -- dots at start
     ∷ (codes "/a//b/", codes "a/b")  -- slashes around
     ∷ (codes "a./b", codes "a./b")  -- dot before slash
     ∷ (codes "a.lock.", codes "a.lock-")  -- lock then dot
@@ -64,7 +56,6 @@ repaired_names : Gives sanitized
     ∷ (codes "x.lock..lock/", codes "x")  -- locks and slash
     ∷ (codes "@/@", codes "@/@")  -- two ats
     ∷ (codes "@.lock", codes "-")  -- at before lock
-    ∷ (codes "a" ++ 0x09 ∷ codes "b@{c", codes "a-b@-c")  -- tab and log portion
     ∷ (codes "refs//heads/../x.lock.lock/.y*", codes "refs/heads/-/x/-y-")  -- many faults
     ∷ [])
 unfolding names_on_literals
@@ -83,11 +74,7 @@ fewer_pieces keeps = let e : 1 ≡ 2 = keeps.as_many in absurd (omega (arith, e)
 
 good_piece_changed : KeepsGood (codes "a b" ∷ codes "c" ∷ []) (codes "a-b" ∷ codes "x" ∷ []) → ⊥
 unfolding names_on_literals
-good_piece_changed keeps =
-    elim (keeps.1 refl) [
-      | inl same ↦ (let e : byte "x" ≡ byte "c" = ap (λ t. slice_index t 0) same in omega (arith, e))
-      | inr dashed ↦ (let e : byte "x" ≡ byte "-" = ap (λ t. slice_index t 0) dashed in omega (arith, e))
-    ]
+good_piece_changed keeps = grind (arith, keeps.1 refl)
 
 empty_piece : KeepsPieces (codes "a/*") (codes "a/") → ⊥
 empty_piece keeps = false≢true keeps.none_empty

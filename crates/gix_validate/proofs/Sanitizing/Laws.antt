@@ -1,5 +1,5 @@
 -- The laws of the sanitised text.
-use Rattle.std.proofs.Common.{◌≡◌, ◌≢◌, ◌⊎◌, inl, inr, ℕ, ◌≤◌, max, true, false, List, [], ◌∷◌, length, map, refl, sym, ap, ◌∙◌, arith, length-append, length-take}
+use Rattle.std.proofs.Common.{◌≡◌, ◌≢◌, ◌⊎◌, ℕ, ◌≤◌, max, true, false, List, [], ◌∷◌, length, map, refl, sym, ap, ◌∙◌, arith, length-append, length-take}
 use Rattle.std.specs.Prelude.{codes, not, ◌↔◌, IsTrue, filter}
 use Rattle.std.specs.List.{list_all}
 use Rattle.std.specs.Str.{byte, bytes_eq}
@@ -26,8 +26,7 @@ mended_of ps = map (λ p. cut (cleaned p)) (filter (λ p. not (is_empty p)) ps)
 
 mended_of-good : (ps : List (List ℕ)) → list_all is_good_piece (mended_of ps) ≡ true
 mended_of-good [] = refl
-mended_of-good ([] ∷ ps) = mended_of-good ps
-mended_of-good ((b ∷ p) ∷ ps) = grind (arith, mend_good (b ∷ p) refl, mended_of-good ps)
+mended_of-good (p ∷ ps) = grind (arith, mend_good, mended_of-good ps)
 
 mended_of-apart : (ps : List (List ℕ)) → list_all has_no_slash ps ≡ true → list_all has_no_slash (mended_of ps) ≡ true
 mended_of-apart [] h = refl
@@ -69,14 +68,10 @@ sanitized_some x some =
     (λ none. some (nil_from_length (nonempty_pieces x) (grind (arith, length-map (nonempty_pieces x) (λ p. cut (cleaned p))))))
     (mended_of-good (pieces x)) (mended_of-apart (pieces x) (pieces_apart x))
 
-partial_dash : is_partial_name (codes "-") ≡ true
-unfolding is_partial_name is_tag_name is_good_piece is_bad
-partial_dash = refl
-
 -- The sanitised text is a partial name.
 pub sanitized-partial : (x : List ℕ) → is_partial_name (sanitized x) ≡ true
-unfolding is_partial_name is_tag_name
-sanitized-partial x = grind (arith, nat_tests, sanitized_none, partial_dash, sanitized_some, and_from, not_from_false)
+unfolding is_partial_name is_tag_name is_good_piece is_bad
+sanitized-partial x = grind (arith, nat_tests, sanitized_none, sanitized_some, and_from, not_from_false)
 
 -- A partial name stays as it is.
 pub sanitized-own : (x : List ℕ) → is_partial_name x ≡ true → sanitized x ≡ x
@@ -94,15 +89,9 @@ none_empty_from : (ps : List (List ℕ)) → list_all is_good_piece ps ≡ true 
 none_empty_from [] h = refl
 none_empty_from (p ∷ ps) h = grind (arith, good_nonempty p, none_empty_from ps)
 
-keeps_own : (ps : List (List ℕ)) → KeepsGood ps (map (λ p. cut (cleaned p)) ps)
-keeps_own [] = tt
-keeps_own (p ∷ []) = λ good. inl (mend-own p good)
-keeps_own (p ∷ q ∷ ps) = (mend-own p, keeps_own (q ∷ ps))
-
-keeps_dashed : (ps : List (List ℕ)) → KeepsGood ps (dash_last_of (map (λ p. cut (cleaned p)) ps))
-keeps_dashed [] = tt
-keeps_dashed (p ∷ []) = λ good. inr (ap dash_last (mend-own p good))
-keeps_dashed (p ∷ q ∷ ps) = (mend-own p, keeps_dashed (q ∷ ps))
+keeps : (ps : List (List ℕ)) → KeepsGood ps (map (λ p. cut (cleaned p)) ps) × KeepsGood ps (dash_last_of (map (λ p. cut (cleaned p)) ps))
+keeps (p ∷ q ∷ ps) = grind (arith, mend-own, keeps (q ∷ ps))
+keeps _ = grind (arith, mend-own)
 
 -- The text is made piece by piece.
 pub sanitized-piecewise : (x : List ℕ) → IsPiecewise x (sanitized x)
@@ -110,7 +99,7 @@ sanitized-piecewise x = record {
   some = λ some. (let r = sanitized_some x some in record {
     as_many = grind (arith, length-dash_last_of, length-map (nonempty_pieces x) (λ p. cut (cleaned p)));
     none_empty = none_empty_from (pieces (sanitized x)) r.good;
-    kept = grind (arith, r.from, keeps_own (nonempty_pieces x), keeps_dashed (nonempty_pieces x));
+    kept = grind (arith, r.from, keeps (nonempty_pieces x));
     mended = r.from;
   });
   none = sanitized_none x;
@@ -126,3 +115,6 @@ length-joined_mended ((b ∷ p) ∷ q ∷ ps) = grind (arith, length-append, len
 pub length-sanitized : (x : List ℕ) → (1 ≤ length (sanitized x)) × (length (sanitized x) ≤ max 1 (length x))
 unfolding sanitized
 length-sanitized x = grind (arith, nat_tests, length-joined_mended, join_with_byte-slice_split (byte "/") x, cond_both, length-append, length-take)
+
+-- what the repair takes from above
+pub ruleset sanitized_laws = (sanitized-partial, sanitized-unchanged, sanitized-sanitized, sanitized-piecewise, length-sanitized)

@@ -59,9 +59,8 @@ locks_none _ h other = grind arith
 -- A text that does not end in `.lock` is left as it is.
 pub cut-own : (t : List ℕ) → ((f : List ℕ) → t ≢ f ++ codes ".lock") → cut t ≡ t
 cut-own t other =
-    let rest = drop (length (cut t)) t in
     let front = cut_front t in
-    let none = locks_none rest front.1 (λ f e. other (cut t ++ f) (front.0 ∙ (ap (λ v. cut t ++ v) e ∙ sym (append_assoc (cut t) f (codes ".lock"))))) in
+    let none = locks_none (drop (length (cut t)) t) front.1 (λ f e. other (cut t ++ f) (grind (arith, append_assoc))) in
     grind (arith, append-nil)
 
 -- What is left does not end in `.lock`.
@@ -70,8 +69,7 @@ cut_open t f e = grind (arith, cut_front t, cut-append, length-cut, length-appen
 
 pub cut_lock : (t : List ℕ) (n : ℕ) → n ≤ length t → ends (take n t) (codes ".lock") ≡ true → (5 ≤ n) × (cut (take (n - 5) t) ≡ cut (take n t))
 cut_lock t n within lock =
-    let e = ends-true (take n t) (codes ".lock") lock in
-    grind (arith, length-take, length-append, take-take, cut-append (take (n - 5) t) (codes ".lock") refl)
+    grind (arith, ends-true (take n t) (codes ".lock"), length-take, length-append, take-take, cut-append (take (n - 5) t) (codes ".lock") refl)
 
 pub cut_none : (t : List ℕ) → ends t (codes ".lock") ≡ false → cut t ≡ t
 cut_none t none = cut-own t (ends-no t (codes ".lock") none)

@@ -50,13 +50,11 @@ each_may_follow-front before (b ∷ f) r h = grind (arith, each_may_follow-front
 
 dash_follows : (before : Option ℕ) → may_follow before (byte "-") ≡ true
 unfolding is_bad is_refused
-dash_follows None = refl
-dash_follows (Some a) = grind arith
+dash_follows before = grind (arith, nat_tests)
 
 -- A dash may follow each byte, and first.
 pub each_may_follow-dash : (before : Option ℕ) (f : List ℕ) → each_may_follow before f ≡ true → each_may_follow before (f ++ codes "-") ≡ true
-unfolding is_bad is_refused
-each_may_follow-dash before [] h = grind arith
+each_may_follow-dash before [] h = grind (arith, dash_follows)
 each_may_follow-dash before (b ∷ f) h = grind (arith, each_may_follow-dash (Some b) f)
 
 -- the byte before is this one
@@ -74,17 +72,13 @@ added_by before [] = []
 added_by before (b ∷ p) = added before b ++ added_by (Some b) p
 
 dot_before-twice : (rs : List Run) → dot_before (dot_before rs) ≡ dot_before rs
-dot_before-twice [] = refl
-dot_before-twice (Dots ∷ rs) = refl
-dot_before-twice (Other b ∷ rs) = refl
+dot_before-twice rs = grind (arith, nat_tests)
 
 -- The runs of a piece give what its bytes add, and the same after a dot.
 runs_added : (p : List ℕ) → ((before : Option ℕ) → is_after (byte ".") before ≡ false → bytes_of before (runs p) ≡ added_by before p)
     × ((before : Option ℕ) → bytes_of before (dot_before (runs p)) ≡ byte_of before Dots ∷ added_by (Some (byte ".")) p)
-runs_added [] = (λ before h. refl, λ before. refl)
-runs_added (b ∷ p) =
-    let rest = runs_added p in
-    (λ before h. grind (arith, nat_tests, rest.0 (Some b), rest.1 before), λ before. grind (arith, nat_tests, dot_before-twice, rest.0 (Some b), rest.1 before))
+runs_added [] = grind (arith, nat_tests)
+runs_added (b ∷ p) = grind (arith, nat_tests, dot_before-twice, runs_added p)
 
 pub cleaned-added : (p : List ℕ) → cleaned p ≡ added_by None p
 unfolding cleaned
@@ -94,45 +88,36 @@ length-added : (before : Option ℕ) (p : List ℕ) → length (added_by before 
 length-added before [] = grind arith
 length-added before (b ∷ p) = grind (arith, length-added (Some b) p)
 
-added-own : (before : Option ℕ) (b : ℕ) → may_follow before b ≡ true → added before b ≡ b ∷ []
-unfolding is_refused
-added-own None b h = grind (arith, nat_tests)
-added-own (Some a) b h = grind (arith, nat_tests)
-
 -- A piece whose bytes may each follow the one before stays as it is.
 added_by-own : (before : Option ℕ) (p : List ℕ) → each_may_follow before p ≡ true → added_by before p ≡ p
+unfolding is_refused
 added_by-own before [] h = grind arith
-added_by-own before (b ∷ p) h = grind (arith, and_parts, added-own before b, added_by-own (Some b) p)
+added_by-own before (b ∷ p) h = grind (arith, nat_tests, added_by-own (Some b) p)
 
 -- an allowed byte is one that a good piece may have, and is a dot, `@` or `{` only if the byte is
 allowed_kept : (b : ℕ) → (is_refused (allowed b) ≡ false) × ((allowed b == byte ".") ≡ (b == byte "."))
     × ((allowed b == byte "@") ≡ (b == byte "@")) × ((allowed b == byte "{") ≡ (b == byte "{"))
 unfolding is_bad is_refused
-allowed_kept b = (grind (arith, nat_tests), grind (arith, nat_tests), grind (arith, nat_tests), grind (arith, nat_tests))
+allowed_kept b = grind (arith, nat_tests)
 
 marks_follow : (before : Option ℕ) → is_after (byte ".") before ≡ false → may_follow before (byte_of before Dots) ≡ true
 unfolding is_bad is_refused
-marks_follow None h = refl
-marks_follow (Some a) h = grind (arith, nat_tests)
+marks_follow before h = grind (arith, nat_tests)
 
 others_follow : (before : Option ℕ) (b : ℕ) → (b == byte ".") ≡ false → may_follow before (byte_of before (Other b)) ≡ true
-others_follow None b h = grind (arith, nat_tests, allowed_kept b, dash_follows None)
-others_follow (Some a) b h = grind (arith, nat_tests, allowed_kept b, dash_follows (Some a))
+others_follow before b h = grind (arith, nat_tests, allowed_kept, dash_follows)
 
 -- What may follow a byte may follow what is written for it.
 follow_written : (before : Option ℕ) (b : ℕ) (t : List ℕ) → each_may_follow (Some b) t ≡ true
     → each_may_follow (Some (byte_of before (if b == byte "." then Dots else Other b))) t ≡ true
 follow_written before b [] h = grind arith
-follow_written None b (c ∷ t) h = grind (arith, nat_tests, allowed_kept b)
-follow_written (Some a) b (c ∷ t) h = grind (arith, nat_tests, allowed_kept b)
+follow_written before b (c ∷ t) h = grind (arith, nat_tests, allowed_kept b)
 
 -- Of a cleaned piece each byte may follow the one before.
 added_follows : (before : Option ℕ) (p : List ℕ) → each_may_follow before (added_by before p) ≡ true
 added_follows before [] = grind arith
 added_follows before (b ∷ p) =
-    let rest = added_follows (Some b) p in
-    let follow = follow_written before b (added_by (Some b) p) rest in
-    grind (arith, nat_tests, marks_follow before, others_follow before b)
+    grind (arith, nat_tests, marks_follow before, others_follow before b, follow_written before b (added_by (Some b) p), added_follows (Some b) p)
 
 -- A cleaned piece has no slash where the piece has none.
 added-apart : (before : Option ℕ) (p : List ℕ) → has_no_slash p ≡ true → has_no_slash (added_by before p) ≡ true
@@ -141,8 +126,7 @@ added-apart before (b ∷ p) h = grind (arith, nat_tests, added-apart (Some b) p
 
 -- A piece that is not empty leaves something.
 pub cleaned_some : (p : List ℕ) → is_empty p ≡ false → is_empty (cleaned p) ≡ false
-cleaned_some [] h = grind arith
-cleaned_some (b ∷ p) h = grind (arith, common_steps, cleaned-added (b ∷ p))
+cleaned_some p h = grind (arith, nat_tests, common_steps, cleaned-added)
 
 pub is_good_piece-empty : is_good_piece [] ≡ false
 unfolding is_good_piece
@@ -160,9 +144,8 @@ is_good_piece-from p some follows other = grind (arith, is_good_piece-bytes, end
 pub mend_good : (p : List ℕ) → is_empty p ≡ false → is_good_piece (cut (cleaned p)) ≡ true
 mend_good p some =
     let follows : each_may_follow None (cleaned p) ≡ true = grind (arith, cleaned-added p, added_follows None p) in
-    let front = each_may_follow-front None (cut (cleaned p)) (drop (length (cut (cleaned p))) (cleaned p)) in
     is_good_piece-from (cut (cleaned p)) (cut_some (cleaned p) (cleaned_some p some) follows)
-    (grind (arith, cut_front (cleaned p))) (cut_open (cleaned p))
+    (grind (arith, cut_front (cleaned p), each_may_follow-front None (cut (cleaned p)) (drop (length (cut (cleaned p))) (cleaned p)))) (cut_open (cleaned p))
 
 -- A good piece stays as it is.
 pub mend-own : (p : List ℕ) → is_good_piece p ≡ true → cut (cleaned p) ≡ p
@@ -176,17 +159,12 @@ mend_apart p apart =
 pub length-mend : (p : List ℕ) → length (cut (cleaned p)) ≤ length p
 length-mend p = grind (arith, cleaned-added, length-cut, length-added)
 
-is_empty-dash : (f : List ℕ) → is_empty (f ++ codes "-") ≡ false
-is_empty-dash [] = refl
-is_empty-dash (b ∷ f) = refl
-
 -- A good piece stays one with a dash for its last byte.
 pub dash_last-good : (p : List ℕ) → is_good_piece p ≡ true → is_good_piece (dash_last p) ≡ true
 dash_last-good p good =
     let f = take (length p - 1) p in
-    let front = each_may_follow-front None f (drop (length p - 1) p) in
-    let follows = each_may_follow-dash None f (grind (arith, is_good_piece-bytes, take-append-drop (length p - 1) p)) in
-    is_good_piece-from (dash_last p) (is_empty-dash f) follows
+    is_good_piece-from (dash_last p) (grind arith)
+    (grind (arith, is_good_piece-bytes, take-append-drop (length p - 1) p, each_may_follow-front None f (drop (length p - 1) p), each_may_follow-dash None f))
     (λ g e. grind (arith, same_from_push f (g ++ codes ".loc") (byte "-") (byte "k"), append_assoc))
 
 pub dash_last-apart : (p : List ℕ) → has_no_slash p ≡ true → has_no_slash (dash_last p) ≡ true

@@ -14,7 +14,9 @@ use Rattle.gix_validate.specs.Private.TagWalk.{may_be_faulty}
 use Rattle.gix_validate.specs.Pieces.{is_slash, joined}
 use Rattle.gix_validate.specs.Sanitized.{Dots, Other, byte_of, mended_pieces, repaired_dot, repaired_at, repaired_nothing, sanitized}
 use Rattle.gix_validate.proofs.Texts.Endings.{ends-no}
-use Rattle.gix_validate.proofs.TagNames.ClearTexts.{no_lock, pair_quiet}
+use Rattle.gix_validate.proofs.TagNames.ClearTexts.{no_lock, pair_quiet, clear_is_partial}
+use Rattle.gix_validate.proofs.Sanitizing.Laws.{sanitized-own, sanitized_laws}
+use Rattle.std.proofs.Common.{length-take}
 use Rattle.gix_validate.proofs.Sanitizing.LockSuffixes.{cut-own}
 use Rattle.gix_validate.proofs.Sanitizing.MendedPieces.{added}
 use Rattle.gix_validate.proofs.Sanitizing.WrittenPiece.{in_piece, closed, finished, GivesWhole, GivesWhole-start, GivesWhole-slash}
@@ -59,12 +61,12 @@ gives_front x (suc n) within quiet =
     rw (add-one n) at (gives_more x n (omega (arith, within)) (λ k below. quiet k (omega (arith, below))) so_far)
 
 -- Bytes that aren't suspect are mended already.
-pub MendedUpTo-start : (text : List ℕ) (n : ℕ) → n ≤ length text → NoneBelow (suspect_at text) n → MendedUpTo text text n n (get_or (byte "/" ∷ text) n 0)
-MendedUpTo-start text n within quiet = record { written = omega arith; long = refl; gives = gives_front text n within quiet }
+pub MendedUpTo-start : (text : List ℕ) (n previous : ℕ) → n ≤ length text → NoneBelow (suspect_at text) n → previous ≡ get_or (byte "/" ∷ text) n 0
+    → MendedUpTo text text n n previous
+MendedUpTo-start text n previous within quiet is = record { written = omega arith; long = refl; gives = rw is (gives_front text n within quiet) }
 
 pub before_front : (x : List ℕ) (n : ℕ) → n ≢ 0 → get_or (byte "/" ∷ x) n 0 ≡ get_or x (n - 1) 0
-before_front x zero some = absurd (some refl)
-before_front x (suc n) some = let e : suc n - 1 ≡ n = omega arith in rw e refl
+before_front x n some = grind (arith, nat_tests)
 
 MendedUpTo-later : (whole text new : List ℕ) (end read previous i b : ℕ) → MendedUpTo whole text end read previous → read < length text
     → length new ≡ length text → drop (end + 1) new ≡ drop (end + 1) text → i ≤ read + 1
@@ -108,17 +110,13 @@ pub MendedUpTo-slash : (whole text new : List ℕ) (end read previous n : ℕ) �
     → take n new ≡ closed (take end text) previous
     → drop (end + 1) new ≡ drop (end + 1) text → MendedUpTo whole new n (read + 1) (get_or text read 0)
 MendedUpTo-slash whole text new end read previous n so_far room slash same within written rest =
-    let b = get_or text read 0 in
-    let gives : GivesWhole whole (take end text) previous (b ∷ drop (read + 1) text) = rw (drop_more text read 0 room) at so_far.gives in
-    MendedUpTo-later whole text new end read previous n b so_far room same rest (omega (arith, so_far.written, within))
-    (rw (sym written) at (GivesWhole-slash _ _ _ _ _ gives slash))
+    let slashed = GivesWhole-slash whole (take end text) previous (get_or text read 0) (drop (read + 1) text) in
+    grind (arith, nat_tests, GivesWhole, slashed, drop_more text read 0, MendedUpTo-later whole text new end read previous n)
 
 -- At the end of the text the last piece ends.
 pub mended_text : (whole text : List ℕ) (end read previous : ℕ) → MendedUpTo whole text end read previous → length text ≤ read
     → finished (take end text) previous ≡ joined (mended_pieces whole)
-mended_text whole text end read previous so_far last =
-    let gives : GivesWhole whole (take end text) previous [] = rw (sym (drop_all read text last)) so_far.gives in
-    GivesWhole-end whole (take end text) previous gives
+mended_text whole text end read previous so_far last = grind (arith, nat_tests, GivesWhole, drop_all, GivesWhole-end)
 
 -- The front that was mended, and then repaired, is the sanitised text.
 pub sanitized-in_place : (whole front rest new : List ℕ) (m n : ℕ) → m ≤ length front → take m front ≡ joined (mended_pieces whole)
@@ -139,3 +137,6 @@ pub repaired_none : (buf : List ℕ) (end : ℕ) → 1 ≤ length buf → end �
     → take 1 (set buf 0 (byte "-")) ≡ repaired_nothing (repaired_at (repaired_dot (take end buf)))
 repaired_none [] end some none = absurd (omega arith)
 repaired_none (b ∷ buf) end some none = ap (λ v. repaired_nothing (repaired_at (repaired_dot (take v (b ∷ buf))))) (sym none)
+
+-- what the repair in a buffer takes from above
+pub ruleset in_place = (length-take, clear_is_partial, sanitized-own, sanitized_laws, sanitized-in_place, rest-in_place)

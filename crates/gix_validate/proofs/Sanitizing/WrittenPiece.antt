@@ -1,5 +1,5 @@
 -- What was written, and the rest that is not yet read, decide the mended pieces of the whole text.
-use Rattle.std.proofs.Common.{◌≡◌, ℕ, ◌-◌, true, false, cond, List, [], ◌∷◌, ◌++◌, length, take, refl, sym, ap, ◌∙◌, arith, length-append, append_assoc}
+use Rattle.std.proofs.Common.{◌≡◌, ℕ, ◌-◌, true, false, cond, List, [], ◌∷◌, ◌++◌, length, take, refl, sym, arith, length-append, append_assoc}
 use Rattle.std.proofs.Common.{append-nil}
 use Rattle.std.specs.Prelude.{codes, if◌then◌else◌, Option, Some, None}
 use Rattle.std.specs.Str.{byte}
@@ -46,8 +46,7 @@ cut-slash [] p = grind (arith, is_locks-slash [] p)
 cut-slash (b ∷ s) p = grind (arith, is_locks-slash (b ∷ s) p, cut-slash s p)
 
 cut-slashed : (texts : List (List ℕ)) (piece : List ℕ) → cut (slashed texts ++ piece) ≡ slashed texts ++ cut piece
-cut-slashed [] piece = refl
-cut-slashed (p ∷ ps) piece = grind (arith, append_assoc, cut-slash (joined (p ∷ ps)) piece)
+cut-slashed texts piece = grind (arith, nat_tests, append_assoc, cut-slash)
 
 closed-slashed : (texts : List (List ℕ)) (piece : List ℕ) (previous : ℕ) → is_empty piece ≡ is_slash previous
     → closed (slashed texts ++ piece) previous ≡ slashed (texts ++ kept piece) ++ []
@@ -64,10 +63,6 @@ mended_from-next : (texts : List (List ℕ)) (piece : List ℕ) (before : Option
     → mended_from texts piece before ([] ∷ ps) ≡ mended_from (texts ++ kept piece) [] None ps
 mended_from-next texts piece before ps = grind (arith, append-nil, append_assoc, mended_from-start)
 
-mended_from-byte : (texts : List (List ℕ)) (piece : List ℕ) (before : Option ℕ) (b : ℕ) (rest : List ℕ) → is_slash b ≡ false
-    → mended_from texts piece before (pieces (b ∷ rest)) ≡ mended_from texts (piece ++ added before b) (Some b) (pieces rest)
-mended_from-byte texts piece before b rest h = grind (arith, nat_tests, append_assoc, append-nil)
-
 -- After what is written, and this byte, the rest still gives what the whole gives.
 pub record GivesWhole (whole written : List ℕ) (previous : ℕ) (rest : List ℕ) : Type 0 where
   pub texts : List (List ℕ)
@@ -82,13 +77,7 @@ GivesWhole-start text = record { texts = []; piece = []; is = refl; begun = refl
 -- A byte of a piece adds to it.
 pub GivesWhole-byte : (whole written : List ℕ) (previous b : ℕ) (rest : List ℕ) → GivesWhole whole written previous (b ∷ rest) → is_slash b ≡ false
     → GivesWhole whole (written ++ added (in_piece previous) b) b rest
-GivesWhole-byte whole written previous b rest so_far other = record {
-  texts = so_far.texts;
-  piece = so_far.piece ++ added (in_piece previous) b;
-  is = grind (arith, so_far.is, append_assoc);
-  begun = grind (arith, nat_tests, so_far.begun);
-  gives = rw other (sym (mended_from-byte so_far.texts so_far.piece (in_piece previous) b rest other) ∙ so_far.gives);
-}
+GivesWhole-byte whole written previous b rest so_far other = grind (arith, nat_tests, added, append_assoc, append-nil)
 
 -- A slash ends the piece.
 pub GivesWhole-slash : (whole written : List ℕ) (previous b : ℕ) (rest : List ℕ) → GivesWhole whole written previous (b ∷ rest) → is_slash b ≡ true
@@ -96,15 +85,11 @@ pub GivesWhole-slash : (whole written : List ℕ) (previous b : ℕ) (rest : Lis
 GivesWhole-slash whole written previous b rest so_far slash = record {
   texts = so_far.texts ++ kept so_far.piece;
   piece = [];
-  is = ap (λ v. closed v previous) so_far.is ∙ closed-slashed so_far.texts so_far.piece previous so_far.begun;
+  is = grind (arith, closed-slashed, so_far.is, so_far.begun);
   begun = sym slash;
-  gives =
-      let split : pieces (b ∷ rest) ≡ [] ∷ pieces rest = rw slash refl in
-      rw slash (sym (mended_from-next so_far.texts so_far.piece (in_piece previous) (pieces rest))
-      ∙ (ap (mended_from so_far.texts so_far.piece (in_piece previous)) (sym split) ∙ so_far.gives));
+  gives = grind (arith, nat_tests, slash, mended_from-next so_far.texts so_far.piece (in_piece previous) (pieces rest), so_far.gives);
 }
 
 -- Where no rest is left, the last piece ends.
 pub GivesWhole-end : (whole written : List ℕ) (previous : ℕ) → GivesWhole whole written previous [] → finished written previous ≡ joined (mended_pieces whole)
-GivesWhole-end whole written previous so_far =
-    grind (arith, finished-slashed so_far.texts so_far.piece previous so_far.begun, so_far.is, so_far.gives, append-nil)
+GivesWhole-end whole written previous so_far = grind (arith, nat_tests, finished-slashed, append-nil)

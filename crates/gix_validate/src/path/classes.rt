@@ -90,7 +90,7 @@ impl Pattern for Illegal {
 }
 
 /// Whether the name has a byte that is illegal on Windows.
-#[tactic(auto, using(crate::proofs::Blocks::ByteClasses::illegal_is))]
+#[tactic(auto, using(crate::proofs::Blocks::ByteClasses::any_is, crate::proofs::Blocks::ByteClasses::illegal_is))]
 pub(super) fn has_illegal_byte(name: &[u8]) -> bool
     requires { 1 ≤ length name.now }
     ensures { result ≡ list_any is_illegal_byte name.now }
@@ -117,6 +117,7 @@ impl Pattern for Separator {
 
 /// Whether a name that is empty or isn't short has a slash, or, with Windows protection, a backslash.
 #[inline(always)]
+#[tactic(auto, using(crate::proofs::Blocks::Parts::none_of_empty))]
 pub(super) fn has_separator(name: &[u8], windows: bool) -> bool
     requires { 1 ≤ length name.now → SHORT < length name.now }
     ensures { result ≡ (is_among name.now (byte "/") || (windows && is_among name.now (byte "\\"))) }

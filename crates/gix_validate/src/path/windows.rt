@@ -79,8 +79,8 @@ const BY_THIRD: [u8; 32] = [
 /// The words by letter, in one table.
 const BY_LETTER: [[u8; 32]; 3] = [BY_FIRST, BY_SECOND, BY_THIRD];
 
-/// Whether a name may be a device, `.git` or `.gitmodules` in any ASCII case. Hardly any other name
-/// passes this test of its first three letters, which has no branch for each letter, and its length.
+/// Whether a name may be a device, `.git` or `.gitmodules` in any ASCII case, by its first three
+/// letters and its length.
 #[inline(always)]
 #[tactic(auto, using(crate::proofs::Components::Devices::special_bits), unfolding(crate::proofs::Components::Devices::bits, crate::specs::Bytes::lower_byte))]
 pub(super) fn may_be_special(name: &[u8]) -> bool

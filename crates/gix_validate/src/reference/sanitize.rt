@@ -38,6 +38,7 @@ use std::alloc::{AllocError, Global};
 /// # Memory
 ///
 /// It allocates once, before it writes a byte: the length of `path`, or one byte if that is empty.
+#[tactic(auto, using(crate::proofs::Sanitizing::Laws::sanitized_laws))]
 pub fn name_partial_or_sanitize(alloc: Global, path: BStr<'_>) -> Result<BString, AllocError>
     ensures text { IfOk result (λ name. bstring_bytes name ≡ sanitized (bstr_bytes path.entry)) }
     ensures partial { IfOk result (λ name. IsTrue (is_partial_name (bstring_bytes name))) }
@@ -93,9 +94,7 @@ fn fill_sanitized(name: &mut Vec<u8>, path: &[u8]) -> Result<(), AllocError>
 /// sanitize_in_place(&mut buffer, 3); // 2, and the buffer begins with `-a` and ends in `zz`
 /// ```
 ///
-/// It never fails and doesn't allocate. It looks at the name once: at sixteen bytes at a time up to
-/// the first that may have to change, and from there on byte by byte. Most valid partial names have
-/// no such byte.
+/// It never fails and doesn't allocate.
 pub fn sanitize_in_place(buf: &mut [u8], len: usize) -> usize
     requires some { 1 ≤ length buf.old }
     requires within { len ≤ length buf.old }

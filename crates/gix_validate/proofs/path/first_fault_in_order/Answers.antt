@@ -11,5 +11,5 @@ pub returns-else-not-hfs-2 : goal.returns-else-not-hfs-2
 unfolding fault_of conditions is_illegal lower_byte
 returns-else-not-hfs-2 c =
     let lines = conditions (switches c.args.windows c.args.hfs c.args.ntfs) c.args.mode c.args.name.now in
-    let later : AllNone (drop 6 lines) = (grind arith, (grind arith, (grind arith, (grind arith, (grind arith, (grind arith, tt)))))) in
+    let later : AllNone (drop 6 lines) = grind arith in
     first_from_AllNone lines (grind arith, (grind arith, (grind arith, (grind arith, (grind arith, (grind arith, later))))))

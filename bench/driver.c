@@ -2,27 +2,12 @@
    libgix_validate_c.a, and the same of the Rust crate and of libgit2, as far as they are linked in and have one. With a
    number of milliseconds it makes passes over all names for that long with each library, and prints the nanoseconds a
    name of the best pass of each, or a dash. */
-#include <stdbool.h>
-#include <stdint.h>
 #include <stdio.h>
 #include <stdlib.h>
 #include <string.h>
-#include <time.h>
 
-uint32_t gix_validate_tag(const uint8_t *name, size_t len);
-uint32_t gix_validate_full(const uint8_t *name, size_t len);
-uint32_t gix_validate_submodule(const uint8_t *name, size_t len);
-uint32_t gix_validate_component(const uint8_t *name, size_t len, uint32_t flags);
-size_t gix_validate_sanitize_in_place(uint8_t *buffer, size_t buffer_len, size_t len);
-size_t gix_validate_sanitize(const uint8_t *name, size_t len, uint8_t *buffer, size_t buffer_len);
-
-#ifdef CRATE
-uint32_t crate_tag(const uint8_t *name, size_t len);
-uint32_t crate_full(const uint8_t *name, size_t len);
-uint32_t crate_submodule(const uint8_t *name, size_t len);
-uint32_t crate_component(const uint8_t *name, size_t len, uint32_t flags);
-size_t crate_sanitize(const uint8_t *name, size_t len, uint8_t *out);
-#endif
+#include "crate/crate.h"
+#include "gix_validate.h"
 #ifdef LIBGIT2
 #include <git2.h>
 #endif
@@ -88,16 +73,10 @@ static const struct call {
     {"sanitize_in_place", {in_place, OF_CRATE(c_sanitize), NULL}},
 };
 
-static double now(void) {
-    struct timespec time;
-    clock_gettime(CLOCK_MONOTONIC, &time);
-    return (double)time.tv_sec * 1e9 + (double)time.tv_nsec;
-}
-
 static void read_names(const char *path) {
     FILE *file = fopen(path, "rb");
     char *line = NULL;
-    size_t room = 0, longest = 0, capacity = 0;
+    size_t room = 0, longest = 0;
     ssize_t len;
     if (!file) {
         perror(path);
@@ -106,23 +85,11 @@ static void read_names(const char *path) {
     while ((len = getline(&line, &room, file)) > 0) {
         if (line[len - 1] == '\n')
             len--;
-        if (count == capacity) {
-            capacity = capacity ? 2 * capacity : 1024;
-            names = realloc(names, capacity * sizeof *names);
-        }
-        names[count].bytes = malloc((size_t)len + 1);
-        names[count].len = (size_t)len;
-        if (!names || !names[count].bytes) {
-            perror("memory");
-            exit(2);
-        }
-        memcpy(names[count].bytes, line, (size_t)len);
-        names[count].bytes[len] = 0;
-        count++;
+        names = realloc(names, (count + 1) * sizeof *names);
+        names[count++] = (struct name){(uint8_t *)strndup(line, (size_t)len), (size_t)len};
         longest = (size_t)len > longest ? (size_t)len : longest;
     }
     fclose(file);
-    free(line);
     buffer = malloc(longest + 1);
 }
 

@@ -8,29 +8,20 @@ unsafe fn bytes<'a>(name: *const u8, len: usize) -> &'a BStr {
     std::slice::from_raw_parts(name, len).as_bstr()
 }
 
-#[no_mangle]
-pub unsafe extern "C" fn crate_tag(name: *const u8, len: usize) -> u32 {
-    tag::name(bytes(name, len)).is_err() as u32
+macro_rules! calls {
+    ($($name:ident: $call:path,)*) => {$(
+        #[no_mangle]
+        pub unsafe extern "C" fn $name(name: *const u8, len: usize) -> u32 {
+            $call(bytes(name, len)).is_err() as u32
+        }
+    )*};
 }
-
-#[no_mangle]
-pub unsafe extern "C" fn crate_partial(name: *const u8, len: usize) -> u32 {
-    reference::name_partial(bytes(name, len)).is_err() as u32
-}
-
-#[no_mangle]
-pub unsafe extern "C" fn crate_full(name: *const u8, len: usize) -> u32 {
-    reference::name(bytes(name, len)).is_err() as u32
-}
-
-#[no_mangle]
-pub unsafe extern "C" fn crate_branch(name: *const u8, len: usize) -> u32 {
-    reference::branch_name(bytes(name, len)).is_err() as u32
-}
-
-#[no_mangle]
-pub unsafe extern "C" fn crate_submodule(name: *const u8, len: usize) -> u32 {
-    submodule::name(bytes(name, len)).is_err() as u32
+calls! {
+    crate_tag: tag::name,
+    crate_partial: reference::name_partial,
+    crate_full: reference::name,
+    crate_branch: reference::branch_name,
+    crate_submodule: submodule::name,
 }
 
 /// The flags are those of gix_validate_component.

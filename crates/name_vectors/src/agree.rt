@@ -1,13 +1,11 @@
 //! A name is passed to the functions of the library, and what they return is compared with what is
 //! wanted: what the second implementation returns, or what a table says.
 
-use crate::path::{CALLS, DEVICE, HFS, NTFS, SYMLINK, WINDOWS, conditions, of_component};
-use crate::printed::printed;
-use crate::reference::{Fault, accepting, of_references};
+use crate::path::{SETTINGS, conditions, hfs_form, is_device, of_component};
+use crate::printed::{OF_COMPONENTS, OF_REFERENCES, OF_SUBMODULES, OF_TAGS, Texts, printed};
+use crate::reference::{Fault, VALID, accepting, of_references, of_submodule};
 use crate::sanitize::sanitized;
-use crate::submodule::of_submodule;
-use crate::text::{joined, spelled};
-use crate::units::hfs_form;
+use crate::text::before_first;
 use bstr::BStr;
 use gix_validate::path::{ComponentMode, ComponentOptions, component, component_is_windows_device};
 use gix_validate::reference::{
@@ -15,25 +13,39 @@ use gix_validate::reference::{
 };
 use gix_validate::{submodule, tag};
 use std::alloc::AllocError;
-use std::fmt::Display;
+use std::fmt::{Debug, Display};
 use std::process::Abort;
 
-/// What each kind of reference name is checked by, from a tag name to the name of a branch.
-#[rattlefmt::skip]
-const KINDS: [&str; 4] = ["tag::name", "name_partial", "reference::name", "branch_name"];
+/// What a check needs of the runtime.
+pub(crate) trait Host: Abort + AllocGlobal {}
+
+impl<T: Abort + AllocGlobal> Host for T {}
+
+/// What a check returns that found no fault.
+pub(crate) type Checked = Result<(), AllocError>;
 
 /// Passes the name to the functions of the library, and panics if a result isn't that of the second
 /// implementation.
-pub(crate) fn check(rt: &(impl Abort + AllocGlobal), text: &[u8]) -> Result<(), AllocError> {
+pub(crate) fn check(rt: &impl Host, text: &[u8]) -> Checked {
     let faults = of_references(text);
     let accepting = accepting(rt.alloc(), text)?;
     for kind in 0..4 {
-        let valid = faults[kind][1].is_empty();
-        expect(rt, (KINDS[kind], text), said(kind < accepting), said(valid));
+        assert_eq!(rt;
+            faults[kind] == VALID,
+            kind < accepting,
+            "{:?}",
+            BStr::new(text)
+        );
     }
     expect_references(rt, text, faults)?;
     expect_submodule(rt, text, of_submodule(rt.alloc(), text)?)?;
-    check_component(rt, text)?;
+    let lower = text.to_ascii_lowercase(rt.alloc())?;
+    let on_hfs = hfs_form(rt.alloc(), &lower)?;
+    let conditions = conditions(&lower, &on_hfs);
+    for settings in SETTINGS {
+        expect_component(rt, (settings, text), of_component(&conditions, settings))?;
+    }
+    expect_device(rt, text, is_device(&lower));
     expect_repair(rt, text, &sanitized(rt.alloc(), text)?)
 }
 
@@ -48,22 +60,24 @@ pub(crate) fn expect(rt: &impl Abort, (call, text): (&str, &[u8]), wanted: &[u8]
     );
 }
 
-/// Panics if the result isn't the name itself if no error is wanted, or else an error that prints what
-/// is wanted, and after that, if something is to be quoted, this in its quoted form.
-pub(crate) fn expect_told<E: Display + Drop>(
-    rt: &(impl Abort + AllocGlobal),
+/// Panics if the result isn't the name itself if it is valid, or else the error, which prints its text.
+pub(crate) fn expect_told<E: Debug + Display + Drop>(
+    rt: &impl Host,
     (call, text): (&str, &[u8]),
-    (wanted, quoted): (&[u8], &[u8]),
+    (texts, fault): (Texts, Fault<'_>),
     told: Result<BStr<'_>, E>,
-) -> Result<(), AllocError> {
+) -> Checked {
     match told {
         Ok(name) => {
-            let wanted = if wanted.is_empty() { text } else { wanted };
+            let wanted = if fault == VALID { text } else { fault.0 };
             expect(rt, (call, text), wanted, name.as_bytes());
         }
         Err(error) => {
+            let came = format!(in rt.alloc(); "{error:?}")?;
+            let word = before_first(came.as_bytes(), b" ");
+            expect(rt, (call, text), fault.0, word);
             let came = error.to_string(rt.alloc())?;
-            let wanted = printed(rt.alloc(), wanted, quoted)?;
+            let wanted = printed(rt.alloc(), texts, fault)?;
             expect(rt, (call, text), &wanted, came.as_bytes());
         }
     }
@@ -72,83 +86,63 @@ pub(crate) fn expect_told<E: Display + Drop>(
 
 /// Checks the results for a tag name and for the three kinds of reference names.
 pub(crate) fn expect_references(
-    rt: &(impl Abort + AllocGlobal),
+    rt: &impl Host,
     text: &[u8],
     [tag, partial, full, branch]: [Fault<'_>; 4],
-) -> Result<(), AllocError> {
+) -> Checked {
     let path = BStr::new(text);
-    let wanted = (tag[0], tag[2]);
-    expect_told(rt, (KINDS[0], text), wanted, tag::name(path))?;
-    let wanted = (partial[1], partial[2]);
-    expect_told(rt, (KINDS[1], text), wanted, name_partial(path))?;
-    let wanted = (full[1], full[2]);
-    expect_told(rt, (KINDS[2], text), wanted, name(path))?;
-    let wanted = (branch[1], branch[2]);
-    expect_told(rt, (KINDS[3], text), wanted, branch_name(path))
+    expect_told(rt, ("tag::name", text), (OF_TAGS, tag), tag::name(path))?;
+    let partial = (OF_REFERENCES, partial);
+    expect_told(rt, ("name_partial", text), partial, name_partial(path))?;
+    let full = (OF_REFERENCES, full);
+    expect_told(rt, ("reference::name", text), full, name(path))?;
+    let branch = (OF_REFERENCES, branch);
+    expect_told(rt, ("branch_name", text), branch, branch_name(path))
 }
 
 /// Checks the result for a submodule name.
-pub(crate) fn expect_submodule(
-    rt: &(impl Abort + AllocGlobal),
-    text: &[u8],
-    wanted: &[u8],
-) -> Result<(), AllocError> {
+pub(crate) fn expect_submodule(rt: &impl Host, text: &[u8], error: &'static [u8]) -> Checked {
+    let wanted = (OF_SUBMODULES, (error, b"".as_slice()));
     let told = submodule::name(BStr::new(text));
-    expect_told(rt, ("submodule::name", text), (wanted, b""), told)
+    expect_told(rt, ("submodule::name", text), wanted, told)
+}
+
+/// The protections that these settings have.
+pub(crate) fn options(settings: &str) -> ComponentOptions {
+    let letters = settings.as_bytes();
+    ComponentOptions {
+        protect_windows: letters.contains(&b'w'),
+        protect_hfs: letters.contains(&b'h'),
+        protect_ntfs: letters.contains(&b'n'),
+    }
 }
 
 /// Checks the result for a component under these settings.
 pub(crate) fn expect_component(
-    rt: &(impl Abort + AllocGlobal),
-    (settings, text): (usize, &[u8]),
-    wanted: &[u8],
-) -> Result<(), AllocError> {
-    let options = ComponentOptions {
-        protect_windows: settings & WINDOWS != 0,
-        protect_hfs: settings & HFS != 0,
-        protect_ntfs: settings & NTFS != 0,
-    };
-    let is_symlink = settings & SYMLINK != 0;
+    rt: &impl Host,
+    (settings, text): (&str, &[u8]),
+    error: &'static [u8],
+) -> Checked {
+    let is_symlink = settings.ends_with("s");
     let mode = is_symlink.then_some(ComponentMode::Symlink);
-    let told = component(BStr::new(text), mode, options);
-    let call = CALLS.get(settings).unwrap_or(&"component");
-    expect_told(rt, (call, text), (wanted, b""), told)
+    let told = component(BStr::new(text), mode, options(settings));
+    let wanted = (OF_COMPONENTS, (error, b"".as_slice()));
+    expect_told(rt, (settings, text), wanted, told)
 }
 
 /// Checks the result for a device.
 pub(crate) fn expect_device(rt: &impl Abort, text: &[u8], wanted: bool) {
     let came = component_is_windows_device(BStr::new(text));
-    expect(rt, ("device", text), said(wanted), said(came));
-}
-
-fn said(holds: bool) -> &'static [u8] {
-    if holds { b"yes" } else { b"no" }
-}
-
-/// Checks the results for components, under all options, without and with the mode, and that for
-/// devices.
-fn check_component(rt: &(impl Abort + AllocGlobal), text: &[u8]) -> Result<(), AllocError> {
-    let lower = spelled(rt.alloc(), text, (false, false))?;
-    let on_hfs = hfs_form(rt.alloc(), &lower)?;
-    let holds = conditions(&lower, &on_hfs);
-    for settings in 0..16 {
-        expect_component(rt, (settings, text), of_component(&holds, settings))?;
-    }
-    expect_device(rt, text, holds[DEVICE]);
-    Ok(())
+    assert_eq!(rt; came, wanted, "device {:?}", BStr::new(text));
 }
 
 /// What follows the name in the buffer: no bytes, one or several.
 const AFTER: &[&[u8]] = &[b"", b"?", b"/.lock"];
 
 /// Checks both sanitisers. (A buffer has at least one byte.)
-pub(crate) fn expect_repair(
-    rt: &(impl Abort + AllocGlobal),
-    text: &[u8],
-    wanted: &[u8],
-) -> Result<(), AllocError> {
+pub(crate) fn expect_repair(rt: &impl Host, text: &[u8], wanted: &[u8]) -> Checked {
     for after in AFTER {
-        let buffer = joined(rt.alloc(), text, after, b"")?;
+        let buffer = [text, after].concat(rt.alloc())?;
         if !buffer.is_empty() {
             expect_in_place(rt, (&buffer, text.len()), wanted)?;
         }
@@ -162,10 +156,10 @@ pub(crate) fn expect_repair(
 /// Checks what is left in the buffer of the name that its first `len` bytes are, and that the bytes
 /// after the name are as they were.
 pub(crate) fn expect_in_place(
-    rt: &(impl Abort + AllocGlobal),
+    rt: &impl Host,
     (given, len): (&[u8], usize),
     wanted: &[u8],
-) -> Result<(), AllocError> {
+) -> Checked {
     let mut buffer = Vec::from_slice(rt.alloc(), given)?;
     assert!(rt; !buffer.is_empty() && len <= buffer.len());
     let left = sanitize_in_place(&mut buffer, len);

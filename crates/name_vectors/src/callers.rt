@@ -1,7 +1,7 @@
 //! Calls of the functions in `examples` that may fail: that each can succeed, and what it prints if
 //! not. (What they return is in their contracts.)
 
-use crate::agree::expect;
+use crate::agree::{Checked, Host, expect};
 use bstr::BStr;
 use examples::branches::{full_branch_name, remote_tracking_name};
 use examples::checkout::Place;
@@ -11,12 +11,11 @@ use examples::settings::submodule_names;
 use gix_validate::path::{ComponentMode, ComponentOptions};
 use std::alloc::AllocError;
 use std::fmt::Display;
-use std::process::Abort;
 use std::test::Fail;
 use typed_names::FullName;
 
 #[test]
-fn makes_names(rt: HostRuntime) -> Result<(), Fail> {
+fn calls_succeed(rt: HostRuntime) -> Result<(), Fail> {
     let alloc = rt.alloc();
     let main = full_branch_name(alloc, BStr::from("main"))?;
     let name = FullName::new(main.as_bstr())?;
@@ -25,34 +24,24 @@ fn makes_names(rt: HostRuntime) -> Result<(), Fail> {
     let tracked = remote_tracking_name(alloc, BStr::from("origin"), BStr::from("topic/a"))?;
     let wanted = b"refs/remotes/origin/topic/a";
     expect(&rt, ("tracked", b"topic/a"), wanted, tracked.as_bytes());
-    Ok(())
-}
-
-#[test]
-fn walks_down_a_tree(rt: HostRuntime) -> Result<(), Fail> {
-    let mut place = Place::top(rt.alloc(), ComponentOptions::default());
+    let mut place = Place::top(alloc, ComponentOptions::default());
     place.enter(BStr::from(".gitmodules"), None)?;
-    let path = place.path(rt.alloc())?;
+    let path = place.path(alloc)?;
     expect(&rt, ("path", b""), b".gitmodules", path.as_bytes());
-    Ok(())
-}
-
-#[test]
-fn repairs_and_reads_names(rt: HostRuntime) -> Result<(), Fail> {
-    let mut name = Vec::new(rt.alloc());
+    let mut name = Vec::new(alloc);
     repair(&mut name)?;
     expect(&rt, ("repair", b""), b"-", &name);
     let text = b"[submodule \"a\"]\n[core]\n [SubModule\t\"b\\/c\"] # old\n";
-    assert_eq!(rt; submodule_names(rt.alloc(), text)?.len(), 2);
+    assert_eq!(rt; submodule_names(alloc, text)?.len(), 2);
     Ok(())
 }
 
 /// Panics if the call succeeded, or its error prints another text.
 fn expect_refused<T: Drop, E: Display + Drop>(
-    rt: &(impl Abort + AllocGlobal),
+    rt: &impl Host,
     told: Result<T, E>,
     text: &[u8],
-) -> Result<(), AllocError> {
+) -> Checked {
     let Err(error) = told else {
         panic!(rt; "a call succeeded");
     };
@@ -62,7 +51,7 @@ fn expect_refused<T: Drop, E: Display + Drop>(
 }
 
 #[test]
-fn calls_are_refused(rt: HostRuntime) -> Result<(), AllocError> {
+fn calls_are_refused(rt: HostRuntime) -> Checked {
     let alloc = rt.alloc();
     let text = b"Reference name is reserved and cannot be used: \"refs/heads/HEAD\"";
     let told = full_branch_name(alloc, BStr::from("HEAD"));

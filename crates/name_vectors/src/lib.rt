@@ -1,16 +1,14 @@
 //! The tests of `gix_validate`, `typed_names` and `examples`. A crate that has tests is proved a second
 //! time with them, so these three have none. This crate has four parts:
 //!
-//! - Tables of worked names, and what docs/RULES.md gives for each (`rows`, `printed`, and of typed
-//!   names `members`).
-//! - An independent second implementation of the rules of docs/RULES.md. The first is the
-//!   definitions in `crates/gix_validate/specs`, against which the library is proved. The second is
-//!   code, and uses other algorithms than the library: it searches names for what they may not have
-//!   instead of scanning them, and lists all names instead of comparing prefixes. It uses nothing of
-//!   the library: an error is the text that it prints.
+//! - Tables of worked names, and what docs/RULES.md gives for each (`rows`, and of typed names
+//!   `members`), and of the texts of errors (`printed`).
+//! - An independent second implementation of docs/RULES.md. (The first is the definitions in
+//!   `crates/gix_validate/specs`, against which the library is proved.) It uses nothing of the library,
+//!   and other algorithms: it searches names for what they may not have instead of scanning them, and
+//!   lists all names instead of comparing prefixes. An error is its name in docs/RULES.md.
 //! - Tests that pass tens of thousands of names to the validators and sanitisers of `gix_validate`
-//!   and to the second implementation, and compare the results. All names of up to two bytes are
-//!   among them.
+//!   and to the second implementation, and compare the results, all names of up to two bytes too.
 //! - What no clause says: that calls which may fail succeed, and what `Debug` prints. And callers
 //!   that show what the ghost members of the types' traits say.
 //!
@@ -38,10 +36,6 @@ mod rows;
 #[cfg(test)]
 mod sanitize;
 #[cfg(test)]
-mod submodule;
-#[cfg(test)]
 mod tests;
 #[cfg(test)]
 mod text;
-#[cfg(test)]
-mod units;

@@ -1,126 +1,94 @@
 //! What errors print (docs/RULES.md, "Printed texts"), with a quoted byte or name.
 
 use crate::agree::expect;
-use crate::members::{component_text, converted, reference_text, submodule_text, tag_text};
-use crate::path::{DEVICE_NAME, GIT, ILLEGAL, MODULES, NO_COMPONENT, PREFIX, RELATIVE, SEPARATOR};
-use crate::reference::{
-    ASTERISK, EMPTY, ENDS_WITH_DOT, ENDS_WITH_SLASH, INVALID_BYTE, LOCK_FILE_SUFFIX,
-    REFLOG_PORTION, REPEATED_DOT, REPEATED_SLASH, RESERVED, SOME_LOWERCASE, STARTS_WITH_DOT,
-    STARTS_WITH_SLASH,
-};
-use crate::submodule::{NO_SUBMODULE_NAME, PARENT_COMPONENT};
-use crate::text::joined;
+use crate::members::converted;
+use crate::reference::Fault;
 use arrayvec::ArrayVec;
-use gix_validate::path::ComponentError;
-use gix_validate::{reference, submodule, tag};
+use gix_validate::{reference, tag};
 use std::alloc::{AllocError, Global};
+use std::test::Fail;
 
-#[test]
-fn prints_tag_and_reference_errors(rt: HostRuntime) -> Result<(), AllocError> {
-    let alloc = rt.alloc();
-    for (error, text) in [
-        (tag::NameError::StartsWithSlash, STARTS_WITH_SLASH),
-        (tag::NameError::RepeatedSlash, REPEATED_SLASH),
-        (tag::NameError::RepeatedDot, REPEATED_DOT),
-        (tag::NameError::LockFileSuffix, LOCK_FILE_SUFFIX),
-        (tag::NameError::ReflogPortion, REFLOG_PORTION),
-        (tag::NameError::Asterisk, ASTERISK),
-        (tag::NameError::StartsWithDot, STARTS_WITH_DOT),
-        (tag::NameError::EndsWithDot, ENDS_WITH_DOT),
-        (tag::NameError::EndsWithSlash, ENDS_WITH_SLASH),
-        (tag::NameError::Empty, EMPTY),
-    ] {
-        let said = tag_text(alloc, &error)?;
-        expect(&rt, ("tag::NameError", b""), text[0], said.as_bytes());
-        let said = reference_text(alloc, &converted(error))?;
-        expect(&rt, ("reference::NameError", b""), text[1], said.as_bytes());
-    }
-    let said = reference_text(alloc, &reference::NameError::SomeLowercase)?;
-    let wanted = SOME_LOWERCASE[1];
-    expect(&rt, ("SomeLowercase", b""), wanted, said.as_bytes());
-    Ok(())
-}
+/// Errors of one kind of name, and their texts.
+pub(crate) type Texts = &'static [(&'static [u8], &'static [u8])];
 
-#[test]
-fn prints_submodule_and_component_errors(rt: HostRuntime) -> Result<(), AllocError> {
-    let alloc = rt.alloc();
-    for (error, text) in [
-        (submodule::NameError::Empty, NO_SUBMODULE_NAME),
-        (submodule::NameError::ParentComponent, PARENT_COMPONENT),
-    ] {
-        let said = submodule_text(alloc, &error)?;
-        expect(&rt, ("submodule::NameError", b""), text, said.as_bytes());
-    }
-    for (error, text) in [
-        (ComponentError::Empty, NO_COMPONENT),
-        (ComponentError::PathSeparator, SEPARATOR),
-        (ComponentError::WindowsPathPrefix, PREFIX),
-        (ComponentError::WindowsReservedName, DEVICE_NAME),
-        (ComponentError::WindowsIllegalCharacter, ILLEGAL),
-        (ComponentError::DotGitDir, GIT),
-        (ComponentError::SymlinkedGitModules, MODULES),
-        (ComponentError::Relative, RELATIVE),
-    ] {
-        let said = component_text(alloc, &error)?;
-        expect(&rt, ("ComponentError", b""), text, said.as_bytes());
-    }
-    Ok(())
-}
+#[rattlefmt::skip]
+pub(crate) const OF_TAGS: Texts = &[
+    (b"InvalidByte", b"A ref must not contain invalid bytes or ascii control characters: "),
+    (b"StartsWithSlash", b"A reference name must not start with a slash '/'"),
+    (b"RepeatedSlash", b"Multiple slashes in a row are not allowed as they may change the reference's meaning"),
+    (b"RepeatedDot", b"A ref must not contain '..' as it may be mistaken for a range"),
+    (b"LockFileSuffix", b"A ref must not end with '.lock'"),
+    (b"ReflogPortion", b"A ref must not contain '@{' which is a part of a ref-log"),
+    (b"Asterisk", b"A ref must not contain '*' character"),
+    (b"StartsWithDot", b"A ref must not start with a '.'"),
+    (b"EndsWithDot", b"A ref must not end with a '.'"),
+    (b"EndsWithSlash", b"A ref must not end with a '/'"),
+    (b"Empty", b"A ref must not be empty"),
+];
+
+#[rattlefmt::skip]
+pub(crate) const OF_REFERENCES: Texts = &[
+    (b"InvalidByte", b"Reference name contains invalid byte: "),
+    (b"StartsWithSlash", b"Reference name cannot start with a slash"),
+    (b"RepeatedSlash", b"Reference name cannot contain repeated slashes"),
+    (b"RepeatedDot", b"Reference name cannot contain repeated dots"),
+    (b"LockFileSuffix", b"Reference name cannot end with '.lock'"),
+    (b"ReflogPortion", b"Reference name cannot contain '@{'"),
+    (b"Asterisk", b"Reference name cannot contain '*'"),
+    (b"StartsWithDot", b"Reference name cannot start with a dot"),
+    (b"EndsWithDot", b"Reference name cannot end with a dot"),
+    (b"EndsWithSlash", b"Reference name cannot end with a slash"),
+    (b"Empty", b"Reference name cannot be empty"),
+    (b"SomeLowercase", b"Standalone references must be all uppercased, like 'HEAD'"),
+    (b"Reserved", b"Reference name is reserved and cannot be used: "),
+];
+
+#[rattlefmt::skip]
+pub(crate) const OF_SUBMODULES: Texts = &[
+    (b"Empty", b"Submodule names cannot be empty"),
+    (b"ParentComponent", b"Submodules names must not contains '..'"),
+];
+
+#[rattlefmt::skip]
+pub(crate) const OF_COMPONENTS: Texts = &[
+    (b"Empty", b"A path component must not be empty"),
+    (b"PathSeparator", b"Path separators like / or \\ are not allowed"),
+    (b"WindowsPathPrefix", b"Windows path prefixes are not allowed"),
+    (b"WindowsReservedName", b"Windows device-names may have side-effects and are not allowed"),
+    (b"WindowsIllegalCharacter", b"Trailing spaces or dots, and the following characters anywhere, are forbidden in Windows paths, along with non-printable ones: <>:\"|?*"),
+    (b"DotGitDir", b"The .git name may never be used"),
+    (b"SymlinkedGitModules", b"The .gitmodules file must not be a symlink"),
+    (b"Relative", b"Relative components '.' and '..' are disallowed"),
+];
 
 /// Names of at most fifteen bytes, and their quoted forms.
 #[rattlefmt::skip]
 const QUOTED: &[(&[u8], &[u8])] = &[
-    (b"", b"\"\""),
-    (b"@", b"\"@\""),
-    (b"refs/heads/HEAD", b"\"refs/heads/HEAD\""),
-    (b"\0", b"\"\\0\""),
-    (b"\x1B", b"\"\\x1b\""),
-    (b" ", b"\" \""),
-    (b"\\", b"\"\\\\\""),
-    (b"~", b"\"~\""),
-    (b"\x7F", b"\"\\x7f\""),
-    (b"\xC3", b"\"\\xc3\""),
-    (b"\"\\", b"\"\\\"\\\\\""),
-    (b"\t\n\r", b"\"\\t\\n\\r\""),
-    (b"\x80\xFF", b"\"\\x80\\xff\""),
+    (b"", b"\"\""), (b"@", b"\"@\""), (b"refs/heads/HEAD", b"\"refs/heads/HEAD\""),
+    (b"\0", b"\"\\0\""), (b"\x1B", b"\"\\x1b\""), (b" ", b"\" \""), (b"\\", b"\"\\\\\""),
+    (b"~", b"\"~\""), (b"\x7F", b"\"\\x7f\""), (b"\xC3", b"\"\\xc3\""),
+    (b"\"\\", b"\"\\\"\\\\\""), (b"\t\n\r", b"\"\\t\\n\\r\""), (b"\x80\xFF", b"\"\\x80\\xff\""),
 ];
 
-/// What the error prints of a reserved name of at most fifteen bytes.
-fn reserved_text(alloc: Global, bytes: &[u8]) -> Result<String, AllocError> {
-    let mut name = ArrayVec::new();
-    for byte in bytes {
-        let _ = name.try_push(*byte);
-    }
-    reference_text(alloc, &reference::NameError::Reserved { name })
-}
-
-/// Names that are never an error are quoted too.
+/// Names and bytes that are never an error are quoted too.
 #[test]
-fn quotes_names(rt: HostRuntime) -> Result<(), AllocError> {
-    for (name, quoted) in QUOTED {
-        let said = reserved_text(rt.alloc(), name)?;
-        let wanted = joined(rt.alloc(), RESERVED, quoted, b"")?;
-        expect(&rt, ("Reserved", name), &wanted, said.as_bytes());
-        if let [byte] = *name {
-            let said = tag_text(rt.alloc(), &tag::NameError::InvalidByte { byte: *byte })?;
-            let wanted = joined(rt.alloc(), INVALID_BYTE[0], quoted, b"")?;
-            expect(&rt, ("InvalidByte", name), &wanted, said.as_bytes());
-        }
-    }
-    Ok(())
-}
-
-/// Bytes that are never an error are quoted too.
-#[test]
-fn quotes_bytes(rt: HostRuntime) -> Result<(), AllocError> {
+fn quotes_bytes_and_names(rt: HostRuntime) -> Result<(), Fail> {
     let alloc = rt.alloc();
+    for (given, quoted) in QUOTED {
+        let name = ArrayVec::try_from(*given)?;
+        let said = reference::NameError::Reserved { name }.to_string(alloc)?;
+        let came = printed(alloc, OF_REFERENCES, (b"Reserved", given))?;
+        expect(&rt, ("Reserved", given), &came, said.as_bytes());
+        let wanted = [b"Reference name is reserved and cannot be used: ", *quoted].concat(alloc)?;
+        expect(&rt, ("Reserved", given), &wanted, &came);
+    }
     for byte in 0..=u8::MAX {
         let error = tag::NameError::InvalidByte { byte };
-        let said = tag_text(alloc, &error)?;
-        let wanted = printed(alloc, INVALID_BYTE[0], &[byte])?;
+        let said = error.to_string(alloc)?;
+        let wanted = printed(alloc, OF_TAGS, (b"InvalidByte", &[byte]))?;
         expect(&rt, ("tag", &[byte]), &wanted, said.as_bytes());
-        let said = reference_text(alloc, &converted(error))?;
-        let wanted = printed(alloc, INVALID_BYTE[1], &[byte])?;
+        let said = converted(error).to_string(alloc)?;
+        let wanted = printed(alloc, OF_REFERENCES, (b"InvalidByte", &[byte]))?;
         expect(&rt, ("reference", &[byte]), &wanted, said.as_bytes());
     }
     Ok(())
@@ -132,12 +100,22 @@ const SHORT_ESCAPES: &[(u8, &[u8])] = &[
     (0x00, b"\\0"), (0x09, b"\\t"), (0x0A, b"\\n"), (0x0D, b"\\r"), (0x22, b"\\\""), (0x5C, b"\\\\"),
 ];
 
-/// The text, followed by the bytes in their quoted form if there are any.
-pub(crate) fn printed(alloc: Global, text: &[u8], bytes: &[u8]) -> Result<Vec<u8>, AllocError> {
-    let mut printed = Vec::from_slice(alloc, text)?;
-    if !bytes.is_empty() {
+/// The text of the error, followed by what is quoted after it in its quoted form, if it wants that.
+pub(crate) fn printed(
+    alloc: Global,
+    texts: Texts,
+    (error, quoted): Fault<'_>,
+) -> Result<Vec<u8>, AllocError> {
+    let mut printed = Vec::new(alloc);
+    for (word, text) in texts {
+        if *word == error {
+            printed.extend_from_slice(text)?;
+            break;
+        }
+    }
+    if printed.ends_with(b": ") {
         printed.extend_from_slice(b"\"")?;
-        for byte in bytes {
+        for byte in quoted {
             push_quoted(&mut printed, *byte)?;
         }
         printed.extend_from_slice(b"\"")?;

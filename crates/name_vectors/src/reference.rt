@@ -1,102 +1,23 @@
-//! Tag names and reference names (docs/RULES.md, the sections of these names).
+//! Tag names, reference names and submodule names (docs/RULES.md, the sections of these names).
 
-use crate::text::{contains_one, is_bad, joined};
+use crate::text::{contains_one, is_bad};
+use bstr::ByteSlice;
 use std::alloc::{AllocError, Global};
 
-/// An error of a name: what `tag::NameError` prints, what `reference::NameError` prints, and what
-/// is quoted after that, if anything is. Of a valid name all are empty.
-pub(crate) type Fault<'a> = [&'a [u8]; 3];
+/// An error of a name, as docs/RULES.md calls it, and what is quoted after its text, if it wants that.
+/// Of a valid name both are empty.
+pub(crate) type Fault<'a> = (&'static [u8], &'a [u8]);
 
-pub(crate) const VALID: Fault<'static> = [b"", b"", b""];
-
-pub(crate) const EMPTY: Fault<'static> = [
-    b"A ref must not be empty",
-    b"Reference name cannot be empty",
-    b"",
-];
-
-pub(crate) const ENDS_WITH_SLASH: Fault<'static> = [
-    b"A ref must not end with a '/'",
-    b"Reference name cannot end with a slash",
-    b"",
-];
-
-pub(crate) const STARTS_WITH_SLASH: Fault<'static> = [
-    b"A reference name must not start with a slash '/'",
-    b"Reference name cannot start with a slash",
-    b"",
-];
-
-pub(crate) const STARTS_WITH_DOT: Fault<'static> = [
-    b"A ref must not start with a '.'",
-    b"Reference name cannot start with a dot",
-    b"",
-];
-
-pub(crate) const ENDS_WITH_DOT: Fault<'static> = [
-    b"A ref must not end with a '.'",
-    b"Reference name cannot end with a dot",
-    b"",
-];
-
-pub(crate) const LOCK_FILE_SUFFIX: Fault<'static> = [
-    b"A ref must not end with '.lock'",
-    b"Reference name cannot end with '.lock'",
-    b"",
-];
-
-/// What a bad byte's error prints before the quoted byte.
-pub(crate) const INVALID_BYTE: [&[u8]; 2] = [
-    b"A ref must not contain invalid bytes or ascii control characters: ",
-    b"Reference name contains invalid byte: ",
-];
-
-/// A bad byte's error, which quotes the byte.
-pub(crate) fn invalid_byte(byte: &[u8]) -> Fault<'_> {
-    [INVALID_BYTE[0], INVALID_BYTE[1], byte]
-}
-
-/// What the error of a reserved name prints before the quoted name.
-pub(crate) const RESERVED: &[u8] = b"Reference name is reserved and cannot be used: ";
-
-pub(crate) const SOME_LOWERCASE: Fault<'static> = [
-    b"",
-    b"Standalone references must be all uppercased, like 'HEAD'",
-    b"",
-];
-
-pub(crate) const ASTERISK: Fault<'static> = [
-    b"A ref must not contain '*' character",
-    b"Reference name cannot contain '*'",
-    b"",
-];
-
-pub(crate) const REPEATED_DOT: Fault<'static> = [
-    b"A ref must not contain '..' as it may be mistaken for a range",
-    b"Reference name cannot contain repeated dots",
-    b"",
-];
-
-pub(crate) const REFLOG_PORTION: Fault<'static> = [
-    b"A ref must not contain '@{' which is a part of a ref-log",
-    b"Reference name cannot contain '@{'",
-    b"",
-];
-
-pub(crate) const REPEATED_SLASH: Fault<'static> = [
-    b"Multiple slashes in a row are not allowed as they may change the reference's meaning",
-    b"Reference name cannot contain repeated slashes",
-    b"",
-];
+pub(crate) const VALID: Fault<'static> = (b"", b"");
 
 /// The errors at an offset: what the bytes before it end with, what the bytes from it on start with.
-const AT_OFFSET: &[(&[u8], &[u8], Fault<'static>)] = &[
-    (b"", b"*", ASTERISK),
-    (b".", b".", REPEATED_DOT),
-    (b"/", b".", STARTS_WITH_DOT),
-    (b"@", b"{", REFLOG_PORTION),
-    (b"/", b"/", REPEATED_SLASH),
-    (b".lock", b"/", LOCK_FILE_SUFFIX),
+const AT_OFFSET: &[(&[u8], &[u8], &[u8])] = &[
+    (b"", b"*", b"Asterisk"),
+    (b".", b".", b"RepeatedDot"),
+    (b"/", b".", b"StartsWithDot"),
+    (b"@", b"{", b"ReflogPortion"),
+    (b"/", b"/", b"RepeatedSlash"),
+    (b".lock", b"/", b"LockFileSuffix"),
 ];
 
 /// The error at the lowest offset that has one. (The last byte of `.lock` at the end has no other.)
@@ -104,87 +25,83 @@ fn at_lowest_offset(text: &[u8]) -> Fault<'_> {
     for offset in 0..text.len() {
         let (before, here) = (&text[..offset], &text[offset..]);
         if is_bad(text[offset]) {
-            return invalid_byte(&text[offset..offset + 1]);
+            return (b"InvalidByte", &text[offset..offset + 1]);
         }
-        for (last, next, fault) in AT_OFFSET {
+        for (last, next, word) in AT_OFFSET {
             if before.ends_with(last) && here.starts_with(next) {
-                return *fault;
+                return (word, b"");
             }
         }
     }
-    if text.ends_with(b".lock") && text != b".lock".as_slice() {
-        LOCK_FILE_SUFFIX
-    } else {
-        VALID
-    }
+    let is_lock_file = text.ends_with(b".lock") && text != b".lock".as_slice();
+    first(&[(is_lock_file, (b"LockFileSuffix", b""))])
 }
 
-/// The first error of a tag name.
-fn of_tag(text: &[u8]) -> Fault<'_> {
-    if text.is_empty() {
-        return EMPTY;
+/// The first of these errors whose condition holds.
+fn first<'a>(errors: &[(bool, Fault<'a>)]) -> Fault<'a> {
+    for (holds, fault) in errors {
+        if *holds {
+            return *fault;
+        }
     }
-    if text.ends_with(b"/") {
-        return ENDS_WITH_SLASH;
-    }
-    if text.starts_with(b"/") {
-        return STARTS_WITH_SLASH;
-    }
-    let lowest = at_lowest_offset(text);
-    let lowest = or_else(lowest, text.starts_with(b"."), STARTS_WITH_DOT);
-    or_else(lowest, text.ends_with(b"."), ENDS_WITH_DOT)
+    VALID
 }
 
 /// The first error as a tag name, a partial name, a full name and the name of a branch.
 pub(crate) fn of_references(text: &[u8]) -> [Fault<'_>; 4] {
-    let reserved = [b"", RESERVED, text];
-    let tag = of_tag(text);
-    let partial = or_else(tag, text == b"@".as_slice(), reserved);
-    let full = or_else(partial, !may_stand(text), SOME_LOWERCASE);
-    let branch = or_else(full, text == b"refs/heads/HEAD".as_slice(), reserved);
-    [tag, partial, full, branch]
-}
-
-/// The error that was found before, or else this one if it is there.
-fn or_else<'a>(found: Fault<'a>, is_there: bool, error: Fault<'a>) -> Fault<'a> {
-    if found[1].is_empty() && is_there {
-        error
-    } else {
-        found
-    }
+    let lowest = at_lowest_offset(text);
+    let tag = first(&[
+        (text.is_empty(), (b"Empty", b"")),
+        (text.ends_with(b"/"), (b"EndsWithSlash", b"")),
+        (text.starts_with(b"/"), (b"StartsWithSlash", b"")),
+        (lowest != VALID, lowest),
+        (text.starts_with(b"."), (b"StartsWithDot", b"")),
+        (text.ends_with(b"."), (b"EndsWithDot", b"")),
+    ]);
+    let errors = [
+        (tag != VALID, tag),
+        (text == b"@".as_slice(), (b"Reserved".as_slice(), text)),
+        (!may_stand(text), (b"SomeLowercase", b"")),
+        (text == b"refs/heads/HEAD".as_slice(), (b"Reserved", text)),
+    ];
+    let partial = first(&errors[..2]);
+    [tag, partial, first(&errors[..3]), first(&errors)]
 }
 
 /// Whether the name has a slash, or only bytes that a name without one may have.
 fn may_stand(text: &[u8]) -> bool {
-    for byte in text {
-        if !matches!(byte, b'A'..=b'Z' | b'_') {
-            return text.contains(&b'/');
-        }
-    }
-    true
+    text.contains(&b'/')
+        || text
+            .find_not_byteset(b"ABCDEFGHIJKLMNOPQRSTUVWXYZ_")
+            .is_none()
 }
 
 /// How many of these four rules accept the name, by what it may not have. The slashes around it are
 /// for what a piece may not start with or end in.
 pub(crate) fn accepting(alloc: Global, text: &[u8]) -> Result<usize, AllocError> {
-    let pieces = joined(alloc, b"/", text, b"/")?;
+    let pieces = [b"/", text, b"/"].concat(alloc)?;
+    let mut is_tag = !text.ends_with(b".")
+        && !contains_one(&pieces, &[b"*", b"//", b"/.", b"..", b"@{", b".lock/"]);
     for byte in text {
-        if is_bad(*byte) {
-            return Ok(0);
-        }
+        is_tag &= !is_bad(*byte);
     }
-    if contains_one(&pieces, &[b"*", b"//", b"/.", b"..", b"@{", b".lock/"])
-        || text.ends_with(b".")
-    {
-        return Ok(0);
-    }
-    Ok(if text == b"@".as_slice() {
-        1
-    } else if !may_stand(text) {
-        2
-    } else if text == b"refs/heads/HEAD".as_slice() {
-        3
-    } else {
-        4
+    Ok(match text {
+        _ if !is_tag => 0,
+        b"@" => 1,
+        _ if !may_stand(text) => 2,
+        b"refs/heads/HEAD" => 3,
+        _ => 4,
     })
+}
+
+/// The error of a submodule name, one of whose parts is `..`. The slashes around it end its parts.
+pub(crate) fn of_submodule(alloc: Global, text: &[u8]) -> Result<&'static [u8], AllocError> {
+    let parts = [b"/", text, b"/"].concat(alloc)?;
+    Ok(
+        match contains_one(&parts, &[b"/../", b"/..\\", b"\\../", b"\\..\\"]) {
+            _ if text.is_empty() => b"Empty",
+            true => b"ParentComponent",
+            false => b"",
+        },
+    )
 }

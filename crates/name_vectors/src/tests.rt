@@ -1,30 +1,21 @@
 //! The functions of the library, compared with the second implementation on many names.
 
-use crate::agree::check;
-use crate::path::DEVICES;
-use crate::text::{joined, spelled};
-use crate::units::{IGNORED_CHARACTERS, ROWS};
+use crate::agree::{Checked, Host, check};
+use crate::path::{DEVICES, IGNORED_CHARACTERS, SEQUENCES};
+use crate::text::joined;
 use std::alloc::{AllocError, Global};
-use std::process::Abort;
 
-/// Byte strings that mean something to a rule, and may mean something else next to one another.
+/// The parts of which names are made, and how many names there are of at most five, four or three:
+/// special bytes of the rules for references, the suffix that Git reserves for its own files among
+/// others, and byte strings that mean something to a rule, and something else next to one another.
 #[rattlefmt::skip]
-const TOKENS: &[&[u8]] = &[
-    b".git", b"GIT~1", b"gi7eba~1", b"~1234567", b"nul", b"CON", b"COM1", b":", b"\\", b"/",
-    b".", b" ", b"<", b"\xE2\x80\x8C", b"\xE2\x80", b"*",
-];
-
-/// Special bytes of the rules for references.
-const MARKS: &[&[u8]] = &[b".", b"/", b"@", b"{", b"a", b"*"];
-
-/// The suffix that Git reserves for its own files, among the special bytes of the other rules.
-const SUFFIXES: &[&[u8]] = &[b".lock", b"/", b".", b"a", b"@", b"{"];
-
-/// The parts of which names are made, and how many names there are of at most five, four or three.
 const PARTS: &[(&[&[u8]], usize)] = &[
-    (MARKS, 1 + 6 + 36 + 216 + 1_296 + 7_776),
-    (SUFFIXES, 1 + 6 + 36 + 216 + 1_296),
-    (TOKENS, 1 + 16 + 256 + 4_096),
+    (&[b".", b"/", b"@", b"{", b"a", b"*"], 1 + 6 + 36 + 216 + 1_296 + 7_776),
+    (&[b".lock", b"/", b".", b"a", b"@", b"{"], 1 + 6 + 36 + 216 + 1_296),
+    (&[
+        b".git", b"GIT~1", b"gi7eba~1", b"~1234567", b"nul", b"CON", b"COM1", b":", b"\\", b"/",
+        b".", b" ", b"<", b"\xE2\x80\x8C", b"\xE2\x80", b"*",
+    ], 1 + 16 + 256 + 4_096),
 ];
 
 /// The name of at most five parts with this number. Shorter names have the lower numbers: 0 is the
@@ -42,14 +33,23 @@ fn numbered(alloc: Global, parts: &[&[u8]], number: usize) -> Result<Vec<u8>, Al
     Ok(text)
 }
 
-#[test]
-fn agrees_on_names_of_few_parts(rt: HostRuntime) -> Result<(), AllocError> {
-    for (parts, end) in PARTS {
-        for number in 0..*end {
-            check(&rt, &numbered(rt.alloc(), parts, number)?)?;
-        }
+/// Checks the names of these parts. (`rt try` stops a test that takes a minute.)
+fn check_parts(rt: &impl Host, (parts, end): (&[&[u8]], usize)) -> Checked {
+    for number in 0..end {
+        check(rt, &numbered(rt.alloc(), parts, number)?)?;
     }
     Ok(())
+}
+
+#[test]
+fn agrees_on_names_of_few_marks(rt: HostRuntime) -> Checked {
+    check_parts(&rt, PARTS[0])
+}
+
+#[test]
+fn agrees_on_names_of_few_words(rt: HostRuntime) -> Checked {
+    check_parts(&rt, PARTS[1])?;
+    check_parts(&rt, PARTS[2])
 }
 
 /// What is around each byte: nothing, what makes a name of one piece or of several, and the first two
@@ -64,8 +64,8 @@ const AROUND: &[(&[u8], &[u8])] = &[
 ];
 
 /// Checks each byte from this one to the next multiple of 64 within names, and each name of two bytes
-/// that it begins. (`rt try` stops a test that takes a minute, as one over all of them would.)
-fn check_quarter(rt: &(impl Abort + AllocGlobal), least: u8) -> Result<(), AllocError> {
+/// that it begins.
+fn check_quarter(rt: &impl Host, least: u8) -> Checked {
     for first in least..=least | 0x3F {
         for (front, back) in AROUND {
             check(rt, &joined(rt.alloc(), front, &[first], back)?)?;
@@ -78,29 +78,29 @@ fn check_quarter(rt: &(impl Abort + AllocGlobal), least: u8) -> Result<(), Alloc
 }
 
 #[test]
-fn agrees_on_names_of_two_bytes_from_00(rt: HostRuntime) -> Result<(), AllocError> {
+fn agrees_on_names_of_two_bytes_from_00(rt: HostRuntime) -> Checked {
     check_quarter(&rt, 0x00)
 }
 
 #[test]
-fn agrees_on_names_of_two_bytes_from_40(rt: HostRuntime) -> Result<(), AllocError> {
+fn agrees_on_names_of_two_bytes_from_40(rt: HostRuntime) -> Checked {
     check_quarter(&rt, 0x40)
 }
 
 #[test]
-fn agrees_on_names_of_two_bytes_from_80(rt: HostRuntime) -> Result<(), AllocError> {
+fn agrees_on_names_of_two_bytes_from_80(rt: HostRuntime) -> Checked {
     check_quarter(&rt, 0x80)
 }
 
 #[test]
-fn agrees_on_names_of_two_bytes_from_c0(rt: HostRuntime) -> Result<(), AllocError> {
+fn agrees_on_names_of_two_bytes_from_c0(rt: HostRuntime) -> Checked {
     check_quarter(&rt, 0xC0)
 }
 
 /// Checks the name with each word at each offset, in place of a byte or, if `len` is 0, between two.
 /// Returns how many names that were.
 fn check_changed(
-    rt: &(impl Abort + AllocGlobal),
+    rt: &impl Host,
     (name, len): (&[u8], usize),
     words: &[&[u8]],
 ) -> Result<usize, AllocError> {
@@ -115,11 +115,19 @@ fn check_changed(
     Ok(checked)
 }
 
-/// Whether the letters at even and at odd offsets are uppercase: all, none, or every other one.
-const SPELLINGS: &[(bool, bool)] = &[(true, true), (false, false), (true, false)];
-
-/// Words beside a device.
-const TAILS: &[&[u8]] = &[b"", b".x", b" :x", b"x"];
+/// The name with uppercase letters at the first so many of each two offsets, and lowercase ones
+/// otherwise.
+fn spelled(alloc: Global, name: &[u8], uppercase: usize) -> Result<Vec<u8>, AllocError> {
+    let mut text = Vec::new(alloc);
+    for offset in 0..name.len() {
+        text.push(if offset % 2 < uppercase {
+            name[offset].to_ascii_uppercase()
+        } else {
+            name[offset].to_ascii_lowercase()
+        })?;
+    }
+    Ok(text)
+}
 
 /// The digits, the bytes next to them, and nothing.
 #[rattlefmt::skip]
@@ -135,26 +143,24 @@ const SHORT_NAMES: &[&[u8]] = &[
     b"gi7~1000", b"gi7e~100", b"gi7eb~10", b"gi7eba~1", b"com1", b"lpt1",
 ];
 
-/// Names for which the ignored characters are ignored.
-const HFS_NAMES: &[&[u8]] = &[b".git", b".GitModules"];
-
 /// The devices, short names and ignored characters of the tables of component names, and their
 /// neighbours. Of each line the names are spelled in three ways, and changed by these words, in place
 /// of so many bytes, which gives so many names. If a table of the library lacks an element, the test
 /// fails.
+#[rattlefmt::skip]
 const CHANGES: &[(&[&[u8]], usize, &[&[u8]], usize)] = &[
-    (DEVICES, 0, TAILS, 3 * 126 * 4),
-    (HFS_NAMES, 0, IGNORED_CHARACTERS, 3 * (5 + 12) * 16),
+    (DEVICES, 0, &[b"", b".x", b" :x", b"x"], 3 * 126 * 4),
+    (&[b".git", b".GitModules"], 0, IGNORED_CHARACTERS, 3 * (5 + 12) * 16),
     (SHORT_NAMES, 1, DIGITS, 3 * (59 + 46) * 13),
 ];
 
 #[test]
-fn agrees_on_each_element_of_tables(rt: HostRuntime) -> Result<(), AllocError> {
+fn agrees_on_each_element_of_tables(rt: HostRuntime) -> Checked {
     for (names, len, words, wanted) in CHANGES {
         let mut checked: usize = 0;
         for name in *names {
-            for (even, odd) in SPELLINGS {
-                let name = spelled(rt.alloc(), name, (*even, *odd))?;
+            for uppercase in 0..3 {
+                let name = spelled(rt.alloc(), name, uppercase)?;
                 let more = check_changed(&rt, (&name, *len), words)?;
                 checked = checked.saturating_add(more);
             }
@@ -175,9 +181,9 @@ const EDGES: &[&[u8]] = &[
 /// The least and the greatest sequence of each row, whole and truncated, before a colon, with each
 /// edge at each offset.
 #[test]
-fn agrees_on_each_edge_of_sequences(rt: HostRuntime) -> Result<(), AllocError> {
+fn agrees_on_each_edge_of_sequences(rt: HostRuntime) -> Checked {
     let mut checked: usize = 0;
-    for (least, greatest) in ROWS {
+    for (least, greatest) in SEQUENCES {
         for sequence in [least, greatest] {
             for end in 0..sequence.len() {
                 let name = joined(rt.alloc(), &sequence[..end + 1], b":", b"")?;

@@ -1,5 +1,6 @@
 //! Functions on byte strings that the rules and the tests use (docs/RULES.md, "Bytes").
 
+use bstr::ByteSlice;
 use std::alloc::{AllocError, Global};
 
 /// Whether the byte is a bad byte, as `scripts/bytes` lists them. `*` has an error of its own.
@@ -9,11 +10,9 @@ pub(crate) fn is_bad(byte: u8) -> bool {
 
 /// Whether one of the words is anywhere in the byte string.
 pub(crate) fn contains_one(text: &[u8], words: &[&[u8]]) -> bool {
-    for offset in 0..text.len() {
-        for word in words {
-            if text[offset..].starts_with(word) {
-                return true;
-            }
+    for word in words {
+        if text.contains_str(word) {
+            return true;
         }
     }
     false
@@ -21,36 +20,33 @@ pub(crate) fn contains_one(text: &[u8], words: &[&[u8]]) -> bool {
 
 /// What is before the first of the given bytes, or the whole byte string if there is none.
 pub(crate) fn before_first<'a>(text: &'a [u8], bytes: &[u8]) -> &'a [u8] {
-    for offset in 0..text.len() {
-        if bytes.contains(&text[offset]) {
-            return &text[..offset];
-        }
-    }
-    text
+    let end = text.find_byteset(bytes).unwrap_or(text.len());
+    text.get(..end).unwrap_or(text)
 }
 
 /// The byte string without the given bytes at its end.
 pub(crate) fn trimmed<'a>(text: &'a [u8], bytes: &[u8]) -> &'a [u8] {
-    let mut front: &[u8] = b"";
-    for offset in 0..text.len() {
-        if !bytes.contains(&text[offset]) {
-            front = &text[..offset + 1];
-        }
+    match text.rfind_not_byteset(bytes) {
+        Some(last) => text.get(..=last).unwrap_or(text),
+        None => b"",
     }
-    front
 }
 
-/// Whether each byte is between those of the two words at its offset. The words may be longer.
-pub(crate) fn is_between(text: &[u8], least: &[u8], greatest: &[u8]) -> bool {
-    for offset in 0..text.len() {
-        if offset >= least.len() || offset >= greatest.len() {
-            return false;
+/// Whether the byte string, or one that begins with it if `may_go_on`, is in the table. Each row has
+/// a least and a greatest byte string, and means all whose byte at each index is between theirs.
+pub(crate) fn is_in(text: &[u8], may_go_on: bool, rows: &[(&[u8], &[u8])]) -> bool {
+    'rows: for (least, greatest) in rows {
+        for offset in 0..text.len() {
+            let byte = text.get(offset);
+            if byte < least.get(offset) || byte > greatest.get(offset) {
+                continue 'rows;
+            }
         }
-        if text[offset] < least[offset] || text[offset] > greatest[offset] {
-            return false;
+        if text.len() == least.len() || may_go_on {
+            return true;
         }
     }
-    true
+    false
 }
 
 /// The three byte strings, one after the other.
@@ -60,27 +56,8 @@ pub(crate) fn joined(
     middle: &[u8],
     back: &[u8],
 ) -> Result<Vec<u8>, AllocError> {
-    let mut text = Vec::new(alloc);
-    text.extend_from_slice(front)?;
+    let mut text = Vec::from_slice(alloc, front)?;
     text.extend_from_slice(middle)?;
     text.extend_from_slice(back)?;
-    Ok(text)
-}
-
-/// The word with uppercase letters at even or odd offsets if that is wanted, and lowercase ones
-/// otherwise.
-pub(crate) fn spelled(
-    alloc: Global,
-    word: &[u8],
-    (even, odd): (bool, bool),
-) -> Result<Vec<u8>, AllocError> {
-    let mut text = Vec::new(alloc);
-    for offset in 0..word.len() {
-        text.push(if offset % 2 == 0 && even || offset % 2 == 1 && odd {
-            word[offset].to_ascii_uppercase()
-        } else {
-            word[offset].to_ascii_lowercase()
-        })?;
-    }
     Ok(text)
 }

@@ -1,10 +1,12 @@
 -- NTFS forms that stand for `.gitmodules`: all but `.gitmodules` itself have eight plain bytes.
-use Rattle.std.proofs.Common.{◌≡◌, ℕ, suc, ◌<◌, ◌≤◌, Bool, true, false, ◌&&◌, ◌||◌, eqb, List, [], ◌∷◌, ◌++◌, length, take, drop, get_or}
+use Rattle.std.proofs.Common.{◌≡◌, ℕ, suc, ◌+◌, ◌<◌, ◌≤◌, Bool, true, false, ◌&&◌, ◌||◌, eqb, List, [], ◌∷◌, ◌++◌, length, take, drop, get_or}
 use Rattle.std.proofs.Common.{refl, sym, ap, ◌∙◌, arith, codes, ◌⊎◌, inl, inr}
 use Rattle.std.specs.Prelude.{◌==◌, nat_le, slice_index}
 use Rattle.std.specs.List.{list_all, list_any, range_with_len}
 use Rattle.std.specs.Str.{byte, bytes_eq}
 use Rattle.std.proofs.lemmas.List.{take-map, drop-map, length-map, get_or-drop, drop-drop, take-append-drop, length-take-le}
+use Rattle.std.proofs.lemmas.List.{at_drop_more}
+use Rattle.std.proofs.lemmas.List.FromFn.{get_or-range_with_len}
 use Rattle.std.proofs.lemmas.List.Folds.{list_all-append}
 use Rattle.std.proofs.lemmas.Slice.Eq.{bytes_eq-Decides}
 use Rattle.std.proofs.lemmas.Bool.{or_cases, and_parts, false≢true}
@@ -123,5 +125,29 @@ pub eight_is_short : (w : List ℕ) → length w ≡ 8
 unfolding is_modules_form
 eight_is_short w eight = grind (arith, length-map, not_eleven)
 
+-- a short name with so many letters or more
+unfoldable pub is_short_from : ℕ → List ℕ → Bool
+is_short_from k w = list_any (λ j. is_short_name j w) (drop k (range_with_len 0 7))
+
+-- With no letter or more it is any of the seven kinds.
+pub short_from_none : (w : List ℕ) → is_short_from 0 w ≡ list_any (λ j. is_short_name j w) (range_with_len 0 7)
+unfolding is_short_from
+short_from_none w = refl
+
+-- With k letters or more: with k letters, or with more.
+pub short_step : (k : ℕ) (w : List ℕ) → k < 7 → is_short_from k w ≡ (is_short_name k w || is_short_from (k + 1) w)
+unfolding is_short_from
+short_step k w few =
+    let at : get_or (range_with_len 0 7) k 0 ≡ k = omega (arith, get_or-range_with_len 0 7 k 0 few) in
+    at_drop_more (list_any (λ j. is_short_name j w)) (range_with_len 0 7) k 0 few ∙ ap (λ j. is_short_name j w || is_short_from (k + 1) w) at
+
+-- No short name has seven letters.
+pub short_end : (k : ℕ) (w : List ℕ) → 7 ≤ k → is_short_from k w ≡ false
+unfolding is_short_from
+short_end k w past = grind (arith, common_steps)
+
 -- what stands for `.gitmodules`, by its first byte
 pub ruleset modules_by_first = (common_steps, modules_at_dot, modules_elsewhere, modules_too_short)
+
+-- the seven kinds of short names, one after the other
+pub ruleset short_by_letters = (short_from_none, short_step, short_end)

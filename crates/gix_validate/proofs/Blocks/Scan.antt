@@ -1,6 +1,5 @@
 -- What the lanes of a scan say of offsets.
-use Rattle.std.proofs.Common.{◌≡◌, ℕ, ◌+◌, ◌-◌, ◌%◌, ◌^◌, ◌<◌, ◌≤◌, Bool, true, false, cond, List, length, take, get_or, Option}
-use Rattle.std.proofs.Common.{ap, ap₂, ◌∙◌, inl, inr, arith}
+use Rattle.std.proofs.Common.{◌≡◌, ℕ, ◌+◌, ◌-◌, ◌^◌, ◌<◌, ◌≤◌, Bool, cond, ltb, List, length, take, get_or, Option, arith}
 use Rattle.std.specs.Int.{bit_at}
 use Rattle.std.proofs.lemmas.Bool.{cases_lt}
 use Rattle.std.proofs.Math.Nat.{mod-lt, mod-eq_of_lt}
@@ -11,103 +10,56 @@ use Rattle.std.proofs.lemmas.List.{get_or-take, length-take-le}
 use lib.Lanes.{chunk}
 use Rattle.gix_validate.specs.Private.Lanes.{offset_of, HasParts}
 use Rattle.gix_validate.specs.Private.Scan.{NoneBelow, IsFirst, Finds, at_both, at_pair}
-use Rattle.gix_validate.proofs.Blocks.Parts.{AreAll, all_offsets}
+use Rattle.gix_validate.proofs.Blocks.Parts.{AreAll}
 
-marked : (b : ℕ) (t : Bool) → b ≡ cond t 1 0 → (b ≡ 0 → t ≡ false) × (b ≡ 1 → t ≡ true)
-marked b t e = grind (arith, nat_tests)
+-- the lanes go over the offsets from one on and before another, each first in its own lane
+record GoOver (offset lane_of : ℕ → ℕ) (at end : ℕ) : Type 0 where
+  within : (k : ℕ) → k < 16 → offset k < end
+  seen : (j : ℕ) → at ≤ j → j < end → (lane_of j < 16) × (offset (lane_of j) ≡ j)
+  early : (j k : ℕ) → at ≤ j → j < offset k → lane_of j < k
 
--- of the offsets of the lanes, the mask has a bit for each hit
-pub record Marks (hit : ℕ → Bool) (offset : ℕ → ℕ) (mask : ℕ) : Type 0 where
-  pub few : mask < 2 ^ 16
-  pub lanes : (k : ℕ) → k < 16 → bit_at mask k ≡ cond (hit (offset k)) 1 0
+-- an empty mask says that there is no hit before the end, and the first lane with a bit is the first hit
+abbrev pub Found : (ℕ → Bool) → (ℕ → ℕ) → ℕ → ℕ → ℕ → Type 0
+Found hit offset offsets end mask = (mask ≡ 0 → NoneBelow hit end)
+    × ((lane : ℕ) → bit_at mask lane ≡ 1 → ((k : ℕ) → k < lane → bit_at mask k ≡ 0) → IsFirst hit offsets (offset lane))
 
--- the lane is the first with a bit
-pub record IsFirstLane (mask lane : ℕ) : Type 0 where
-  pub set : bit_at mask lane ≡ 1
-  pub below : (k : ℕ) → k < lane → bit_at mask k ≡ 0
+-- where the mask has a bit for each hit
+found : (hit : ℕ → Bool) (offset lane_of : ℕ → ℕ) (offsets at end mask : ℕ) → GoOver offset lane_of at end → end ≤ offsets → NoneBelow hit at → mask < 2 ^ 16
+    → ((k : ℕ) → k < 16 → bit_at mask k ≡ cond (hit (offset k)) 1 0) → Found hit offset offsets end mask
+found hit offset lane_of offsets at end mask over room none few lanes = (
+  λ empty j below. grind (arith, nat_tests, cases_lt j at, over.seen j, none j, lanes (lane_of j), bit_at-zero (lane_of j)),
+  λ lane set clear.
+      let small : lane < 16 = grind (arith, cases_lt lane 16, bit_at_above mask 16 lane) in
+      let within = over.within lane small in
+      record {
+        within = omega arith;
+        here = grind (arith, nat_tests, lanes lane small);
+        none = λ j below. grind (arith, nat_tests, cases_lt j at, none j, over.seen j, over.early j lane, lanes (lane_of j), clear (lane_of j));
+      },
+)
 
-below_sixteen : (m k : ℕ) → m < 2 ^ 16 → bit_at m k ≡ 1 → k < 16
-below_sixteen m k few set =
-    elim (cases_lt k 16) [ inl below ↦ below | inr above ↦ let none = bit_at_above m 16 k few above in absurd (omega arith) ]
+-- sixteen offsets in a row
+block_over : (at : ℕ) → GoOver (λ k. at + k) (λ j. j - at) at (at + 16)
+block_over at = grind arith
 
--- no hit where the bit is clear, and one where it is set
-quiet : (hit : ℕ → Bool) (offset : ℕ → ℕ) (mask k : ℕ) → Marks hit offset mask → k < 16 → bit_at mask k ≡ 0 → hit (offset k) ≡ false
-quiet hit offset mask k m small clear = (marked _ _ (m.lanes k small)).0 clear
-
-is_hit : (hit : ℕ → Bool) (offset : ℕ → ℕ) (mask k : ℕ) → Marks hit offset mask → bit_at mask k ≡ 1 → hit (offset k) ≡ true
-is_hit hit offset mask k m set = (marked _ _ (m.lanes k (below_sixteen mask k m.few set))).1 set
-
-clear_at : (mask k : ℕ) → mask ≡ 0 → bit_at mask k ≡ 0
-clear_at mask k none = ap (λ m. bit_at m k) none ∙ bit_at-zero k
-
--- ---- sixteen offsets in a row
-
-pub block_marks : (hit : ℕ → ℕ → Bool) (x y : List ℕ) (at mask : ℕ) → mask < 2 ^ 16
+pub block_found : (hit : ℕ → ℕ → Bool) (x y : List ℕ) (at mask : ℕ) → at + 16 ≤ length x → NoneBelow (at_both hit x y) at → mask < 2 ^ 16
     → ((k : ℕ) → k < 16 → bit_at mask k ≡ cond (hit (get_or (chunk at 16 x) k 0) (get_or (chunk at 16 y) k 0)) 1 0)
-    → Marks (at_both hit x y) (λ k. at + k) mask
-block_marks hit x y at mask few lanes = record {
-  few = few;
-  lanes = λ k small. lanes k small ∙ ap (λ t. cond t 1 0) (ap₂ hit (get_or-chunk at 16 x k 0 small) (get_or-chunk at 16 y k 0 small));
-}
+    → Found (at_both hit x y) (λ k. at + k) (length x) (at + 16) mask
+block_found hit x y at mask room none few lanes = found (at_both hit x y) (λ k. at + k) (λ j. j - at) _ at _ mask (block_over at) room none few (λ k small.
+    grind (arith, lanes k small, get_or-chunk at 16 x k 0, get_or-chunk at 16 y k 0))
 
--- the first n of the offsets from this one on have no hit
-none_up_to : (hit : ℕ → Bool) (at mask n : ℕ) → Marks hit (λ k. at + k) mask → n ≤ 16
-    → ((k : ℕ) → k < n → bit_at mask k ≡ 0) → NoneBelow hit at → NoneBelow hit (at + n)
-none_up_to hit at mask n m few clear none p below = elim (cases_lt p at) [
-  | inl early ↦ none p early
-  | inr late ↦
-      let here : p ≡ at + (p - at) = omega arith in
-      ap hit here ∙ quiet hit (λ k. at + k) mask (p - at) m (omega arith) (clear (p - at) (omega arith))
-]
+-- the first n offsets and the last n
+parts_over : (n back m : ℕ) → AreAll n back m → GoOver (offset_of n 0 back) (λ j. cond (ltb j n) j (n + (j - back))) 0 m
+parts_over n back m all = grind (arith, nat_tests, mod-lt, mod-eq_of_lt)
 
-pub none_in_block : (hit : ℕ → Bool) (at mask : ℕ) → Marks hit (λ k. at + k) mask → mask ≡ 0 → NoneBelow hit at → NoneBelow hit (at + 16)
-none_in_block hit at mask m empty none = none_up_to hit at mask 16 m (omega arith) (λ k _. clear_at mask k empty) none
+pub parts_found : (hit : ℕ → ℕ → Bool) (x y v w : List ℕ) (n back mask : ℕ) → AreAll n back (length x) → HasParts n 0 back x v → HasParts n 0 back y w
+    → mask < 2 ^ 16 → ((k : ℕ) → k < 16 → bit_at mask k ≡ cond (hit (get_or v k 0) (get_or w k 0)) 1 0)
+    → Found (at_both hit x y) (offset_of n 0 back) (length x) (length x) mask
+parts_found hit x y v w n back mask all px py few lanes =
+    found (at_both hit x y) (offset_of n 0 back) _ _ 0 _ mask (parts_over n back (length x) all) (omega arith) (λ k h. grind arith) few (λ k small.
+    grind (arith, lanes k small, px k small, py k small))
 
-pub first_in_block : (hit : ℕ → Bool) (offsets at mask lane : ℕ) → Marks hit (λ k. at + k) mask → at + 16 ≤ offsets
-    → IsFirstLane mask lane → NoneBelow hit at → IsFirst hit offsets (at + lane)
-first_in_block hit offsets at mask lane m room first none =
-    let small = below_sixteen mask lane m.few first.set in
-    record {
-      within = omega arith;
-      here = is_hit hit (λ k. at + k) mask lane m first.set;
-      none = none_up_to hit at mask lane m (omega arith) first.below none;
-    }
-
--- ---- the first n offsets and the last n
-
-pub parts_marks : (hit : ℕ → ℕ → Bool) (x y v w : List ℕ) (n back mask : ℕ) → mask < 2 ^ 16 → HasParts n 0 back x v → HasParts n 0 back y w
-    → ((k : ℕ) → k < 16 → bit_at mask k ≡ cond (hit (get_or v k 0) (get_or w k 0)) 1 0)
-    → Marks (at_both hit x y) (offset_of n 0 back) mask
-parts_marks hit x y v w n back mask few px py lanes = grind (arith, nat_tests)
-
-pub none_in_parts : (hit : ℕ → Bool) (offsets n back mask : ℕ) → AreAll n back offsets
-    → Marks hit (offset_of n 0 back) mask → mask ≡ 0 → NoneBelow hit offsets
-none_in_parts hit offsets n back mask all m empty =
-    (all_offsets n offsets back hit all).0 (λ k small. quiet hit (offset_of n 0 back) mask k m small (clear_at mask k empty))
-
-pub first_in_parts : (hit : ℕ → Bool) (offsets n back mask lane : ℕ) → AreAll n back offsets
-    → Marks hit (offset_of n 0 back) mask → IsFirstLane mask lane → IsFirst hit offsets (offset_of n 0 back lane)
-first_in_parts hit offsets n back mask lane all m first =
-    let small = below_sixteen mask lane m.few first.set in
-    let turn : lane % (n + n) < n + n = mod-lt lane (omega arith) in
-    let clear : (k : ℕ) → k < lane → hit (offset_of n 0 back k) ≡ false =
-    λ k early. quiet hit (offset_of n 0 back) mask k m (omega arith) (first.below k early) in
-    record {
-      within = grind (arith, nat_tests, turn);
-      here = is_hit hit (offset_of n 0 back) mask lane m first.set;
-      none = λ j below. elim (cases_lt j n) [
-        | inl early ↦
-            let here : j ≡ offset_of n 0 back j = grind (arith, nat_tests, mod-eq_of_lt) in
-            ap hit here ∙ clear j (grind (arith, nat_tests, turn))
-        | inr late ↦
-            let here : j ≡ offset_of n 0 back (n + (j - back)) = grind (arith, nat_tests, mod-eq_of_lt) in
-            ap hit here ∙ clear (n + (j - back)) (grind (arith, nat_tests, turn))
-      ];
-    }
-
--- ---- adjacent bytes
-
--- the same found by a condition that is the same at each offset
+-- adjacent bytes: the same found by a condition that is the same at each offset
 alike : (p q : ℕ → Bool) (m n : ℕ) (found : Option ℕ) → m ≡ n → ((k : ℕ) → k < m → p k ≡ q k) → Finds p m m found → Finds q n n found
 alike p q m n found long same finds = grind (arith, nat_tests)
 

@@ -1,5 +1,5 @@
 -- What is not suspect has no fault: offset by offset, and so a clear text.
-use Rattle.std.proofs.Common.{◌≡◌, ℕ, ◌+◌, ◌-◌, ◌<◌, ◌≤◌, true, false, eqb, List, [], ◌∷◌, length, take, get_or, refl, ap, ◌∙◌, inl, inr, arith}
+use Rattle.std.proofs.Common.{◌≡◌, ℕ, zero, suc, ◌+◌, ◌-◌, ◌<◌, ◌≤◌, true, false, eqb, List, [], ◌∷◌, length, take, get_or, refl, ap, ◌∙◌, inl, inr, arith}
 use Rattle.std.proofs.Common.{None, add-one, length-take}
 use Rattle.std.proofs.lemmas.Bool.{cases_lt, false_from_ne_true}
 use Rattle.std.proofs.lemmas.List.{take_all, get_or-take}
@@ -20,10 +20,6 @@ use Rattle.gix_validate.proofs.TagNames.Grammar.{tag_grammar_law}
 use Rattle.std.proofs.lemmas.Grind.{common_steps}
 use Rattle.std.proofs.lemmas.Bool.Decides.{nat_tests}
 
--- a byte within the text
-pub inside : (x : List ℕ) (p c : ℕ) → 0 < c → get_or x p 0 ≡ c → p < length x
-inside x p c some e = grind (arith, common_steps)
-
 -- a byte that isn't suspect has no fault, where no dot or slash follows what it may not follow
 no_fault : (x : List ℕ) (i a : ℕ) → is_suspect a (get_or x i 0) ≡ false
     → (is_among (codes "./") a ≡ false → (ends (take i x) (codes ".") ≡ false) × (ends (take i x) (codes "/") ≡ false))
@@ -41,34 +37,25 @@ pub no_lock : (x : List ℕ) (p : ℕ) → p ≤ length x → (5 ≤ p → is_su
 unfolding is_suspect
 no_lock x p within quiet = grind (arith, nat_tests, false_from_ne_true, lock_read, get_or-take, length-take)
 
-pub no_fault_first : (x : List ℕ) → is_suspect (byte "/") (get_or x 0 0) ≡ false → fault_of_byte_at x 0 ≡ None
-no_fault_first x quiet = no_fault x 0 (byte "/") quiet (λ none. grind arith) (λ slash. refl)
-
 -- no byte is suspect after the one before it
 pub pair_quiet : (x : List ℕ) (n k : ℕ) → NoneBelow (suspect_at x) n → k + 1 < n → is_suspect (get_or x k 0) (get_or x (k + 1) 0) ≡ false
 pair_quiet x n k quiet below = rw (add-one k) (rw (add-one k) at (quiet (k + 1) below))
 
 -- Bytes that aren't suspect have no fault.
 pub none_to_suspect : (x : List ℕ) (n : ℕ) → n ≤ length x → NoneBelow (suspect_at x) n → NoFaultBetween x 0 n
-none_to_suspect x n within quiet p from to = elim (cases_lt p 1) [
-  | inl start ↦ let here : p ≡ 0 = omega arith in ap (fault_of_byte_at x) here ∙ no_fault_first x (quiet 0 (omega arith))
-  | inr later ↦
-      let next : p - 1 + 1 ≡ p = omega arith in
-      no_fault x p (get_or x (p - 1) 0) (rw next at (pair_quiet x n (p - 1) quiet (omega arith)))
-      (λ other. grind (arith, nat_tests, last_read))
-      (λ slash. no_lock x p (omega arith) (λ five. pair_quiet x n (p - 5) quiet (omega arith)))
-]
+none_to_suspect x n within quiet zero from to = no_fault x 0 (byte "/") (quiet 0 to) (λ none. grind arith) (λ slash. refl)
+none_to_suspect x n within quiet (suc p) from to = no_fault x (suc p) (get_or x p 0) (quiet (suc p) to)
+    (λ other. grind (arith, last_read x (suc p)))
+    (λ slash. no_lock x (suc p) (omega arith) (λ five. pair_quiet x n (suc p - 5) quiet (omega arith)))
 
 pub clear_has_no_fault : (x : List ℕ) → IsClear x → fault_of x ≡ None
 unfolding fault_of is_suspect
-clear_has_no_fault [] clear = absurd (omega (arith, clear.some))
-clear_has_no_fault (b ∷ x) clear =
-    let y = b ∷ x in
-    let n = length y in
-    let quiet = none_to_suspect y n (omega arith) clear.quiet in
-    let offsets = at_first_offset_none (fault_of_byte_at y) n (λ k small. quiet k (omega arith) small) in
-    let lock = no_lock y n (omega arith) (λ five. pair_quiet y n (n - 5) clear.quiet (omega arith)) in
-    grind (arith, nat_tests, take_all, at_first_offset_split y refl, offsets, lock, clear.end, clear.quiet 0 (omega arith))
+clear_has_no_fault x clear =
+    let n = length x in
+    let quiet = none_to_suspect x n (omega arith) clear.quiet in
+    let offsets = at_first_offset_none (fault_of_byte_at x) n (λ k small. quiet k (omega arith) small) in
+    let lock = no_lock x n (omega arith) (λ five. pair_quiet x n (n - 5) clear.quiet (omega arith)) in
+    grind (arith, nat_tests, take_all, at_first_offset_split, offsets, lock, clear.end, clear.some, clear.quiet 0)
 
 -- A clear text of two bytes or more is a partial name.
 pub clear_is_partial : (x : List ℕ) → 1 < length x → IsClear x → is_partial_name x ≡ true

@@ -10,7 +10,7 @@ use Rattle.gix_validate.specs.Bytes.{is_empty, ends}
 use Rattle.gix_validate.specs.Faults.{when, first_of, ◌orelse◌, at_first_offset}
 use Rattle.gix_validate.specs.Tag.{fault_table, faults_at, offset_at}
 use Rattle.gix_validate.specs.Private.TagWalk.{fault_of_byte, fault_of_byte_at}
-use Rattle.gix_validate.proofs.Texts.Offsets.{orelse_assoc, at_first_offset_more, at_first_offset_none, at_first_offset_same}
+use Rattle.gix_validate.proofs.Texts.Offsets.{at_first_offset_more, at_first_offset_none, at_first_offset_last}
 use Rattle.std.proofs.lemmas.Bool.Decides.{nat_tests}
 
 -- the text ends in `.lock`, and isn't that alone
@@ -21,30 +21,22 @@ first_of-more : (t1 t2 t3 t4 t5 t6 t7 t8 : Option NameError)
     → first_of (t1 ∷ t2 ∷ t3 ∷ t4 ∷ t5 ∷ t6 ∷ t7 ∷ t8 ∷ []) ≡ (first_of (t1 ∷ t2 ∷ t3 ∷ t4 ∷ t5 ∷ t6 ∷ t7 ∷ None ∷ []) orelse t8)
 first_of-more t1 t2 t3 t4 t5 t6 t7 t8 = grind arith
 
-fault_inside : (before : List ℕ) (b : ℕ) (after : List ℕ) → 0 < length after → first_of (fault_table before b after) ≡ fault_of_byte before b
-unfolding fault_of_byte fault_table
-fault_inside before b after h = grind (arith, nat_tests)
+fault_inside : (x : List ℕ) (i : ℕ) → i + 1 < length x → first_of (faults_at x i) ≡ fault_of_byte_at x i
+unfolding faults_at fault_of_byte fault_table
+fault_inside x i small = grind (arith, nat_tests, length-drop (i + 1) x)
 
 -- at the end of the text the last line comes after them
-fault_at_end : (before : List ℕ) (b : ℕ)
-    → first_of (fault_table before b []) ≡ (fault_of_byte before b orelse when (has_lock_suffix (before ++ b ∷ [])) LockFileSuffix)
-unfolding fault_of_byte fault_table
-fault_at_end before b = grind (arith, first_of-more)
+fault_at_end : (x : List ℕ) (i : ℕ) → i + 1 ≡ length x → first_of (faults_at x i) ≡ (fault_of_byte_at x i orelse when (has_lock_suffix x) LockFileSuffix)
+unfolding faults_at fault_of_byte fault_table
+fault_at_end x i last = grind (arith, first_of-more, take_more, take_all, drop_all)
 
 -- The fault at the least offset: by the lines that look back alone, and then the last line.
 pub at_first_offset_split : (x : List ℕ) → is_empty x ≡ false
     → at_first_offset (λ i. first_of (faults_at x i)) (length x)
     ≡ (at_first_offset (fault_of_byte_at x) (length x) orelse when (has_lock_suffix x) LockFileSuffix)
-unfolding faults_at fault_of_byte
 at_first_offset_split [] some = grind arith
-at_first_offset_split (b ∷ x) some =
-    let y = b ∷ x in
-    let n = length x in
-    let same = at_first_offset_same (λ i. first_of (faults_at y i)) (fault_of_byte_at y) n
-    (λ i small. fault_inside (take i y) (get_or y i 0) (drop (i + 1) y) (omega (arith, length-drop (i + 1) y))) in
-    let last : first_of (faults_at y n) ≡ (fault_of_byte_at y n orelse when (has_lock_suffix y) LockFileSuffix) =
-    grind (arith, take_more, take_all, drop_all, fault_at_end (take n y) (get_or y n 0)) in
-    grind (arith, at_first_offset_more, orelse_assoc)
+at_first_offset_split (b ∷ x) some = at_first_offset_last (λ i. first_of (faults_at (b ∷ x) i)) (fault_of_byte_at (b ∷ x)) (length x) _
+    (λ i small. fault_inside (b ∷ x) i (omega arith)) (fault_at_end (b ∷ x) (length x) (omega arith))
 
 -- the offset, if it has a fault by what is before it
 abbrev pub offset_of_byte : List ℕ → ℕ → Option ℕ
@@ -57,16 +49,9 @@ some_orelse o t i = grind arith
 -- The same of the offsets.
 pub offset_split : (x : List ℕ) → is_empty x ≡ false
     → at_first_offset (offset_at x) (length x) ≡ (at_first_offset (offset_of_byte x) (length x) orelse when (has_lock_suffix x) (length x - 1))
-unfolding faults_at fault_of_byte
 offset_split [] some = grind arith
-offset_split (b ∷ x) some =
-    let y = b ∷ x in
-    let n = length x in
-    let same = at_first_offset_same (offset_at y) (offset_of_byte y) n
-    (λ i small. ap (λ (o : Option NameError). when (is_some o) i) (fault_inside (take i y) (get_or y i 0) (drop (i + 1) y) (omega (arith, length-drop (i + 1) y)))) in
-    let last : first_of (faults_at y n) ≡ (fault_of_byte_at y n orelse when (has_lock_suffix y) LockFileSuffix) =
-    grind (arith, take_more, take_all, drop_all, fault_at_end (take n y) (get_or y n 0)) in
-    grind (arith, at_first_offset_more, orelse_assoc, last, some_orelse (fault_of_byte_at y n) (has_lock_suffix y) n)
+offset_split (b ∷ x) some = at_first_offset_last (offset_at (b ∷ x)) (offset_of_byte (b ∷ x)) (length x) _
+    (λ i small. grind (arith, fault_inside (b ∷ x) i)) (grind (arith, fault_at_end (b ∷ x) (length x), some_orelse))
 
 -- the faults from here on, what is before growing by each byte
 unfoldable pub walked : List ℕ → List ℕ → Option NameError

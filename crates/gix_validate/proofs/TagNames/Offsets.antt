@@ -9,9 +9,10 @@ use Rattle.gix_validate.specs.Private.Adjacent.{suspect_at}
 use Rattle.gix_validate.specs.Private.Scan.{NoneBelow}
 use Rattle.gix_validate.specs.Faults.{first_of, at_first_offset, when, ◌orelse◌}
 use Rattle.gix_validate.specs.Private.TagWalk.{fault_of_byte_at, first_fault_between, NoFaultBetween}
-use Rattle.gix_validate.proofs.Texts.Offsets.{at_first_offset_none, at_first_offset_more, at_first_offset_from, found_below}
+use Rattle.gix_validate.proofs.Texts.Offsets.{at_first_offset_none, at_first_offset_more, at_first_offset_from, at_first_found}
 use Rattle.gix_validate.proofs.TagNames.FaultTable.{quiet}
 use Rattle.gix_validate.proofs.TagNames.FaultsOfBytes.{at_first_offset_split, offset_split, offset_of_byte}
+use Rattle.std.proofs.lemmas.Bool.Decides.{nat_tests}
 use Rattle.std.proofs.lemmas.Slice.Eq.{bytes_eq-Decides}
 use Rattle.std.specs.Prelude.{codes}
 use Rattle.gix_validate.proofs.TagNames.ClearTexts.{none_to_suspect}
@@ -31,9 +32,7 @@ pub between_found : (x : List ℕ) (i j n : ℕ) (a : NameError) → i ≤ j →
     → first_fault_between x i n ≡ Some a
 unfolding first_fault_between
 between_found x i j n a order within none here =
-    let f = λ (k : ℕ). fault_of_byte_at x (i + k) in
-    let there : i + (j - i) ≡ j = omega arith in
-    grind (arith, between_none, at_first_offset_more f (j - i), found_below f (j - i + 1) (n - i))
+    at_first_found (λ k. fault_of_byte_at x (i + k)) (j - i) (n - i) a (omega arith) (λ k small. none (i + k) (omega arith) (omega arith)) (grind (arith, here))
 
 pub between_more : (x : List ℕ) (i j : ℕ) → NoFaultBetween x i j → fault_of_byte_at x j ≡ None → NoFaultBetween x i (j + 1)
 between_more x i j none here p from to = elim (cases_lt p j) [ inl early ↦ none p from early | inr last ↦ grind (arith, here) ]
@@ -50,16 +49,14 @@ found_from x i some within quiet =
 -- where none has a fault by what is before it, the last line of the table says the offset
 pub offset_none : (x : List ℕ) → 0 < length x → NoFaultBetween x 0 (length x)
     → at_first_offset (offset_at x) (length x) ≡ when (ends x (codes ".lock") && not (eqb (length x) 5)) (length x - 1)
-offset_none x some none =
-    let quiets = at_first_offset_none (offset_of_byte x) (length x) (λ k small. grind (arith, none k (omega arith) small)) in
-    grind (arith, offset_split, bytes_eq-Decides, quiets)
+offset_none x some none = grind (arith, nat_tests, at_first_offset_none, offset_split, bytes_eq-Decides)
 
 -- the first that has one is the offset
 pub offset_found : (x : List ℕ) (j : ℕ) (a : NameError) → j < length x → NoFaultBetween x 0 j → fault_of_byte_at x j ≡ Some a
     → at_first_offset (offset_at x) (length x) ≡ Some j
 offset_found x j a small none here =
-    let quiets = at_first_offset_none (offset_of_byte x) j (λ k less. grind (arith, none k (omega arith) less)) in
-    grind (arith, offset_split, quiets, at_first_offset_more (offset_of_byte x) j, found_below (offset_of_byte x) (j + 1) (length x))
+    let found = at_first_found (offset_of_byte x) j (length x) j small (λ k less. grind (arith, none k (omega arith) less)) (grind (arith, here)) in
+    grind (arith, offset_split, found)
 
 -- what is found is within the text
 offset_below : (x : List ℕ) (n i : ℕ) → at_first_offset (offset_at x) n ≡ Some i → i < n

@@ -22,15 +22,16 @@ unfolding at_first_offset
 at_first_offset_same f g zero h = refl
 at_first_offset_same f g (suc n) h = grind (arith, at_first_offset_same f g n)
 
--- what is found stays so with more offsets
-pub found_below : {A : Type 0} (f : ℕ → Option A) (n m : ℕ) (a : A) → n ≤ m → at_first_offset f n ≡ Some a → at_first_offset f m ≡ Some a
+-- equal functions, but for what the last offset has more
+pub at_first_offset_last : {A : Type 0} (f g : ℕ → Option A) (n : ℕ) (last : Option A) → ((i : ℕ) → i < n → f i ≡ g i) → f n ≡ (g n orelse last)
+    → at_first_offset f (suc n) ≡ (at_first_offset g (suc n) orelse last)
+at_first_offset_last f g n last same end = grind (arith, at_first_offset_more, orelse_assoc, at_first_offset_same f g n same)
+
+-- the first that has something is found
+pub at_first_found : {A : Type 0} (f : ℕ → Option A) (n m : ℕ) (a : A) → n < m → ((k : ℕ) → k < n → f k ≡ None) → f n ≡ Some a → at_first_offset f m ≡ Some a
 unfolding at_first_offset
-found_below f n zero a within found = grind arith
-found_below f n (suc m) a within found =
-    elim (cases_lt m n) [
-      | inl last ↦ let e : suc m ≡ n = omega arith in ap (at_first_offset f) e ∙ found
-      | inr more ↦ grind (arith, found_below f n m a)
-    ]
+at_first_found f n zero a within none here = absurd (omega arith)
+at_first_found f n (suc m) a within none here = grind (arith, cases_lt n m, at_first_offset_none f n none, at_first_found f n m a)
 
 -- where the first offsets have nothing, the others say what is found
 pub at_first_offset_from : {A : Type 0} (f : ℕ → Option A) (i n : ℕ) → ((k : ℕ) → k < i → f k ≡ None)

@@ -28,6 +28,7 @@ pub(crate) trait Pattern {
 
 /// The first offset whose byte and the next are a hit.
 #[inline(always)]
+#[tactic(auto, using(crate::proofs::Blocks::Scan::pairs_found))]
 pub(crate) fn first_pair<P: Pattern>(text: &[u8]) -> Option<usize>
     requires { 1 ≤ length text.now }
     ensures { Finds (at_pair P.hit text.now) (length text.now - 1) (length text.now - 1) result }
@@ -156,6 +157,7 @@ fn first_of_parts<P: Pattern>(
 /// Whether a byte of a text of more than four blocks is a hit. Four blocks are checked at a time. The
 /// last four overlap those before them.
 #[inline(always)]
+#[tactic(auto, using(crate::proofs::Blocks::Parts::any_with_chunk))]
 pub(crate) fn has<P: Pattern>(text: &[u8]) -> bool
     requires { FOUR_BLOCKS < length text.now }
     ensures { result ≡ list_any (λ b. P.hit b b) text.now }

@@ -5,8 +5,7 @@ use Rattle.gix_validate.proofs.TagNames.Offsets.{found_from}
 use Rattle.gix_validate.proofs.tag.fault_at_first_offset.Goals as goal
 
 pub returns-in-Some : goal.returns-in-Some
-returns-in-Some c =
-    let from = c.clear_front-from.ensures in grind (arith, found_from _ _ c.requires from.within from.quiet, c.in-Some.ensures)
+returns-in-Some c = grind (arith, found_from _ _ c.requires c.clear_front-from.ensures.within c.clear_front-from.ensures.quiet, c.in-Some.ensures)
 
 pub returns-then-bytes-ne5 : goal.returns-then-bytes-ne5
 returns-then-bytes-ne5 c =

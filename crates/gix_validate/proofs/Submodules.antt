@@ -74,24 +74,15 @@ none_to x n m none more k small = elim (cases_lt k n) [
 -- The end or a separator: none begins at the next two offsets.
 pub none_by_end : (x : List ℕ) (n : ℕ) → is_parent_at x n ≡ false → (n + 2 == length x || is_separator (get_or x (n + 2) 0)) ≡ true
     → (j : ℕ) → j < 3 → is_parent_at x (n + j) ≡ false
-none_by_end x n here end zero h = grind arith
-none_by_end x n here end (suc zero) h = grind (arith, dot_inside)
-none_by_end x n here end (suc (suc zero)) h = grind (arith, dot_inside)
-none_by_end x n here end (suc (suc (suc j))) h = absurd (omega arith)
+none_by_end x n here end j h = grind (arith, nat_tests, dot_inside x (n + 2), cases_lt j 1, cases_lt j 2)
 
 -- No end: none begins there, nor at the next offset if that is a separator.
 pub none_by_separator : (x : List ℕ) (n : ℕ) → (n + 2 == length x || is_separator (get_or x (n + 2) 0)) ≡ false
     → (j : ℕ) → j < cond (is_separator (get_or x (n + 1) 0)) 2 1 → is_parent_at x (n + j) ≡ false
-none_by_separator x n end zero h = grind arith
-none_by_separator x n end (suc zero) h = grind (arith, nat_tests)
-none_by_separator x n end (suc (suc j)) h = absurd (grind arith)
+none_by_separator x n end j h = grind (arith, nat_tests, cases_lt j 1)
 
 -- No end, and if it is a dot, neither of the two bytes before it is a separator: none begins there or at the next three offsets.
 pub none_by_other : (x : List ℕ) (n : ℕ) → (n + 2 == length x || is_separator (get_or x (n + 2) 0)) ≡ false
     → (get_or x (n + 2) 0 ≡ byte "." → (is_separator (get_or x n 0) || is_separator (get_or x (n + 1) 0)) ≡ false)
     → (j : ℕ) → j < 4 → is_parent_at x (n + j) ≡ false
-none_by_other x n end dot zero h = grind arith
-none_by_other x n end dot (suc zero) h = grind (arith, nat_tests)
-none_by_other x n end dot (suc (suc zero)) h = grind (arith, nat_tests)
-none_by_other x n end dot (suc (suc (suc zero))) h = grind (arith, nat_tests)
-none_by_other x n end dot (suc (suc (suc (suc j)))) h = absurd (omega arith)
+none_by_other x n end dot j h = grind (arith, nat_tests, cases_lt j 1, cases_lt j 2, cases_lt j 3)

@@ -144,7 +144,7 @@ fn name_on_walk<'a>(input: BStr<'a>) -> Result<BStr<'a>, NameError>
 /// # Memory
 ///
 /// It doesn't allocate.
-#[tactic(auto, using(crate::proofs::TagNames::Grammar::offset_grammar_law, crate::proofs::TagNames::Offsets::offset_within))]
+#[tactic(auto, using(crate::proofs::TagNames::Grammar::offset_grammar_law, crate::proofs::TagNames::ClearTexts::offset_within))]
 pub fn fault_offset(input: BStr<'_>) -> Option<usize>
     ensures offset { result ≡ fault_offset_of (bstr_bytes input.entry) }
     ensures grammar { IsNone result ↔ IsTrue (is_tag_name (bstr_bytes input.entry)) }
@@ -181,7 +181,7 @@ fn offset_of_fault(bytes: &[u8]) -> Option<usize>
 }
 
 /// The least offset that has a fault.
-#[tactic(auto, using(crate::proofs::TagNames::Offsets::least_offset))]
+#[tactic(auto, using(crate::proofs::TagNames::ClearTexts::least_offset))]
 fn first_offset(bytes: &[u8]) -> Option<usize>
     requires { 0 < length bytes.now }
     ensures { result ≡ at_first_offset (offset_at bytes.now) (length bytes.now) }
@@ -245,7 +245,7 @@ fn fault_at_first_offset(bytes: &[u8]) -> Option<NameError>
 /// The first fault that a byte has after those before it, from one offset on and before another.
 /// Most bytes take one look into a table.
 #[inline(always)]
-#[tactic(auto, using(crate::proofs::TagNames::Offsets::offset_by_offset))]
+#[tactic(auto, using(crate::proofs::TagNames::ClearTexts::offset_by_offset))]
 fn first_fault_between(bytes: &[u8], from: usize, to: usize) -> Option<NameError>
     requires in_order { from ≤ to }
     requires within { to ≤ length bytes.now }

@@ -1,18 +1,20 @@
--- Parts of a text that together are all of it, and a short text as one block.
-use Rattle.std.proofs.Common.{◌≡◌, ℕ, ◌+◌, ◌-◌, ◌%◌, ◌<◌, ◌≤◌, ◌↔◌, Bool, true, false, ◌||◌, eqb, List, [], ◌∷◌, ◌++◌, max}
-use Rattle.std.proofs.Common.{length, take, drop, get_or, replicate, refl, ap, ap₂, ◌∙◌, arith, take-add, eqb-true}
+-- Parts of a text that together are all of it, a short text as one block, and what the lanes of a scan say of offsets.
+use Rattle.std.proofs.Common.{◌≡◌, ℕ, ◌+◌, ◌-◌, ◌%◌, ◌<◌, ◌≤◌, ◌↔◌, Bool, true, false, ◌||◌, eqb, List, [], ◌∷◌, ◌++◌, max, length, take, drop, get_or, replicate, refl, ap, ap₂, ◌∙◌, arith, take-add, eqb-true, ◌^◌, cond, ltb, Option}
 use Rattle.std.proofs.Math.Nat.{mod-lt, mod-eq_of_lt}
-use Rattle.std.proofs.lemmas.Bool.{agree_below, agree_below_at}
-use Rattle.std.proofs.lemmas.List.{get_or-map, get_or-replicate, get_or_append_left, get_or-append_right, drop-drop, take-append-drop}
+use Rattle.std.proofs.lemmas.Bool.{agree_below, agree_below_at, cases_lt}
+use Rattle.std.proofs.lemmas.List.{get_or-map, get_or-replicate, get_or_append_left, get_or-append_right, drop-drop, take-append-drop, get_or-take, length-take-le}
 use Rattle.std.specs.List.{list_any}
 use Rattle.gix_validate.specs.Bytes.{is_among}
 use Rattle.std.proofs.lemmas.List.Elements.{All-from_get_or}
 use Rattle.std.proofs.lemmas.List.Folds.{list_any-append, list_any_at, list_any_none}
 use Rattle.std.proofs.lemmas.Simd.{length-chunk, get_or-chunk}
 use lib.Lanes.{chunk, pick_l}
-use Rattle.gix_validate.specs.Private.Lanes.{HasParts}
+use Rattle.gix_validate.specs.Private.Lanes.{HasParts, offset_of}
 use Rattle.std.proofs.lemmas.Grind.{common_steps}
 use Rattle.std.proofs.lemmas.Bool.Decides.{nat_tests}
+use Rattle.std.specs.Int.{bit_at}
+use Rattle.std.proofs.lemmas.Nat.Bits.{bit_at_above, bit_at-zero}
+use Rattle.gix_validate.specs.Private.Scan.{NoneBelow, IsFirst, Finds, at_both, at_pair}
 
 -- no element passes if and only if none does at its offset
 pub none_at : (p : ℕ → Bool) (v : List ℕ) → (list_any p v ≡ false) ↔ ((k : ℕ) → k < length v → p (get_or v k 0) ≡ false)
@@ -128,3 +130,60 @@ both_cover mid start last x v w short long pv pw p =
 
 pub one_covers : (x : List ℕ) → length x ≡ 1 → HasParts 1 0 0 x (replicate 16 (get_or x 0 0))
 one_covers x one k h = grind (arith, nat_tests, get_or-replicate, mod-lt)
+
+-- ---- offsets
+
+-- the lanes go over the offsets from one on and before another, each first in its own lane
+record GoOver (offset lane_of : ℕ → ℕ) (at end : ℕ) : Type 0 where
+  within : (k : ℕ) → k < 16 → offset k < end
+  seen : (j : ℕ) → at ≤ j → j < end → (lane_of j < 16) × (offset (lane_of j) ≡ j)
+  early : (j k : ℕ) → at ≤ j → j < offset k → lane_of j < k
+
+-- an empty mask says that there is no hit before the end, and the first lane with a bit is the first hit
+abbrev pub Found : (ℕ → Bool) → (ℕ → ℕ) → ℕ → ℕ → ℕ → Type 0
+Found hit offset offsets end mask = (mask ≡ 0 → NoneBelow hit end)
+    × ((lane : ℕ) → bit_at mask lane ≡ 1 → ((k : ℕ) → k < lane → bit_at mask k ≡ 0) → IsFirst hit offsets (offset lane))
+
+-- where the mask has a bit for each hit
+found : (hit : ℕ → Bool) (offset lane_of : ℕ → ℕ) (offsets at end mask : ℕ) → GoOver offset lane_of at end → end ≤ offsets → NoneBelow hit at → mask < 2 ^ 16
+    → ((k : ℕ) → k < 16 → bit_at mask k ≡ cond (hit (offset k)) 1 0) → Found hit offset offsets end mask
+found hit offset lane_of offsets at end mask over room none few lanes = (
+  λ empty j below. grind (arith, nat_tests, cases_lt j at, over.seen j, none j, lanes (lane_of j), bit_at-zero (lane_of j)),
+  λ lane set clear.
+      let small : lane < 16 = grind (arith, cases_lt lane 16, bit_at_above mask 16 lane) in
+      let within = over.within lane small in
+      record {
+        within = omega arith;
+        here = grind (arith, nat_tests, lanes lane small);
+        none = λ j below. grind (arith, nat_tests, cases_lt j at, none j, over.seen j, over.early j lane, lanes (lane_of j), clear (lane_of j));
+      },
+)
+
+-- sixteen offsets in a row
+block_over : (at : ℕ) → GoOver (λ k. at + k) (λ j. j - at) at (at + 16)
+block_over at = grind arith
+
+pub block_found : (hit : ℕ → ℕ → Bool) (x y : List ℕ) (at mask : ℕ) → at + 16 ≤ length x → NoneBelow (at_both hit x y) at → mask < 2 ^ 16
+    → ((k : ℕ) → k < 16 → bit_at mask k ≡ cond (hit (get_or (chunk at 16 x) k 0) (get_or (chunk at 16 y) k 0)) 1 0)
+    → Found (at_both hit x y) (λ k. at + k) (length x) (at + 16) mask
+block_found hit x y at mask room none few lanes = found (at_both hit x y) (λ k. at + k) (λ j. j - at) _ at _ mask (block_over at) room none few (λ k small.
+    grind (arith, lanes k small, get_or-chunk at 16 x k 0, get_or-chunk at 16 y k 0))
+
+-- the first n offsets and the last n
+parts_over : (n back m : ℕ) → AreAll n back m → GoOver (offset_of n 0 back) (λ j. cond (ltb j n) j (n + (j - back))) 0 m
+parts_over n back m all = grind (arith, nat_tests, mod-lt, mod-eq_of_lt)
+
+pub parts_found : (hit : ℕ → ℕ → Bool) (x y v w : List ℕ) (n back mask : ℕ) → AreAll n back (length x) → HasParts n 0 back x v → HasParts n 0 back y w
+    → mask < 2 ^ 16 → ((k : ℕ) → k < 16 → bit_at mask k ≡ cond (hit (get_or v k 0) (get_or w k 0)) 1 0)
+    → Found (at_both hit x y) (offset_of n 0 back) (length x) (length x) mask
+parts_found hit x y v w n back mask all px py few lanes =
+    found (at_both hit x y) (offset_of n 0 back) _ _ 0 _ mask (parts_over n back (length x) all) (omega arith) (λ k h. grind arith) few (λ k small.
+    grind (arith, lanes k small, px k small, py k small))
+
+-- adjacent bytes: the same found by a condition that is the same at each offset
+alike : (p q : ℕ → Bool) (m n : ℕ) (found : Option ℕ) → m ≡ n → ((k : ℕ) → k < m → p k ≡ q k) → Finds p m m found → Finds q n n found
+alike p q m n found long same finds = grind (arith, nat_tests)
+
+pub pairs_found : (hit : ℕ → ℕ → Bool) (x : List ℕ) (n : ℕ) (found : Option ℕ) → n + 1 ≡ length x
+    → Finds (at_both hit (take n x) (chunk 1 n x)) (length (take n x)) (length (take n x)) found → Finds (at_pair hit x) n n found
+pairs_found hit x n found long finds = grind (arith, nat_tests, alike, get_or-take, get_or-chunk, length-take-le)

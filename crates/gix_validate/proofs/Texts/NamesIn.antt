@@ -1,12 +1,10 @@
 -- The first name in a buffer, by the index of the first byte that ends a name.
-use Rattle.std.proofs.Common.{◌≡◌, ◌≢◌, ℕ, ◌+◌, ◌<◌, true, false, List, [], ◌∷◌, ◌==◌, length, take, get_or, drop, refl, ap, ◌∙◌, arith}
-use Rattle.std.specs.List.{All, slice_split, position_or_len, before_first, after_first}
+use Rattle.std.proofs.Common.{◌≡◌, ◌≢◌, ℕ, ◌+◌, ◌<◌, true, false, List, [], ◌∷◌, ◌==◌, length, take, get_or, drop, refl, arith}
 use Rattle.std.proofs.lemmas.Bool.{false_from_ne_true}
-use Rattle.std.proofs.lemmas.Bool.Decides.{nat_tests}
 use Rattle.std.proofs.lemmas.List.Sums.{position_or_len_is}
 use Rattle.std.proofs.lemmas.List.Elements.{All-from_get_or}
 use Rattle.std.proofs.lemmas.List.Splits.{slice_split_first, slice_split_none, length-slice_split}
-use Rattle.gix_validate.specs.Pieces.{less_empty_last, names_in}
+use Rattle.gix_validate.specs.Pieces.{names_in}
 
 -- the first name ends before the first such byte
 pub names_in-cut : (end : ℕ) (buffer : List ℕ) (k : ℕ) → k < length buffer → ((j : ℕ) → j < k → (get_or buffer j 0 == end) ≡ true → ⊥)

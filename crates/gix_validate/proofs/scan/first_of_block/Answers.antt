@@ -1,4 +1,4 @@
-use Rattle.gix_validate.proofs.Blocks.Scan.{block_found}
+use Rattle.gix_validate.proofs.Blocks.Parts.{block_found}
 use Rattle.gix_validate.proofs.scan.first_of_block.Goals as goal
 
 pub returns-then-hits-eq0 : goal.returns-then-hits-eq0

@@ -1,7 +1,7 @@
 -- The last line of the table, where no other applies.
 use Rattle.std.proofs.Common.{arith}
 use Rattle.std.proofs.lemmas.Bool.Decides.{nat_tests}
-use Rattle.gix_validate.proofs.TagNames.Offsets.{found_from}
+use Rattle.gix_validate.proofs.TagNames.ClearTexts.{found_from}
 use Rattle.gix_validate.proofs.tag.fault_at_first_offset.Goals as goal
 
 pub returns-in-Some : goal.returns-in-Some

@@ -2,4 +2,3 @@
 pub mod Lanes
 pub mod Parts
 pub mod ByteClasses
-pub mod AdjacentBytes

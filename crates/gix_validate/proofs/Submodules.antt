@@ -5,8 +5,8 @@ use Rattle.std.specs.Prelude.{codes, ◌==◌}
 use Rattle.std.specs.List.{list_any}
 use Rattle.std.specs.Str.{byte, bytes_eq}
 use Rattle.gix_validate.specs.Submodule.{is_separator, parts, has_parent_part}
-use Rattle.gix_validate.specs.Private.Parents.{is_parent_at, NoParentBelow}
-use Rattle.gix_validate.specs.Private.Scan.{at_pair}
+use Rattle.gix_validate.specs.Private.Parents.{is_parent_at}
+use Rattle.gix_validate.specs.Private.Scan.{NoneBelow, at_pair}
 use Rattle.std.proofs.lemmas.Bool.Decides.{nat_tests}
 use Rattle.std.proofs.lemmas.Grind.{common_steps}
 
@@ -56,7 +56,7 @@ unfolding parent_from
 parent_inside x i h = grind (arith, dot_inside x (i + 1))
 
 -- No part is `..` where none begins.
-pub no_parent : (x : List ℕ) → NoParentBelow x (length x - 1) → has_parent_part x ≡ false
+pub no_parent : (x : List ℕ) → NoneBelow (is_parent_at x) (length x - 1) → has_parent_part x ≡ false
 no_parent x none =
     let later = no_later_parent x (λ i s. grind (arith, parent_inside x (suc i), none (suc i), parent_at x (suc i))) in
     grind (arith, later, none 0, parent_inside x 0, first_parent x, parent_at x 0)
@@ -65,7 +65,7 @@ no_parent x none =
 pub without_two_dots : (x : List ℕ) (k : ℕ) → at_pair (λ a b. eqb a (byte ".") && eqb b (byte ".")) x k ≡ false → is_parent_at x k ≡ false
 without_two_dots x k none = grind (arith, none)
 
-pub none_to : (x : List ℕ) (n m : ℕ) → NoParentBelow x n → ((j : ℕ) → j < m → is_parent_at x (n + j) ≡ false) → NoParentBelow x (n + m)
+pub none_to : (x : List ℕ) (n m : ℕ) → NoneBelow (is_parent_at x) n → ((j : ℕ) → j < m → is_parent_at x (n + j) ≡ false) → NoneBelow (is_parent_at x) (n + m)
 none_to x n m none more k small = elim (cases_lt k n) [
   | inl early ↦ none k early
   | inr late ↦ let here : n + (k - n) ≡ k = omega arith in rw here at (more (k - n) (omega arith))

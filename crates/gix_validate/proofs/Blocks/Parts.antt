@@ -180,6 +180,12 @@ parts_found hit x y v w n back mask all px py few lanes =
     found (at_both hit x y) (offset_of n 0 back) _ _ 0 _ mask (parts_over n back (length x) all) (omega arith) (λ k h. grind arith) few (λ k small.
     grind (arith, lanes k small, px k small, py k small))
 
+pub in_front : (n back k : ℕ) → k % (n + n) < n → offset_of n 0 back k ≡ k % (n + n)
+in_front n back k h = grind (arith, nat_tests)
+
+pub in_back : (n back k : ℕ) → n ≤ k % (n + n) → offset_of n 0 back k ≡ back + (k % (n + n) - n)
+in_back n back k h = grind (arith, nat_tests)
+
 -- adjacent bytes: the same found by a condition that is the same at each offset
 alike : (p q : ℕ → Bool) (m n : ℕ) (found : Option ℕ) → m ≡ n → ((k : ℕ) → k < m → p k ≡ q k) → Finds p m m found → Finds q n n found
 alike p q m n found long same finds = grind (arith, nat_tests)

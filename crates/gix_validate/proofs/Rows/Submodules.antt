@@ -3,7 +3,7 @@ use Rattle.std.proofs.Common.{refl, [], ◌∷◌, Some, None}
 use Rattle.std.specs.Prelude.{codes}
 use Rattle.gix_validate.proofs.OnLiterals.{names_on_literals}
 use Rattle.gix_validate.proofs.Rows.Tables.{Gives, Judges}
-use Rattle.gix_validate.specs.Submodule.{parts, is_submodule_name, fault_of, text_of}
+use Rattle.gix_validate.specs.Submodule.{parts, is_submodule_name, fault_of}
 use Rattle.gix_validate.specs.declared.submodule.NameError.TheVariants.{Empty, ParentComponent}
 
 judged : Judges fault_of is_submodule_name
@@ -28,9 +28,3 @@ parts_of_texts : Gives parts
     ∷ (codes "/", [] ∷ [] ∷ [])  -- of slash
     ∷ [])
 parts_of_texts = refl
-
-printed : Gives text_of
-    ((Empty, codes "Submodule names cannot be empty")  -- empty
-    ∷ (ParentComponent, codes "Submodules names must not contains '..'")  -- parent
-    ∷ [])
-printed = refl

@@ -1,5 +1,5 @@
 -- What is not suspect has no fault: offset by offset, and so a clear text. The walk over the other bytes.
-use Rattle.std.proofs.Common.{◌≡◌, ℕ, zero, suc, ◌+◌, ◌-◌, ◌<◌, ◌≤◌, true, false, eqb, List, [], ◌∷◌, length, take, get_or, refl, arith, None, add-one, length-take, not, ◌&&◌, ap, ◌∙◌, Some, inl, inr}
+use Rattle.std.proofs.Common.{◌≡◌, ℕ, zero, suc, ◌+◌, ◌-◌, ◌<◌, ◌≤◌, true, false, eqb, List, [], ◌∷◌, length, take, get_or, refl, arith, None, add-one, length-take, not, ◌&&◌, Some, inl, inr}
 use Rattle.std.proofs.lemmas.Bool.{false_from_ne_true, cases_lt}
 use Rattle.std.proofs.lemmas.List.{take_all, get_or-take}
 use Rattle.std.proofs.lemmas.Slice.Eq.{bytes_eq-Decides}
@@ -10,14 +10,14 @@ use Rattle.gix_validate.specs.Tag.{fault_of, fault_offset_of, faults_at, offset_
 use Rattle.gix_validate.specs.Reference.{is_partial_name}
 use Rattle.gix_validate.specs.Private.Adjacent.{is_suspect, suspect_at, IsClear}
 use Rattle.gix_validate.specs.Private.Scan.{NoneBelow}
-use Rattle.gix_validate.specs.Private.TagWalk.{fault_of_byte_at, NoFaultBetween, first_fault_between}
-use Rattle.gix_validate.proofs.TagNames.FaultTable.{at_first_offset_none, is_none-fault_of_byte, at_first_offset_split, at_first_offset_from, at_first_found, quiet, offset_split, offset_of_byte}
+use Rattle.gix_validate.specs.Private.TagWalk.{fault_of_byte_at, NoFaultBelow}
+use Rattle.gix_validate.proofs.TagNames.FaultTable.{at_first_offset_none, is_none-fault_of_byte, at_first_offset_split, at_first_found, quiet, offset_split, offset_of_byte}
 use Rattle.gix_validate.proofs.Texts.Endings.{ends_read, lock_read}
 use Rattle.gix_validate.proofs.TagNames.Grammar.{tag_grammar_law}
 use Rattle.std.proofs.lemmas.Bool.Decides.{nat_tests}
 use Rattle.gix_validate.specs.declared.tag.NameError.{NameError}
 use Rattle.gix_validate.specs.declared.tag.NameError.TheVariants.{LockFileSuffix}
-use Rattle.gix_validate.specs.Faults.{first_of, at_first_offset, when, ◌orelse◌}
+use Rattle.gix_validate.specs.Faults.{first_of, at_first_offset, when}
 
 -- a byte that isn't suspect has no fault, where no dot or slash follows what it may not follow
 no_fault : (x : List ℕ) (i a : ℕ) → is_suspect a (get_or x i 0) ≡ false
@@ -41,9 +41,9 @@ pub pair_quiet : (x : List ℕ) (n k : ℕ) → NoneBelow (suspect_at x) n → k
 pair_quiet x n k quiet below = rw (add-one k) (rw (add-one k) at (quiet (k + 1) below))
 
 -- Bytes that aren't suspect have no fault.
-pub none_to_suspect : (x : List ℕ) (n : ℕ) → n ≤ length x → NoneBelow (suspect_at x) n → NoFaultBetween x 0 n
-none_to_suspect x n within quiet zero from to = no_fault x 0 (byte "/") (quiet 0 to) (λ none. grind arith) (λ slash. refl)
-none_to_suspect x n within quiet (suc p) from to = no_fault x (suc p) (get_or x p 0) (quiet (suc p) to)
+pub none_to_suspect : (x : List ℕ) (n : ℕ) → n ≤ length x → NoneBelow (suspect_at x) n → NoFaultBelow x n
+none_to_suspect x n within quiet zero to = no_fault x 0 (byte "/") (quiet 0 to) (λ none. grind arith) (λ slash. refl)
+none_to_suspect x n within quiet (suc p) to = no_fault x (suc p) (get_or x p 0) (quiet (suc p) to)
     (λ other. grind (arith, last_read x (suc p)))
     (λ slash. no_lock x (suc p) (omega arith) (λ five. pair_quiet x n (suc p - 5) quiet (omega arith)))
 
@@ -51,8 +51,7 @@ pub clear_has_no_fault : (x : List ℕ) → IsClear x → fault_of x ≡ None
 unfolding fault_of is_suspect
 clear_has_no_fault x clear =
     let n = length x in
-    let quiet = none_to_suspect x n (omega arith) clear.quiet in
-    let offsets = at_first_offset_none (fault_of_byte_at x) n (λ k small. quiet k (omega arith) small) in
+    let offsets = at_first_offset_none (fault_of_byte_at x) n (none_to_suspect x n (omega arith) clear.quiet) in
     let lock = no_lock x n (omega arith) (λ five. pair_quiet x n (n - 5) clear.quiet (omega arith)) in
     grind (arith, nat_tests, take_all, at_first_offset_split, offsets, lock, clear.end, clear.some, clear.quiet 0)
 
@@ -61,47 +60,31 @@ pub clear_is_partial : (x : List ℕ) → 1 < length x → IsClear x → is_part
 unfolding is_partial_name
 clear_is_partial x long clear = grind (arith, tag_grammar_law, clear_has_no_fault, bytes_eq-Decides)
 
--- ---- the faults of a part of a text, and of all of it from its first suspect byte on
+-- ---- the walk to the least offset
 
--- where nothing is found before a part, the part says what is found
-pub from_offset : (x : List ℕ) (i j : ℕ) → i ≤ j → NoFaultBetween x 0 i → at_first_offset (fault_of_byte_at x) j ≡ first_fault_between x i j
-unfolding first_fault_between
-from_offset x i j order none =
-    let e : j ≡ i + (j - i) = omega arith in
-    ap (at_first_offset (fault_of_byte_at x)) e ∙ at_first_offset_from (fault_of_byte_at x) i (j - i) (λ k small. none k (omega arith) small)
+pub none_more : (x : List ℕ) (j : ℕ) → NoFaultBelow x j → fault_of_byte_at x j ≡ None → NoFaultBelow x (j + 1)
+none_more x j none here p to = elim (cases_lt p j) [ inl early ↦ none p early | inr last ↦ grind (arith, here) ]
 
-pub between_none : (x : List ℕ) (i j : ℕ) → NoFaultBetween x i j → first_fault_between x i j ≡ None
-unfolding first_fault_between
-between_none x i j none = at_first_offset_none (λ k. fault_of_byte_at x (i + k)) (j - i) (λ k small. none (i + k) (omega arith) (omega arith))
+-- Where none has a fault by what is before it, the last line of the table says the fault. (A text that ends in `.lock` is longer, or is that.)
+pub fault_none : (x : List ℕ) (n : ℕ) → (n ≡ length x) × (0 < n) → NoFaultBelow x n → at_first_offset (λ i. first_of (faults_at x i)) (length x)
+    ≡ when (ends x (codes ".lock") && not (eqb (length x) 5)) LockFileSuffix
+fault_none x n all none = grind (arith, nat_tests, at_first_offset_none, at_first_offset_split, bytes_eq-Decides)
 
-pub between_found : (x : List ℕ) (i j n : ℕ) (a : NameError) → i ≤ j → j < n → NoFaultBetween x i j → fault_of_byte_at x j ≡ Some a
-    → first_fault_between x i n ≡ Some a
-unfolding first_fault_between
-between_found x i j n a order within none here =
-    at_first_found (λ k. fault_of_byte_at x (i + k)) (j - i) (n - i) a (omega arith) (λ k small. none (i + k) (omega arith) (omega arith)) (grind (arith, here))
-
-pub between_more : (x : List ℕ) (i j : ℕ) → NoFaultBetween x i j → fault_of_byte_at x j ≡ None → NoFaultBetween x i (j + 1)
-between_more x i j none here p from to = elim (cases_lt p j) [ inl early ↦ none p from early | inr last ↦ grind (arith, here) ]
-
--- what the walk over single bytes needs
-pub ruleset offset_by_offset = (between_none, between_more, between_found, quiet)
-
--- What a walk from there on finds is the first fault, and else the last line of the table is. (A text that ends in `.lock` is longer, or is that.)
-pub found_from : (x : List ℕ) (i : ℕ) → 0 < length x → i ≤ length x → NoneBelow (suspect_at x) i → at_first_offset (λ j. first_of (faults_at x j)) (length x)
-    ≡ (first_fault_between x i (length x) orelse when (ends x (codes ".lock") && not (eqb (length x) 5)) LockFileSuffix)
-found_from x i some within quiet =
-    grind (arith, at_first_offset_split, bytes_eq-Decides, from_offset x i (length x) within (none_to_suspect x i within quiet))
-
--- where none has a fault by what is before it, the last line of the table says the offset
-pub offset_none : (x : List ℕ) → 0 < length x → NoFaultBetween x 0 (length x)
+pub offset_none : (x : List ℕ) → 0 < length x → NoFaultBelow x (length x)
     → at_first_offset (offset_at x) (length x) ≡ when (ends x (codes ".lock") && not (eqb (length x) 5)) (length x - 1)
 offset_none x some none = grind (arith, nat_tests, at_first_offset_none, offset_split, bytes_eq-Decides)
 
--- the first that has one is the offset
-pub offset_found : (x : List ℕ) (j : ℕ) (a : NameError) → j < length x → NoFaultBetween x 0 j → fault_of_byte_at x j ≡ Some a
+-- and else the first that has one
+pub fault_found : (x : List ℕ) (j : ℕ) (a : NameError) → j < length x → NoFaultBelow x j → fault_of_byte_at x j ≡ Some a
+    → at_first_offset (λ i. first_of (faults_at x i)) (length x) ≡ Some a
+fault_found x j a small none here =
+    let found = at_first_found (fault_of_byte_at x) j (length x) a small none here in
+    grind (arith, at_first_offset_split, found)
+
+pub offset_found : (x : List ℕ) (j : ℕ) (a : NameError) → j < length x → NoFaultBelow x j → fault_of_byte_at x j ≡ Some a
     → at_first_offset (offset_at x) (length x) ≡ Some j
 offset_found x j a small none here =
-    let found = at_first_found (offset_of_byte x) j (length x) j small (λ k less. grind (arith, none k (omega arith) less)) (grind (arith, here)) in
+    let found = at_first_found (offset_of_byte x) j (length x) j small (λ k less. grind (arith, none k less)) (grind (arith, here)) in
     grind (arith, offset_split, found)
 
 -- what is found is within the text
@@ -114,5 +97,6 @@ pub offset_within : (x : List ℕ) (i : ℕ) → fault_offset_of x ≡ Some i �
 unfolding fault_offset_of
 offset_within x i found = grind (arith, offset_below x (length x))
 
--- what the walk to the least offset needs
-pub ruleset least_offset = (between_more, offset_none, offset_found, quiet)
+pub ruleset least_fault = (none_more, quiet)
+
+pub ruleset least_offset = (none_more, offset_none, offset_found, quiet)

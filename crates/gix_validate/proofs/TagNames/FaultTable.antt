@@ -46,12 +46,6 @@ unfolding at_first_offset
 at_first_found f n zero a within none here = absurd (omega arith)
 at_first_found f n (suc m) a within none here = grind (arith, cases_lt n m, at_first_offset_none f n none, at_first_found f n m a)
 
--- where the first offsets have nothing, the others say what is found
-pub at_first_offset_from : {A : Type 0} (f : ℕ → Option A) (i n : ℕ) → ((k : ℕ) → k < i → f k ≡ None)
-    → at_first_offset f (i + n) ≡ at_first_offset (λ k. f (i + k)) n
-at_first_offset_from f i zero h = grind (arith, at_first_offset_none)
-at_first_offset_from f i (suc n) h = grind (arith, at_first_offset_more f (i + n), at_first_offset_more (λ k. f (i + k)) n, at_first_offset_from f i n)
-
 -- ---- the faults of bytes
 
 -- a text that doesn't end in `k` doesn't end in `.lock`

@@ -1,6 +1,6 @@
 use Rattle.std.proofs.Common.{arith, sym, ◌∙◌}
 use Rattle.std.proofs.lemmas.Bool.Decides.{nat_tests}
-use Rattle.gix_validate.proofs.Blocks.AdjacentBytes.{first_look, quiet_by_looks, clear_by_looks}
+use Rattle.gix_validate.proofs.Blocks.Lanes.{first_look, quiet_by_looks, clear_by_looks}
 use Rattle.gix_validate.proofs.adjacent.clear_front.Goals as goal
 
 pub returns-then-may_be_faulty-clause-all : goal.returns-then-may_be_faulty-clause-all

@@ -1,7 +1,6 @@
 use Rattle.std.proofs.Common.{arith}
 use Rattle.std.proofs.lemmas.Nat.Bits.{bit_at-zero}
-use Rattle.gix_validate.proofs.Blocks.Lanes.{none_nonzero}
-use Rattle.gix_validate.proofs.Blocks.AdjacentBytes.{suspect_lane}
+use Rattle.gix_validate.proofs.Blocks.Lanes.{none_nonzero, suspect_lane}
 use Rattle.gix_validate.proofs.adjacent.SuspectPattern.hits.Goals as goal
 
 pub returns-then-suspect-eq0-clause-lanes : goal.returns-then-suspect-eq0-clause-lanes

@@ -20,14 +20,10 @@ use Rattle.gix_validate.specs.Private.Classes.{class_of, any_class, has_class, H
 use Rattle.gix_validate.specs.declared.path.classes.TheConstants.{SLASH, SEPARATORS, ILLEGAL, ANY}
 use Rattle.std.proofs.lemmas.Bool.Decides.{nat_tests}
 
--- ---- the tables
-
 pub classes_by_tables : (v : List ℕ) → Each1 (Fits w8) v
     → map (λ b. bit_and (get_or BY_LOW_NIBBLE (b % 16) 0) (get_or BY_HIGH_NIBBLE (b / 16) 0)) v ≡ map class_of v
 unfolding class_of is_illegal_byte
 classes_by_tables v fit = same_bytes _ class_of v fit refl
-
--- ---- texts
 
 any_of_map : (p : ℕ → Bool) (f : ℕ → ℕ) (x : List ℕ) → list_any p (map f x) ≡ list_any (λ b. p (f b)) x
 any_of_map p f [] = refl
@@ -105,8 +101,6 @@ classes_of_four x last a b c d all short ea eb ec ed mask =
     part : (v : List ℕ) (at : ℕ) → at + 16 ≤ length x → v ≡ map class_of (chunk at 16 x)
         → (length v ≡ 16) × (any_class mask v ≡ list_any p (chunk at 16 x))
     part v at room is = grind (arith, length-map, length-chunk at 16 x, any_is mask (chunk at 16 x))
-
--- ---- what the classes say
 
 bytes_alike : (p q : ℕ → Bool) (x : List ℕ) → ((i : ℕ) → Fits w8 (get_or x i 0)) → ((b : ℕ) → b < 256 → p b ≡ q b) → list_any p x ≡ list_any q x
 bytes_alike p q [] fit same = refl

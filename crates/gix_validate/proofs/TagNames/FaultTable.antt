@@ -72,8 +72,6 @@ faulty_tabled b small = agree_below_at (λ b. get_or MAY_BE_FAULTY b false) may_
 pub quiet : (x : List ℕ) (i : ℕ) → may_be_faulty (get_or x i 0) ≡ false → fault_of_byte_at x i ≡ None
 quiet x i h = grind (arith, is_none-fault_of_byte (take i x) (get_or x i 0))
 
--- ---- along a text: the lines that look back alone, and then the last line
-
 -- the text ends in `.lock`, and isn't that alone
 abbrev pub has_lock_suffix : List ℕ → Bool
 has_lock_suffix x = ends x (codes ".lock") && not (bytes_eq x (codes ".lock"))

@@ -11,7 +11,7 @@ use Rattle.gix_validate.specs.Private.TagWalk.{fault_of_byte}
 use Rattle.gix_validate.specs.Tag.{is_good_piece, is_tag_name, fault_of, fault_offset_of, faults_at, offset_at}
 use Rattle.gix_validate.specs.Faults.{first_of, at_first_offset}
 use Rattle.gix_validate.proofs.Texts.Pieces.{pieces_front, pieces_alone}
-use Rattle.gix_validate.proofs.Texts.Endings.{last_piece, last_piece_nothing, last_piece_push, ends_last_piece, slash_last, last_piece_apart, ends_cons}
+use Rattle.gix_validate.proofs.Texts.Endings.{last_piece, last_piece_push, ends_last_piece, slash_last, last_piece_apart, ends_cons}
 use Rattle.gix_validate.proofs.TagNames.FaultTable.{is_none-when, is_none-fault_of_byte, walked, has_lock_suffix, at_first_offset_split, at_first_offset_walked}
 use native.Mathlib.Omega.{arith}
 use Rattle.std.proofs.lemmas.Bool.Decides.{nat_tests}
@@ -76,9 +76,8 @@ walked_good y (b ∷ x) some =
 -- From the first byte on, which is neither a slash nor a dot.
 begun_good : (b : ℕ) (x : List ℕ) → list_all is_good_piece (pieces (b ∷ x))
     ≡ ((not (eqb b (byte "/")) && not (eqb b (byte "."))) && (is_none (walked [] (b ∷ x)) && may_end (last_piece (b ∷ x))))
-unfolding walked is_good_piece breaks is_refused
-begun_good b x =
-    grind (arith, walked_good (b ∷ []) x refl, last_piece_push [] b, last_piece_nothing, goes_on_push [] b, nothing_goes_on, is_none-fault_of_byte [] b)
+unfolding walked is_good_piece breaks is_refused last_piece
+begun_good b x = grind (arith, walked_good (b ∷ []) x refl, last_piece_push [] b, goes_on_push [] b, nothing_goes_on, is_none-fault_of_byte [] b)
 
 is_none-parts : (x : List ℕ) → is_empty x ≡ false → is_none (fault_of x) ≡ (not (ends x (codes "/")) && (not (begins x (codes "/"))
     && ((is_none (walked [] x) && not (has_lock_suffix x)) && (not (begins x (codes ".")) && not (ends x (codes "."))))))

@@ -5,7 +5,8 @@ use Rattle.gix_validate.proofs.submodule.has_parent_part.Goals as goal
 
 pub loop-at-preserved-then-ends_part : goal.loop-at-preserved-then-ends_part
 loop-at-preserved-then-ends_part c =
-    let none = none_by_end c.args.bytes.now c.loop-at.at (sym c.is_parent_at.ensures ∙ c.if-is_parent_at.false) (sym c.ends_part.ensures ∙ c.if-ends_part.true) in
+    let here = sym c.is_parent_at.ensures ∙ c.if-is_parent_at.false in
+    let none = none_by_end c.args.bytes.now c.loop-at.at here (sym c.ends_part.ensures ∙ c.if-ends_part.true) in
     record { within = omega arith; none = none_to c.args.bytes.now c.loop-at.at 3 c.loop-at.invariant.none none }
 
 pub loop-at-preserved-then-is_separator-2 : goal.loop-at-preserved-then-is_separator-2

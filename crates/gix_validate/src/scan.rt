@@ -157,7 +157,6 @@ fn first_of_parts<P: Pattern>(
 /// Whether a byte of a text of more than four blocks is a hit. Four blocks are checked at a time. The
 /// last four overlap those before them.
 #[inline(always)]
-#[tactic(auto, using(crate::proofs::Blocks::Parts::any_with_chunk))]
 pub(crate) fn has<P: Pattern>(text: &[u8]) -> bool
     requires { FOUR_BLOCKS < length text.now }
     ensures { result ≡ list_any (λ b. P.hit b b) text.now }

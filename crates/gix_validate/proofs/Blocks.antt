@@ -2,5 +2,3 @@
 pub mod Lanes
 pub mod Parts
 pub mod ByteClasses
-pub mod AdjacentBytes
-pub mod Scan

@@ -1,143 +1,88 @@
 -- A part that is `..` is between two offsets, each the text's end or a separator's.
-use Rattle.std.proofs.Common.{◌≡◌, ℕ, zero, suc, ◌+◌, ◌-◌, ◌<◌, ◌≤◌, ◌↔◌, Bool, true, false, ◌&&◌, ◌||◌, eqb, List, [], ◌∷◌, length, get_or, drop, refl, sym}
-use Rattle.std.proofs.Common.{ap, ap₂, ◌∙◌, inl, inr, ◌⊎◌, arith}
-use Rattle.std.proofs.lemmas.Bool.{cases_eq, false_from_ne_true, or_parts, true≢false, cases_lt}
+use Rattle.std.proofs.Common.{cond, ◌≡◌, ℕ, zero, suc, ◌+◌, ◌-◌, ◌<◌, Bool, true, false, ◌&&◌, ◌||◌, eqb, List, [], ◌∷◌, length, get_or, drop, refl, sym, ◌∙◌, inl, inr, arith}
+use Rattle.std.proofs.lemmas.Bool.{cases_lt}
 use Rattle.std.specs.Prelude.{codes, ◌==◌}
 use Rattle.std.specs.List.{list_any}
 use Rattle.std.specs.Str.{byte, bytes_eq}
 use Rattle.gix_validate.specs.Submodule.{is_separator, parts, has_parent_part}
-use Rattle.gix_validate.specs.Private.Parents.{is_parent_at, NoParentBelow}
-use Rattle.gix_validate.specs.Private.Scan.{at_pair}
+use Rattle.gix_validate.specs.Private.Parents.{is_parent_at}
+use Rattle.gix_validate.specs.Private.Scan.{NoneBelow, at_pair}
 use Rattle.std.proofs.lemmas.Bool.Decides.{nat_tests}
 use Rattle.std.proofs.lemmas.Grind.{common_steps}
 
-abbrev is_parent : List ℕ → Bool
-is_parent part = bytes_eq part (codes "..")
-
--- the first part is this text
-abbrev first_is : List ℕ → List (List ℕ) → Bool
-first_is word [] = bytes_eq [] word
-first_is word (p ∷ ps) = bytes_eq p word
+-- two dots are at this offset, and the end or a separator after them
+unfoldable parent_from : List ℕ → ℕ → Bool
+parent_from x i = get_or x i 0 == byte "." && get_or x (i + 1) 0 == byte "." && (i + 2 == length x || is_separator (get_or x (i + 2) 0))
 
 -- some part after the first is `..`
 abbrev has_later_parent : List ℕ → Bool
-has_later_parent x = list_any is_parent (drop 1 (parts x))
+has_later_parent x = list_any (λ part. bytes_eq part (codes "..")) (drop 1 (parts x))
 
-first_or_later_parent : (ps : List (List ℕ)) → list_any is_parent ps ≡ (first_is (codes "..") ps || list_any is_parent (drop 1 ps))
-first_or_later_parent ps = grind arith
+first_parent : (x : List ℕ) → has_parent_part x ≡ (parent_from x 0 || has_later_parent x)
+unfolding parent_from
+first_parent [] = grind arith
+first_parent (a ∷ []) = grind arith
+first_parent (a ∷ b ∷ []) = grind (arith, nat_tests)
+first_parent (a ∷ b ∷ c ∷ x) = grind (arith, nat_tests)
 
--- a part that is `..` begins at this offset
-record ParentBegins (x : List ℕ) (i : ℕ) : Type 0 where
-  first : get_or x i 0 ≡ byte "."
-  second : get_or x (i + 1) 0 ≡ byte "."
-  ends : (length x ≡ i + 2) ⊎ (is_separator (get_or x (i + 2) 0) ≡ true)
+parent_next : (c : ℕ) (x : List ℕ) (i : ℕ) → parent_from (c ∷ x) (suc i) ≡ parent_from x i
+unfolding parent_from
+parent_next c x i = grind arith
 
-first_is_parent : (x : List ℕ) → first_is (codes "..") (parts x) ≡ true → ParentBegins x 0
-first_is_parent x h = grind (arith, nat_tests, common_steps)
+parent_at : (x : List ℕ) (i : ℕ) → is_parent_at x i ≡ (parent_from x i && (i == 0 || is_separator (get_or x (i - 1) 0)))
+unfolding parent_from
+parent_at x i = grind arith
 
-parent_begins_first : (x : List ℕ) → ParentBegins x 0 → first_is (codes "..") (parts x) ≡ true
-parent_begins_first x b = grind (arith, nat_tests, common_steps)
+later_parent : (x : List ℕ) (i : ℕ) → is_separator (get_or x i 0) ≡ true → parent_from x (suc i) ≡ true → has_later_parent x ≡ true
+later_parent [] i e b = grind arith
+later_parent (c ∷ x) zero e b = grind (arith, first_parent, parent_next)
+later_parent (c ∷ x) (suc i) e b = grind (arith, later_parent x i, first_parent, parent_next)
 
--- the same of the text after its first byte
-parent_begins_after : (c : ℕ) (x : List ℕ) (i : ℕ) → ParentBegins (c ∷ x) (suc i) ↔ ParentBegins x i
-parent_begins_after c x i = grind arith
-
-no_later_parent : (x : List ℕ) → ((i : ℕ) → is_separator (get_or x i 0) ≡ true → ParentBegins x (suc i) → ⊥) → has_later_parent x ≡ false
+no_later_parent : (x : List ℕ) → ((i : ℕ) → is_separator (get_or x i 0) ≡ true → parent_from x (suc i) ≡ false) → has_later_parent x ≡ false
 no_later_parent [] none = refl
 no_later_parent (c ∷ x) none =
-    let rest = no_later_parent x (λ i e b. none (suc i) e ((parent_begins_after c x (suc i)).1 b)) in
-    let here : is_separator c ≡ true → first_is (codes "..") (parts x) ≡ true → ⊥ = λ e t. none 0 e ((parent_begins_after c x 0).1 (first_is_parent x t)) in
-    grind (arith, rest, here, first_or_later_parent)
+    let rest = no_later_parent x (λ i s. sym (parent_next c x (suc i)) ∙ none (suc i) s) in grind (arith, rest, none 0, first_parent, parent_next)
 
-later_parent : (x : List ℕ) (i : ℕ) → is_separator (get_or x i 0) ≡ true → ParentBegins x (suc i) → has_later_parent x ≡ true
-later_parent [] i e b = grind arith
-later_parent (c ∷ x) zero e b = grind (arith, first_or_later_parent, parent_begins_first)
-later_parent (c ∷ x) (suc i) e b = grind (arith, later_parent x i e)
-
-parent_begins : (x : List ℕ) (i : ℕ) → is_parent_at x i ≡ true
-    → ParentBegins x i × ((i ≡ 0) ⊎ (is_separator (get_or x (i - 1) 0) ≡ true))
-parent_begins x i h = grind (arith, common_steps)
-
-parent_at : (x : List ℕ) (i : ℕ) → ParentBegins x i → (i ≡ 0) ⊎ (is_separator (get_or x (i - 1) 0) ≡ true) → is_parent_at x i ≡ true
-parent_at x i b alone = grind (arith, b.first, b.second, b.ends)
+-- Some part is `..` where one begins.
+pub some_parent : (x : List ℕ) (i : ℕ) → is_parent_at x i ≡ true → has_parent_part x ≡ true
+some_parent x zero h = grind (arith, first_parent, parent_at x zero)
+some_parent x (suc i) h = grind (arith, first_parent, later_parent x i, parent_at x (suc i))
 
 dot_inside : (x : List ℕ) (k : ℕ) → get_or x k 0 ≡ byte "." → k < length x
 dot_inside x k h = grind (arith, common_steps)
 
--- Some part is `..` where one begins.
-pub some_parent : (x : List ℕ) (i : ℕ) → is_parent_at x i ≡ true → has_parent_part x ≡ true
-some_parent x i h =
-    let b = parent_begins x i h in
-    elim (cases_eq i 0) [
-      | inl start ↦ grind (arith, first_or_later_parent, parent_begins_first x, b.0)
-      | inr other ↦ grind (arith, first_or_later_parent, later_parent x (i - 1), b.0, b.1)
-    ]
+parent_inside : (x : List ℕ) (i : ℕ) → parent_from x i ≡ true → i < length x - 1
+unfolding parent_from
+parent_inside x i h = grind (arith, dot_inside x (i + 1))
 
 -- No part is `..` where none begins.
-pub no_parent : (x : List ℕ) → NoParentBelow x (length x - 1) → has_parent_part x ≡ false
+pub no_parent : (x : List ℕ) → NoneBelow (is_parent_at x) (length x - 1) → has_parent_part x ≡ false
 no_parent x none =
-    first_or_later_parent (parts x)
-    ∙ ap₂ (λ s t. s || t) (false_from_ne_true _ (λ t. nowhere 0 (inl refl) (first_is_parent x t)))
-    (no_later_parent x (λ i s b.
-    let here : suc i - 1 ≡ i = omega arith in
-    nowhere (suc i) (inr (ap (λ j. is_separator (get_or x j 0)) here ∙ s)) b))
-  where
-    nowhere : (i : ℕ) → (i ≡ 0) ⊎ (is_separator (get_or x (i - 1) 0) ≡ true) → ParentBegins x i → ⊥
-    nowhere i alone b =
-        let inside = dot_inside x (i + 1) b.second in
-        true≢false (sym (parent_at x i b alone) ∙ none i (omega arith))
+    let later = no_later_parent x (λ i s. grind (arith, parent_inside x (suc i), none (suc i), parent_at x (suc i))) in
+    grind (arith, later, none 0, parent_inside x 0, first_parent x, parent_at x 0)
 
 -- Without two dots no part `..` begins.
 pub without_two_dots : (x : List ℕ) (k : ℕ) → at_pair (λ a b. eqb a (byte ".") && eqb b (byte ".")) x k ≡ false → is_parent_at x k ≡ false
 without_two_dots x k none = grind (arith, none)
 
-pub none_and_next : (x : List ℕ) (n : ℕ) → NoParentBelow x n → is_parent_at x n ≡ false → NoParentBelow x (n + 1)
-none_and_next x n none next k small = elim (cases_lt k n) [
+pub none_to : (x : List ℕ) (n m : ℕ) → NoneBelow (is_parent_at x) n → ((j : ℕ) → j < m → is_parent_at x (n + j) ≡ false) → NoneBelow (is_parent_at x) (n + m)
+none_to x n m none more k small = elim (cases_lt k n) [
   | inl early ↦ none k early
-  | inr late ↦ let here : k ≡ n = omega arith in ap (is_parent_at x) here ∙ next
+  | inr late ↦ let here : n + (k - n) ≡ k = omega arith in rw here at (more (k - n) (omega arith))
 ]
 
--- after what isn't a separator none begins
-none_alone : (x : List ℕ) (k : ℕ) → is_separator (get_or x k 0) ≡ false → is_parent_at x (k + 1) ≡ false
-none_alone x k inside = false_from_ne_true _ (λ t. elim (parent_begins x (k + 1) t).1 [
-  | inl start ↦ absurd (omega arith)
-  | inr alone ↦ true≢false (sym alone ∙ ap (λ j. is_separator (get_or x j 0)) (omega arith) ∙ inside)
-])
-
 -- The end or a separator: none begins at the next two offsets.
-pub none_and_end : (x : List ℕ) (n : ℕ) → NoParentBelow x n → is_parent_at x n ≡ false → (n + 2 == length x || is_separator (get_or x (n + 2) 0)) ≡ true
-    → NoParentBelow x (n + 3)
-none_and_end x n none here end =
-    let other : get_or x (n + 2) 0 ≡ byte "." → ⊥ = λ dot. grind (arith, end, dot, dot_inside x (n + 2) dot) in
-    let second = false_from_ne_true _ (λ t. other (ap (λ j. get_or x j 0) (omega arith) ∙ (parent_begins x (n + 1) t).0.second)) in
-    let third = false_from_ne_true _ (λ t. other ((parent_begins x (n + 2) t).0.first)) in
-    λ k small. none_and_next x (n + 2) (λ j less. none_and_next x (n + 1) (none_and_next x n none here) second j (omega arith)) third k (omega arith)
+pub none_by_end : (x : List ℕ) (n : ℕ) → is_parent_at x n ≡ false → (n + 2 == length x || is_separator (get_or x (n + 2) 0)) ≡ true
+    → (j : ℕ) → j < 3 → is_parent_at x (n + j) ≡ false
+none_by_end x n here end j h = grind (arith, nat_tests, dot_inside x (n + 2), cases_lt j 1, cases_lt j 2)
 
--- No end: none begins there.
-pub none_unended : (x : List ℕ) (n : ℕ) → (n + 2 == length x || is_separator (get_or x (n + 2) 0)) ≡ false → is_parent_at x n ≡ false
-none_unended x n end = grind (arith, common_steps, end)
-
-pub unended_within : (x : List ℕ) (n : ℕ) → n + 2 ≤ length x → (n + 2 == length x || is_separator (get_or x (n + 2) 0)) ≡ false → n + 2 < length x
-unended_within x n within end = grind (arith, nat_tests, (or_parts (n + 2 == length x) _ end).0)
-
--- A separator at the next offset: none begins there.
-pub none_and_separator : (x : List ℕ) (n : ℕ) → NoParentBelow x n → is_parent_at x n ≡ false → is_separator (get_or x (n + 1) 0) ≡ true
-    → NoParentBelow x (n + 2)
-none_and_separator x n none here alone =
-    let second = false_from_ne_true _ (λ t. grind (arith, alone, (parent_begins x (n + 1) t).0.first)) in
-    λ k small. none_and_next x (n + 1) (none_and_next x n none here) second k (omega arith)
+-- No end: none begins there, nor at the next offset if that is a separator.
+pub none_by_separator : (x : List ℕ) (n : ℕ) → (n + 2 == length x || is_separator (get_or x (n + 2) 0)) ≡ false
+    → (j : ℕ) → j < cond (is_separator (get_or x (n + 1) 0)) 2 1 → is_parent_at x (n + j) ≡ false
+none_by_separator x n end j h = grind (arith, nat_tests, cases_lt j 1)
 
 -- No end, and if it is a dot, neither of the two bytes before it is a separator: none begins there or at the next three offsets.
-pub none_and_other : (x : List ℕ) (n : ℕ) → NoParentBelow x n → (n + 2 == length x || is_separator (get_or x (n + 2) 0)) ≡ false
-    → (get_or x (n + 2) 0 ≡ byte "." → (is_separator (get_or x n 0) || is_separator (get_or x (n + 1) 0)) ≡ false) → NoParentBelow x (n + 4)
-none_and_other x n none end dot =
-    let inside = (or_parts _ _ end).1 in
-    let second : is_parent_at x (n + 1) ≡ false = false_from_ne_true _ (λ t.
-    let both = or_parts _ _ (dot (ap (λ j. get_or x j 0) (omega arith) ∙ (parent_begins x (n + 1) t).0.second)) in
-    true≢false (sym t ∙ none_alone x n both.0)) in
-    let third : is_parent_at x (n + 2) ≡ false = false_from_ne_true _ (λ t.
-    let both = or_parts _ _ (dot ((parent_begins x (n + 2) t).0.first)) in
-    true≢false (sym t ∙ ap (is_parent_at x) (omega arith) ∙ none_alone x (n + 1) both.1)) in
-    let two = none_and_next x (n + 1) (none_and_next x n none (none_unended x n end)) second in
-    let three = none_and_next x (n + 2) (λ j less. two j (omega arith)) third in
-    λ k small. none_and_next x (n + 3) (λ j less. three j (omega arith)) (ap (is_parent_at x) (omega arith) ∙ none_alone x (n + 2) inside) k (omega arith)
+pub none_by_other : (x : List ℕ) (n : ℕ) → (n + 2 == length x || is_separator (get_or x (n + 2) 0)) ≡ false
+    → (get_or x (n + 2) 0 ≡ byte "." → (is_separator (get_or x n 0) || is_separator (get_or x (n + 1) 0)) ≡ false)
+    → (j : ℕ) → j < 4 → is_parent_at x (n + j) ≡ false
+none_by_other x n end dot j h = grind (arith, nat_tests, cases_lt j 1, cases_lt j 2, cases_lt j 3)

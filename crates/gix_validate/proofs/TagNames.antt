@@ -1,6 +1,4 @@
 -- Tag names: their faults, and that a name without one is grammatical.
 pub mod FaultTable
-pub mod FaultsOfBytes
-pub mod Offsets
 pub mod Grammar
 pub mod ClearTexts

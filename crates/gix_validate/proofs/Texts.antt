@@ -1,6 +1,5 @@
 -- Texts: pieces, ends, offsets, words and letter case.
 pub mod Endings
-pub mod Offsets
 pub mod Pieces
 pub mod Joined
 pub mod LetterCase

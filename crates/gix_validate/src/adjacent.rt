@@ -99,7 +99,7 @@ const SUSPECT_AFTER: [u8; 16] = [
 
 /// Whether a name is clear. A clear name is a tag name. For any other name this says nothing.
 #[inline(always)]
-#[tactic(auto, using(crate::proofs::Blocks::AdjacentBytes::clear_by_looks))]
+#[tactic(auto, using(crate::proofs::Blocks::Lanes::clear_by_looks))]
 pub(crate) fn is_clear(text: &[u8]) -> bool
     ensures { IsTrue result ↔ IsClear text.now }
 {
@@ -156,7 +156,7 @@ impl Pattern for Suspect {
 
 /// The classes that are suspect after each byte.
 #[inline(always)]
-#[tactic(auto, using(crate::proofs::Blocks::AdjacentBytes::reaches_ok, crate::proofs::Blocks::AdjacentBytes::suspect_classes))]
+#[tactic(auto, using(crate::proofs::Blocks::Lanes::reaches_ok, crate::proofs::Blocks::Lanes::suspect_classes))]
 fn suspect_after(bytes: u8x16) -> u8x16
     ensures { result ≡ map (λ b. if b == byte "." then AFTER_DOT else if b == byte "/" then AFTER_SLASH else ANYWHERE) bytes }
 {

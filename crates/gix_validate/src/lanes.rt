@@ -51,7 +51,6 @@ pub(crate) fn pairs(text: &[u8], first: usize, second: usize) -> u8x16
 /// The classes of each byte: the bits that are set both in the entry for its low nibble and in the
 /// entry for its high nibble.
 #[inline(always)]
-#[tactic(auto, using(crate::proofs::Blocks::Lanes::low_ok))]
 pub(crate) fn classify(by_low_nibble: [u8; 16], by_high_nibble: [u8; 16], bytes: u8x16) -> u8x16
     ensures { result ≡ map (λ b. bit_and (slice_index by_low_nibble (b % 16)) (slice_index by_high_nibble (b / 16))) bytes }
 {
@@ -65,7 +64,7 @@ pub(crate) fn classify(by_low_nibble: [u8; 16], by_high_nibble: [u8; 16], bytes:
 pub(crate) fn has_nonzero(bytes: u8x16) -> bool
     ensures { result ≡ list_any is_nonzero bytes }
 {
-    bytes.simd_ne(u8x16::splat(0)).to_bitmask() != 0
+    nonzero_lanes(bytes) != 0
 }
 
 /// A bit for each lane whose byte is not zero. The lowest bit is for the first lane.

@@ -28,6 +28,7 @@ pub(crate) trait Pattern {
 
 /// The first offset whose byte and the next are a hit.
 #[inline(always)]
+#[tactic(auto, using(crate::proofs::Blocks::Parts::pairs_found))]
 pub(crate) fn first_pair<P: Pattern>(text: &[u8]) -> Option<usize>
     requires { 1 ≤ length text.now }
     ensures { Finds (at_pair P.hit text.now) (length text.now - 1) (length text.now - 1) result }

@@ -5,7 +5,7 @@ ghost use Rattle.bstr.specs.BStr.{bstr_bytes};
 ghost use Rattle.gix_validate.specs.Bytes.{ends};
 ghost use Rattle.gix_validate.specs.Faults.{Validates, first_of, at_first_offset};
 ghost use Rattle.gix_validate.specs.Printed.{printed};
-ghost use Rattle.gix_validate.specs.Private.TagWalk.{fault_of_byte, first_fault_between, may_be_faulty};
+ghost use Rattle.gix_validate.specs.Private.TagWalk.{fault_of_byte, may_be_faulty};
 ghost use Rattle.gix_validate.specs.Tag.{fault_of, fault_offset_of, faults_at, is_tag_name, offset_at, text_of};
 
 use crate::adjacent::{clear_front, is_clear};
@@ -144,7 +144,7 @@ fn name_on_walk<'a>(input: BStr<'a>) -> Result<BStr<'a>, NameError>
 /// # Memory
 ///
 /// It doesn't allocate.
-#[tactic(auto, using(crate::proofs::TagNames::Grammar::offset_grammar_law, crate::proofs::TagNames::Offsets::offset_within))]
+#[tactic(auto, using(crate::proofs::TagNames::Grammar::offset_grammar_law, crate::proofs::TagNames::ClearTexts::offset_within))]
 pub fn fault_offset(input: BStr<'_>) -> Option<usize>
     ensures offset { result ≡ fault_offset_of (bstr_bytes input.entry) }
     ensures grammar { IsNone result ↔ IsTrue (is_tag_name (bstr_bytes input.entry)) }
@@ -181,7 +181,7 @@ fn offset_of_fault(bytes: &[u8]) -> Option<usize>
 }
 
 /// The least offset that has a fault.
-#[tactic(auto, using(crate::proofs::TagNames::Offsets::least_offset))]
+#[tactic(auto, using(crate::proofs::TagNames::ClearTexts::least_offset))]
 fn first_offset(bytes: &[u8]) -> Option<usize>
     requires { 0 < length bytes.now }
     ensures { result ≡ at_first_offset (offset_at bytes.now) (length bytes.now) }
@@ -227,37 +227,22 @@ fn first_fault(bytes: &[u8]) -> Option<NameError>
     None
 }
 
-/// The fault at the least offset that has one.
+/// The fault at the least offset that has one. Most bytes take one look into a table.
+#[tactic(auto, using(crate::proofs::TagNames::ClearTexts::least_fault))]
 fn fault_at_first_offset(bytes: &[u8]) -> Option<NameError>
     requires { 0 < length bytes.now }
     ensures { result ≡ at_first_offset (λ i. first_of (faults_at bytes.now i)) (length bytes.now) }
 {
-    let from = clear_front(bytes);
-    if let Some(fault) = first_fault_between(bytes, from, bytes.len()) {
-        return Some(fault);
-    }
-    if bytes.ends_with(b".lock") && bytes.len() != 5 {
-        return Some(NameError::LockFileSuffix);
-    }
-    None
-}
-
-/// The first fault that a byte has after those before it, from one offset on and before another.
-/// Most bytes take one look into a table.
-#[inline(always)]
-#[tactic(auto, using(crate::proofs::TagNames::Offsets::offset_by_offset))]
-fn first_fault_between(bytes: &[u8], from: usize, to: usize) -> Option<NameError>
-    requires in_order { from ≤ to }
-    requires within { to ≤ length bytes.now }
-    ensures { result ≡ first_fault_between bytes.now from to }
-{
-    for offset in from..to {
+    for offset in clear_front(bytes)..bytes.len() {
         let byte = bytes[offset];
         if may_be_faulty(byte) {
             if let Some(fault) = fault_of_byte(&bytes[..offset], byte) {
                 return Some(fault);
             }
         }
+    }
+    if bytes.ends_with(b".lock") && bytes.len() != 5 {
+        return Some(NameError::LockFileSuffix);
     }
     None
 }

@@ -20,14 +20,10 @@ use Rattle.gix_validate.specs.Private.Classes.{class_of, any_class, has_class, H
 use Rattle.gix_validate.specs.declared.path.classes.TheConstants.{SLASH, SEPARATORS, ILLEGAL, ANY}
 use Rattle.std.proofs.lemmas.Bool.Decides.{nat_tests}
 
--- ---- the tables
-
 pub classes_by_tables : (v : List ℕ) → Each1 (Fits w8) v
     → map (λ b. bit_and (get_or BY_LOW_NIBBLE (b % 16) 0) (get_or BY_HIGH_NIBBLE (b / 16) 0)) v ≡ map class_of v
 unfolding class_of is_illegal_byte
 classes_by_tables v fit = same_bytes _ class_of v fit refl
-
--- ---- texts
 
 any_of_map : (p : ℕ → Bool) (f : ℕ → ℕ) (x : List ℕ) → list_any p (map f x) ≡ list_any (λ b. p (f b)) x
 any_of_map p f [] = refl
@@ -42,10 +38,7 @@ mask_tested mask v long = ap (list_any is_nonzero) (zip2_splat bit_and v 16 mask
 pub mask_lane : (mask : ℕ) (v classes : List ℕ) → length v ≡ 16 → classes ≡ map class_of v → (k : ℕ) → k < 16
     → is_nonzero (get_or (zip2 bit_and classes (replicate 16 mask)) k 0) ≡ has_class mask (get_or v k 0)
 mask_lane mask v classes long are k small =
-    ap (λ l. is_nonzero (get_or l k 0))
-    (ap (λ l. zip2 bit_and l (replicate 16 mask)) are ∙ zip2_splat bit_and (map class_of v) 16 mask (length-map v class_of ∙ long))
-    ∙ ap is_nonzero (get_or-map (λ c. bit_and c mask) (map class_of v) k 0 0 (omega (arith, length-map v class_of))
-    ∙ ap (λ c. bit_and c mask) (get_or-map class_of v k 0 0 (omega arith)))
+    grind (arith, zip2_splat bit_and classes 16 mask, get_or-map (λ c. bit_and c mask) classes k 0 0, get_or-map class_of v k 0 0, length-map v class_of)
 
 pub any_is : (mask : ℕ) (x : List ℕ) → any_class mask (map class_of x) ≡ list_any (has_class mask) x
 unfolding any_class
@@ -71,35 +64,43 @@ any_of_or mask (a ∷ u) (b ∷ v) e = grind (arith, nat_tests, and_or, le_or_l,
 pub classes_of_both : (mid start last : ℕ) (x v w front back : List ℕ) → AreShort mid start last (length x) → (length v ≡ 16) × (length w ≡ 16)
     → HasParts 8 0 mid x v → HasParts 8 start last x w → front ≡ map class_of v → back ≡ map class_of w → HaveClassesOf (zip2 bit_or front back) x
 classes_of_both mid start last x v w front back short long pv pw ev ew mask =
-    any_of_or mask front back (ap length ev ∙ length-map v class_of ∙ long.0 ∙ sym long.1 ∙ sym (length-map w class_of) ∙ sym (ap length ew))
-    ∙ ap₂ (λ s t. s || t) (ap (any_class mask) ev ∙ any_is mask v) (ap (any_class mask) ew ∙ any_is mask w)
-    ∙ both_cover mid start last x v w short long pv pw (has_class mask)
-    ∙ sym (any_is mask x)
+    grind (
+      arith,
+      any_of_or mask front back,
+      length-map v class_of,
+      length-map w class_of,
+      any_is mask v,
+      any_is mask w,
+      any_is mask x,
+      both_cover mid start last x v w short long pv pw (has_class mask),
+    )
 
 -- four blocks of which two are the front of a text and two its back
 pub classes_of_four : (x : List ℕ) (last : ℕ) (a b c d : List ℕ) → last + 32 ≡ length x → length x ≤ 64 → a ≡ map class_of (chunk 0 16 x)
     → b ≡ map class_of (chunk 16 16 x) → c ≡ map class_of (chunk last 16 x) → d ≡ map class_of (chunk (last + 16) 16 x)
     → HaveClassesOf (zip2 bit_or (zip2 bit_or (zip2 bit_or a b) c) d) x
 classes_of_four x last a b c d all short ea eb ec ed mask =
-    let pa = part a 0 (omega arith) ea in
-    let pb = part b 16 (omega arith) eb in
-    let pc = part c last (omega arith) ec in
-    let pd = part d (last + 16) (omega arith) ed in
-    let back = whole_chunk last 32 x all in
-    let whole = any_overlap p x last 32 (omega arith) in
-    grind (arith, any_of_or, length-zip2, pa, pb, pc, pd, any_two_chunks p x 0 16, any_two_chunks p x last 16, back, whole, any_is mask x)
+    grind (
+      arith,
+      any_of_or,
+      length-zip2,
+      part a 0 (omega arith) ea,
+      part b 16 (omega arith) eb,
+      part c last (omega arith) ec,
+      part d (last + 16) (omega arith) ed,
+      any_two_chunks p x 0 16,
+      any_two_chunks p x last 16,
+      whole_chunk last 32 x all,
+      any_overlap p x last 32 (omega arith),
+      any_is mask x,
+    )
   where
     p : ℕ → Bool
     p = has_class mask
 
     part : (v : List ℕ) (at : ℕ) → at + 16 ≤ length x → v ≡ map class_of (chunk at 16 x)
         → (length v ≡ 16) × (any_class mask v ≡ list_any p (chunk at 16 x))
-    part v at room is = (
-      ap length is ∙ length-map (chunk at 16 x) class_of ∙ length-chunk at 16 x room,
-      ap (any_class mask) is ∙ any_is mask (chunk at 16 x),
-    )
-
--- ---- what the classes say
+    part v at room is = grind (arith, length-map, length-chunk at 16 x, any_is mask (chunk at 16 x))
 
 bytes_alike : (p q : ℕ → Bool) (x : List ℕ) → ((i : ℕ) → Fits w8 (get_or x i 0)) → ((b : ℕ) → b < 256 → p b ≡ q b) → list_any p x ≡ list_any q x
 bytes_alike p q [] fit same = refl

@@ -1,23 +1,26 @@
--- Sixteen lanes: look-ups in a table of sixteen, and tests whether some lane passes.
-use Rattle.std.proofs.Common.{◌≡◌, ℕ, zero, suc, ◌+◌, ◌*◌, ◌/◌, ◌%◌, ◌^◌, ◌<◌, ◌≤◌, Bool, true, false, not, ◌&&◌, ◌||◌, cond, eqb, List, [], ◌∷◌, map}
-use Rattle.std.proofs.Common.{length, get_or, replicate, bit_and, bit_or, refl, sym, ap, ap₂, subst, ◌∙◌, inl, inr, arith, w8, Fits, eqb-true}
-use Rattle.std.proofs.lemmas.Bool.{agree_below, agree_below_at, cases_lt}
+-- Sixteen lanes: look-ups in a table of sixteen, tests whether some lane passes, and suspect bytes.
+use Rattle.std.proofs.Common.{◌≡◌, ℕ, zero, suc, ◌+◌, ◌/◌, ◌%◌, ◌^◌, ◌<◌, ◌≤◌, Bool, true, false, not, ◌&&◌, ◌||◌, cond, eqb, List, [], ◌∷◌, map, length, get_or, replicate, bit_and, bit_or, refl, sym, ap, ap₂, ◌∙◌, arith, w8, Fits, eqb-true, ◌-◌, ◌↔◌, add-one, bit_xor, ltb}
+use Rattle.std.proofs.lemmas.Bool.{agree_below, agree_below_at, cases_lt, ltb-true}
+use Rattle.std.proofs.lemmas.Bool.Decides.{nat_tests}
 use Rattle.std.proofs.lemmas.Nat.Bits.{bit_at_above, same_from_bits}
-use Rattle.std.proofs.lemmas.List.{get_or-map, get_or_past, length-map, ext_get_or}
+use Rattle.std.proofs.lemmas.List.{get_or-map, get_or_past, length-map}
 use Rattle.std.proofs.lemmas.Nat.{and_mask, le_or_l, le_or_r}
-use Rattle.std.proofs.lemmas.Simd.{Each1-from_get_or, get_or-zip2, zip2_splat, zip2-map, length-zip2, mask_l-lt, mask_l-mod, bit_mask_l, bitmask_splat}
+use Rattle.std.proofs.lemmas.Simd.{get_or-zip2, zip2_splat, zip2-map, length-zip2, mask_l-lt, mask_l-mod, bit_mask_l, bitmask_splat, swz_l, SwzOk}
 use Rattle.std.specs.Int.{bit_at}
-use Rattle.std.proofs.lemmas.Simd.{swz_l, SwzOk, SwzOk-from_below, length-swz_l, get_or-swz_l_below}
 use Rattle.std.specs.List.{list_any}
-use lib.Lanes.{zip2, mask_l, fold_l, top, Each1}
+use lib.Lanes.{zip2, mask_l, fold_l, top, Each1, sel_l}
 use Rattle.gix_validate.specs.Private.Lanes.{is_nonzero}
+use Rattle.std.specs.Prelude.{codes, ◌==◌, if◌then◌else◌}
+use Rattle.std.specs.Str.{byte}
+use Rattle.gix_validate.specs.declared.adjacent.TheConstants.{CLASSES_BY_LOW_NIBBLE, CLASSES_BY_HIGH_NIBBLE, SUSPECT_AFTER, AFTER_DOT, AFTER_SLASH, ANYWHERE}
+use Rattle.gix_validate.specs.Bytes.{is_bad, is_among, ends}
+use Rattle.gix_validate.specs.Private.TagWalk.{may_be_faulty}
+use Rattle.gix_validate.specs.Private.Adjacent.{is_suspect, suspect_at, IsClear}
+use Rattle.gix_validate.specs.Private.Scan.{NoneBelow, at_pair}
 
 -- sixteen lanes of bytes
 abbrev pub IsBlock : List ℕ → Type 0
 IsBlock v = (length v ≡ 16) × Each1 (Fits w8) v
-
-abbrev down : ℕ → ℕ → ℕ
-down a b = a / 2 ^ b
 
 pub lane_fits : (v : List ℕ) (k : ℕ) → Each1 (Fits w8) v → get_or v k 0 < 256
 lane_fits [] k h = omega arith
@@ -30,84 +33,52 @@ same_bytes f g [] fit all = refl
 same_bytes f g (b ∷ v) fit all =
     ap₂ (λ (k : ℕ) ks. k ∷ ks) (eqb-true _ _ (agree_below_at (λ b. eqb (f b) (g b)) (λ _. true) 256 b all fit.0.fits)) (same_bytes f g v fit.1 all)
 
--- a table may be read at offsets g b below 16, and is read there
-pub may_look : (g : ℕ → ℕ) (v js : List ℕ) → IsBlock v → js ≡ map g v → ((b : ℕ) → b < 256 → g b < 16) → SwzOk w8 16 16 0 js
-may_look g v js block e small =
-    subst (SwzOk w8 16 16 0) (sym e)
-    (SwzOk-from_below w8 16 1 16 0 (map g v) refl (omega (arith, length-map v g)) (Each1-from_get_or (λ j. j < 16) (map g v) 0 (λ k h.
-    subst (λ n. n < 16) (sym (get_or-map g v k 0 0 (omega (arith, length-map v g)))) (small (get_or v k 0) (lane_fits v k block.1)))))
+-- A table of sixteen may be read at these offsets, and is read at g of each byte.
+abbrev pub Looks : (ℕ → ℕ) → List ℕ → ℕ → List ℕ → Type 0
+Looks g v i js = SwzOk w8 16 16 i js × ((t : List ℕ) → swz_l w8 16 t i js ≡ map (λ b. get_or t (g b) 0) v)
 
-pub looked_up : (t : List ℕ) (g : ℕ → ℕ) (v js : List ℕ) → IsBlock v → js ≡ map g v → ((b : ℕ) → b < 256 → g b < 16)
-    → swz_l w8 16 t 0 js ≡ map (λ b. get_or t (g b) 0) v
-looked_up t g v js block e small =
-    let long : length js ≡ 16 = ap length e ∙ length-map v g ∙ block.0 in
-    ext_get_or 0 _ _ (length-swz_l w8 16 t 0 js ∙ long ∙ sym (length-map v (λ b. get_or t (g b) 0) ∙ block.0)) (λ k h.
-    let lt : k < 16 = omega (arith, length-swz_l w8 16 t 0 js) in
-    let within : k < length v = omega arith in
-    let is : get_or js k 0 ≡ g (get_or v k 0) = ap (λ l. get_or l k 0) e ∙ get_or-map g v k 0 0 within in
-    let below : get_or js k 0 < 16 = omega (arith, small (get_or v k 0) (lane_fits v k block.1)) in
-    let offset : 16 * ((0 + k) / 16) + get_or js k 0 ≡ get_or js k 0 = omega arith in
-    get_or-swz_l_below w8 16 t 0 js k (omega arith) below
-    ∙ ap (λ j. get_or t j 0) (offset ∙ is)
-    ∙ sym (get_or-map (λ b. get_or t (g b) 0) v k 0 0 within))
+looks : (g : ℕ → ℕ) (v : List ℕ) (i : ℕ) → Each1 (Fits w8) v → i + length v ≤ 16 → ((b : ℕ) → b < 256 → g b < 16) → Looks g v i (map g v)
+looks g [] i fit room small = (tt, λ t. refl)
+looks g (b ∷ v) i fit room small =
+    let rest = looks g v (suc i) fit.1 (omega arith) small in
+    let below = small b fit.0.fits in
+    ((grind (arith, nat_tests), rest.0), λ t. grind (arith, nat_tests, rest.1 t))
+
+pub looked_up : (g : ℕ → ℕ) (v js : List ℕ) → IsBlock v → js ≡ map g v → ((b : ℕ) → b < 256 → g b < 16) → Looks g v 0 js
+looked_up g v js block e small = rw e (looks g v 0 block.1 (omega arith) small)
 
 -- the nibbles
-low_are : (v : List ℕ) → IsBlock v → zip2 bit_and v (replicate 16 15) ≡ map (λ b. b % 16) v
-low_are v block = zip2_splat bit_and v 16 15 block.0 ∙ (λ i. map (λ b. and_mask b 4 i) v)
+pub low : (v : List ℕ) → IsBlock v → Looks (λ b. b % 16) v 0 (zip2 bit_and v (replicate 16 15))
+low v block = looked_up _ v _ block (zip2_splat bit_and v 16 15 block.0 ∙ (λ i. map (λ b. and_mask b 4 i) v)) (λ b h. omega arith)
 
-pub low_ok : (v : List ℕ) → IsBlock v → SwzOk w8 16 16 0 (zip2 bit_and v (replicate 16 15))
-low_ok v block = may_look (λ b. b % 16) v _ block (low_are v block) (λ b h. omega arith)
-
-pub high_ok : (v : List ℕ) → IsBlock v → SwzOk w8 16 16 0 (zip2 down v (replicate 16 4))
-high_ok v block = may_look (λ b. b / 16) v _ block (zip2_splat down v 16 4 block.0) (λ b h. omega arith)
+pub high : (v : List ℕ) → IsBlock v → Looks (λ b. b / 16) v 0 (zip2 (λ a b. a / 2 ^ b) v (replicate 16 4))
+high v block = looked_up _ v _ block (zip2_splat (λ a b. a / 2 ^ b) v 16 4 block.0) (λ b h. omega arith)
 
 pub classes_are : (s t v : List ℕ) → IsBlock v
-    → zip2 bit_and (swz_l w8 16 s 0 (zip2 bit_and v (replicate 16 15))) (swz_l w8 16 t 0 (zip2 down v (replicate 16 4)))
+    → zip2 bit_and (swz_l w8 16 s 0 (zip2 bit_and v (replicate 16 15))) (swz_l w8 16 t 0 (zip2 (λ a b. a / 2 ^ b) v (replicate 16 4)))
     ≡ map (λ b. bit_and (get_or s (b % 16) 0) (get_or t (b / 16) 0)) v
 classes_are s t v block =
-    ap₂ (zip2 bit_and) (looked_up s (λ b. b % 16) v _ block (low_are v block) (λ b h. omega arith))
-    (looked_up t (λ b. b / 16) v _ block (zip2_splat down v 16 4 block.0) (λ b h. omega arith))
-    ∙ zip2-map bit_and (λ b. get_or s (b % 16) 0) (λ b. get_or t (b / 16) 0) v
+    ap₂ (zip2 bit_and) ((low v block).1 s) ((high v block).1 t) ∙ zip2-map bit_and (λ b. get_or s (b % 16) 0) (λ b. get_or t (b / 16) 0) v
 
 -- ---- whether some lane passes
 
-any_bit : (p : ℕ → Bool) (v : List ℕ) → not (eqb (mask_l (map p v)) 0) ≡ list_any p v
-any_bit p [] = grind arith
-any_bit p (b ∷ v) = grind (arith, any_bit p v)
-
--- a comparison of each lane with a byte
-some_lane : (t : ℕ → ℕ → Bool) (v : List ℕ) (b : ℕ) → length v ≡ 16
-    → not (eqb (mask_l (map (top 7) (zip2 (λ x y. cond (t x y) 255 0) v (replicate 16 b))) % 2 ^ 64) 0) ≡ list_any (λ x. t x b) v
-some_lane t v b long = ap (λ n. not (eqb n 0)) (bitmask_splat w8 t v 16 b long (omega arith)) ∙ any_bit (λ x. t x b) v
-
-pub nonzero_lane : (v : List ℕ) → length v ≡ 16
-    → not (eqb (mask_l (map (top 7) (zip2 (λ x y. cond (not (eqb x y)) 255 0) v (replicate 16 0))) % 2 ^ 64) 0) ≡ list_any is_nonzero v
-nonzero_lane v = some_lane (λ x y. not (eqb x y)) v 0
-
-or_grows : (a : ℕ) (v : List ℕ) → a ≤ fold_l bit_or a v
-or_grows a [] = omega arith
-or_grows a (b ∷ v) = omega (arith, le_or_l a b, or_grows (bit_or a b) v)
-
--- No lane is above what all of them together have.
-lane_below_or : (a : ℕ) (v : List ℕ) (k : ℕ) → get_or v k 0 ≤ fold_l bit_or a v
-lane_below_or a [] k = omega arith
-lane_below_or a (b ∷ v) zero = omega (arith, le_or_r a b, or_grows (bit_or a b) v)
-lane_below_or a (b ∷ v) (suc k) = lane_below_or (bit_or a b) v k
+none_lane : (a : ℕ) (v : List ℕ) (k : ℕ) → fold_l bit_or a v ≡ 0 → (a ≡ 0) × (get_or v k 0 ≡ 0)
+none_lane a [] k none = (none, refl)
+none_lane a (b ∷ v) zero none = grind (arith, none_lane (bit_or a b) v zero, le_or_l a b, le_or_r a b)
+none_lane a (b ∷ v) (suc k) none = grind (arith, none_lane (bit_or a b) v k, le_or_l a b)
 
 pub none_nonzero : (v : List ℕ) (k : ℕ) → fold_l bit_or 0 v ≡ 0 → is_nonzero (get_or v k 0) ≡ false
-none_nonzero v k none = let zero : get_or v k 0 ≡ 0 = omega (arith, lane_below_or 0 v k, none) in ap is_nonzero zero
+none_nonzero v k none = ap is_nonzero (none_lane 0 v k none).1
 
 -- The mask has a bit for each lane that passes a test against a byte.
 pub lane_mask : (t : ℕ → ℕ → Bool) (v : List ℕ) (b : ℕ) → length v ≡ 16
     → let mask = mask_l (map (top 7) (zip2 (λ x y. cond (t x y) 255 0) v (replicate 16 b))) % 2 ^ 64 in
     (mask < 2 ^ 16) × ((k : ℕ) → k < 16 → bit_at mask k ≡ cond (t (get_or v k 0) b) 1 0)
-lane_mask t v b long =
-    let test = λ (x : ℕ). t x b in
-    let e = bitmask_splat w8 t v 16 b long (omega arith) in
-    rw e (
-      (let size = length-map v test in rw (size ∙ long) at (mask_l-lt (map test v))),
-      λ k within. bit_mask_l (map test v) k ∙ ap (λ t. cond t 1 0) (get_or-map test v k 0 false (omega arith)),
-    )
+lane_mask t v b long = grind (arith, bitmask_splat w8 t v 16 b, mask_l-lt, bit_mask_l, get_or-map, length-map)
+
+any_bit : (p : ℕ → Bool) (v : List ℕ) → not (eqb (mask_l (map p v)) 0) ≡ list_any p v
+any_bit p [] = grind arith
+any_bit p (b ∷ v) = grind (arith, any_bit p v)
 
 -- a mask that has a bit for each lane that passes
 pub any_marked : (p : ℕ → Bool) (v : List ℕ) (mask : ℕ) → length v ≡ 16 → mask < 2 ^ 16
@@ -115,21 +86,20 @@ pub any_marked : (p : ℕ → Bool) (v : List ℕ) (mask : ℕ) → length v ≡
 any_marked p v mask long few lanes = ap (λ m. not (eqb m 0)) (same_from_bits _ _ alike) ∙ any_bit p v
   where
     alike : (k : ℕ) → bit_at mask k ≡ bit_at (mask_l (map p v)) k
-    alike k = elim (cases_lt k 16) [
-      | inl below ↦ lanes k below ∙ ap (λ t. cond t 1 0) (sym (get_or-map p v k 0 false (omega arith))) ∙ sym (bit_mask_l (map p v) k)
-      | inr above ↦ bit_at_above mask 16 k few above
-          ∙ ap (λ t. cond t 1 0) (sym (get_or_past (map p v) k false (omega (arith, length-map v p)))) ∙ sym (bit_mask_l (map p v) k)
-    ]
+    alike k = grind (arith, cases_lt k 16, lanes k, bit_at_above mask 16 k, get_or_past, length-map, get_or-map, bit_mask_l)
 
--- a test of two lanes by their bits
-pub lane_of : (op : ℕ → ℕ → ℕ) (p : ℕ → Bool) (f g : ℕ → ℕ) (v w left right : List ℕ) → (length v ≡ 16) × (length w ≡ 16) → left ≡ map f v → right ≡ map g w
-    → (r : ℕ → ℕ → Bool) → ((k : ℕ) → p (op (f (get_or v k 0)) (g (get_or w k 0))) ≡ r (get_or v k 0) (get_or w k 0))
-    → (k : ℕ) → k < 16 → p (get_or (zip2 op left right) k 0) ≡ r (get_or v k 0) (get_or w k 0)
-lane_of op p f g v w left right long el er r is k h =
-    let ll : length left ≡ 16 = ap length el ∙ length-map v f ∙ long.0 in
-    let lr : length right ≡ 16 = ap length er ∙ length-map w g ∙ long.1 in
-    ap p (get_or-zip2 op left right k 0 0 0 (omega arith) (omega arith)
-    ∙ ap₂ op (ap (λ l. get_or l k 0) el ∙ get_or-map f v k 0 0 (omega arith)) (ap (λ l. get_or l k 0) er ∙ get_or-map g w k 0 0 (omega arith))) ∙ is k
+-- an operator on two vectors that were computed lane by lane
+pub lane_of : (op : ℕ → ℕ → ℕ) (f g : ℕ → ℕ) (v w left right : List ℕ) → (length v ≡ 16) × (length w ≡ 16) → left ≡ map f v → right ≡ map g w
+    → (k : ℕ) → k < 16 → get_or (zip2 op left right) k 0 ≡ op (f (get_or v k 0)) (g (get_or w k 0))
+lane_of op f g v w left right long el er k h =
+    grind (arith, get_or-zip2 op left right k 0 0 0, get_or-map f v k 0 0, get_or-map g w k 0 0, length-map v f, length-map w g)
+
+both_tops : (op : ℕ → ℕ → ℕ) (joined : Bool → Bool → Bool) → ((u z : Bool) → top 7 (op (cond u 255 0) (cond z 255 0)) ≡ joined u z)
+    → (s t : ℕ → ℕ → Bool) (b c : ℕ) (v w : List ℕ) → map (top 7) (zip2 op (zip2 (λ x y. cond (s x y) 255 0) v (replicate (length v) b))
+    (zip2 (λ x y. cond (t x y) 255 0) w (replicate (length w) c))) ≡ zip2 (λ x y. joined (s x b) (t y c)) v w
+both_tops op joined is s t b c [] w = refl
+both_tops op joined is s t b c (x ∷ v) [] = refl
+both_tops op joined is s t b c (x ∷ v) (y ∷ w) = ap₂ (λ (h : Bool) r. h ∷ r) (is (s x b) (t y c)) (both_tops op joined is s t b c v w)
 
 -- The mask of the lanes for which two tests, each of a vector, are joined: by the bits of both, or of either.
 pub both_mask : (op : ℕ → ℕ → ℕ) (joined : Bool → Bool → Bool) → ((u z : Bool) → top 7 (op (cond u 255 0) (cond z 255 0)) ≡ joined u z)
@@ -138,21 +108,12 @@ pub both_mask : (op : ℕ → ℕ → ℕ) (joined : Bool → Bool → Bool) →
     (zip2 (λ x y. cond (t x y) 255 0) w (replicate 16 c)))) % 2 ^ 64 in
     (mask < 2 ^ 16) × ((k : ℕ) → k < 16 → bit_at mask k ≡ cond (joined (s (get_or v k 0) b) (t (get_or w k 0) c)) 1 0)
 both_mask op joined is s t v w b c lv lw =
-    let left = zip2 (λ x y. cond (s x y) 255 0) v (replicate 16 b) in
-    let right = zip2 (λ x y. cond (t x y) 255 0) w (replicate 16 c) in
-    let el : left ≡ map (λ x. cond (s x b) 255 0) v = zip2_splat (λ x y. cond (s x y) 255 0) v 16 b lv in
-    let er : right ≡ map (λ x. cond (t x c) 255 0) w = zip2_splat (λ x y. cond (t x y) 255 0) w 16 c lw in
-    let ll : length left ≡ 16 = ap length el ∙ length-map v (λ x. cond (s x b) 255 0) ∙ lv in
-    let lr : length right ≡ 16 = ap length er ∙ length-map w (λ x. cond (t x c) 255 0) ∙ lw in
-    let both : length (zip2 op left right) ≡ 16 = length-zip2 op left right (ll ∙ sym lr) ∙ ll in
-    let tops = map (top 7) (zip2 op left right) in
-    let long : length tops ≡ 16 = length-map (zip2 op left right) (top 7) ∙ both in
-    let lane = lane_of op (top 7) (λ x. cond (s x b) 255 0) (λ x. cond (t x c) 255 0) v w left right (lv, lw) el er (λ x y. joined (s x b) (t y c))
-    (λ k. is (s (get_or v k 0) b) (t (get_or w k 0) c)) in
-    rw (mask_l-mod tops 64 (omega arith)) (
-      (rw long at (mask_l-lt tops)),
-      λ k within. bit_mask_l tops k
-          ∙ ap (λ z. cond z 1 0) (get_or-map (top 7) (zip2 op left right) k 0 false (omega arith) ∙ lane k within),
+    let both = λ (x y : ℕ). joined (s x b) (t y c) in
+    let tops = rw (lv, lw) at (both_tops op joined is s t b c v w) in
+    let long : length (zip2 both v w) ≡ 16 = length-zip2 both v w (lv ∙ sym lw) ∙ lv in
+    rw (tops, mask_l-mod (zip2 both v w) 64 (omega arith)) (
+      (rw long at (mask_l-lt (zip2 both v w))),
+      λ k within. bit_mask_l (zip2 both v w) k ∙ ap (λ z. cond z 1 0) (get_or-zip2 both v w k 0 0 false (omega arith) (omega arith)),
     )
 
 pub of_both : (u z : Bool) → top 7 (bit_and (cond u 255 0) (cond z 255 0)) ≡ (u && z)
@@ -160,3 +121,77 @@ of_both u z = grind arith
 
 pub of_either : (u z : Bool) → top 7 (bit_or (cond u 255 0) (cond z 255 0)) ≡ (u || z)
 of_either u z = grind arith
+
+-- ---- suspect bytes: what one look at sixteen pairs says, and what looks at all pairs of a text say together
+
+-- how far the byte is from a dot, and at most 15
+abbrev reach : ℕ → ℕ
+reach b = cond (top 7 (cond (ltb (bit_xor b (byte ".")) 15) 255 0)) (bit_xor b (byte ".")) 15
+
+abbrev reaches : ℕ → List ℕ → List ℕ
+reaches n v =
+    let from_dot = zip2 bit_xor v (replicate n (byte ".")) in
+    sel_l (map (top 7) (zip2 (λ a b. cond (ltb a b) 255 0) from_dot (replicate n 15))) from_dot (replicate n 15)
+
+reaches_are : (v : List ℕ) → reaches (length v) v ≡ map reach v
+reaches_are [] = refl
+reaches_are (b ∷ v) = ap (λ r. reach b ∷ r) (reaches_are v)
+
+-- A table of sixteen may be read at how far each byte is from a dot.
+reached : (v : List ℕ) → IsBlock v → Looks reach v 0 (reaches 16 v)
+reached v block = looked_up reach v _ block (rw block.0 at (reaches_are v)) (λ b small.
+    ltb-true (reach b) 16 (agree_below_at (λ b. ltb (reach b) 16) (λ _. true) 256 b refl small))
+
+pub reaches_ok : (v : List ℕ) → IsBlock v → SwzOk w8 16 16 0 (reaches 16 v)
+reaches_ok v block = (reached v block).0
+
+-- the classes that are suspect after the byte
+abbrev pub classes_after : ℕ → ℕ
+classes_after b = if b == byte "." then AFTER_DOT else if b == byte "/" then AFTER_SLASH else ANYWHERE
+
+-- Read there, the table gives for each byte the classes that are suspect after it.
+pub suspect_classes : (v : List ℕ) → IsBlock v → swz_l w8 16 SUSPECT_AFTER 0 (reaches 16 v) ≡ map classes_after v
+suspect_classes v block = (reached v block).1 SUSPECT_AFTER ∙ same_bytes (λ b. get_or SUSPECT_AFTER (reach b) 0) classes_after v block.1 refl
+
+-- the classes that both tables have for the byte
+abbrev pub class : ℕ → ℕ
+class b = bit_and (get_or CLASSES_BY_LOW_NIBBLE (b % 16) 0) (get_or CLASSES_BY_HIGH_NIBBLE (b / 16) 0)
+
+-- `is_suspect` after a dot, a slash or another byte, and what the tables say of it
+suspect_if : Bool → Bool → ℕ → Bool
+suspect_if dot slash b = is_bad b || is_among (codes "*{") b || ((dot || (slash || false)) && is_among (codes "./") b) || (dot && b == byte "l")
+
+table_if : Bool → Bool → ℕ → Bool
+table_if dot slash b = is_nonzero (bit_and (class b) (if dot then AFTER_DOT else if slash then AFTER_SLASH else ANYWHERE))
+
+suspect_tabled : (dot slash : Bool) (b : ℕ) → b < 256 → table_if dot slash b ≡ suspect_if dot slash b
+unfolding is_bad suspect_if table_if
+suspect_tabled true slash b small = agree_below_at (table_if true true) (suspect_if true true) 256 b refl small
+suspect_tabled false true b small = agree_below_at (table_if false true) (suspect_if false true) 256 b refl small
+suspect_tabled false false b small = agree_below_at (table_if false false) (suspect_if false false) 256 b refl small
+
+-- In a lane the class of the byte is among those that are suspect after the byte before it, if and only if the byte is suspect.
+pub suspect_lane : (before bytes classes after : List ℕ) → IsBlock before → IsBlock bytes → classes ≡ map class bytes → after ≡ map classes_after before
+    → (k : ℕ) → k < 16 → is_nonzero (get_or (zip2 bit_and classes after) k 0) ≡ is_suspect (get_or before k 0) (get_or bytes k 0)
+unfolding is_suspect suspect_if table_if
+suspect_lane before bytes classes after ba bb ek eb k small =
+    ap is_nonzero (lane_of bit_and class classes_after bytes before classes after (bb.0, ba.0) ek eb k small)
+    ∙ suspect_tabled (get_or before k 0 == byte ".") (get_or before k 0 == byte "/") (get_or bytes k 0) (lane_fits bytes k bb.1)
+
+suspect_regrouped : (w s d l c : Bool) → (w || (s || (d || (l || (c || false))))) ≡ ((w || (s || (c || false)) || (true && (d || (l || false)))) || false)
+suspect_regrouped w s d l c = grind arith
+
+pub first_look : (x : List ℕ) → suspect_at x 0 ≡ may_be_faulty (get_or x 0 0)
+unfolding is_suspect
+first_look x = grind (arith, nat_tests, suspect_regrouped)
+
+-- A look at the first byte, and at pairs, is a look at each byte of a front.
+pub quiet_by_looks : (x : List ℕ) (n : ℕ) → may_be_faulty (get_or x 0 0) ≡ false → NoneBelow (at_pair is_suspect x) n → NoneBelow (suspect_at x) (n + 1)
+quiet_by_looks x n first pairs = grind (arith, nat_tests, first_look, add-one)
+
+-- A text that has a byte is clear just where these three looks find nothing.
+pub clear_by_looks : (x : List ℕ) → 0 < length x
+    → IsClear x
+    ↔ ((may_be_faulty (get_or x 0 0) ≡ false)
+    × ((ends x (codes ".") || ends x (codes "/")) ≡ false) × NoneBelow (at_pair is_suspect x) (length x - 1))
+clear_by_looks x some = grind (arith, nat_tests, first_look, add-one, quiet_by_looks)

@@ -1,25 +1,24 @@
--- Parts of a text that together are all of it, and a short text as one block.
-use Rattle.std.proofs.Common.{◌≡◌, ℕ, zero, suc, ◌+◌, ◌-◌, ◌%◌, ◌<◌, ◌≤◌, ◌↔◌, Bool, true, false, ◌||◌, eqb, List, [], ◌∷◌, ◌++◌}
-use Rattle.std.proofs.Common.{length, take, drop, get_or, replicate, refl, sym, ap, ap₂, ◌∙◌, inl, inr, arith, take-add, eqb-true}
+-- Parts of a text that together are all of it, a short text as one block, and what the lanes of a scan say of offsets.
+use Rattle.std.proofs.Common.{◌≡◌, ℕ, ◌+◌, ◌-◌, ◌%◌, ◌<◌, ◌≤◌, ◌↔◌, Bool, true, false, ◌||◌, eqb, List, [], ◌∷◌, ◌++◌, max, length, take, drop, get_or, replicate, refl, ap, ap₂, ◌∙◌, arith, take-add, eqb-true, ◌^◌, cond, ltb, Option}
 use Rattle.std.proofs.Math.Nat.{mod-lt, mod-eq_of_lt}
-use Rattle.std.proofs.lemmas.Bool.{cases_lt, or_parts, agree_below, agree_below_at}
-use Rattle.std.proofs.lemmas.List.{get_or-map, get_or-replicate, get_or_append_left, get_or-append_right, drop-drop}
+use Rattle.std.proofs.lemmas.Bool.{agree_below, agree_below_at, cases_lt}
+use Rattle.std.proofs.lemmas.List.{get_or-map, get_or-replicate, get_or_append_left, get_or-append_right, drop-drop, take-append-drop, get_or-take, length-take-le}
 use Rattle.std.specs.List.{list_any}
 use Rattle.gix_validate.specs.Bytes.{is_among}
-use Rattle.std.proofs.lemmas.List.Folds.{list_any-append}
+use Rattle.std.proofs.lemmas.List.Elements.{All-from_get_or}
+use Rattle.std.proofs.lemmas.List.Folds.{list_any-append, list_any_at, list_any_none}
 use Rattle.std.proofs.lemmas.Simd.{length-chunk, get_or-chunk}
 use lib.Lanes.{chunk, pick_l}
-use Rattle.gix_validate.specs.Private.Lanes.{offset_of, HasParts}
+use Rattle.gix_validate.specs.Private.Lanes.{HasParts, offset_of}
 use Rattle.std.proofs.lemmas.Grind.{common_steps}
 use Rattle.std.proofs.lemmas.Bool.Decides.{nat_tests}
+use Rattle.std.specs.Int.{bit_at}
+use Rattle.std.proofs.lemmas.Nat.Bits.{bit_at_above, bit_at-zero}
+use Rattle.gix_validate.specs.Private.Scan.{NoneBelow, IsFirst, Finds, at_both, at_pair}
 
 -- no element passes if and only if none does at its offset
 pub none_at : (p : ℕ → Bool) (v : List ℕ) → (list_any p v ≡ false) ↔ ((k : ℕ) → k < length v → p (get_or v k 0) ≡ false)
-none_at p [] = (λ _ k h. absurd (omega arith), λ _. refl)
-none_at p (b ∷ v) = (
-  λ e. elim [ zero ↦ (λ h. (or_parts (p b) _ e).0) | suc k ↦ (λ h. (none_at p v).0 (or_parts (p b) _ e).1 k (omega arith)) ],
-  λ none. ap₂ (λ s t. s || t) (none 0 (omega arith)) ((none_at p v).1 (λ k h. none (suc k) (omega arith))),
-)
+none_at p v = (λ e k h. grind (arith, list_any_at p v k 0), λ none. list_any_none p v (All-from_get_or (λ b. p b ≡ false) v 0 none))
 
 -- a search for two bytes says whether one is in the text
 pub either_among : (a b : ℕ) (x : List ℕ) → list_any (λ c. eqb c a || eqb c b) x ≡ (is_among x a || is_among x b)
@@ -33,25 +32,25 @@ none_of_empty a (b ∷ x) none = absurd (omega arith)
 same_none : (s t : Bool) → (s ≡ false → t ≡ false) → (t ≡ false → s ≡ false) → s ≡ t
 same_none s t one two = grind arith
 
--- a front and the whole
-front_and_all : (p : ℕ → Bool) (x : List ℕ) (j : ℕ) → (list_any p (take j x) || list_any p x) ≡ list_any p x
-front_and_all p x zero = grind arith
-front_and_all p [] (suc j) = grind arith
-front_and_all p (b ∷ x) (suc j) = grind (arith, front_and_all p x j)
-
--- a front and a back that meet or overlap
-pub any_overlap : (p : ℕ → Bool) (x : List ℕ) (i j : ℕ) → i ≤ j → (list_any p (take j x) || list_any p (drop i x)) ≡ list_any p x
-any_overlap p x zero j h = grind (arith, nat_tests, front_and_all)
-any_overlap p x (suc i) zero h = grind (arith, nat_tests)
-any_overlap p [] (suc i) (suc j) h = grind (arith, nat_tests)
-any_overlap p (b ∷ x) (suc i) (suc j) h = grind (arith, nat_tests, any_overlap p x i j)
-
 pub whole_chunk : (i n : ℕ) (x : List ℕ) → i + n ≡ length x → chunk i n x ≡ drop i x
 whole_chunk i n x e = grind (arith, common_steps)
+
+any_split : (p : ℕ → Bool) (x : List ℕ) (i : ℕ) → (list_any p (take i x) || list_any p (drop i x)) ≡ list_any p x
+any_split p x i = grind (arith, list_any-append p (take i x) (drop i x), take-append-drop)
 
 -- a front, and the part after it
 pub any_with_chunk : (p : ℕ → Bool) (x : List ℕ) (i n : ℕ) → list_any p (take (i + n) x) ≡ (list_any p (take i x) || list_any p (chunk i n x))
 any_with_chunk p x i n = ap (list_any p) (take-add i n x) ∙ list_any-append p (take i x) (chunk i n x)
+
+-- a front and a back that meet or overlap
+pub any_overlap : (p : ℕ → Bool) (x : List ℕ) (i j : ℕ) → i ≤ j → (list_any p (take j x) || list_any p (drop i x)) ≡ list_any p x
+any_overlap p x i j h = grind (arith, any_split p x i, any_with_chunk p x i (j - i), any_split p (drop i x) (j - i))
+
+-- a front, and a part that begins in it or right after it
+any_extend : (p : ℕ → Bool) (x : List ℕ) (k i n : ℕ) → i ≤ k → (list_any p (take k x) || list_any p (chunk i n x)) ≡ list_any p (take (max k (i + n)) x)
+any_extend p x k i n h =
+    let parts = any_with_chunk p (drop i x) in
+    grind (arith, any_with_chunk p x i n, any_with_chunk p x i (k - i), parts (k - i) (i + n - k), parts n (k - (i + n)))
 
 -- a part at the end, where nothing is found before it
 pub any_to_end : (p : ℕ → Bool) (x : List ℕ) (last i n : ℕ) → last ≤ i → last + n ≡ length x → list_any p (take i x) ≡ false
@@ -71,47 +70,39 @@ has_parts n first second x ks some f s long all k small =
     let r = k % (n + n) in
     let front = chunk first n x in
     let back = chunk second n x in
-    let below : r < n + n = mod-lt k (omega arith) in
     let lane : get_or ks k 0 ≡ r = eqb-true _ _ (agree_below_at (λ k. eqb (get_or ks k 0) (k % (n + n))) (λ _. true) 16 k all small) in
-    get_or-map (λ j. get_or (front ++ back) j 0) ks k 0 0 (omega arith)
-    ∙ ap (λ j. get_or (front ++ back) j 0) lane
-    ∙ elim (cases_lt r n) [
-      | inl early ↦
-          get_or_append_left front back 0 r (omega (arith, length-chunk first n x f)) ∙ get_or-chunk first n x r 0 early
-          ∙ ap (λ j. get_or x j 0) (grind (arith, nat_tests))
-      | inr late ↦
-          get_or-append_right front back n r 0 (length-chunk first n x f) late ∙ get_or-chunk second n x (r - n) 0 (omega arith)
-          ∙ ap (λ j. get_or x j 0) (grind (arith, nat_tests))
-    ]
+    let read = get_or-map (λ j. get_or (front ++ back) j 0) ks k 0 0 (omega arith) in
+    grind (
+      arith,
+      nat_tests,
+      mod-lt,
+      read,
+      lane,
+      get_or_append_left front back 0 r,
+      get_or-append_right front back n r 0,
+      length-chunk first n x f,
+      get_or-chunk first n x r 0,
+      get_or-chunk second n x (r - n) 0,
+    )
 
--- the first n of m offsets and the last n are all of them, and a block has them
+-- a block of two parts
+any_of_parts : (n a b : ℕ) (x block : List ℕ) → (0 < n) × (n + n ≤ 16) × (a + n ≤ length x) × (b + n ≤ length x) × (length block ≡ 16)
+    → HasParts n a b x block → (p : ℕ → Bool) → list_any p block ≡ (list_any p (chunk a n x) || list_any p (chunk b n x))
+any_of_parts n a b x block sizes parts p = same_none _ _
+    (λ none. let lane = (none_at p block).0 none in
+    ap₂ (λ s t. s || t)
+    ((none_at p (chunk a n x)).1 (λ k h. grind (arith, nat_tests, lane k, parts k, get_or-chunk a n x k 0, length-chunk a n x, mod-eq_of_lt)))
+    ((none_at p (chunk b n x)).1 (λ k h. grind (arith, nat_tests, lane (n + k), parts (n + k), get_or-chunk b n x k 0, length-chunk b n x, mod-eq_of_lt))))
+    (λ none. grind (arith, nat_tests, none_at, get_or-chunk, length-chunk, mod-lt, mod-eq_of_lt))
+
+-- the first n of m bytes and the last n are all of them, and a block has them
 abbrev pub AreAll : ℕ → ℕ → ℕ → Type 0
 AreAll n back m = (0 < n) × (n + n ≤ 16) × (back + n ≡ m) × (m ≤ n + n)
 
-pub all_offsets : (n m back : ℕ) (q : ℕ → Bool) → AreAll n back m
-    → ((k : ℕ) → k < 16 → q (offset_of n 0 back k) ≡ false) ↔ ((j : ℕ) → j < m → q j ≡ false)
-all_offsets n m back q all = (
-  λ none j h. elim (cases_lt j n) [
-    | inl early ↦ ap q (sym (front j early)) ∙ none j (omega arith)
-    | inr late ↦ ap q (sym (after j late h)) ∙ none (n + (j - back)) (omega arith)
-  ],
-  λ none k h. none (offset_of n 0 back k) (grind (arith, nat_tests, mod-lt)),
-)
-  where
-    front : (j : ℕ) → j < n → offset_of n 0 back j ≡ j
-    front j early = grind (arith, nat_tests, mod-eq_of_lt)
-
-    after : (j : ℕ) → n ≤ j → j < m → offset_of n 0 back (n + (j - back)) ≡ j
-    after j late h = grind (arith, nat_tests, mod-eq_of_lt)
-
--- so a block of the first n bytes and the last n has all bytes of the text
 pub parts_cover : (n back : ℕ) (x block : List ℕ) → AreAll n back (length x) → length block ≡ 16 → HasParts n 0 back x block
     → (p : ℕ → Bool) → list_any p block ≡ list_any p x
 parts_cover n back x block all long parts p =
-    let law = all_offsets n (length x) back (λ j. p (get_or x j 0)) all in
-    same_none _ _
-    (λ e. (none_at p x).1 (law.0 (λ k h. ap p (sym (parts k h)) ∙ (none_at p block).0 e k (omega arith))))
-    (λ e. (none_at p block).1 (λ k h. ap p (parts k (omega arith)) ∙ law.1 ((none_at p x).0 e) k (omega arith)))
+    any_of_parts n 0 back x block (omega arith) parts p ∙ grind (arith, any_overlap p x back n, whole_chunk back n x)
 
 -- a front, and the two parts after it
 pub any_two_chunks : (p : ℕ → Bool) (x : List ℕ) (i n : ℕ) → list_any p (chunk i (n + n) x) ≡ (list_any p (chunk i n x) || list_any p (chunk (i + n) n x))
@@ -129,42 +120,76 @@ any_of_four p x i a b c d ea eb ec ed =
 abbrev pub AreShort : ℕ → ℕ → ℕ → ℕ → Type 0
 AreShort mid start last m = (last + 8 ≡ m) × (mid ≤ last) × (start ≤ last) × (last ≤ mid + 16) × (last ≤ start + 8) × (start ≤ mid + 8) × (mid ≤ 8)
 
--- a block of two parts in which nothing is found
-none_of_block : (p : ℕ → Bool) (a b : ℕ) (x block : List ℕ) → length block ≡ 16 → HasParts 8 a b x block → list_any p block ≡ false
-    → (k : ℕ) → k < 8 → (p (get_or x (a + k) 0) ≡ false) × (p (get_or x (b + k) 0) ≡ false)
-none_of_block p a b x block long parts none k small =
-    let lane = (none_at p block).0 none in (
-      ap p (sym (parts k (omega arith) ∙ ap (λ j. get_or x j 0) (grind (arith, nat_tests, mod-eq_of_lt)))) ∙ lane k (omega arith),
-      ap p (sym (parts (k + 8) (omega arith) ∙ ap (λ j. get_or x j 0) (grind (arith, nat_tests, mod-eq_of_lt)))) ∙ lane (k + 8) (omega arith),
-    )
-
--- a block of two parts of a text in which nothing is found
-none_in_block : (p : ℕ → Bool) (a b : ℕ) (x block : List ℕ) → length block ≡ 16 → HasParts 8 a b x block → a + 8 ≤ length x → b + 8 ≤ length x
-    → list_any p x ≡ false → list_any p block ≡ false
-none_in_block p a b x block long parts fa fb none = grind (arith, nat_tests, none_at, mod-lt)
-
 pub both_cover : (mid start last : ℕ) (x v w : List ℕ) → AreShort mid start last (length x) → (length v ≡ 16) × (length w ≡ 16)
     → HasParts 8 0 mid x v → HasParts 8 start last x w → (p : ℕ → Bool) → (list_any p v || list_any p w) ≡ list_any p x
 both_cover mid start last x v w short long pv pw p =
-    same_none _ _ forward (λ none. ap₂ (λ s t. s || t)
-    (none_in_block p 0 mid x v long.0 pv (omega arith) (omega arith) none)
-    (none_in_block p start last x w long.1 pw (omega arith) (omega arith) none))
-  where
-    forward : (list_any p v || list_any p w) ≡ false → list_any p x ≡ false
-    forward none =
-        let parts = or_parts (list_any p v) (list_any p w) none in
-        let front = none_of_block p 0 mid x v long.0 pv parts.0 in
-        let back = none_of_block p start last x w long.1 pw parts.1 in
-        (none_at p x).1 (λ j h. elim (cases_lt j 8) [
-          | inl early ↦ ap (λ i. p (get_or x i 0)) (omega arith) ∙ (front j early).0
-          | inr late ↦ elim (cases_lt j (mid + 8)) [
-            | inl within ↦ ap (λ i. p (get_or x i 0)) (omega arith) ∙ (front (j - mid) (omega arith)).1
-            | inr after ↦ elim (cases_lt j (start + 8)) [
-              | inl before ↦ ap (λ i. p (get_or x i 0)) (omega arith) ∙ (back (j - start) (omega arith)).0
-              | inr after ↦ ap (λ i. p (get_or x i 0)) (omega arith) ∙ (back (j - last) (omega arith)).1
-            ]
-          ]
-        ])
+    let front = any_of_parts 8 0 mid x v (omega arith) pv p in
+    let back = any_of_parts 8 start last x w (omega arith) pw p in
+    let parts = any_extend p x in
+    grind (arith, front, back, parts 8 mid 8, parts (mid + 8) start 8, whole_chunk last 8 x, any_overlap p x last (max (mid + 8) (start + 8)))
 
 pub one_covers : (x : List ℕ) → length x ≡ 1 → HasParts 1 0 0 x (replicate 16 (get_or x 0 0))
 one_covers x one k h = grind (arith, nat_tests, get_or-replicate, mod-lt)
+
+-- ---- offsets
+
+-- the lanes go over the offsets from one on and before another, each first in its own lane
+record GoOver (offset lane_of : ℕ → ℕ) (at end : ℕ) : Type 0 where
+  within : (k : ℕ) → k < 16 → offset k < end
+  seen : (j : ℕ) → at ≤ j → j < end → (lane_of j < 16) × (offset (lane_of j) ≡ j)
+  early : (j k : ℕ) → at ≤ j → j < offset k → lane_of j < k
+
+-- an empty mask says that there is no hit before the end, and the first lane with a bit is the first hit
+abbrev pub Found : (ℕ → Bool) → (ℕ → ℕ) → ℕ → ℕ → ℕ → Type 0
+Found hit offset offsets end mask = (mask ≡ 0 → NoneBelow hit end)
+    × ((lane : ℕ) → bit_at mask lane ≡ 1 → ((k : ℕ) → k < lane → bit_at mask k ≡ 0) → IsFirst hit offsets (offset lane))
+
+-- where the mask has a bit for each hit
+found : (hit : ℕ → Bool) (offset lane_of : ℕ → ℕ) (offsets at end mask : ℕ) → GoOver offset lane_of at end → end ≤ offsets → NoneBelow hit at → mask < 2 ^ 16
+    → ((k : ℕ) → k < 16 → bit_at mask k ≡ cond (hit (offset k)) 1 0) → Found hit offset offsets end mask
+found hit offset lane_of offsets at end mask over room none few lanes = (
+  λ empty j below. grind (arith, nat_tests, cases_lt j at, over.seen j, none j, lanes (lane_of j), bit_at-zero (lane_of j)),
+  λ lane set clear.
+      let small : lane < 16 = grind (arith, cases_lt lane 16, bit_at_above mask 16 lane) in
+      let within = over.within lane small in
+      record {
+        within = omega arith;
+        here = grind (arith, nat_tests, lanes lane small);
+        none = λ j below. grind (arith, nat_tests, cases_lt j at, none j, over.seen j, over.early j lane, lanes (lane_of j), clear (lane_of j));
+      },
+)
+
+-- sixteen offsets in a row
+block_over : (at : ℕ) → GoOver (λ k. at + k) (λ j. j - at) at (at + 16)
+block_over at = grind arith
+
+pub block_found : (hit : ℕ → ℕ → Bool) (x y : List ℕ) (at mask : ℕ) → at + 16 ≤ length x → NoneBelow (at_both hit x y) at → mask < 2 ^ 16
+    → ((k : ℕ) → k < 16 → bit_at mask k ≡ cond (hit (get_or (chunk at 16 x) k 0) (get_or (chunk at 16 y) k 0)) 1 0)
+    → Found (at_both hit x y) (λ k. at + k) (length x) (at + 16) mask
+block_found hit x y at mask room none few lanes = found (at_both hit x y) (λ k. at + k) (λ j. j - at) _ at _ mask (block_over at) room none few (λ k small.
+    grind (arith, lanes k small, get_or-chunk at 16 x k 0, get_or-chunk at 16 y k 0))
+
+-- the first n offsets and the last n
+parts_over : (n back m : ℕ) → AreAll n back m → GoOver (offset_of n 0 back) (λ j. cond (ltb j n) j (n + (j - back))) 0 m
+parts_over n back m all = grind (arith, nat_tests, mod-lt, mod-eq_of_lt)
+
+pub parts_found : (hit : ℕ → ℕ → Bool) (x y v w : List ℕ) (n back mask : ℕ) → AreAll n back (length x) → HasParts n 0 back x v → HasParts n 0 back y w
+    → mask < 2 ^ 16 → ((k : ℕ) → k < 16 → bit_at mask k ≡ cond (hit (get_or v k 0) (get_or w k 0)) 1 0)
+    → Found (at_both hit x y) (offset_of n 0 back) (length x) (length x) mask
+parts_found hit x y v w n back mask all px py few lanes =
+    found (at_both hit x y) (offset_of n 0 back) _ _ 0 _ mask (parts_over n back (length x) all) (omega arith) (λ k h. grind arith) few (λ k small.
+    grind (arith, lanes k small, px k small, py k small))
+
+pub in_front : (n back k : ℕ) → k % (n + n) < n → offset_of n 0 back k ≡ k % (n + n)
+in_front n back k h = grind (arith, nat_tests)
+
+pub in_back : (n back k : ℕ) → n ≤ k % (n + n) → offset_of n 0 back k ≡ back + (k % (n + n) - n)
+in_back n back k h = grind (arith, nat_tests)
+
+-- adjacent bytes: the same found by a condition that is the same at each offset
+alike : (p q : ℕ → Bool) (m n : ℕ) (found : Option ℕ) → m ≡ n → ((k : ℕ) → k < m → p k ≡ q k) → Finds p m m found → Finds q n n found
+alike p q m n found long same finds = grind (arith, nat_tests)
+
+pub pairs_found : (hit : ℕ → ℕ → Bool) (x : List ℕ) (n : ℕ) (found : Option ℕ) → n + 1 ≡ length x
+    → Finds (at_both hit (take n x) (chunk 1 n x)) (length (take n x)) (length (take n x)) found → Finds (at_pair hit x) n n found
+pairs_found hit x n found long finds = grind (arith, nat_tests, alike, get_or-take, get_or-chunk, length-take-le)

@@ -17,7 +17,6 @@ split = refl
 
 put_together : Gives joined
     ((codes "src" ∷ codes ".github" ∷ codes "a.rs" ∷ [], codes "src/.github/a.rs")  -- three joined
-    ∷ (codes "@" ∷ codes "v1.0" ∷ [], codes "@/v1.0")  -- two joined
     ∷ (codes "a" ∷ [], codes "a")  -- one joined
     ∷ ([] ∷ [] ∷ [], codes "/")  -- two empty joined
     ∷ [])

@@ -3,21 +3,16 @@ use Rattle.std.proofs.Common.{refl, [], ◌∷◌, Some, None}
 use Rattle.std.specs.Prelude.{codes}
 use Rattle.gix_validate.proofs.OnLiterals.{names_on_literals}
 use Rattle.gix_validate.proofs.Rows.Tables.{Gives, Judges}
-use Rattle.gix_validate.specs.Submodule.{parts, is_submodule_name, fault_of, text_of}
+use Rattle.gix_validate.specs.Submodule.{parts, is_submodule_name, fault_of}
 use Rattle.gix_validate.specs.declared.submodule.NameError.TheVariants.{Empty, ParentComponent}
 
-refused : Judges fault_of is_submodule_name
+judged : Judges fault_of is_submodule_name
     (([], Some Empty)  -- nothing
     ∷ (codes "..", Some ParentComponent)  -- parent alone
     ∷ (codes "..\\x", Some ParentComponent)  -- parent first
     ∷ (codes "x/../y", Some ParentComponent)  -- parent between
     ∷ (codes "a\\..", Some ParentComponent)  -- parent last
-    ∷ [])
-unfolding names_on_literals
-refused = (refl, refl)
-
-accepted : Judges fault_of is_submodule_name
-    ((codes "/", None)  -- slash
+    ∷ (codes "/", None)  -- slash
     ∷ (codes "\\", None)  -- backslash
     ∷ (codes "...", None)  -- three dots
     ∷ (codes "a/.../b", None)  -- three dots between
@@ -26,16 +21,10 @@ accepted : Judges fault_of is_submodule_name
     ∷ (codes "a\\b", None)  -- two parts
     ∷ [])
 unfolding names_on_literals
-accepted = (refl, refl)
+judged = (refl, refl)
 
 parts_of_texts : Gives parts
     ((codes "a\\b/c", codes "a" ∷ codes "b" ∷ codes "c" ∷ [])  -- at both
     ∷ (codes "/", [] ∷ [] ∷ [])  -- of slash
     ∷ [])
 parts_of_texts = refl
-
-printed : Gives text_of
-    ((Empty, codes "Submodule names cannot be empty")  -- empty
-    ∷ (ParentComponent, codes "Submodules names must not contains '..'")  -- parent
-    ∷ [])
-printed = refl

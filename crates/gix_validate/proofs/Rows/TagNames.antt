@@ -1,12 +1,12 @@
 -- The definitions of tag names, computed on literals.
-use Rattle.std.proofs.Common.{◌≡◌, refl, [], ◌∷◌, Some, None}
+use Rattle.std.proofs.Common.{refl, [], ◌∷◌, Some, None}
 use Rattle.std.specs.Prelude.{codes}
 use Rattle.gix_validate.proofs.OnLiterals.{names_on_literals}
 use Rattle.gix_validate.proofs.Rows.Tables.{Gives, Judges}
 use Rattle.gix_validate.specs.declared.tag.NameError.TheVariants.{InvalidByte, StartsWithSlash, RepeatedSlash, RepeatedDot, LockFileSuffix}
 use Rattle.gix_validate.specs.declared.tag.NameError.TheVariants.{ReflogPortion, Asterisk, StartsWithDot, EndsWithDot, EndsWithSlash, Empty}
 use Rattle.gix_validate.specs.Quoted.{quoted}
-use Rattle.gix_validate.specs.Tag.{fault_of, is_tag_name, text_of}
+use Rattle.gix_validate.specs.Tag.{fault_of, is_tag_name}
 
 -- an accepted text, and one for each fault: where several rules are broken, which comes first
 faults : Judges fault_of is_tag_name
@@ -31,7 +31,6 @@ quoted_bytes : Gives quoted
     ((0x20 ∷ [], codes "\" \"")  -- a space
     ∷ (0x1B ∷ [], codes "\"\\x1b\"")  -- escape byte
     ∷ (0x7F ∷ [], codes "\"\\x7f\"")  -- delete byte
-    ∷ (0xC3 ∷ [], codes "\"\\xc3\"")  -- high byte
     ∷ (0x22 ∷ 0x5C ∷ [], codes "\"\\\"\\\\\"")  -- quote and backslash
     ∷ (0x00 ∷ [], codes "\"\\0\"")  -- nul byte
     ∷ (0x09 ∷ [], codes "\"\\t\"")  -- tab byte
@@ -42,6 +41,3 @@ quoted_bytes : Gives quoted
     ∷ (0x80 ∷ 0xFF ∷ [], codes "\"\\x80\\xff\"")  -- high half
     ∷ [])
 quoted_bytes = refl
-
-printed_bad_byte : text_of (InvalidByte 0x20) ≡ codes "A ref must not contain invalid bytes or ascii control characters: \" \""
-printed_bad_byte = refl

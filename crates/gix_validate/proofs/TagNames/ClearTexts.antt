@@ -1,28 +1,23 @@
--- What is not suspect has no fault: offset by offset, and so a clear text.
-use Rattle.std.proofs.Common.{◌≡◌, ℕ, ◌+◌, ◌-◌, ◌<◌, ◌≤◌, true, false, eqb, List, [], ◌∷◌, length, take, get_or, refl, ap, ◌∙◌, inl, inr, arith}
-use Rattle.std.proofs.Common.{None, add-one, length-take}
-use Rattle.std.proofs.lemmas.Bool.{cases_lt, false_from_ne_true}
+-- What is not suspect has no fault: offset by offset, and so a clear text. The walk over the other bytes.
+use Rattle.std.proofs.Common.{◌≡◌, ℕ, zero, suc, ◌+◌, ◌-◌, ◌<◌, ◌≤◌, true, false, eqb, List, [], ◌∷◌, length, take, get_or, refl, arith, None, add-one, length-take, not, ◌&&◌, Some, inl, inr}
+use Rattle.std.proofs.lemmas.Bool.{false_from_ne_true, cases_lt}
 use Rattle.std.proofs.lemmas.List.{take_all, get_or-take}
 use Rattle.std.proofs.lemmas.Slice.Eq.{bytes_eq-Decides}
 use Rattle.std.specs.Prelude.{codes}
 use Rattle.std.specs.Str.{byte}
 use Rattle.gix_validate.specs.Bytes.{is_among, ends}
-use Rattle.gix_validate.specs.Tag.{fault_of}
+use Rattle.gix_validate.specs.Tag.{fault_of, fault_offset_of, faults_at, offset_at}
 use Rattle.gix_validate.specs.Reference.{is_partial_name}
 use Rattle.gix_validate.specs.Private.Adjacent.{is_suspect, suspect_at, IsClear}
 use Rattle.gix_validate.specs.Private.Scan.{NoneBelow}
-use Rattle.gix_validate.specs.Private.TagWalk.{fault_of_byte_at, NoFaultBetween}
-use Rattle.gix_validate.proofs.Texts.Offsets.{at_first_offset_none}
+use Rattle.gix_validate.specs.Private.TagWalk.{fault_of_byte_at, NoFaultBelow}
+use Rattle.gix_validate.proofs.TagNames.FaultTable.{at_first_offset_none, is_none-fault_of_byte, at_first_offset_split, at_first_found, quiet, offset_split, offset_of_byte}
 use Rattle.gix_validate.proofs.Texts.Endings.{ends_read, lock_read}
-use Rattle.gix_validate.proofs.TagNames.FaultTable.{is_none-fault_of_byte}
-use Rattle.gix_validate.proofs.TagNames.FaultsOfBytes.{at_first_offset_split}
 use Rattle.gix_validate.proofs.TagNames.Grammar.{tag_grammar_law}
-use Rattle.std.proofs.lemmas.Grind.{common_steps}
 use Rattle.std.proofs.lemmas.Bool.Decides.{nat_tests}
-
--- a byte within the text
-pub inside : (x : List ℕ) (p c : ℕ) → 0 < c → get_or x p 0 ≡ c → p < length x
-inside x p c some e = grind (arith, common_steps)
+use Rattle.gix_validate.specs.declared.tag.NameError.{NameError}
+use Rattle.gix_validate.specs.declared.tag.NameError.TheVariants.{LockFileSuffix}
+use Rattle.gix_validate.specs.Faults.{first_of, at_first_offset, when}
 
 -- a byte that isn't suspect has no fault, where no dot or slash follows what it may not follow
 no_fault : (x : List ℕ) (i a : ℕ) → is_suspect a (get_or x i 0) ≡ false
@@ -41,36 +36,67 @@ pub no_lock : (x : List ℕ) (p : ℕ) → p ≤ length x → (5 ≤ p → is_su
 unfolding is_suspect
 no_lock x p within quiet = grind (arith, nat_tests, false_from_ne_true, lock_read, get_or-take, length-take)
 
-pub no_fault_first : (x : List ℕ) → is_suspect (byte "/") (get_or x 0 0) ≡ false → fault_of_byte_at x 0 ≡ None
-no_fault_first x quiet = no_fault x 0 (byte "/") quiet (λ none. grind arith) (λ slash. refl)
-
 -- no byte is suspect after the one before it
 pub pair_quiet : (x : List ℕ) (n k : ℕ) → NoneBelow (suspect_at x) n → k + 1 < n → is_suspect (get_or x k 0) (get_or x (k + 1) 0) ≡ false
 pair_quiet x n k quiet below = rw (add-one k) (rw (add-one k) at (quiet (k + 1) below))
 
 -- Bytes that aren't suspect have no fault.
-pub none_to_suspect : (x : List ℕ) (n : ℕ) → n ≤ length x → NoneBelow (suspect_at x) n → NoFaultBetween x 0 n
-none_to_suspect x n within quiet p from to = elim (cases_lt p 1) [
-  | inl start ↦ let here : p ≡ 0 = omega arith in ap (fault_of_byte_at x) here ∙ no_fault_first x (quiet 0 (omega arith))
-  | inr later ↦
-      let next : p - 1 + 1 ≡ p = omega arith in
-      no_fault x p (get_or x (p - 1) 0) (rw next at (pair_quiet x n (p - 1) quiet (omega arith)))
-      (λ other. grind (arith, nat_tests, last_read))
-      (λ slash. no_lock x p (omega arith) (λ five. pair_quiet x n (p - 5) quiet (omega arith)))
-]
+pub none_to_suspect : (x : List ℕ) (n : ℕ) → n ≤ length x → NoneBelow (suspect_at x) n → NoFaultBelow x n
+none_to_suspect x n within quiet zero to = no_fault x 0 (byte "/") (quiet 0 to) (λ none. grind arith) (λ slash. refl)
+none_to_suspect x n within quiet (suc p) to = no_fault x (suc p) (get_or x p 0) (quiet (suc p) to)
+    (λ other. grind (arith, last_read x (suc p)))
+    (λ slash. no_lock x (suc p) (omega arith) (λ five. pair_quiet x n (suc p - 5) quiet (omega arith)))
 
 pub clear_has_no_fault : (x : List ℕ) → IsClear x → fault_of x ≡ None
 unfolding fault_of is_suspect
-clear_has_no_fault [] clear = absurd (omega (arith, clear.some))
-clear_has_no_fault (b ∷ x) clear =
-    let y = b ∷ x in
-    let n = length y in
-    let quiet = none_to_suspect y n (omega arith) clear.quiet in
-    let offsets = at_first_offset_none (fault_of_byte_at y) n (λ k small. quiet k (omega arith) small) in
-    let lock = no_lock y n (omega arith) (λ five. pair_quiet y n (n - 5) clear.quiet (omega arith)) in
-    grind (arith, nat_tests, take_all, at_first_offset_split y refl, offsets, lock, clear.end, clear.quiet 0 (omega arith))
+clear_has_no_fault x clear =
+    let n = length x in
+    let offsets = at_first_offset_none (fault_of_byte_at x) n (none_to_suspect x n (omega arith) clear.quiet) in
+    let lock = no_lock x n (omega arith) (λ five. pair_quiet x n (n - 5) clear.quiet (omega arith)) in
+    grind (arith, nat_tests, take_all, at_first_offset_split, offsets, lock, clear.end, clear.some, clear.quiet 0)
 
 -- A clear text of two bytes or more is a partial name.
 pub clear_is_partial : (x : List ℕ) → 1 < length x → IsClear x → is_partial_name x ≡ true
 unfolding is_partial_name
 clear_is_partial x long clear = grind (arith, tag_grammar_law, clear_has_no_fault, bytes_eq-Decides)
+
+-- ---- the walk to the least offset
+
+pub none_more : (x : List ℕ) (j : ℕ) → NoFaultBelow x j → fault_of_byte_at x j ≡ None → NoFaultBelow x (j + 1)
+none_more x j none here p to = elim (cases_lt p j) [ inl early ↦ none p early | inr last ↦ grind (arith, here) ]
+
+-- Where none has a fault by what is before it, the last line of the table says the fault. (A text that ends in `.lock` is longer, or is that.)
+pub fault_none : (x : List ℕ) (n : ℕ) → (n ≡ length x) × (0 < n) → NoFaultBelow x n → at_first_offset (λ i. first_of (faults_at x i)) (length x)
+    ≡ when (ends x (codes ".lock") && not (eqb (length x) 5)) LockFileSuffix
+fault_none x n all none = grind (arith, nat_tests, at_first_offset_none, at_first_offset_split, bytes_eq-Decides)
+
+pub offset_none : (x : List ℕ) → 0 < length x → NoFaultBelow x (length x)
+    → at_first_offset (offset_at x) (length x) ≡ when (ends x (codes ".lock") && not (eqb (length x) 5)) (length x - 1)
+offset_none x some none = grind (arith, nat_tests, at_first_offset_none, offset_split, bytes_eq-Decides)
+
+-- and else the first that has one
+pub fault_found : (x : List ℕ) (j : ℕ) (a : NameError) → j < length x → NoFaultBelow x j → fault_of_byte_at x j ≡ Some a
+    → at_first_offset (λ i. first_of (faults_at x i)) (length x) ≡ Some a
+fault_found x j a small none here =
+    let found = at_first_found (fault_of_byte_at x) j (length x) a small none here in
+    grind (arith, at_first_offset_split, found)
+
+pub offset_found : (x : List ℕ) (j : ℕ) (a : NameError) → j < length x → NoFaultBelow x j → fault_of_byte_at x j ≡ Some a
+    → at_first_offset (offset_at x) (length x) ≡ Some j
+offset_found x j a small none here =
+    let found = at_first_found (offset_of_byte x) j (length x) j small (λ k less. grind (arith, none k less)) (grind (arith, here)) in
+    grind (arith, offset_split, found)
+
+-- what is found is within the text
+offset_below : (x : List ℕ) (n i : ℕ) → at_first_offset (offset_at x) n ≡ Some i → i < n
+unfolding at_first_offset
+offset_below x zero i found = grind arith
+offset_below x (suc n) i found = grind (arith, offset_below x n i)
+
+pub offset_within : (x : List ℕ) (i : ℕ) → fault_offset_of x ≡ Some i → i ≤ length x - 1
+unfolding fault_offset_of
+offset_within x i found = grind (arith, offset_below x (length x))
+
+pub ruleset least_fault = (none_more, quiet)
+
+pub ruleset least_offset = (none_more, offset_none, offset_found, quiet)

@@ -1,15 +1,52 @@
--- The table of the faults at a offset: what each byte may have of them.
-use Rattle.std.proofs.Common.{◌≡◌, ℕ, ◌<◌, Bool, false, not, ◌&&◌, eqb, List, take, get_or, true, refl, Option, None}
-use Rattle.std.proofs.lemmas.Bool.{agree_below_at}
-use Rattle.std.specs.Str.{byte}
+-- The table of the faults at an offset: what each byte may have of them, and, along a text, its last line apart.
+use Rattle.std.proofs.Common.{◌≡◌, ℕ, ◌<◌, Bool, false, not, ◌&&◌, eqb, List, take, get_or, true, refl, Option, None, zero, suc, ◌+◌, ◌-◌, ◌≤◌, [], ◌∷◌, ◌++◌, length, arith, Some}
+use Rattle.std.proofs.lemmas.Bool.{agree_below_at, cases_lt}
+use Rattle.std.specs.Str.{byte, bytes_eq}
 use Rattle.gix_validate.specs.declared.bytes.TheConstants.{MAY_BE_FAULTY}
 use Rattle.gix_validate.specs.Private.TagWalk.{may_be_faulty, fault_of_byte, fault_of_byte_at}
-use Rattle.std.specs.Prelude.{codes, is_none}
-use Rattle.gix_validate.specs.Bytes.{is_bad, ends}
-use Rattle.gix_validate.specs.Faults.{when, ◌orelse◌}
-use Rattle.gix_validate.specs.Tag.{fault_table}
+use Rattle.std.specs.Prelude.{codes, is_none, is_some}
+use Rattle.gix_validate.specs.Bytes.{is_bad, ends, is_empty}
+use Rattle.gix_validate.specs.Faults.{when, ◌orelse◌, first_of, at_first_offset}
+use Rattle.gix_validate.specs.Tag.{fault_table, faults_at, offset_at}
 use Rattle.gix_validate.proofs.Texts.Endings.{ends_read, lock_read}
-use native.Mathlib.Omega.{arith}
+use Rattle.std.proofs.lemmas.List.{append-nil, append_assoc, take_all, take_more, drop_all, length-drop}
+use Rattle.gix_validate.specs.declared.tag.NameError.{NameError}
+use Rattle.gix_validate.specs.declared.tag.NameError.TheVariants.{LockFileSuffix}
+use Rattle.std.proofs.lemmas.Bool.Decides.{nat_tests}
+
+-- ---- the least offset at which a function gives something
+
+pub orelse_assoc : {A : Type 0} (a b c : Option A) → ((a orelse b) orelse c) ≡ (a orelse (b orelse c))
+orelse_assoc a b c = grind arith
+
+pub at_first_offset_more : {A : Type 0} (f : ℕ → Option A) (n : ℕ) → at_first_offset f (suc n) ≡ (at_first_offset f n orelse f n)
+unfolding at_first_offset
+at_first_offset_more f n = refl
+
+-- nothing is found where no offset has something
+pub at_first_offset_none : {A : Type 0} (f : ℕ → Option A) (n : ℕ) → ((k : ℕ) → k < n → f k ≡ None) → at_first_offset f n ≡ None
+unfolding at_first_offset
+at_first_offset_none f zero h = refl
+at_first_offset_none f (suc n) h = grind (arith, at_first_offset_none f n)
+
+-- equal functions give the same
+pub at_first_offset_same : {A : Type 0} (f g : ℕ → Option A) (n : ℕ) → ((i : ℕ) → i < n → f i ≡ g i) → at_first_offset f n ≡ at_first_offset g n
+unfolding at_first_offset
+at_first_offset_same f g zero h = refl
+at_first_offset_same f g (suc n) h = grind (arith, at_first_offset_same f g n)
+
+-- equal functions, but for what the last offset has more
+pub at_first_offset_last : {A : Type 0} (f g : ℕ → Option A) (n : ℕ) (last : Option A) → ((i : ℕ) → i < n → f i ≡ g i) → f n ≡ (g n orelse last)
+    → at_first_offset f (suc n) ≡ (at_first_offset g (suc n) orelse last)
+at_first_offset_last f g n last same end = grind (arith, at_first_offset_more, orelse_assoc, at_first_offset_same f g n same)
+
+-- the first that has something is found
+pub at_first_found : {A : Type 0} (f : ℕ → Option A) (n m : ℕ) (a : A) → n < m → ((k : ℕ) → k < n → f k ≡ None) → f n ≡ Some a → at_first_offset f m ≡ Some a
+unfolding at_first_offset
+at_first_found f n zero a within none here = absurd (omega arith)
+at_first_found f n (suc m) a within none here = grind (arith, cases_lt n m, at_first_offset_none f n none, at_first_found f n m a)
+
+-- ---- the faults of bytes
 
 -- a text that doesn't end in `k` doesn't end in `.lock`
 pub lock_ends_in_k : (y : List ℕ) → ends y (codes "k") ≡ false → ends y (codes ".lock") ≡ false
@@ -34,3 +71,61 @@ faulty_tabled b small = agree_below_at (λ b. get_or MAY_BE_FAULTY b false) may_
 
 pub quiet : (x : List ℕ) (i : ℕ) → may_be_faulty (get_or x i 0) ≡ false → fault_of_byte_at x i ≡ None
 quiet x i h = grind (arith, is_none-fault_of_byte (take i x) (get_or x i 0))
+
+-- the text ends in `.lock`, and isn't that alone
+abbrev pub has_lock_suffix : List ℕ → Bool
+has_lock_suffix x = ends x (codes ".lock") && not (bytes_eq x (codes ".lock"))
+
+first_of-more : (t1 t2 t3 t4 t5 t6 t7 t8 : Option NameError)
+    → first_of (t1 ∷ t2 ∷ t3 ∷ t4 ∷ t5 ∷ t6 ∷ t7 ∷ t8 ∷ []) ≡ (first_of (t1 ∷ t2 ∷ t3 ∷ t4 ∷ t5 ∷ t6 ∷ t7 ∷ None ∷ []) orelse t8)
+first_of-more t1 t2 t3 t4 t5 t6 t7 t8 = grind arith
+
+fault_inside : (x : List ℕ) (i : ℕ) → i + 1 < length x → first_of (faults_at x i) ≡ fault_of_byte_at x i
+unfolding faults_at fault_of_byte fault_table
+fault_inside x i small = grind (arith, nat_tests, length-drop (i + 1) x)
+
+-- at the end of the text the last line comes after them
+fault_at_end : (x : List ℕ) (i : ℕ) → i + 1 ≡ length x → first_of (faults_at x i) ≡ (fault_of_byte_at x i orelse when (has_lock_suffix x) LockFileSuffix)
+unfolding faults_at fault_of_byte fault_table
+fault_at_end x i last = grind (arith, first_of-more, take_more, take_all, drop_all)
+
+-- The fault at the least offset: by the lines that look back alone, and then the last line.
+pub at_first_offset_split : (x : List ℕ) → is_empty x ≡ false
+    → at_first_offset (λ i. first_of (faults_at x i)) (length x)
+    ≡ (at_first_offset (fault_of_byte_at x) (length x) orelse when (has_lock_suffix x) LockFileSuffix)
+at_first_offset_split [] some = grind arith
+at_first_offset_split (b ∷ x) some = at_first_offset_last (λ i. first_of (faults_at (b ∷ x) i)) (fault_of_byte_at (b ∷ x)) (length x) _
+    (λ i small. fault_inside (b ∷ x) i (omega arith)) (fault_at_end (b ∷ x) (length x) (omega arith))
+
+-- the offset, if it has a fault by what is before it
+abbrev pub offset_of_byte : List ℕ → ℕ → Option ℕ
+offset_of_byte x i = when (is_some (fault_of_byte_at x i)) i
+
+some_orelse : (o : Option NameError) (t : Bool) (i : ℕ)
+    → when (is_some (o orelse when t LockFileSuffix)) i ≡ (when (is_some o) i orelse when t i)
+some_orelse o t i = grind arith
+
+-- The same of the offsets.
+pub offset_split : (x : List ℕ) → is_empty x ≡ false
+    → at_first_offset (offset_at x) (length x) ≡ (at_first_offset (offset_of_byte x) (length x) orelse when (has_lock_suffix x) (length x - 1))
+offset_split [] some = grind arith
+offset_split (b ∷ x) some = at_first_offset_last (offset_at (b ∷ x)) (offset_of_byte (b ∷ x)) (length x) _
+    (λ i small. grind (arith, fault_inside (b ∷ x) i)) (grind (arith, fault_at_end (b ∷ x) (length x), some_orelse))
+
+-- the faults from here on, what is before growing by each byte
+unfoldable pub walked : List ℕ → List ℕ → Option NameError
+walked before [] = None
+walked before (b ∷ x) = fault_of_byte before b orelse walked (before ++ b ∷ []) x
+
+walked_push : (before x : List ℕ) (b : ℕ) → walked before (x ++ b ∷ []) ≡ (walked before x orelse fault_of_byte (before ++ x) b)
+unfolding walked
+walked_push before [] b = grind (arith, append-nil)
+walked_push before (c ∷ x) b = grind (arith, append_assoc, walked_push (before ++ c ∷ []) x b)
+
+walked_offsets : (x : List ℕ) (n : ℕ) → n ≤ length x → at_first_offset (fault_of_byte_at x) n ≡ walked [] (take n x)
+unfolding walked
+walked_offsets x zero h = at_first_offset_none (fault_of_byte_at x) zero (λ k small. absurd (omega arith))
+walked_offsets x (suc n) h = grind (arith, at_first_offset_more, take_more, walked_push [] (take n x), walked_offsets x n)
+
+pub at_first_offset_walked : (x : List ℕ) → at_first_offset (fault_of_byte_at x) (length x) ≡ walked [] x
+at_first_offset_walked x = grind (arith, take_all, walked_offsets)

@@ -1,18 +1,18 @@
 -- A text is a tag name if and only if it has no fault.
 use Rattle.std.proofs.Common.{◌≡◌, ℕ, zero, suc, length, Bool, true, false, not, ◌&&◌, ◌||◌, cond, eqb, List, [], ◌∷◌, ◌++◌, refl}
 use Rattle.std.proofs.lemmas.List.{append-nil, append_assoc}
+use Rattle.std.proofs.lemmas.List.Folds.{list_any-append}
 use Rattle.std.specs.Prelude.{codes, is_none, ◌==◌}
 use Rattle.std.specs.List.{list_all, list_any}
 use Rattle.std.specs.Str.{byte}
 use Rattle.gix_validate.specs.Bytes.{is_bad, is_empty, begins, ends, holds}
-use Rattle.gix_validate.specs.Pieces.{is_slash, pieces}
+use Rattle.gix_validate.specs.Pieces.{is_slash, pieces, has_no_slash}
 use Rattle.gix_validate.specs.Private.TagWalk.{fault_of_byte}
 use Rattle.gix_validate.specs.Tag.{is_good_piece, is_tag_name, fault_of, fault_offset_of, faults_at, offset_at}
 use Rattle.gix_validate.specs.Faults.{first_of, at_first_offset}
 use Rattle.gix_validate.proofs.Texts.Pieces.{pieces_front, pieces_alone}
-use Rattle.gix_validate.proofs.Texts.Endings.{last_piece, last_piece_nothing, last_piece_push, ends_last_piece, slash_last, last_piece_apart, ends_cons}
-use Rattle.gix_validate.proofs.TagNames.FaultTable.{is_none-when, is_none-fault_of_byte}
-use Rattle.gix_validate.proofs.TagNames.FaultsOfBytes.{walked, has_lock_suffix, at_first_offset_split, at_first_offset_walked}
+use Rattle.gix_validate.proofs.Texts.Endings.{last_piece, last_piece_push, ends_last_piece, slash_last, last_piece_apart, ends_cons}
+use Rattle.gix_validate.proofs.TagNames.FaultTable.{is_none-when, is_none-fault_of_byte, walked, has_lock_suffix, at_first_offset_split, at_first_offset_walked}
 use native.Mathlib.Omega.{arith}
 use Rattle.std.proofs.lemmas.Bool.Decides.{nat_tests}
 
@@ -36,10 +36,6 @@ good_piece_parts : (p : List ℕ) → is_good_piece p ≡ (goes_on p && may_end 
 unfolding is_good_piece goes_on may_end is_refused
 good_piece_parts p = grind arith
 
-list_any_push : (f : ℕ → Bool) (p : List ℕ) (b : ℕ) → list_any f (p ++ b ∷ []) ≡ (list_any f p || f b)
-list_any_push f [] b = grind arith
-list_any_push f (a ∷ p) b = grind (arith, list_any_push f p b)
-
 -- a part of two bytes is in the text already, or comes with the new byte
 holds_push : (p : List ℕ) (b a c : ℕ) → holds (p ++ b ∷ []) (a ∷ c ∷ []) ≡ (holds p (a ∷ c ∷ []) || (ends p (a ∷ []) && eqb c b))
 holds_push [] b a c = grind arith
@@ -52,16 +48,17 @@ goes_on_regrouped a x g c e k d f m = grind arith
 
 goes_on_push : (p : List ℕ) (b : ℕ) → goes_on (p ++ b ∷ []) ≡ (goes_on p && not (breaks p b))
 unfolding goes_on breaks
-goes_on_push p b = grind (arith, nat_tests, list_any_push, holds_push, goes_on_regrouped)
+goes_on_push p b =
+    let any : list_any is_refused (p ++ b ∷ []) ≡ (list_any is_refused p || is_refused b) = grind (arith, list_any-append is_refused p) in
+    grind (arith, nat_tests, any, holds_push, goes_on_regrouped)
 
 -- The table says no more of a byte than the piece before it does.
 no_fault_of_byte : (y : List ℕ) (b : ℕ) → is_empty y ≡ false
     → is_none (fault_of_byte y b) ≡ cond (is_slash b) (may_end (last_piece y)) (not (breaks (last_piece y) b))
 unfolding breaks is_refused is_bad may_end
 no_fault_of_byte y b some =
-    let dot = ends_last_piece (codes ".") refl y in
-    let at = ends_last_piece (codes "@") refl y in
-    grind (arith, nat_tests, is_none-fault_of_byte, slash_last, dot, at, ends_last_piece (codes ".lock") refl y)
+    let end = λ (f : List ℕ) (apart : has_no_slash f ≡ true). ends_last_piece f apart y in
+    grind (arith, nat_tests, is_none-fault_of_byte, slash_last, end (codes ".") refl, end (codes "@") refl, end (codes ".lock") refl)
 
 nothing_goes_on : goes_on [] ≡ true
 unfolding goes_on
@@ -79,9 +76,8 @@ walked_good y (b ∷ x) some =
 -- From the first byte on, which is neither a slash nor a dot.
 begun_good : (b : ℕ) (x : List ℕ) → list_all is_good_piece (pieces (b ∷ x))
     ≡ ((not (eqb b (byte "/")) && not (eqb b (byte "."))) && (is_none (walked [] (b ∷ x)) && may_end (last_piece (b ∷ x))))
-unfolding walked is_good_piece breaks is_refused
-begun_good b x =
-    grind (arith, walked_good (b ∷ []) x refl, last_piece_push [] b, last_piece_nothing, goes_on_push [] b, nothing_goes_on, is_none-fault_of_byte [] b)
+unfolding walked is_good_piece breaks is_refused last_piece
+begun_good b x = grind (arith, walked_good (b ∷ []) x refl, last_piece_push [] b, goes_on_push [] b, nothing_goes_on, is_none-fault_of_byte [] b)
 
 is_none-parts : (x : List ℕ) → is_empty x ≡ false → is_none (fault_of x) ≡ (not (ends x (codes "/")) && (not (begins x (codes "/"))
     && ((is_none (walked [] x) && not (has_lock_suffix x)) && (not (begins x (codes ".")) && not (ends x (codes "."))))))

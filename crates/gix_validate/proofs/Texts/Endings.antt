@@ -35,10 +35,6 @@ unfoldable pub last_piece : List ℕ → List ℕ
 last_piece [] = []
 last_piece (b ∷ x) = cond (has_no_slash x) (cond (is_slash b) x (b ∷ x)) (last_piece x)
 
-pub last_piece_nothing : last_piece [] ≡ []
-unfolding last_piece
-last_piece_nothing = refl
-
 pub last_piece_push : (y : List ℕ) (b : ℕ) → last_piece (y ++ b ∷ []) ≡ cond (is_slash b) [] (last_piece y ++ b ∷ [])
 unfolding last_piece
 last_piece_push [] b = grind arith

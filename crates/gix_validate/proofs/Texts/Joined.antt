@@ -1,7 +1,6 @@
 -- Pieces and joined texts: each gives the other back.
-use Rattle.std.proofs.Common.{◌≡◌, ℕ, ◌+◌, ◌-◌, ◌<◌, suc, true, false, List, [], ◌∷◌, ◌++◌, length, take, refl, ap, ◌∙◌, arith, length-append, append_assoc}
+use Rattle.std.proofs.Common.{◌≡◌, ℕ, ◌-◌, ◌<◌, true, false, List, [], ◌∷◌, ◌++◌, length, refl, arith, length-append, append_assoc}
 use Rattle.std.proofs.Math.Seq.{take-append-add}
-use Rattle.std.specs.Prelude.{codes}
 use Rattle.std.specs.List.{list_all}
 use Rattle.std.specs.Str.{byte}
 use Rattle.gix_validate.specs.Bytes.{is_empty}
@@ -13,25 +12,20 @@ use Rattle.std.proofs.lemmas.Bool.Decides.{nat_tests}
 
 -- Good pieces stay good with a dash for the last byte of the last of them.
 pub dash_last_of-good : (ps : List (List ℕ)) → list_all is_good_piece ps ≡ true → list_all is_good_piece (dash_last_of ps) ≡ true
-dash_last_of-good [] h = grind arith
-dash_last_of-good (p ∷ []) h = grind (arith, dash_last-good)
-dash_last_of-good (p ∷ q ∷ ps) h = grind (arith, dash_last_of-good (q ∷ ps))
+dash_last_of-good [] h = refl
+dash_last_of-good (p ∷ ps) h = grind (arith, dash_last-good, dash_last_of-good ps)
 
 pub dash_last_of-apart : (ps : List (List ℕ)) → list_all has_no_slash ps ≡ true → list_all has_no_slash (dash_last_of ps) ≡ true
-dash_last_of-apart [] h = grind arith
-dash_last_of-apart (p ∷ []) h = grind (arith, dash_last-apart)
-dash_last_of-apart (p ∷ q ∷ ps) h = grind (arith, dash_last_of-apart (q ∷ ps))
+dash_last_of-apart [] h = refl
+dash_last_of-apart (p ∷ ps) h = grind (arith, dash_last-apart, dash_last_of-apart ps)
 
 pub length-dash_last_of : (ps : List (List ℕ)) → length (dash_last_of ps) ≡ length ps
 length-dash_last_of [] = refl
-length-dash_last_of (p ∷ []) = refl
-length-dash_last_of (p ∷ q ∷ ps) = ap suc (length-dash_last_of (q ∷ ps))
+length-dash_last_of (p ∷ ps) = grind (arith, length-dash_last_of ps)
 
 -- a text with more in front
 dash_after : (s t : List ℕ) → 0 < length t → dash_last (s ++ t) ≡ s ++ dash_last t
-dash_after s t some =
-    let n : length (s ++ t) - 1 ≡ length s + (length t - 1) = omega (arith, length-append s t) in
-    ap (λ v. take v (s ++ t) ++ codes "-") n ∙ grind (arith, take-append-add, append_assoc)
+dash_after s t some = grind (arith, length-append s t, take-append-add s t (length t - 1), append_assoc)
 
 joined_some : (p : List ℕ) (ps : List (List ℕ)) → is_empty p ≡ false → 0 < length (joined (p ∷ ps))
 joined_some p ps h = grind (arith, nat_tests)
@@ -47,7 +41,6 @@ dash_last_of-cons q (p ∷ ps) = (_, _, refl)
 pub joined-dash_last_of : (p : List ℕ) (ps : List (List ℕ)) → list_all is_good_piece (p ∷ ps) ≡ true
     → joined (dash_last_of (p ∷ ps)) ≡ dash_last (joined (p ∷ ps))
 joined-dash_last_of p [] h = refl
-joined-dash_last_of p (q ∷ []) h = grind (arith, good_nonempty, joined_some q [], dash_after p (byte "/" ∷ q), dash_after (byte "/" ∷ []) q)
-joined-dash_last_of p (q ∷ r ∷ ps) h =
-    let t = joined (q ∷ r ∷ ps) in
-    grind (arith, joined_some q (r ∷ ps), dash_after p (byte "/" ∷ t), dash_after (byte "/" ∷ []) t, joined-dash_last_of q (r ∷ ps))
+joined-dash_last_of p (q ∷ ps) h =
+    let t = joined (q ∷ ps) in
+    grind (arith, good_nonempty, joined_some q ps, dash_after p (byte "/" ∷ t), dash_after (byte "/" ∷ []) t, joined-dash_last_of q ps)

@@ -5,6 +5,7 @@ use Rattle.std.specs.List.{list_any, list_all, prefix_len, before_first}
 use Rattle.std.specs.Str.{byte, bytes_eq}
 use Rattle.std.proofs.lemmas.Bool.{cases_lt, agree_below, agree_below_at, and_parts}
 use Rattle.std.proofs.lemmas.List.{length-map, take-map, drop-map}
+use Rattle.std.proofs.lemmas.Slice.Eq.{bytes_eq-Decides}
 use mathlib.Core.List.{reverse_aux}
 use Rattle.gix_validate.specs.Bytes.{lower_byte, lower, ends, begins}
 use Rattle.gix_validate.specs.Ntfs.{without_end}
@@ -19,10 +20,7 @@ pub eqb_turned : (a b : ℕ) → eqb a b ≡ eqb b a
 eqb_turned a b = grind arith
 
 bytes_eq-turned : (x y : List ℕ) → bytes_eq x y ≡ bytes_eq y x
-bytes_eq-turned [] [] = refl
-bytes_eq-turned [] (b ∷ y) = refl
-bytes_eq-turned (a ∷ x) [] = refl
-bytes_eq-turned (a ∷ x) (b ∷ y) = rw (eqb_turned a b, bytes_eq-turned x y)
+bytes_eq-turned x y = grind (arith, bytes_eq-Decides)
 
 -- a text begins with a word where its front of that length is the word
 pub begins_word : (x word : List ℕ) → begins (lower x) (lower word) ≡ bytes_eq (lower (take (length word) x)) (lower word)
@@ -71,8 +69,7 @@ bytes_eq-lower [] none [] = refl
 bytes_eq-lower [] none (b ∷ x) = refl
 bytes_eq-lower (c ∷ word) none [] = refl
 bytes_eq-lower (c ∷ word) none (b ∷ x) =
-    let parts = and_parts _ _ none in
-    rw (test-lower_byte (λ a. nat_eq a c) parts.0 b, bytes_eq-lower word parts.1 x)
+    let parts = and_parts _ _ none in rw (test-lower_byte (λ a. nat_eq a c) parts.0 b, bytes_eq-lower word parts.1 x)
 
 reverse_aux-map : (x done : List ℕ) → reverse_aux (lower x) (lower done) ≡ lower (reverse_aux x done)
 reverse_aux-map [] done = refl

@@ -37,7 +37,7 @@ word_front cut trim keeps [] x ws plain = grind arith
 word_front cut trim keeps (w ∷ word) [] ws plain = grind arith
 word_front cut trim keeps (w ∷ word) (b ∷ x) ws plain = grind (arith, word_head, eqb_turned, word_front cut trim keeps word x ws)
 
--- ---- what is left of a form after a word
+-- what is left of a form after a word
 pub form_left : (cut trim : ℕ → Bool) (x : List ℕ) (i : ℕ) → i < length x
     → is_empty (form cut trim (drop i x)) ≡ cond (cut (get_or x i 0)) true (cond (trim (get_or x i 0)) (is_empty (form cut trim (drop (i + 1) x))) false)
 form_left cut trim x i h = grind (arith, common_steps, form_at)

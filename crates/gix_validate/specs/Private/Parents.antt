@@ -1,5 +1,5 @@
 -- Parts `..` of a submodule name, by the offsets where they begin.
-use Rattle.std.specs.Prelude.{◌≡◌, ℕ, ◌+◌, ◌-◌, ◌<◌, Bool, false, ◌==◌, ◌&&◌, ◌||◌, List, length, slice_index}
+use Rattle.std.specs.Prelude.{ℕ, ◌+◌, ◌-◌, Bool, ◌==◌, ◌&&◌, ◌||◌, List, length, slice_index}
 use Rattle.std.specs.Str.{byte}
 use Rattle.gix_validate.specs.Submodule.{is_separator}
 
@@ -9,7 +9,3 @@ is_parent_at x i =
     slice_index x i == byte "." && slice_index x (i + 1) == byte "."
     && (i == 0 || is_separator (slice_index x (i - 1)))
     && (i + 2 == length x || is_separator (slice_index x (i + 2)))
-
--- no part that is `..` begins before offset n
-abbrev pub NoParentBelow : List ℕ → ℕ → Type 0
-NoParentBelow x n = (k : ℕ) → k < n → is_parent_at x k ≡ false

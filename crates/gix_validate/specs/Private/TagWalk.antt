@@ -1,8 +1,8 @@
 -- The walk over a text that may be a tag name: the fault of each byte by what is before it.
-use Rattle.std.specs.Prelude.{◌≡◌, ℕ, ◌+◌, ◌-◌, ◌<◌, ◌≤◌, Bool, ◌||◌, List, [], ◌∷◌, codes, take, slice_index, Option, None}
+use Rattle.std.specs.Prelude.{◌≡◌, ℕ, ◌<◌, Bool, ◌||◌, List, [], ◌∷◌, codes, take, slice_index, Option, None}
 use Rattle.gix_validate.specs.declared.tag.NameError.{NameError}
 use Rattle.gix_validate.specs.Bytes.{is_bad, is_among}
-use Rattle.gix_validate.specs.Faults.{first_of, at_first_offset}
+use Rattle.gix_validate.specs.Faults.{first_of}
 use Rattle.gix_validate.specs.Tag.{fault_table}
 
 -- the byte may have a fault by what is before it; no other byte ever has one
@@ -17,10 +17,6 @@ fault_of_byte before b = first_of (fault_table before b (0 ∷ []))
 abbrev pub fault_of_byte_at : List ℕ → ℕ → Option NameError
 fault_of_byte_at x i = fault_of_byte (take i x) (slice_index x i)
 
--- the first such fault at the offsets from i on and before j
-unfoldable pub first_fault_between : List ℕ → ℕ → ℕ → Option NameError
-first_fault_between x i j = at_first_offset (λ k. fault_of_byte_at x (i + k)) (j - i)
-
--- no offset from i on and before j has a fault by what is before it
-abbrev pub NoFaultBetween : List ℕ → ℕ → ℕ → Type 0
-NoFaultBetween x i j = (p : ℕ) → i ≤ p → p < j → fault_of_byte_at x p ≡ None
+-- no offset before n has a fault by what is before it
+abbrev pub NoFaultBelow : List ℕ → ℕ → Type 0
+NoFaultBelow x n = (p : ℕ) → p < n → fault_of_byte_at x p ≡ None

@@ -1,5 +1,6 @@
-use Rattle.std.proofs.Common.{refl, sym, ◌∙◌, arith}
-use Rattle.gix_validate.proofs.Blocks.AdjacentBytes.{first_look, quiet_by_looks, clear_by_looks}
+use Rattle.std.proofs.Common.{arith, sym, ◌∙◌}
+use Rattle.std.proofs.lemmas.Bool.Decides.{nat_tests}
+use Rattle.gix_validate.proofs.Blocks.Lanes.{first_look, quiet_by_looks, clear_by_looks}
 use Rattle.gix_validate.proofs.adjacent.clear_front.Goals as goal
 
 pub returns-then-may_be_faulty-clause-all : goal.returns-then-may_be_faulty-clause-all
@@ -13,10 +14,4 @@ returns-in-None-clause-quiet c k below =
     quiet_by_looks c.args.text.now _ (sym c.may_be_faulty.ensures ∙ c.if-may_be_faulty.false) c.in-None.ensures k (omega (arith, below))
 
 pub returns-in-None-2 : goal.returns-in-None-2
-returns-in-None-2 c =
-    let clear = (clear_by_looks c.args.text.now c.requires).1 (
-      sym c.may_be_faulty.ensures ∙ c.if-may_be_faulty.false,
-      sym c.ends_in_break.ensures ∙ c.if-ends_in_break.false,
-      c.in-None-2.ensures,
-    ) in
-    record { within = omega arith; quiet = clear.quiet; all = (λ _. clear, λ _. refl) }
+returns-in-None-2 c = grind (arith, nat_tests, clear_by_looks)

@@ -1,18 +1,14 @@
-use Rattle.std.proofs.Common.{◌-◌, ◌||◌, length, sym, ap₂, ◌∙◌, arith, refl}
+use Rattle.std.proofs.Common.{◌-◌, ◌||◌, length, sym, ap₂, ◌∙◌, arith}
 use Rattle.gix_validate.proofs.Blocks.Parts.{any_in_chunk, any_with_chunk, any_to_end}
 use Rattle.gix_validate.proofs.scan.has.Goals as goal
 
 pub returns-then-four_have : goal.returns-then-four_have
 returns-then-four_have g c = any_in_chunk _ c.args.text.now c.loop-at.at 64 c.if-four_have.ensures
 
-pub loop-at-init : goal.loop-at-init
-loop-at-init g c = record { room = omega arith; none = refl }
-
 pub loop-at-preserved : goal.loop-at-preserved
-loop-at-preserved g c = record {
-  room = omega arith;
-  none = any_with_chunk _ c.args.text.now c.loop-at.at 64 ∙ ap₂ (λ s t. s || t) c.loop-at.invariant.none (sym c.if-four_have.ensures);
-}
+loop-at-preserved g c =
+    let none = any_with_chunk _ c.args.text.now c.loop-at.at 64 ∙ ap₂ (λ s t. s || t) c.loop-at.invariant.none (sym c.if-four_have.ensures) in
+    record { room = omega arith; none = none }
 
 pub returns : goal.returns
 returns g c =

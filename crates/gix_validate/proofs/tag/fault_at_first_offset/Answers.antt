@@ -1,19 +1,17 @@
--- The last line of the table, where no other applies.
 use Rattle.std.proofs.Common.{arith}
 use Rattle.std.proofs.lemmas.Bool.Decides.{nat_tests}
-use Rattle.gix_validate.proofs.TagNames.Offsets.{found_from}
+use Rattle.gix_validate.proofs.TagNames.ClearTexts.{fault_found, fault_none, none_to_suspect}
 use Rattle.gix_validate.proofs.tag.fault_at_first_offset.Goals as goal
 
+pub loop-offset-init : goal.loop-offset-init
+loop-offset-init c = none_to_suspect c.args.bytes.now _ c.clear_front-offset.ensures.within c.clear_front-offset.ensures.quiet
+
 pub returns-in-Some : goal.returns-in-Some
-returns-in-Some c =
-    let from = c.clear_front-from.ensures in grind (arith, found_from _ _ c.requires from.within from.quiet, c.in-Some.ensures)
+returns-in-Some c = grind (arith, fault_found c.args.bytes.now c.loop-offset.offset c.in-Some.fault (omega arith) c.loop-offset.invariant)
 
 pub returns-then-bytes-ne5 : goal.returns-then-bytes-ne5
 returns-then-bytes-ne5 c =
-    let from = c.clear_front-from.ensures in
-    grind (arith, nat_tests, found_from _ _ c.requires from.within from.quiet, c.in_default.ensures, c.if-ends_with.ensures.value)
+    grind (arith, nat_tests, fault_none c.args.bytes.now c.loop-offset.offset (omega arith) c.loop-offset.invariant, c.if-ends_with.ensures.value)
 
 pub returns : goal.returns
-returns c =
-    let from = c.clear_front-from.ensures in
-    grind (arith, nat_tests, found_from _ _ c.requires from.within from.quiet, c.in_default.ensures, c.else-ends_with.branch)
+returns c = grind (arith, nat_tests, fault_none c.args.bytes.now c.loop-offset.offset (omega arith) c.loop-offset.invariant)

@@ -1,6 +1,6 @@
 -- A name that is read byte by byte.
 use Rattle.std.proofs.Common.{◌≡◌, ℕ, ◌+◌, ◌<◌, Bool, false, ◌==◌, ◌&&◌, not, List, [], ◌∷◌, ◌++◌, Option, length, take, drop, get_or, true}
-use Rattle.std.proofs.Common.{Result, refl, ap, sym, ◌∙◌, arith, append_assoc}
+use Rattle.std.proofs.Common.{Result, ◌∙◌, arith, append_assoc}
 use Rattle.std.specs.Prelude.{option_map, OnErr}
 use Rattle.std.proofs.lemmas.Grind.{common_steps}
 use Rattle.std.specs.Str.{byte}
@@ -37,17 +37,11 @@ module _ (old items now bytes name : List ℕ) (escaped : Bool) (k : ℕ) (below
   pub byte_appended : (not escaped && get_or bytes k 0 == byte "\\") ≡ false → now ≡ items ++ get_or bytes k 0 ∷ []
       → IsAppended old items escaped (drop k bytes) name → IsAppended old now false (drop (k + 1) bytes) name
   byte_appended own is (front, done, whole) =
-      let next : unescaped escaped (drop k bytes) ≡ get_or bytes k 0 ∷ unescaped false (drop (k + 1) bytes) = rw (left_at k bytes below, own) refl in (
-        front ++ get_or bytes k 0 ∷ [],
-        is ∙ ap (λ xs. xs ++ get_or bytes k 0 ∷ []) done ∙ append_assoc old front (get_or bytes k 0 ∷ []),
-        append_assoc front (get_or bytes k 0 ∷ []) (unescaped false (drop (k + 1) bytes)) ∙ ap (λ xs. front ++ xs) (sym next) ∙ whole,
-      )
+      (front ++ get_or bytes k 0 ∷ [], grind (arith, append_assoc, is, done), grind (arith, append_assoc, rw (left_at k bytes below, own) at whole))
 
   pub backslash_passed : (not escaped && get_or bytes k 0 == byte "\\") ≡ true → now ≡ items
       → IsAppended old items escaped (drop k bytes) name → IsAppended old now true (drop (k + 1) bytes) name
-  backslash_passed escapes is (front, done, whole) =
-      let next : unescaped escaped (drop k bytes) ≡ unescaped true (drop (k + 1) bytes) = rw (left_at k bytes below, escapes) refl in
-      (front, is ∙ done, ap (λ xs. front ++ xs) (sym next) ∙ whole)
+  backslash_passed escapes is (front, done, whole) = (front, is ∙ done, rw (left_at k bytes below, escapes) at whole)
 
 -- what is known of an error
 pub on_err : {T E : Type 0} (r : Result T E) (P : Type 0) → P → OnErr r P

@@ -13,7 +13,7 @@ use Rattle.std.specs.List.{AllByRecursion, AllPairs, list_all, list_any}
 use Rattle.std.specs.Str.{byte}
 use Rattle.gitmodules.specs.Sections.{Header, Named, Unreadable, Other, is_never_in_name, is_blank, is_word_byte, closed, without_blanks, escaped_name}
 use Rattle.gitmodules.specs.Sections.{unescaped, named, quoted_header, header_after_word, header_after_bracket, begun, sections}
-use Rattle.gitmodules.specs.Spelled.{SpelledByte, IsSpelled, IsBlank, HeaderAt, ends_or_goes_on, is_other, spelled_name, name_of, IsEachNameSpelled, IsEachHeaderGiven}
+use Rattle.gitmodules.specs.Spelled.{SpelledByte, IsSpelled, IsBlank, IsSection, HeaderAt, ends_or_goes_on, is_other, spelled_name, name_of, IsEachNameSpelled, IsEachHeaderGiven}
 use Rattle.gitmodules.specs.Spelled.{IsInOrder}
 use Rattle.gitmodules.proofs.SpelledSections.{name_read, word_read, one_of_all, first_of_all}
 
@@ -94,34 +94,24 @@ quoted_is (b ∷ bytes) name is = grind (arith, nat_tests)
 after_word_is : (b : ℕ) (bytes name : List ℕ) → header_after_word (b ∷ bytes) ≡ Named name → IsBlank b × (quoted_header (without_blanks bytes) ≡ Named name)
 after_word_is b bytes name is = grind (arith, nat_tests)
 
-record AfterWord (bytes name : List ℕ) : Type 0 where
-  after : List ℕ
-  blanks : List ℕ
-  spelled : List SpelledByte
-  has_blanks : blanks ≢ []
-  are_blanks : AllByRecursion IsBlank blanks
-  are_spelled : AllByRecursion IsSpelled spelled
-  is_bytes : bytes ≡ blanks ++ byte "\"" ∷ (spelled_name spelled ++ byte "\"" ∷ byte "]" ∷ after)
-  is_name : name_of spelled ≡ name
-
-after_word : (bytes name : List ℕ) → header_after_word bytes ≡ Named name → AfterWord bytes name
-after_word [] name is = absurd (cc)
-after_word (b ∷ bytes) name is =
+after_word : (word bytes name : List ℕ) → map to_ascii_lowercase word ≡ codes "submodule" → header_after_word bytes ≡ Named name
+    → (after blanks : List ℕ) × (spelled : List SpelledByte) × IsSection word blanks spelled
+    × (bytes ≡ blanks ++ byte "\"" ∷ (spelled_name spelled ++ byte "\"" ∷ byte "]" ∷ after)) × (name_of spelled ≡ name)
+after_word word [] name is_word is = absurd (cc)
+after_word word (b ∷ bytes) name is_word is =
     let (blank, quoted) = after_word_is b bytes name is in
     let (quote, there) = quoted_is (without_blanks bytes) name quoted in
     let rest = drop 1 (without_blanks bytes) in
     let escaped = unwrap_or (escaped_name false rest) [] in
     let (some, own) = named_is (escaped_name false rest) name there in
-    let (ends, spelling, all) = name_spelled false rest escaped some in record {
-      after = drop (length escaped + 2) rest;
-      blanks = b ∷ blanks bytes;
-      spelled = spell false escaped;
-      has_blanks = λ none. cc;
-      are_blanks = (blank, are_blanks bytes);
-      are_spelled = all;
-      is_bytes = grind (arith, after_blanks bytes, ends, spelling, append_assoc);
-      is_name = grind (arith, name_read (spell false escaped) all, spelling);
-    }
+    let (ends, spelling, all) = name_spelled false rest escaped some in (
+      drop (length escaped + 2) rest,
+      b ∷ blanks bytes,
+      spell false escaped,
+      record { is_word = is_word; has_blanks = λ none. cc; are_blanks = (blank, are_blanks bytes); is_spelled = all },
+      grind (arith, after_blanks bytes, ends, spelling, append_assoc),
+      grind (arith, name_read (spell false escaped) all, spelling),
+    )
 
 after_bracket : (bytes : List ℕ) → header_after_bracket bytes ≢ Other
     → (map to_ascii_lowercase (take 9 bytes) ≡ codes "submodule") × (header_after_bracket bytes ≡ header_after_word (drop 9 bytes))
@@ -131,42 +121,27 @@ after_bracket bytes some = grind (arith, bytes_eq-Decides (map to_ascii_lowercas
 -- ---- a file
 
 -- where a section of some bytes begins in them
-record Begins (offset : ℕ) (bytes : List ℕ) (s : ℕ × Option (List ℕ)) : Type 0 where
-  before : List ℕ
-  after : List ℕ
-  is_bytes : bytes ≡ before ++ byte "[" ∷ after
-  is_offset : offset + length before ≡ s.0
-  is_begun : begun s.0 (header_after_bracket after) ≡ s ∷ []
-
-one_alone : (x s : ℕ × Option (List ℕ)) → Contains (x ∷ []) s → x ≡ s
-one_alone x s there = grind arith
-
-none_alone : (s : ℕ × Option (List ℕ)) → Contains [] s → ⊥
-none_alone s there = grind arith
+abbrev Begins : ℕ → List ℕ → ℕ × Option (List ℕ) → Type 0
+Begins offset bytes s =
+    (before after : List ℕ) × (bytes ≡ before ++ byte "[" ∷ after) × (offset + length before ≡ s.0) × (begun s.0 (header_after_bracket after) ≡ s ∷ [])
 
 begun_alone : (offset : ℕ) (header : Header) (s : ℕ × Option (List ℕ)) → Contains (begun offset header) s
     → (begun s.0 header ≡ s ∷ []) × (offset ≡ s.0)
-begun_alone offset (Named name) s there = grind (arith, one_alone (offset, Some name) s there)
-begun_alone offset Unreadable s there = grind (arith, one_alone (offset, None) s there)
-begun_alone offset Other s there = absurd (none_alone s there)
+begun_alone offset (Named name) s there = grind arith
+begun_alone offset Unreadable s there = grind arith
+begun_alone offset Other s there = absurd (grind arith)
 
 begins_here : (offset b : ℕ) (bytes : List ℕ) (s : ℕ × Option (List ℕ)) → b ≡ byte "[" → Contains (begun offset (header_after_bracket bytes)) s
     → Begins offset (b ∷ bytes) s
 begins_here offset b bytes s bracket there =
     let (alone, at) = begun_alone offset (header_after_bracket bytes) s there in
-    record { before = []; after = bytes; is_bytes = ap (λ d. d ∷ bytes) bracket; is_offset = omega arith; is_begun = alone }
+    ([], bytes, ap (λ d. d ∷ bytes) bracket, omega arith, alone)
 
 begins_later : (offset b : ℕ) (bytes : List ℕ) (s : ℕ × Option (List ℕ)) → Begins (offset + 1) bytes s → Begins offset (b ∷ bytes) s
-begins_later offset b bytes s later = record {
-  before = b ∷ later.before;
-  after = later.after;
-  is_bytes = ap (λ xs. b ∷ xs) later.is_bytes;
-  is_offset = omega (arith, later.is_offset);
-  is_begun = later.is_begun;
-}
+begins_later offset b bytes s (before, after, is_bytes, at, is_begun) = (b ∷ before, after, ap (λ xs. b ∷ xs) is_bytes, omega arith, is_begun)
 
 begins : (offset : ℕ) (bytes : List ℕ) (s : ℕ × Option (List ℕ)) → Contains (sections offset bytes) s → Begins offset bytes s
-begins offset [] s there = absurd (none_alone s there)
+begins offset [] s there = absurd (grind arith)
 begins offset (b ∷ bytes) s there =
     elim (cases_Bool (b == byte "[")) [
       | inl bracket ↦
@@ -189,20 +164,20 @@ some_begun offset header s is none = grind arith
 
 pub each_name_spelled : IsEachNameSpelled
 each_name_spelled file offset name there =
-    let at = begins 0 file (offset, Some name) there in
-    let (word, read) = after_bracket at.after (some_begun offset (header_after_bracket at.after) (offset, Some name) at.is_begun) in
-    let rest = after_word (drop 9 at.after) name (sym read ∙ named_begun offset (header_after_bracket at.after) name at.is_begun) in
-    let whole : file ≡ at.before ++ byte "[" ∷ (take 9 at.after ++ drop 9 at.after) = at.is_bytes ∙ rw take-append-drop refl in
-    record {
-      before = at.before;
-      after = rest.after;
-      word = take 9 at.after;
-      blanks = rest.blanks;
-      spelled = rest.spelled;
-      is_section = record { is_word = word; has_blanks = rest.has_blanks; are_blanks = rest.are_blanks; is_spelled = rest.are_spelled };
-      is_file = grind (arith, whole, rest.is_bytes, append_assoc);
-      is_offset = omega (arith, at.is_offset);
-      is_name = rest.is_name;
+    let (before, bytes, is_file, at, is_begun) = begins 0 file (offset, Some name) there in
+    let (word, read) = after_bracket bytes (some_begun offset (header_after_bracket bytes) (offset, Some name) is_begun) in
+    let (after, blanks, spelled, section, is_bytes, is_name) = after_word (take 9 bytes) (drop 9 bytes) name word
+    (sym read ∙ named_begun offset (header_after_bracket bytes) name is_begun) in
+    let whole : file ≡ before ++ byte "[" ∷ (take 9 bytes ++ drop 9 bytes) = is_file ∙ rw take-append-drop refl in record {
+      before = before;
+      after = after;
+      word = take 9 bytes;
+      blanks = blanks;
+      spelled = spelled;
+      is_section = section;
+      is_file = grind (arith, whole, is_bytes, append_assoc);
+      is_offset = omega arith;
+      is_name = is_name;
     }
 
 -- ---- each header is given
@@ -251,18 +226,17 @@ header_given file offset at =
 
 given_header : (file : List ℕ) (offset : ℕ) (name : Option (List ℕ)) → Contains (sections 0 file) (offset, name) → HeaderAt file offset
 given_header file offset name there =
-    let at = begins 0 file (offset, name) there in
-    let some = some_begun offset (header_after_bracket at.after) (offset, name) at.is_begun in
-    let (word, read) = after_bracket at.after some in
-    let whole : file ≡ at.before ++ byte "[" ∷ (take 9 at.after ++ drop 9 at.after) = at.is_bytes ∙ rw take-append-drop refl in
-    record {
-      before = at.before;
-      after = drop 9 at.after;
-      word = take 9 at.after;
+    let (before, bytes, is_file, at, is_begun) = begins 0 file (offset, name) there in
+    let some = some_begun offset (header_after_bracket bytes) (offset, name) is_begun in
+    let (word, read) = after_bracket bytes some in
+    let whole : file ≡ before ++ byte "[" ∷ (take 9 bytes ++ drop 9 bytes) = is_file ∙ rw take-append-drop refl in record {
+      before = before;
+      after = drop 9 bytes;
+      word = take 9 bytes;
       is_word = word;
       is_file = grind (arith, whole, append_assoc);
-      is_offset = omega (arith, at.is_offset);
-      is_not_other = header_is_none (drop 9 at.after) (λ none. some (read ∙ none));
+      is_offset = omega arith;
+      is_not_other = header_is_none (drop 9 bytes) (λ none. some (read ∙ none));
     }
 
 pub each_header_given : IsEachHeaderGiven

@@ -1,6 +1,7 @@
 -- The answer of a line from what it asks for, and the answers of a text from its first line.
 use Rattle.std.proofs.Common.{◌≡◌, ◌≢◌, ℕ, List, [], ◌∷◌, ◌++◌, false}
 use Rattle.std.proofs.Common.{Option, Some, None, IfSome, Result, MatchResult, codes, refl, sym, ap, ◌∙◌, append_assoc, append-nil, arith}
+use Rattle.std.specs.List.{AllByRecursion}
 use Rattle.std.specs.Str.{byte, bytes_eq}
 use Rattle.std.proofs.lemmas.Bool.{cond-false, false_from_ne_true}
 use Rattle.std.proofs.lemmas.Slice.Eq.{bytes_eq-Decides}
@@ -9,7 +10,7 @@ use Rattle.bstr.specs.BStr.{bstr_bytes}
 use Rattle.typed_names.specs.Names.{NewChecks}
 use Rattle.gix_validate.specs.Pieces.{names_in}
 use Rattle.check_names.specs.Lines.{line_end, lines, request_of}
-use Rattle.check_names.specs.Answers.{answer_of, answer_to, answers, kinds, unknown_kind, verdict}
+use Rattle.check_names.specs.Answers.{answer_by, answer_of, answer_to, answers, kinds, unknown_kind, verdict}
 use Rattle.std.proofs.lemmas.Bool.Decides.{nat_tests}
 use Rattle.std.proofs.lemmas.Grind.{common_steps}
 use Rattle.std.proofs.lemmas.List.{take_rest}
@@ -22,33 +23,31 @@ kind_and_name : (line : List ℕ) → IfSome (request_of line) (λ request. line
 kind_and_name [] = tt
 kind_and_name (b ∷ line) = grind (arith, nat_tests, kind_and_name line)
 
+abbrev Lacks : List ℕ → List ℕ → Type 0
+Lacks line front = (rest : List ℕ) → line ≢ front ++ rest
+
 -- a line that doesn't begin with a word and a space asks for another kind
-another-kind : (line word kind name : List ℕ) → ((rest : List ℕ) → line ≢ (word ++ byte " " ∷ []) ++ rest)
-    → line ≡ kind ++ byte " " ∷ name → bytes_eq kind word ≡ false
+another-kind : (line word kind name : List ℕ) → Lacks line (word ++ byte " " ∷ []) → line ≡ kind ++ byte " " ∷ name → bytes_eq kind word ≡ false
 another-kind line word kind name lacks is = false_from_ne_true _ (λ same.
     lacks name (is ∙ ap (λ front. front ++ byte " " ∷ name) ((bytes_eq-Decides kind word).0 same) ∙ sym (append_assoc word (byte " " ∷ []) name)))
 
+no-kind : (rows : List (List ℕ × (List ℕ → List ℕ))) (line kind name : List ℕ) → AllByRecursion (λ row. Lacks line (row.0 ++ byte " " ∷ [])) rows
+    → line ≡ kind ++ byte " " ∷ name → answer_by rows kind name ≡ unknown_kind
+no-kind [] line kind name lacks is = refl
+no-kind (row ∷ rows) line kind name (lacks, more) is =
+    cond-false _ _ _ (another-kind line row.0 kind name lacks is) ∙ no-kind rows line kind name more is
+
+asks_none : (line : List ℕ) (request : Option (List ℕ × List ℕ)) → AllByRecursion (λ row. Lacks line (row.0 ++ byte " " ∷ [])) kinds
+    → IfSome request (λ request. line ≡ request.0 ++ byte " " ∷ request.1) → answer_to request ≡ unknown_kind
+asks_none line None lacks is = refl
+asks_none line (Some (kind, name)) lacks is = no-kind kinds line kind name lacks is
+
 -- A line that begins with no kind and a space has the answer `unknown kind`.
-pub asked_otherwise : (line : List ℕ) → ((rest : List ℕ) → line ≢ codes "ref " ++ rest) → ((rest : List ℕ) → line ≢ codes "tag " ++ rest)
-    → ((rest : List ℕ) → line ≢ codes "partial " ++ rest) → ((rest : List ℕ) → line ≢ codes "branch " ++ rest)
-    → ((rest : List ℕ) → line ≢ codes "submodule " ++ rest)
-    → ((rest : List ℕ) → line ≢ codes "path " ++ rest) → ((rest : List ℕ) → line ≢ codes "symlink " ++ rest)
-    → ((rest : List ℕ) → line ≢ codes "device " ++ rest)
-    → ((rest : List ℕ) → line ≢ codes "sanitize " ++ rest) → answer_of line ≡ unknown_kind
+pub asked_otherwise : (line : List ℕ) → Lacks line (codes "ref ") → Lacks line (codes "tag ") → Lacks line (codes "partial ") → Lacks line (codes "branch ")
+    → Lacks line (codes "submodule ") → Lacks line (codes "path ") → Lacks line (codes "symlink ") → Lacks line (codes "device ")
+    → Lacks line (codes "sanitize ") → answer_of line ≡ unknown_kind
 unfolding answer_of kinds
-asked_otherwise line n1 n2 n3 n4 n5 n6 n7 n8 n9 = otherwise (request_of line) (kind_and_name line)
-  where
-    otherwise : (request : Option (List ℕ × List ℕ)) → IfSome request (λ request. line ≡ request.0 ++ byte " " ∷ request.1) → answer_to request ≡ unknown_kind
-    otherwise None is = refl
-    otherwise (Some (kind, name)) is = cond-false _ _ _ (another-kind line (codes "tag") kind name n2 is)
-        ∙ cond-false _ _ _ (another-kind line (codes "partial") kind name n3 is)
-        ∙ cond-false _ _ _ (another-kind line (codes "ref") kind name n1 is)
-        ∙ cond-false _ _ _ (another-kind line (codes "branch") kind name n4 is)
-        ∙ cond-false _ _ _ (another-kind line (codes "submodule") kind name n5 is)
-        ∙ cond-false _ _ _ (another-kind line (codes "path") kind name n6 is)
-        ∙ cond-false _ _ _ (another-kind line (codes "symlink") kind name n7 is)
-        ∙ cond-false _ _ _ (another-kind line (codes "device") kind name n8 is)
-        ∙ cond-false _ _ _ (another-kind line (codes "sanitize") kind name n9 is)
+asked_otherwise line n1 n2 n3 n4 n5 n6 n7 n8 n9 = asks_none line (request_of line) (n2, (n3, (n1, (n4, (n5, (n6, (n7, (n8, (n9, tt))))))))) (kind_and_name line)
 
 -- If a constructor of a typed name returns by this rule of faults, and its result is printed, the verdict of the rule was printed.
 pub verdict-of_kept : {Name E : Type 0} (kept : Name → BStr) (fault : List ℕ → Option E) (text_of : E → List ℕ) (text : BStr) (result : Result Name E)

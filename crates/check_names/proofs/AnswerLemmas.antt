@@ -68,16 +68,7 @@ pub answers-first : (text line rest : List ℕ) → lines text ≡ line ∷ line
 unfolding answers
 answers-first text line rest first = rw first
 
--- The answers written so far and those of the rest stay all answers when the first line of the rest is answered.
-pub answers-more : (written answer rest after all answered now : List ℕ) → answered ≡ written ++ answer → now ≡ answered ++ line_end ∷ []
-    → rest ≡ (answer ++ line_end ∷ []) ++ after → written ++ rest ≡ all → now ++ after ≡ all
-answers-more written answer rest after all answered now one ended first whole = grind (arith, nat_tests, append_assoc)
-
--- Where no text is left, all answers are written.
-pub answers-done : (written rest text : List ℕ) → rest ≡ [] → written ++ answers rest ≡ answers text → written ≡ answers text
-answers-done written rest text none whole = grind (arith, nat_tests, append-nil, answers_nil)
-
 -- what `first_line` and `answer_all` take from here
 pub ruleset first_of_lines = (take_rest, names_in-cut, names_in-last)
 
-pub ruleset all_answered = (common_steps, answers-first, answers-more, answers-done)
+pub ruleset all_answered = (common_steps, append_assoc, append-nil, answers-first, answers_nil)

@@ -3,7 +3,7 @@ use Rattle.std.proofs.Common.{◌≡◌, ℕ, ◌+◌, ◌<◌, ◌≤◌, List,
 use Rattle.std.proofs.Common.{append_assoc, length-append}
 use Rattle.std.proofs.lemmas.List.{map-append, length-map, drop-drop, take_more_set, take-append-le, drop-set-lt, take_rest}
 use Rattle.std.proofs.lemmas.Grind.{common_steps}
-use Rattle.gix_validate.proofs.Texts.NamesIn.{names_in-cut, names_in-last, names_in-none}
+use Rattle.gix_validate.proofs.Texts.NamesIn.{names_in-cut, names_in-none}
 
 -- of these names so many are done, and these are left; the numbers of those done that fit are written, and nothing else is
 pub record Written (number_of : List ℕ → ℕ) (names left : List (List ℕ)) (old new : List ℕ) (count : ℕ) : Type 0 where
@@ -50,4 +50,4 @@ module _ (number_of : List ℕ → ℕ) where
   }
 
 -- what `first_name` takes
-pub ruleset first_of_names = (take_rest, names_in-cut, names_in-last, names_in-none)
+pub ruleset first_of_names = (take_rest, names_in-cut, names_in-none)

@@ -125,8 +125,7 @@ abbrev Begins : ℕ → List ℕ → ℕ × Option (List ℕ) → Type 0
 Begins offset bytes s =
     (before after : List ℕ) × (bytes ≡ before ++ byte "[" ∷ after) × (offset + length before ≡ s.0) × (begun s.0 (header_after_bracket after) ≡ s ∷ [])
 
-begun_alone : (offset : ℕ) (header : Header) (s : ℕ × Option (List ℕ)) → Contains (begun offset header) s
-    → (begun s.0 header ≡ s ∷ []) × (offset ≡ s.0)
+begun_alone : (offset : ℕ) (header : Header) (s : ℕ × Option (List ℕ)) → Contains (begun offset header) s → (begun s.0 header ≡ s ∷ []) × (offset ≡ s.0)
 begun_alone offset (Named name) s there = grind arith
 begun_alone offset Unreadable s there = grind arith
 begun_alone offset Other s there = absurd (grind arith)
@@ -204,8 +203,7 @@ ends_word b =
 
 header_is_some : (bytes : List ℕ) → is_other bytes ≡ false → header_after_word bytes ≢ Other
 header_is_some [] some is = cc
-header_is_some (b ∷ bytes) some is =
-    grind (arith, nat_tests, quoted_is_some (without_blanks bytes), rw (ends_word b) at some)
+header_is_some (b ∷ bytes) some is = grind (arith, nat_tests, quoted_is_some (without_blanks bytes), rw (ends_word b) at some)
 
 header_is_none : (bytes : List ℕ) → header_after_word bytes ≢ Other → is_other bytes ≡ false
 header_is_none [] some = refl
@@ -244,11 +242,8 @@ each_header_given file offset = (header_given file offset, λ (name, there). giv
 
 -- ---- in order
 
-abbrev Comes : (ℕ × Option (List ℕ)) → (ℕ × Option (List ℕ)) → Type 0
-Comes a b = a.0 < b.0
-
 abbrev IsSorted : ℕ → List (ℕ × Option (List ℕ)) → Type 0
-IsSorted offset list = All (λ s. offset ≤ s.0) list × AllPairs Comes list
+IsSorted offset list = All (λ s. offset ≤ s.0) list × AllPairs (λ a b. a.0 < b.0) list
 
 sorted_by : (offset : ℕ) (header : Header) (rest : List (ℕ × Option (List ℕ))) → IsSorted (offset + 1) rest → IsSorted offset (begun offset header ++ rest)
 sorted_by offset (Named name) rest sorted = grind (arith, common_steps)
@@ -257,7 +252,8 @@ sorted_by offset Other rest sorted = (grind arith, sorted.1)
 
 sorted_from : (offset : ℕ) (bytes : List ℕ) → IsSorted offset (sections offset bytes)
 sorted_from offset [] = (λ k d below. absurd (omega arith), λ i j d lower below. absurd (omega arith))
-sorted_from offset (b ∷ bytes) = grind (arith, nat_tests, sorted_by offset (header_after_bracket bytes) _ (sorted_from (offset + 1) bytes), sorted_from (offset + 1) bytes)
+sorted_from offset (b ∷ bytes) =
+    let more = sorted_from (offset + 1) bytes in grind (arith, nat_tests, sorted_by offset (header_after_bracket bytes) _ more, more)
 
 pub in_order : IsInOrder
 in_order file = (sorted_from 0 file).1

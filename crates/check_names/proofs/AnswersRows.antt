@@ -4,21 +4,8 @@ use Rattle.std.specs.Prelude.{codes}
 use Rattle.gix_validate.proofs.OnLiterals.{names_on_literals, components_on_literals}
 use Rattle.gix_validate.proofs.Rows.Tables.{Gives}
 use Rattle.gix_validate.specs.Pieces.{names_in}
-use Rattle.check_names.specs.Lines.{lines, request_of}
+use Rattle.check_names.specs.Lines.{request_of}
 use Rattle.check_names.specs.Answers.{answer_of, answers, kinds}
-
--- texts, and their lines
-lines_of_texts : Gives lines
-    (([], [])  -- empty text
-    ∷ (codes "\n", [] ∷ [])  -- one empty line
-    ∷ (codes "\n\n", [] ∷ [] ∷ [])  -- two empty lines
-    ∷ (codes "a\n", codes "a" ∷ [])  -- one line
-    ∷ (codes "a", codes "a" ∷ [])  -- no line end
-    ∷ (codes "a\n\nb", codes "a" ∷ [] ∷ codes "b" ∷ [])  -- last without end
-    ∷ (codes "a\r\nb\r", codes "a\r" ∷ codes "b\r" ∷ [])  -- carriage return stays
-    ∷ [])
-unfolding names_in
-lines_of_texts = refl
 
 -- lines, and what they ask for
 requests : Gives request_of

@@ -1,5 +1,5 @@
 -- What a writer of text has after some writes, if each appends its text.
-use Rattle.std.proofs.Common.{◌≡◌, ℕ, List, [], ◌∷◌, ◌++◌, sym, ap, ◌∙◌, append_assoc, append-nil, subst, Option, Some, None, IfSome}
+use Rattle.std.proofs.Common.{◌≡◌, ℕ, List, [], ◌∷◌, ◌++◌, append_assoc, append-nil, subst, arith, Option, Some, None, IfSome}
 use Rattle.std.specs.List.{FoldsTo, concat}
 use Rattle.std.specs.Fmt.{WritesInCalls, WritesText, option_append}
 
@@ -9,10 +9,8 @@ module _ {W N : Type 0} (name : W → N) (contents : W → List ℕ) where
   Took before text after = (name after ≡ name before) × (contents after ≡ contents before ++ text)
 
   took_calls : (before : W) (texts : List (List ℕ)) (after : W) → FoldsTo Took before texts after → Took before (concat texts) after
-  took_calls before [] after same = (ap name (sym same), ap contents (sym same) ∙ sym (append-nil (contents before)))
-  took_calls before (text ∷ texts) after (next, one, more) =
-      let rest = took_calls next texts after more in
-      (rest.0 ∙ one.0, rest.1 ∙ ap (λ front. front ++ concat texts) one.1 ∙ append_assoc (contents before) text (concat texts))
+  took_calls before [] after same = grind (arith, append-nil)
+  took_calls before (text ∷ texts) after (next, one, more) = grind (arith, append_assoc, one, took_calls next texts after more)
 
   pub took_writes : (before : W) (text : List ℕ) (after : W) → WritesInCalls (λ s xs t. (name t ≡ name s) × (contents t ≡ contents s ++ xs)) before text after
       → (name after ≡ name before) × (contents after ≡ contents before ++ text)
@@ -23,6 +21,4 @@ module _ {W N : Type 0} (name : W → N) (contents : W → List ℕ) where
       → WritesText (λ s xs t. (name t ≡ name s) × (contents t ≡ contents s ++ xs)) before (option_append (Some front) text) after
       → IfSome text (λ printed. (name after ≡ name before) × (contents after ≡ contents before ++ front ++ printed))
   took_format before front None after written = tt
-  took_format before front (Some printed) after written =
-      let taken = took_writes before (front ++ printed) after written in
-      (taken.0, taken.1 ∙ sym (append_assoc (contents before) front printed))
+  took_format before front (Some printed) after written = grind (arith, append_assoc, took_writes before (front ++ printed) after written)

@@ -52,10 +52,6 @@ answer_to (Some request) = answer_by kinds request.0 request.1
 unfoldable pub answer_of : List ℕ → List ℕ
 answer_of line = answer_to (request_of line)
 
--- the answers of these lines, each followed by a line end
-abbrev pub answers_of : List (List ℕ) → List ℕ
-answers_of asked = flat_map (λ line. answer_of line ++ line_end ∷ []) asked
-
--- the answers of the lines of a text
+-- the answers of the lines of a text, each followed by a line end
 unfoldable pub answers : List ℕ → List ℕ
-answers text = answers_of (lines text)
+answers text = flat_map (λ line. answer_of line ++ line_end ∷ []) (lines text)

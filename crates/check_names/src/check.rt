@@ -104,6 +104,7 @@ fn write_once<W: Write>(bytes: &[u8], output: &mut W) -> Result<(), RunError>
 }
 
 /// The results for the lines of the input. It does not allocate if there is no line.
+#[tactic(auto, using(crate::proofs::AnswerLemmas::all_answered))]
 fn answer_all(alloc: Global, text: &[u8]) -> Result<Vec<u8>, AllocError>
     ensures ok { IfOk result (λ written. written.items ≡ answers text.now) }
     ensures err { OnErr result (text.now ≢ []) }
@@ -119,6 +120,7 @@ fn answer_all(alloc: Global, text: &[u8]) -> Result<Vec<u8>, AllocError>
 }
 
 /// The first line of the bytes, without its newline, and what follows it.
+#[tactic(auto, using(crate::proofs::AnswerLemmas::first_of_lines))]
 fn first_line(text: &[u8]) -> Option<(&[u8], &[u8])>
     ensures lines { MatchOption result (text.now ≡ [])
         (λ parts. lines text.now ≡ parts.0.now ∷ lines parts.1.now) }
@@ -135,6 +137,7 @@ fn first_line(text: &[u8]) -> Option<(&[u8], &[u8])>
 
 /// Appends the result for one line. Each kind takes a comparison for every kind before it, and full
 /// reference names come first.
+#[tactic(auto, using(crate::proofs::AnswerLemmas::asked_otherwise), unfolding(crate::specs::Answers::answer_of, crate::specs::Answers::kinds))]
 fn push_answer(alloc: Global, line: &[u8], answers: &mut Vec<u8>) -> Result<(), AllocError>
     ensures ok { OnOk result (answers.new.items ≡ answers.old.items ++ answer_of line.now) }
     ensures full { request_of line.now ≡ None → OnErr result

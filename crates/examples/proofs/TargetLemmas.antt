@@ -56,9 +56,7 @@ unnamed x es n d h below = λ same. grind (arith, fails_before_first (is_named x
 
 pub distinct_written : (x : List ℕ) (es : Entries) (i : ℕ) (t : ObjectId) → position (is_named x) es ≡ Some i → HasDistinctNames es
     → HasDistinctNames (set es i (x, t))
-distinct_written x es i t h distinct = λ j k d earlier within.
-    let same : (n : ℕ) → (get_or (set es i (x, t)) n d).0 ≡ (get_or es n d).0 = λ n. same_name x es i t n d h in
-    rw (same j, same k) (distinct j k d earlier (rw length-set at within))
+distinct_written x es i t h distinct = grind (arith, same_name, length-set)
 
 pub distinct_appended : (x : List ℕ) (es : Entries) (t : ObjectId) → position (is_named x) es ≡ None → HasDistinctNames es
     → HasDistinctNames (es ++ (x, t) ∷ [])

@@ -1,5 +1,5 @@
 -- The first `[` of bytes, as a search finds it, and the sections from there on.
-use Rattle.std.proofs.Common.{◌≡◌, ◌≢◌, ℕ, ◌+◌, List, [], ◌∷◌, ◌++◌, All, Option, Some, None, length, refl, take, drop, ap, ◌∙◌, arith}
+use Rattle.std.proofs.Common.{◌≡◌, ◌≢◌, ℕ, ◌+◌, List, [], ◌∷◌, ◌++◌, All, Option, Some, None, length, refl, take, drop, arith}
 use Rattle.std.proofs.Common.{length-take, get_or-take, eq-eqb}
 use Rattle.std.proofs.lemmas.List.Elements.{All-from_get_or, All-head, All-tail}
 use Rattle.std.proofs.lemmas.Bool.Decides.{nat_tests}
@@ -33,6 +33,4 @@ bracket_searched offset bytes (Some k) at =
     let cut : bytes ≡ take k bytes ++ byte "[" ∷ drop (k + 1) bytes = grind (arith, common_steps, nat_tests) in
     let none : All (λ b. b ≢ byte "[") (take k bytes) =
     All-from_get_or (λ b. b ≢ byte "[") (take k bytes) 0 (λ j below e. grind (arith, nat_tests, length-take, get_or-take, at.0.before j)) in
-    let size : length (take k bytes) ≡ k = grind (arith, length-take) in
-    ap (sections offset) cut ∙ found offset (take k bytes) (drop (k + 1) bytes) none
-    ∙ ap (λ n. begun (offset + n) (header_after_bracket (drop (k + 1) bytes)) ++ sections (offset + n + 1) (drop (k + 1) bytes)) size
+    grind (arith, cut, length-take, found offset (take k bytes) (drop (k + 1) bytes) none)

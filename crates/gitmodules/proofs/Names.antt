@@ -1,15 +1,15 @@
 -- A name that is read byte by byte.
-use Rattle.std.proofs.Common.{◌≡◌, ℕ, ◌+◌, ◌<◌, Bool, false, ◌==◌, ◌&&◌, not, List, [], ◌∷◌, ◌++◌, Option, Some, None, length, take, drop, get_or, true}
-use Rattle.std.proofs.Common.{Result, Ok, Err, refl, ap, sym, ◌∙◌, arith, append_assoc}
+use Rattle.std.proofs.Common.{◌≡◌, ℕ, ◌+◌, ◌<◌, Bool, false, ◌==◌, ◌&&◌, not, List, [], ◌∷◌, ◌++◌, Option, length, take, drop, get_or, true}
+use Rattle.std.proofs.Common.{Result, ◌∙◌, arith, append_assoc}
 use Rattle.std.specs.Prelude.{option_map, OnErr}
 use Rattle.std.proofs.lemmas.Grind.{common_steps}
 use Rattle.std.specs.Str.{byte}
 use Rattle.gitmodules.specs.Sections.{is_never_in_name, escaped_name, unescaped}
+use Rattle.std.proofs.lemmas.Bool.Decides.{nat_tests}
 
 goes : (name : List ℕ) (b : ℕ) (rest : Option (List ℕ))
     → option_map (λ more. name ++ more) (option_map (λ more. b ∷ more) rest) ≡ option_map (λ more. (name ++ b ∷ []) ++ more) rest
-goes name b None = refl
-goes name b (Some rest) = grind (arith, append_assoc)
+goes name b rest = grind (arith, nat_tests, append_assoc)
 
 more_of : (escaped : Bool) (b : ℕ) (front rest : List ℕ) → is_never_in_name b ≡ false → (not escaped && b == byte "\"") ≡ false
     → option_map (λ more. front ++ more) (escaped_name escaped (b ∷ rest))
@@ -22,10 +22,7 @@ pub byte_passed : (escaped : Bool) (k : ℕ) (bytes : List ℕ) → k < length b
     → option_map (λ more. take k bytes ++ more) (escaped_name escaped (drop k bytes))
     ≡ option_map (λ more. take (k + 1) bytes ++ more) (escaped_name (not escaped && get_or bytes k 0 == byte "\\") (drop (k + 1) bytes))
 byte_passed escaped k bytes below never quote =
-    let b = get_or bytes k 0 in
-    let back : drop k bytes ≡ b ∷ drop (k + 1) bytes = grind (arith, common_steps) in
-    let front : take (k + 1) bytes ≡ take k bytes ++ b ∷ [] = grind (arith, common_steps) in
-    rw (back, front) (more_of escaped b (take k bytes) (drop (k + 1) bytes) never quote)
+    grind (arith, common_steps, more_of escaped (get_or bytes k 0) (take k bytes) (drop (k + 1) bytes) never quote)
 
 -- ---- the bytes of the name, one by one
 
@@ -40,19 +37,12 @@ module _ (old items now bytes name : List ℕ) (escaped : Bool) (k : ℕ) (below
   pub byte_appended : (not escaped && get_or bytes k 0 == byte "\\") ≡ false → now ≡ items ++ get_or bytes k 0 ∷ []
       → IsAppended old items escaped (drop k bytes) name → IsAppended old now false (drop (k + 1) bytes) name
   byte_appended own is (front, done, whole) =
-      let next : unescaped escaped (drop k bytes) ≡ get_or bytes k 0 ∷ unescaped false (drop (k + 1) bytes) = rw (left_at k bytes below, own) refl in (
-        front ++ get_or bytes k 0 ∷ [],
-        is ∙ ap (λ xs. xs ++ get_or bytes k 0 ∷ []) done ∙ append_assoc old front (get_or bytes k 0 ∷ []),
-        append_assoc front (get_or bytes k 0 ∷ []) (unescaped false (drop (k + 1) bytes)) ∙ ap (λ xs. front ++ xs) (sym next) ∙ whole,
-      )
+      (front ++ get_or bytes k 0 ∷ [], grind (arith, append_assoc, is, done), grind (arith, append_assoc, rw (left_at k bytes below, own) at whole))
 
   pub backslash_passed : (not escaped && get_or bytes k 0 == byte "\\") ≡ true → now ≡ items
       → IsAppended old items escaped (drop k bytes) name → IsAppended old now true (drop (k + 1) bytes) name
-  backslash_passed escapes is (front, done, whole) =
-      let next : unescaped escaped (drop k bytes) ≡ unescaped true (drop (k + 1) bytes) = rw (left_at k bytes below, escapes) refl in
-      (front, is ∙ done, ap (λ xs. front ++ xs) (sym next) ∙ whole)
+  backslash_passed escapes is (front, done, whole) = (front, is ∙ done, rw (left_at k bytes below, escapes) at whole)
 
 -- what is known of an error
 pub on_err : {T E : Type 0} (r : Result T E) (P : Type 0) → P → OnErr r P
-on_err (Ok t) P p = tt
-on_err (Err e) P p = p
+on_err r P hh1 = grind (arith, nat_tests)

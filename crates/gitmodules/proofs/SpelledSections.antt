@@ -1,6 +1,6 @@
 -- A section that is spelled out, in a file.
-use Rattle.std.proofs.Common.{◌==◌, if◌then◌else◌, Bool, add-zero, ◌≡◌, ◌≢◌, ℕ, ◌+◌, true, false, List, [], ◌∷◌, ◌++◌, Some, Option, codes, map, length}
-use Rattle.std.proofs.Common.{refl, ap, sym, subst, ◌∙◌, arith, append_assoc, take_at, drop_at}
+use Rattle.std.proofs.Common.{if◌then◌else◌, Bool, add-zero, ◌≡◌, ◌≢◌, ℕ, ◌+◌, true, false, List, [], ◌∷◌, ◌++◌, Some, Option, codes, map, length}
+use Rattle.std.proofs.Common.{refl, ap, sym, ◌∙◌, arith, append_assoc, take_at, drop_at}
 use Rattle.std.specs.Prelude.{Contains}
 use Rattle.std.proofs.lemmas.List.{length-map}
 use Rattle.std.proofs.lemmas.List.Elements.{Contains-append_right}
@@ -30,8 +30,7 @@ blanks_passed (b ∷ blanks) after is = grind (arith, nat_tests, blanks_passed b
 quoted_read : (blanks after : List ℕ) (name : List SpelledByte) → blanks ≢ [] → AllByRecursion IsBlank blanks
     → AllByRecursion IsSpelled name → header_after_word (blanks ++ byte "\"" ∷ (spelled_name name ++ byte "\"" ∷ byte "]" ∷ after)) ≡ Named (name_of name)
 quoted_read [] after name some is spelled = absurd (some refl)
-quoted_read (b ∷ blanks) after name some is spelled =
-    grind (arith, nat_tests, blanks_passed blanks (spelled_name name ++ byte "\"" ∷ byte "]" ∷ after) is.1, name_cut name after spelled, name_read name spelled)
+quoted_read (b ∷ blanks) after name some is spelled = grind (arith, nat_tests, blanks_passed, name_cut, name_read)
 
 pub nine : (word : List ℕ) → map to_ascii_lowercase word ≡ codes "submodule" → length word ≡ 9
 nine word is = sym (length-map word to_ascii_lowercase) ∙ ap length is
@@ -39,12 +38,8 @@ nine word is = sym (length-map word to_ascii_lowercase) ∙ ap length is
 pub word_read : (word after : List ℕ) → map to_ascii_lowercase word ≡ codes "submodule" → header_after_bracket (word ++ after) ≡ header_after_word after
 unfolding header_after_bracket
 word_read word after is =
-    grind (
-      arith,
-      take_at word after 9 (nine word is),
-      drop_at word after 9 (nine word is),
-      (bytes_eq-Decides (map to_ascii_lowercase word) (codes "submodule")).1,
-    )
+    let size = nine word is in
+    grind (arith, take_at word after 9 size, drop_at word after 9 size, (bytes_eq-Decides (map to_ascii_lowercase word) (codes "submodule")).1)
 
 -- ---- in a file
 
@@ -56,29 +51,19 @@ either false front rest s there = there
 
 pub one_of_all : (offset n : ℕ) (before bytes : List ℕ) (s : ℕ × Option (List ℕ)) → n ≡ offset + length before → Contains (sections n bytes) s
     → Contains (sections offset (before ++ bytes)) s
-one_of_all offset n [] bytes s is there = subst (λ k. Contains (sections k bytes) s) (is ∙ add-zero offset) there
-one_of_all offset n (b ∷ before) bytes s is there =
-    either (b == byte "[") (begun offset (header_after_bracket (before ++ bytes))) (sections (offset + 1) (before ++ bytes)) s
-    (one_of_all (offset + 1) n before bytes s (omega arith) there)
+one_of_all offset n [] bytes s is there = grind (arith, nat_tests, add-zero)
+one_of_all offset n (b ∷ before) bytes s is there = grind (arith, nat_tests, either, one_of_all (offset + 1) n before bytes s)
 
 -- the first section is one of all
 pub first_of_all : (offset : ℕ) (bytes : List ℕ) (name : Option (List ℕ)) → begun offset (header_after_bracket bytes) ≡ (offset, name) ∷ []
     → Contains (sections offset (byte "[" ∷ bytes)) (offset, name)
 first_of_all offset bytes name is = rw is (0, omega arith, refl)
 
--- the bytes of a section and of what follows it, from its first part on
-pub in_parts : (word blanks after : List ℕ) (name : List SpelledByte)
-    → section_bytes word blanks name ++ after ≡ byte "[" ∷ (word ++ (blanks ++ byte "\"" ∷ (spelled_name name ++ byte "\"" ∷ byte "]" ∷ after)))
-in_parts word blanks after name = grind (arith, append_assoc)
-
 pub each_section_found : IsEachSectionFound
 each_section_found before after word blanks name is =
-    let bytes = word ++ (blanks ++ byte "\"" ∷ (spelled_name name ++ byte "\"" ∷ byte "]" ∷ after)) in
-    let read : header_after_bracket bytes ≡ Named (name_of name) =
-    word_read word (blanks ++ byte "\"" ∷ (spelled_name name ++ byte "\"" ∷ byte "]" ∷ after)) is.is_word
-    ∙ quoted_read blanks after name is.has_blanks is.are_blanks is.is_spelled in
-    let first = first_of_all (length before) bytes (Some (name_of name)) (ap (begun (length before)) read) in
-    let whole : before ++ section_bytes word blanks name ++ after ≡ before ++ byte "[" ∷ bytes =
-    append_assoc before (section_bytes word blanks name) after ∙ ap (λ rest. before ++ rest) (in_parts word blanks after name) in
-    subst (λ file. Contains (sections 0 file) (length before, Some (name_of name))) (sym whole)
-    (one_of_all 0 (length before) before (byte "[" ∷ bytes) _ (omega arith) first)
+    let rest = blanks ++ byte "\"" ∷ (spelled_name name ++ byte "\"" ∷ byte "]" ∷ after) in
+    let read : header_after_bracket (word ++ rest) ≡ Named (name_of name) =
+    word_read word rest is.is_word ∙ quoted_read blanks after name is.has_blanks is.are_blanks is.is_spelled in
+    let whole : before ++ section_bytes word blanks name ++ after ≡ before ++ byte "[" ∷ (word ++ rest) = grind (arith, append_assoc) in
+    rw whole (one_of_all 0 (length before) before (byte "[" ∷ (word ++ rest)) _ (omega arith)
+    (first_of_all (length before) (word ++ rest) (Some (name_of name)) (ap (begun (length before)) read)))

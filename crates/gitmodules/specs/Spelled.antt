@@ -18,13 +18,10 @@ abbrev pub IsSpelled : SpelledByte → Type 0
 IsSpelled (true, b) = MayBeInName b
 IsSpelled (false, b) = MayBeInName b × (b ≢ byte "\"") × (b ≢ byte "\\")
 
-abbrev pub spelled_byte : SpelledByte → List ℕ
-spelled_byte (true, b) = byte "\\" ∷ b ∷ []
-spelled_byte (false, b) = b ∷ []
-
 abbrev pub spelled_name : List SpelledByte → List ℕ
 spelled_name [] = []
-spelled_name (b ∷ name) = spelled_byte b ++ spelled_name name
+spelled_name ((true, b) ∷ name) = byte "\\" ∷ b ∷ spelled_name name
+spelled_name ((false, b) ∷ name) = b ∷ spelled_name name
 
 abbrev pub name_of : List SpelledByte → List ℕ
 name_of [] = []

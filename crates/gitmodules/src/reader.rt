@@ -49,6 +49,7 @@ impl<'a> Sections<'a> {
     /// ```
     ///
     /// It does not allocate. A whole iteration reads each byte a bounded number of times.
+    #[tactic(auto, using(crate::proofs::SpelledSections::each_section_found, crate::proofs::ReadSections::each_name_spelled, crate::proofs::ReadSections::in_order))]
     pub fn new(file: &'a [u8]) -> Sections<'a>
         ensures value { result ≡ sections 0 file.now }
         ensures found { IsEachSectionFound }

@@ -1,8 +1,9 @@
 -- The numbers of names that are written so far, where the names are walked in order.
 use Rattle.std.proofs.Common.{◌≡◌, ℕ, ◌+◌, ◌<◌, ◌≤◌, List, [], ◌∷◌, ◌++◌, length, take, drop, map, set, sym, ap, ◌∙◌, arith}
 use Rattle.std.proofs.Common.{append_assoc, length-append}
-use Rattle.std.proofs.lemmas.List.{map-append, length-map, drop-drop, take_more_set, take-append-le, drop-set-lt}
+use Rattle.std.proofs.lemmas.List.{map-append, length-map, drop-drop, take_more_set, take-append-le, drop-set-lt, take_rest}
 use Rattle.std.proofs.lemmas.Grind.{common_steps}
+use Rattle.gix_validate.proofs.Texts.NamesIn.{names_in-cut, names_in-none}
 
 -- of these names so many are done, and these are left; the numbers of those done that fit are written, and nothing else is
 pub record Written (number_of : List ℕ → ℕ) (names left : List (List ℕ)) (old new : List ℕ) (count : ℕ) : Type 0 where
@@ -17,9 +18,6 @@ module _ (number_of : List ℕ → ℕ) where
   further : (old new : List ℕ) (count : ℕ) → drop count new ≡ drop count old → drop (count + 1) new ≡ drop (count + 1) old
   further old new count same = sym (drop-drop 1 count new) ∙ ap (drop 1) same ∙ drop-drop 1 count old
 
-  longer : (names here done left : List (List ℕ)) (name : List ℕ) → names ≡ done ++ here → here ≡ name ∷ left → names ≡ (done ++ name ∷ []) ++ left
-  longer names here done left name order is = grind (arith, append_assoc)
-
   written : (name : List ℕ) (done : List (List ℕ)) (old new : List ℕ) (count : ℕ) → count < length new → length new ≡ length old → length done ≡ count
       → take count new ≡ take (length old) (map number_of done)
       → take (count + 1) (set new count (number_of name)) ≡ take (length old) (map number_of (done ++ name ∷ []))
@@ -32,7 +30,7 @@ module _ (number_of : List ℕ → ℕ) where
       → Written number_of names here old new count → Written number_of names left old next (count + 1)
   one_more names here left name old new next count number is number_is next_is fits before = record {
     done = before.done ++ name ∷ [];
-    order = longer names here before.done left name before.order is;
+    order = grind (arith, append_assoc, before.order, is);
     many = grind (arith, length-append, before.many);
     numbers = rw next_is (rw number_is (written name before.done old new count fits before.size before.many before.numbers));
     rest = rw next_is (drop-set-lt (count + 1) new count number (omega arith) ∙ further old new count before.rest);
@@ -44,9 +42,12 @@ module _ (number_of : List ℕ → ℕ) where
       → Written number_of names here old new count → Written number_of names left old next (count + 1)
   no_room names here left name old new next count is next_is full before = record {
     done = before.done ++ name ∷ [];
-    order = longer names here before.done left name before.order is;
+    order = grind (arith, append_assoc, before.order, is);
     many = grind (arith, length-append, before.many);
     numbers = grind (arith, common_steps, map-append, length-map, take-append-le, before.numbers, before.size, before.many);
     rest = rw next_is (further old new count before.rest);
     size = grind (arith, before.size);
   }
+
+-- what `first_name` takes
+pub ruleset first_of_names = (take_rest, names_in-cut, names_in-none)

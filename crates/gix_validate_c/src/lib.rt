@@ -10,8 +10,8 @@
 //!
 //! A slice is a pointer and a length in bytes. No function has a precondition besides those of C:
 //! the memory is there, nobody else writes to it during the call, and a buffer to which a function
-//! writes overlaps no other argument. Nothing allocates. docs/RULES.md, "Calls for C", has the
-//! numbers, the flags and the results.
+//! writes overlaps no other argument. No function fails or allocates. docs/RULES.md, "Calls for C",
+//! has the numbers, the flags and the results.
 #![tactic(auto)]
 
 mod fault;

@@ -10,8 +10,6 @@
 //! It writes as many as fit, and the rest of the array stays as it was. It returns how many names
 //! there are, even if more than fit. A name whose number doesn't fit is counted and not checked, so
 //! with an empty array it only counts the names.
-//!
-//! The functions never fail and don't allocate. The buffer and the array may not overlap.
 
 ghost use Rattle.std.specs.Prelude.{◌≡◌, ◌<◌, ◌≤◌, [], ◌∷◌, length, map, take, drop, MatchOption, IfSome};
 ghost use Rattle.gix_validate.specs.Tag as tag;
@@ -138,6 +136,7 @@ where
 }
 
 /// The first name in the buffer, without the byte that ends it, and what follows that byte.
+#[tactic(auto, using(crate::proofs::NumbersWritten::first_of_names))]
 fn first_name(names: &[u8], end: u8) -> Option<(&[u8], &[u8])>
     ensures names { MatchOption result (names_in end names.now ≡ [])
         (λ parts. names_in end names.now ≡ parts.0.now ∷ names_in end parts.1.now) }

@@ -1,8 +1,8 @@
 //! Validation of one name.
 //!
 //! The function of a kind returns 0 if the name is valid, and otherwise the number of its fault
-//! (docs/RULES.md, "Calls for C"). Lengths are in bytes. The functions never fail and don't
-//! allocate.
+//! (docs/RULES.md, "Calls for C"). If a reference name isn't a valid tag name, its fault is that of
+//! the tag name.
 
 ghost use Rattle.std.specs.Prelude.{◌≡◌, ◌⊎◌, ◌↔◌, ◌≤◌, ◌%◌, IsTrue, length};
 ghost use Rattle.gix_validate.specs.Tag as tag;
@@ -41,8 +41,7 @@ pub extern "C" fn gix_validate_tag(name: &[u8]) -> u32
 }
 
 /// Returns 0 if this is a valid partial reference name, and otherwise the number of its fault
-/// (docs/RULES.md, "Reference names"). If it isn't a valid tag name, the fault is that of the tag
-/// name.
+/// (docs/RULES.md, "Reference names").
 ///
 /// ```c
 /// gix_validate_partial((const uint8_t *)"main", 4); // 0
@@ -60,8 +59,7 @@ pub extern "C" fn gix_validate_partial(name: &[u8]) -> u32
 }
 
 /// Returns 0 if this is a valid full reference name, and otherwise the number of its fault
-/// (docs/RULES.md, "Reference names"). If it isn't a valid tag name, the fault is that of the tag
-/// name.
+/// (docs/RULES.md, "Reference names").
 ///
 /// ```c
 /// gix_validate_full((const uint8_t *)"refs/heads/main", 15); // 0
@@ -79,8 +77,7 @@ pub extern "C" fn gix_validate_full(name: &[u8]) -> u32
 }
 
 /// Returns 0 if this is a valid full name of a branch, and otherwise the number of its fault
-/// (docs/RULES.md, "Reference names"). If it isn't a valid tag name, the fault is that of the tag
-/// name.
+/// (docs/RULES.md, "Reference names").
 ///
 /// ```c
 /// gix_validate_branch((const uint8_t *)"refs/heads/main", 15); // 0

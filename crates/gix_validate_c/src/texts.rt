@@ -5,8 +5,7 @@
 //! of the caller's buffer, and the rest of the buffer stays as it was. Otherwise nothing is written.
 //! No NUL byte ends it.
 //!
-//! The texts are those of docs/RULES.md, "Printed texts". The functions never fail and don't
-//! allocate. The name and the buffer may not overlap.
+//! The texts are those of docs/RULES.md, "Printed texts".
 
 ghost use Rattle.std.specs.Prelude.{◌≡◌, ◌↔◌, ◌≤◌, length, IsOk, IsTrue, MatchResult};
 ghost use Rattle.gix_validate.specs.Tag as tag;

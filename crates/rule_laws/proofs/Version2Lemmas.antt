@@ -22,6 +22,7 @@ use Rattle.rule_laws.specs.Version1.{is_among, is_empty, lower, without_end, is_
 use Rattle.rule_laws.specs.Version1.{ntfs_form as old_ntfs_form, fault_of as old_fault_of}
 use Rattle.rule_laws.specs.Version2.{front, added_fault_of, ReadsTheFront, OldFaultsComeFirst, StaysElsewhere, ShowsTheChange}
 use Rattle.rule_laws.proofs.Version1Lemmas.{version_1_on_literals, conditions_by, present_conditions, past_conditions}
+use Rattle.std.proofs.lemmas.Bool.Decides.{nat_tests}
 
 -- The forms, with one byte more in front.
 
@@ -103,10 +104,6 @@ none_in_modules w modules = grind (arith, or_cases, none_in_words w, none_in_any
 
 -- The table in two parts: the six lines before those for NTFS, which read no form, and the rest.
 
-orelse_none : (a : Option ComponentError) → a ≡ (a orelse None)
-orelse_none None = refl
-orelse_none (Some fault) = refl
-
 after : (lines new old : List (Option ComponentError)) (more : Option ComponentError) → (first_of lines ≡ None → first_of new ≡ (first_of old orelse more))
     → first_of (lines ++ new) ≡ (first_of (lines ++ old) orelse more)
 after [] new old more rest = rest refl
@@ -127,11 +124,7 @@ rest_differs : (w h n : Bool) (mode : Option ComponentMode) (x : List ℕ) → (
     → first_of (drop 6 (conditions_by ntfs_form (switches w h n) mode x))
     ≡ (first_of (drop 6 (conditions_by old_ntfs_form (switches w h n) mode x)) orelse added (switches w h n) mode x)
 unfolding conditions
-rest_differs w h false mode x none = orelse_none _
-rest_differs true h true mode x none = rw (same_form x (none_in_form x none)) (orelse_none _)
-rest_differs false h true mode x none =
-    let form = lower (old_ntfs_form x) in
-    grind (arith, none_in_form x, same_form x, none_by_lower (old_ntfs_form x), none_in_git form, none_in_modules form)
+rest_differs w h n mode x none = grind (arith, nat_tests, same_form, none_in_form, none_by_lower, none_in_git, none_in_modules)
 
 table_differs : (options : ComponentOptions) (mode : Option ComponentMode) (x : List ℕ)
     → first_of (conditions_by ntfs_form options mode x) ≡ (first_of (conditions_by old_ntfs_form options mode x) orelse added options mode x)
@@ -143,8 +136,7 @@ table_differs options mode x =
 
 pub old_faults_first : OldFaultsComeFirst
 unfolding fault_of old_fault_of added_fault_of
-old_faults_first options mode x =
-    rw (sym (form_of_front x), present_conditions options mode x, past_conditions options mode x) (table_differs options mode x)
+old_faults_first options mode x = grind (arith, nat_tests, form_of_front, present_conditions, past_conditions, table_differs)
 
 pub stays_elsewhere : StaysElsewhere
 unfolding added_fault_of

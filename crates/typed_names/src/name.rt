@@ -78,11 +78,7 @@ impl<'a, R: Rule> Name<'a, R> {
     ghost use Rattle.typed_names.specs.Names.{name_text, NewChecks};
 
     /// Returns `name` as a typed name if the rule accepts it. It does not allocate.
-    ///
-    /// ```
-    /// FullName::new(BStr::from("refs/heads/main"))?; // keeps `refs/heads/main`
-    /// FullName::new(BStr::from("main")); // SomeLowercase
-    /// ```
+    /// The aliases have examples.
     ///
     /// # Errors
     ///

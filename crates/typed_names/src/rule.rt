@@ -48,11 +48,7 @@ pub trait Rule {
 }
 
 /// The rule of tag names, [`tag::name`] (docs/RULES.md, "Tag names").
-///
-/// ```
-/// Tag::check(BStr::from("v1.2.3"))?; // returns `v1.2.3`
-/// Tag::check(BStr::from("v1..2")); // RepeatedDot
-/// ```
+/// [`TagName`](crate::TagName) has examples.
 pub enum Tag {}
 
 impl Rule for Tag {
@@ -70,11 +66,7 @@ impl Rule for Tag {
 }
 
 /// The rule of partial names, [`reference::name_partial`] (docs/RULES.md, "Reference names").
-///
-/// ```
-/// Partial::check(BStr::from("main"))?; // returns `main`
-/// Partial::check(BStr::from("@")); // Reserved, with the name `@`
-/// ```
+/// [`PartialName`](crate::PartialName) has examples.
 pub enum Partial {}
 
 impl Rule for Partial {
@@ -92,11 +84,7 @@ impl Rule for Partial {
 }
 
 /// The rule of full names, [`reference::name`] (docs/RULES.md, "Reference names").
-///
-/// ```
-/// Full::check(BStr::from("HEAD"))?; // returns `HEAD`
-/// Full::check(BStr::from("main")); // SomeLowercase
-/// ```
+/// [`FullName`](crate::FullName) has examples.
 pub enum Full {}
 
 impl Rule for Full {
@@ -114,11 +102,7 @@ impl Rule for Full {
 }
 
 /// The rule of names of branches, [`reference::branch_name`] (docs/RULES.md, "Reference names").
-///
-/// ```
-/// Branch::check(BStr::from("refs/heads/main"))?; // returns `refs/heads/main`
-/// Branch::check(BStr::from("refs/heads/HEAD")); // Reserved, with the name `refs/heads/HEAD`
-/// ```
+/// [`BranchName`](crate::BranchName) has examples.
 pub enum Branch {}
 
 impl Rule for Branch {
@@ -136,11 +120,7 @@ impl Rule for Branch {
 }
 
 /// The rule of submodule names, [`submodule::name`] (docs/RULES.md, "Submodule names").
-///
-/// ```
-/// Submodule::check(BStr::from("vendor/package"))?; // returns `vendor/package`
-/// Submodule::check(BStr::from("a/../b")); // ParentComponent
-/// ```
+/// [`SubmoduleName`](crate::SubmoduleName) has examples.
 pub enum Submodule {}
 
 impl Rule for Submodule {

@@ -1,13 +1,13 @@
-use Rattle.std.proofs.Common.{rules, codes, ◌≡◌, Result, Ok, Err, OnOk, is_ok, sym}
+use Rattle.std.proofs.Common.{rules, codes, ◌≡◌, Result, OnOk, is_ok}
 use Rattle.std.proofs.lemmas.Bool.{false≢true}
 use Rattle.std.proofs.lemmas.Option.{IfSome_then}
 use Rattle.check_names.proofs.WriteLemmas.{took_format}
 use Rattle.check_names.proofs.check.push_fault.Goals as goal
+use native.Mathlib.Omega.{arith}
+use Rattle.std.proofs.lemmas.Bool.Decides.{nat_tests}
 
 OnOk-from_same : {T U E F P Q : Type 0} (r : Result T E) (s : Result U F) → is_ok r ≡ is_ok s → (P → Q) → OnOk s P → OnOk r Q
-OnOk-from_same (Ok x) (Ok y) same more told = more told
-OnOk-from_same (Ok x) (Err e) same more told = absurd (false≢true (sym same))
-OnOk-from_same (Err e) s same more told = tt
+OnOk-from_same r s hh1 hh2 hh3 = grind (arith, nat_tests, false≢true)
 
 pub returns : goal.returns
 returns g c =

@@ -1,5 +1,5 @@
 -- The lines of a file, and where its sections are.
-use Rattle.std.proofs.Common.{◌≡◌, ◌≢◌, ◌⊎◌, inl, inr, ℕ, ◌<◌, List, [], ◌∷◌, ◌++◌, All, Some, None, Option, length, refl, ap, sym, subst, ◌∙◌, arith, zero, suc}
+use Rattle.std.proofs.Common.{◌≡◌, ◌≢◌, ◌⊎◌, inl, inr, ℕ, ◌<◌, List, [], ◌∷◌, ◌++◌, All, Some, None, Option, refl, ap, sym, subst, ◌∙◌, arith, zero, suc}
 use Rattle.std.specs.Prelude.{Contains, flat_map}
 use Rattle.std.specs.List.{AllPairs}
 use Rattle.std.proofs.lemmas.List.Elements.{All-cons, Contains-append_right}
@@ -8,7 +8,7 @@ use Rattle.gix_validate.specs.declared.submodule.NameError.{NameError}
 use Rattle.gix_validate.specs.Submodule.{fault_of}
 use Rattle.gix_validate.specs.Bytes.{is_empty}
 use Rattle.gitmodules.specs.Sections.{sections}
-use Rattle.gitmodules.specs.Spelled.{SectionAt, name_of}
+use Rattle.gitmodules.specs.Spelled.{SectionAt}
 use Rattle.gitmodules.proofs.SpelledSections.{each_section_found}
 use Rattle.gitmodules.proofs.ReadSections.{each_header_given, each_name_spelled, in_order}
 use Rattle.check_submodules.specs.Lines.{line_if, line_of, lines_of}
@@ -97,11 +97,7 @@ fault_line : (id file : List ℕ) (offset : ℕ) (name : List ℕ) (fault : Opti
 fault_line id file offset name fault at is some = grind arith
 
 section_found : (file : List ℕ) (offset : ℕ) (name : List ℕ) → SectionAt file offset name → Contains (sections 0 file) (offset, Some name)
-section_found file offset name at =
-    let found = each_section_found at.before at.after at.word at.blanks at.spelled at.is_section in
-    let in_file = subst (λ bytes. Contains (sections 0 bytes) (length at.before, Some (name_of at.spelled))) (sym at.is_file) found in
-    let at_offset = subst (λ n. Contains (sections 0 file) (n, Some (name_of at.spelled))) at.is_offset in_file in
-    subst (λ own. Contains (sections 0 file) (offset, Some own)) at.is_name at_offset
+section_found file offset name at = grind (arith, each_section_found at.before at.after at.word at.blanks at.spelled at.is_section)
 
 section_line : (id file : List ℕ) (s : ℕ × Option (List ℕ)) → Contains (sections 0 file) s → line_of id s ≢ [] → IsLineOf id file (s.0, line_of id s)
 section_line id file (offset, Some name) there some = fault_line id file offset name (fault_of name) (each_name_spelled file offset name there) refl some

@@ -11,6 +11,4 @@ plain_name name = refl
 
 pub plain_file : (front : List ℕ) → bytes_eq (take 7 front) (codes "100644 ") ≡ true
     → parsed_front front ≡ Some (record { digits = take 6 front; mode = None; is_file = true; name = drop 7 front })
-plain_file front e =
-    let there : take 7 front ≡ codes "100644 " = (bytes_eq-Decides (take 7 front) (codes "100644 ")).0 e in
-    grind (arith, plain_name (drop 7 front), take-append-drop 7 front, take-take 6 7 front)
+plain_file front e = grind (arith, bytes_eq-Decides, plain_name, take-append-drop, take-take)

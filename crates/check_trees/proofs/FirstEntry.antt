@@ -20,7 +20,6 @@ use Rattle.git_input.proofs.SplitTexts.{take_after, take_past, drop_before, drop
 use Rattle.check_trees.specs.Options.{Options}
 use Rattle.check_trees.specs.declared.check.Checked.{Checked}
 use Rattle.check_trees.specs.declared.check.Finding.{Finding}
-use Rattle.check_trees.specs.declared.check.Finding.TheVariants.{Accepted, Modules, Refused}
 use Rattle.check_trees.specs.Entries.{nul, ParsedModeAndName, ParsedEntry, parsed_front, entry_at, entry_with, entry_of}
 use Rattle.check_trees.specs.Report.{short_of, finding_of, finding_said, entry_said}
 use Rattle.check_trees.specs.Private.{first_entry, EntryGives, PassesId}
@@ -107,9 +106,7 @@ passed : (finding : Finding) (count : ℕ) (a b : Option (List ℕ)) (kept : Lis
     → (bytes : List ℕ) × ReadsExactly count a b bytes whole
     × ((tree : ParsedObject) (front : ParsedModeAndName)
     → finding_said tree (record { front = front; id = kept }) finding ≡ finding_said tree (record { front = front; id = bytes }) finding)
-passed Accepted count a b kept whole (bytes, skips) = (bytes, skips, λ tree front. refl)
-passed Modules count a b kept whole skips = (kept, skips, λ tree front. refl)
-passed (Refused fault) count a b kept whole (bytes, skips) = (bytes, skips, λ tree front. refl)
+passed finding count a b kept whole skips = grind arith
 
 -- and for the id after a mode and a name, of which so many bytes are in the tree
 module _ (options : Options) (tree : ParsedObject) (left : ℕ) (new out : Option (List ℕ)) {old mid : Option (List ℕ)} {limit count : ℕ}

@@ -1,15 +1,12 @@
 -- The lines of a tree have at most 32 bytes for each of its own.
-use Rattle.std.proofs.Common.{◌≡◌, ℕ, zero, suc, ◌+◌, ◌*◌, ◌/◌, ◌≤◌, nat_lt, Bool, true, false, cond, List, [], ◌∷◌, ◌++◌, Option, None, Some, Result, Ok, Err}
-use Rattle.std.proofs.Common.{length, take, refl, ap, arith, length-append, length-take, codes}
+use Rattle.std.proofs.Common.{◌≡◌, ℕ, zero, suc, ◌+◌, ◌*◌, ◌/◌, ◌≤◌, nat_lt, Bool, true, false, cond, List, [], ◌∷◌, ◌++◌, Option, None, Some, Result}
+use Rattle.std.proofs.Common.{length, take, refl, arith, length-append, length-take, codes}
 use Rattle.std.proofs.lemmas.Bool.Decides.{nat_tests}
 use Rattle.std.specs.Prelude.{IfOk, flat_map}
 use Rattle.gix_validate.specs.declared.path.ComponentError.{ComponentError}
-use Rattle.gix_validate.specs.declared.path.ComponentError.TheVariants.{Empty, PathSeparator, WindowsPathPrefix, WindowsReservedName}
-use Rattle.gix_validate.specs.declared.path.ComponentError.TheVariants.{WindowsIllegalCharacter, DotGitDir, SymlinkedGitModules, Relative}
 use Rattle.gix_validate.specs.Component.{text_of}
 use Rattle.gix_validate.specs.Quoted.{quoted}
 use Rattle.git_input.specs.declared.header.Kind.{Kind}
-use Rattle.git_input.specs.declared.header.Kind.TheVariants.{Blob, Tree, Commit, Tag}
 use Rattle.git_input.specs.declared.outcome.Malformation.{Malformation}
 use Rattle.git_input.specs.Texts.{number_of, is_id, hex_pair}
 use Rattle.git_input.specs.Headers.{ParsedObject}
@@ -20,8 +17,8 @@ use Rattle.check_trees.specs.Options.{Options}
 use Rattle.check_trees.specs.declared.check.Finding.{Finding}
 use Rattle.check_trees.specs.declared.check.Finding.TheVariants.{Accepted, Modules, Refused}
 use Rattle.check_trees.specs.Entries.{ParsedModeAndName, ParsedEntry, entry_of, named}
-use Rattle.check_trees.specs.Report.{longest_path, shown_path, in_path, place, refused_line, modules_line, finding_of, finding_said, entry_said}
-use Rattle.check_trees.specs.Report.{entries_then, entries_within, entries, short_of, judged_by_kind, tree_rule, report}
+use Rattle.check_trees.specs.Report.{longest_path, shown_path, in_path, place, refused_line, modules_line, finding_said}
+use Rattle.check_trees.specs.Report.{entries_then, entries_within, entries, judged_by_kind, tree_rule, report}
 use Rattle.check_trees.specs.Spelled.{Item, IsItem, item_bytes}
 use Rattle.check_trees.proofs.SpelledTrees.{IsFirst, item_first}
 
@@ -52,19 +49,11 @@ in_length (Some (b ∷ path)) =
     )
 
 text_length : (fault : ComponentError) → length (text_of fault) ≤ 134
-text_length Empty = omega arith
-text_length PathSeparator = omega arith
-text_length WindowsPathPrefix = omega arith
-text_length WindowsReservedName = omega arith
-text_length WindowsIllegalCharacter = omega arith
-text_length DotGitDir = omega arith
-text_length SymlinkedGitModules = omega arith
-text_length Relative = omega arith
+text_length fault = grind arith
 
 mode_length : (mode : List ℕ) (number : ℕ) → number_of 8 mode ≡ Some number → 1 ≤ length mode
 unfolding number_of
-mode_length [] number e = grind arith
-mode_length (d ∷ mode) number e = omega arith
+mode_length mode number e = grind arith
 
 -- ---- a line
 
@@ -110,19 +99,7 @@ module _ (tree : ParsedObject) (good : is_id tree.id ≡ true) where
     then_length : (more : List ℕ → Judged) (r : Result (ParsedEntry × List ℕ) Malformation) (bytes : List ℕ)
         → ((rest : List ℕ) → length (more rest).0.lines ≤ 32 * length rest)
         → IfOk r (IsFirst options (length tree.id / 2) bytes) → length (entries_then more options tree r).0.lines ≤ 32 * length bytes
-    then_length more (Err fault) bytes go first = omega arith
-    then_length more (Ok entry) bytes go (item, is, by, cut, same) =
-        let long : length bytes ≡ length (item_bytes item ++ entry.1) = ap length cut in
-        let few = said_length item (finding_of options (named item.digits item.name item.number)) is in
-        let lines : length (entry_said options tree entry.0).lines ≤ 32 * length (item_bytes item) = rw same few in
-        omega (
-          arith,
-          lines,
-          go entry.1,
-          long,
-          length-append (item_bytes item) entry.1,
-          length-append (entry_said options tree entry.0).lines (more entry.1).0.lines,
-        )
+    then_length more r bytes go first = grind (arith, said_length, length-append)
 
     within_length : (fuel : ℕ) (bytes : List ℕ) → length (entries_within fuel options short tree bytes).0.lines ≤ 32 * length bytes
     within_length zero bytes = omega arith
@@ -137,10 +114,7 @@ module _ (tree : ParsedObject) (good : is_id tree.id ≡ true) where
 
   kind_length : (options : Options) (cut : Bool) (bytes : List ℕ) (kind : Kind) → length (judged_by_kind options cut tree bytes kind).0.lines
       ≤ 32 * length bytes
-  kind_length options cut bytes Tree = entries_length options (short_of cut) bytes
-  kind_length options cut bytes Blob = omega arith
-  kind_length options cut bytes Commit = omega arith
-  kind_length options cut bytes Tag = omega arith
+  kind_length options cut bytes kind = grind (arith, entries_length)
 
 tree_within : (options : Options) → IsObjectWithin 32 (tree_rule options)
 tree_within options cut object bytes good whole = kind_length object good options cut bytes object.kind

@@ -133,8 +133,7 @@ IsFirst options width bytes entry =
 
 -- what a test lets through
 if_ok : {T : Type 0} (test : Bool) (fault : Malformation) (x : T) (P : T → Type 0) → (test ≡ false → P x) → IfOk (if test then Err fault else Ok x) P
-if_ok true fault x P holds = tt
-if_ok false fault x P holds = holds refl
+if_ok test fault x P holds = grind arith
 
 module _ (options : Options) (short : Malformation) (width : ℕ) where
   item_at : (bytes front : List ℕ) (parsed : Option ParsedModeAndName) → bytes ≡ front ++ nul ∷ drop (length front + 1) bytes → length front < longest

@@ -1,7 +1,7 @@
 -- The report of a text that is read line by line: what each line and what belongs to it give, in order, up to the first
 -- that is malformed. `Spelled` says it from the other side, with no steps: what is reported of a stream that is written out,
 -- object by object, and that no other text is well-formed.
-use Rattle.std.specs.Prelude.{◌≡◌, ℕ, zero, suc, ◌+◌, ◌*◌, ◌≤◌, Bool, true, false, ◌==◌, ◌||◌, nat_lt, if◌then◌else◌, List, [], ◌∷◌, ◌++◌, length, take}
+use Rattle.std.specs.Prelude.{◌≡◌, ◌↔◌, ℕ, zero, suc, ◌+◌, ◌*◌, ◌≤◌, Bool, true, false, ◌==◌, ◌||◌, nat_lt, if◌then◌else◌, List, [], ◌∷◌, ◌++◌, length, take}
 use Rattle.std.specs.Prelude.{drop, codes}
 use Rattle.std.specs.Prelude.{Option, Some, None, Result, Ok, Err, IfOk, option_map}
 use Rattle.std.specs.Str.{bytes_eq}
@@ -87,6 +87,12 @@ end_word = codes "..end missing"
 abbrev pub end_line : List ℕ
 end_line = end_word ++ line_end ∷ []
 
+-- what is last in a text that ends so
+abbrev pub end_of : Ending → List ℕ
+end_of Anywhere = []
+end_of AfterALine = []
+end_of EndLine = end_line
+
 -- nothing is left but that line
 abbrev pub is_end : Ending → List ℕ → Bool
 is_end Anywhere text = false
@@ -129,6 +135,10 @@ verdict_by refused None = if refused then Refused else Clean
 
 abbrev pub verdict_of : Report → Verdict
 verdict_of report = verdict_by report.said.refused report.malformed
+
+-- A text is found clean if and only if it is accepted.
+abbrev pub IsCleanIff : (List ℕ → Type 0) → Verdict → List ℕ → Type 0
+IsCleanIff IsAccepted verdict text = (verdict ≡ Clean) ↔ IsAccepted text
 
 -- whether it says that something is malformed
 abbrev pub is_malformed : Verdict → Bool

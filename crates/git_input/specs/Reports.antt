@@ -89,15 +89,13 @@ end_line = end_word ++ line_end ∷ []
 
 -- what is last in a text that ends so
 abbrev pub end_of : Ending → List ℕ
-end_of Anywhere = []
-end_of AfterALine = []
 end_of EndLine = end_line
+end_of how = []
 
 -- nothing is left but that line
 abbrev pub is_end : Ending → List ℕ → Bool
-is_end Anywhere text = false
-is_end AfterALine text = false
 is_end EndLine text = bytes_eq text end_line
+is_end how text = false
 
 -- what is wrong where the text ends before a line of this number
 abbrev pub fault_at_end : Ending → ℕ → Option Malformation
@@ -115,11 +113,10 @@ at_end_line = record { said = nothing; malformed = None; rest = [] }
 
 -- The lines of a text, the first of which has this number. (`fuel` is at least their number.)
 abbrev pub lines_within : ℕ → LineRule → Ending → ℕ → List ℕ → Report
-lines_within zero rule ending number text = at_end ending number
-lines_within (suc fuel) rule ending number [] = at_end ending number
 lines_within (suc fuel) rule ending number (b ∷ text) =
     if is_end ending (b ∷ text) then at_end_line
     else lines_then (lines_within fuel rule ending (number + 1)) number (b ∷ text) (line_of rule (b ∷ text))
+lines_within fuel rule ending number text = at_end ending number
 
 unfoldable pub lines_from : LineRule → Ending → ℕ → List ℕ → Report
 lines_from rule ending number text = lines_within (length text) rule ending number text
@@ -142,9 +139,8 @@ IsCleanIff IsAccepted verdict text = (verdict ≡ Clean) ↔ IsAccepted text
 
 -- whether it says that something is malformed
 abbrev pub is_malformed : Verdict → Bool
-is_malformed Clean = false
-is_malformed Refused = false
 is_malformed (Malformed number fault) = true
+is_malformed verdict = false
 
 -- ---- what is read where a line is malformed
 

@@ -16,6 +16,7 @@ use Rattle.git_input.specs.Reports.{verdict_of}
 use Rattle.git_input.proofs.WrittenLines.{clean_by, all_good, if_clean}
 use Rattle.git_input.specs.Reports.{IsCleanIff}
 use Rattle.std.proofs.Common.{◌<◌}
+use Rattle.std.proofs.Common.{subst}
 use Rattle.check_refs.specs.declared.options.Options.{Options}
 use Rattle.check_refs.specs.Refs.{ParsedUpdate, is_deletion, name_fault_of, refusal_of, update_refusal_of}
 use Rattle.check_refs.specs.declared.refusal.Refusal.TheVariants.{Name, Replacement}
@@ -67,24 +68,13 @@ refused_law options update =
     ∙ ap (λ b. not (is_deletion update) && b) (refused_by (name_fault_of update.name) options.allows_replace (begins update.name (codes "refs/replace/"))
     ∙ ap (λ b. not (b && (options.allows_replace || not (begins update.name (codes "refs/replace/"))))) (sym (name_law update.name)))
 
-accepts_by : (gone good allows under : Bool) → (not gone && not (good && (allows || not under))) ≡ false
-    → IsTrue gone ⊎ (IsTrue good × (IsTrue under → IsTrue allows))
-accepts_by gone good allows under e = grind arith
-
-accepted_by : (gone good allows under : Bool) → IsTrue gone ⊎ (IsTrue good × (IsTrue under → IsTrue allows))
-    → (not gone && not (good && (allows || not under))) ≡ false
-accepted_by gone good allows under e = grind arith
-
-accepts : (options : Options) (update : ParsedUpdate) → is_some (update_refusal_of options.allows_replace update) ≡ false → IsAccepted options update
-accepts options update e = accepts_by (is_deletion update) (is_branch_name update.name) options.allows_replace (begins update.name (codes "refs/replace/"))
-    (sym (refused_law options update) ∙ e)
-
-accepted : (options : Options) (update : ParsedUpdate) → IsAccepted options update → is_some (update_refusal_of options.allows_replace update) ≡ false
-accepted options update good = refused_law options update
-    ∙ accepted_by (is_deletion update) (is_branch_name update.name) options.allows_replace (begins update.name (codes "refs/replace/")) good
+same_by : (gone good allows under : Bool)
+    → ((not gone && not (good && (allows || not under))) ≡ false) ↔ (IsTrue gone ⊎ (IsTrue good × (IsTrue under → IsTrue allows)))
+same_by gone good allows under = (λ e. grind arith, λ is. grind arith)
 
 update_same : (options : Options) (update : ParsedUpdate) → IsSpelled update → ((said_of options update).refused ≡ false) ↔ IsAccepted options update
-update_same options update good = (accepts options update, accepted options update)
+update_same options update good = subst (λ refused. (refused ≡ false) ↔ IsAccepted options update) (sym (refused_law options update))
+    (same_by (is_deletion update) (is_branch_name update.name) options.allows_replace (begins update.name (codes "refs/replace/")))
 
 -- ---- an input
 

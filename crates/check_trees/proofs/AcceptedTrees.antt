@@ -28,11 +28,8 @@ module _ (options : Options) (tree : ParsedObject) where
   abbrev IsAcceptedItem : Item → Type 0
   IsAcceptedItem item = fault_of item.protections item.mode item.name ≡ None
 
-  item_refused : (item : Item) → (item_said options tree item).refused ≡ is_some (fault_of item.protections item.mode item.name)
-  item_refused item = refused_by tree (entry_of_item item) _ (fault_of item.protections item.mode item.name)
-
   item_same : (item : Item) → IsItem (length tree.id / 2) item → ((item_said options tree item).refused ≡ false) ↔ IsAcceptedItem item
-  item_same item good = (λ e. grind (arith, item_refused item), λ fine. grind (arith, item_refused item))
+  item_same item good = (λ e. grind arith, λ fine. grind arith)
 
 -- ---- an object
 

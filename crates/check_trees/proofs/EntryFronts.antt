@@ -11,4 +11,4 @@ plain_name name = refl
 
 pub plain_file : (front : List ℕ) → bytes_eq (take 7 front) (codes "100644 ") ≡ true
     → parsed_front front ≡ Some (record { digits = take 6 front; mode = None; is_file = true; name = drop 7 front })
-plain_file front e = grind (arith, bytes_eq-Decides, plain_name, take-append-drop, take-take)
+plain_file front e = grind (arith, plain_name)

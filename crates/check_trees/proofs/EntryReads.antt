@@ -8,11 +8,8 @@ use Rattle.check_trees.specs.Entries.{nul}
 use Rattle.check_trees.specs.Private.{PassesId}
 
 module _ (a b : Option (List ℕ)) where
-  skip_within : (count : ℕ) (bytes : List ℕ) (whole : Bool) → ReadsExactly count a b bytes whole → ReadsUpTo count a b
-  skip_within count bytes whole given = grind arith
-
   id_within : (count : ℕ) (finding : Finding) (id : List ℕ) (whole : Bool) → PassesId finding count a b id whole → ReadsUpTo count a b
-  id_within count finding id whole skips = grind (arith, skip_within)
+  id_within count finding id whole skips = grind (arith)
 
 pub entry_within : (limit : ℕ) (a b c : Option (List ℕ)) (front : List ℕ) (left count : ℕ) (finding : Finding) (id : List ℕ) (whole : Bool)
     → ReadsBefore nul limit a b front Byte → PassesId finding count b c id whole → length front + 1 + count ≤ left → ReadsUpTo left a c

@@ -41,12 +41,8 @@ in_length : (path : Option (List ℕ)) → length (in_path path) ≤ 525
 in_length None = omega arith
 in_length (Some []) = omega arith
 in_length (Some (b ∷ path)) =
-    omega (
-      arith,
-      length-append (codes " (in ") (shown_path (b ∷ path) ++ codes ")"),
-      length-append (shown_path (b ∷ path)) (codes ")"),
-      shown_length (b ∷ path),
-    )
+    let shown = shown_length (b ∷ path) in
+    omega (arith, length-append (codes " (in ") (shown_path (b ∷ path) ++ codes ")"), length-append (shown_path (b ∷ path)) (codes ")"))
 
 text_length : (fault : ComponentError) → length (text_of fault) ≤ 134
 text_length fault = grind arith
@@ -62,36 +58,23 @@ module _ (tree : ParsedObject) (front : ParsedModeAndName) where
   place_length = grind (arith, length-append, quoted_length front.name)
 
   refused_length : (fault : ComponentError) → length (refused_line tree front fault) ≤ length tree.id + length front.digits + 4 * length front.name + 665
-  refused_length fault = grind (arith, length-append, place_length, text_length fault, in_length tree.rest)
+  refused_length fault = grind (arith, length-append, place_length, in_length tree.rest)
 
   modules_length : (id : List ℕ) → length (modules_line tree front id) ≤ 2 * length id + length tree.id + length front.digits + 4 * length front.name + 539
   modules_length id = grind (arith, length-append, hex_length id, place_length, in_length tree.rest)
 
-item_length : (item : Item) → length (item_bytes item) ≡ length item.digits + length item.name + length item.id + 2
-item_length item = grind (arith, length-append)
+item_length : (width : ℕ) (item : Item) → IsItem width item
+    → (length (item_bytes item) ≡ length item.digits + length item.name + length item.id + 2) × (1 ≤ length item.digits)
+item_length width item is = (grind (arith, length-append), mode_length item.digits item.number is.0)
 
 module _ (tree : ParsedObject) (good : is_id tree.id ≡ true) where
   said_length : (item : Item) (finding : Finding) → IsItem (length tree.id / 2) item
       → length (finding_said tree (record { front = named item.digits item.name item.number; id = item.id }) finding).lines ≤ 32 * length (item_bytes item)
   said_length item Accepted is = omega arith
   said_length item Modules is =
-      omega (
-        arith,
-        modules_length tree (named item.digits item.name item.number) item.id,
-        id_length tree.id good,
-        mode_length item.digits item.number is.0,
-        is.2,
-        item_length item,
-      )
+      omega (arith, modules_length tree (named item.digits item.name item.number) item.id, id_length tree.id good, is.2, item_length _ item is)
   said_length item (Refused fault) is =
-      omega (
-        arith,
-        refused_length tree (named item.digits item.name item.number) fault,
-        id_length tree.id good,
-        mode_length item.digits item.number is.0,
-        is.2,
-        item_length item,
-      )
+      omega (arith, refused_length tree (named item.digits item.name item.number) fault, id_length tree.id good, is.2, item_length _ item is)
 
   -- ---- a tree
 

@@ -44,9 +44,9 @@ from_any names name any = Contains-from_any {eq = λ a b. bytes_eq b a} (λ a b 
 type_is : (number type : ℕ) → type < 16 → ((number / 4096 % 16 == type) ≡ true) ↔ HasType number type
 type_is number type small = (
   λ is.
-      let same : number / 4096 % 16 ≡ type = grind (arith, nat_tests) in
+      let same : number / 4096 % 16 ≡ type = grind arith in
       (number / 4096 / 16, number % 4096, omega arith, omega (arith, same)),
-  λ (above, below, few, is). let same : number / 4096 % 16 ≡ type = omega (arith, few, is, small) in grind (arith, nat_tests),
+  λ (above, below, few, is). let same : number / 4096 % 16 ≡ type = omega (arith, few, is, small) in grind arith,
 )
 
 -- an entry with the rules for its name
@@ -62,7 +62,7 @@ item_by options digits number name id = record {
 }
 
 checked_by : (options : Options) (digits : List ℕ) (number : ℕ) (name id : List ℕ) → IsCheckedBy options (item_by options digits number name id)
-checked_by options digits number name id = grind (arith, nat_tests, false≢true, from_any, any_from, type_is)
+checked_by options digits number name id = grind (arith, from_any, any_from, type_is)
 
 -- there is one way to check a name
 bools : (a b : Bool) (P : Type 0) → (IsTrue a ↔ P) → (IsTrue b ↔ P) → a ≡ b
@@ -98,16 +98,7 @@ entry_spelled short width item more good =
     let front = item.digits ++ byte " " ∷ item.name in
     let none : All (λ b. b ≢ nul) front = All-append (λ b. b ≢ nul) item.digits (byte " " ∷ item.name) (without (byte "0") nul item.digits (omega arith) high)
     (All-cons (λ b. b ≢ nul) (byte " ") item.name (λ e. omega arith) good.1) in
-    grind (
-      arith,
-      nat_tests,
-      length-append,
-      append_assoc,
-      entry_found short width front (item.id ++ more) none,
-      drop_both (front ++ nul ∷ []) item.id more,
-      id_after front item.id more (length front + 1) width refl,
-      front_spelled item.digits item.name item.number good.0,
-    )
+    grind (arith, length-append, append_assoc, entry_found short width front (item.id ++ more) none, drop_both (front ++ nul ∷ []) item.id more, id_after front item.id more (length front + 1) width refl, front_spelled item.digits item.name item.number good.0)
 
 pub entries_spelled : (options : Options) (short : Malformation) (tree : ParsedObject) (items : List Item) → AllByRecursion (IsItem (length tree.id / 2)) items
     → AllByRecursion (IsCheckedBy options) items
@@ -146,7 +137,7 @@ module _ (options : Options) (short : Malformation) (width : ℕ) where
       let after : drop (length front + 1) bytes ≡ id ++ drop (length front + 1 + width) bytes =
       rw (← (drop-drop width (length front + 1) bytes)) (sym (take-append-drop width (drop (length front + 1) bytes))) in (
         item_by options parsed.digits number parsed.name id,
-        (digits, All-from_recursion (λ b. b ≢ nul) parsed.name name_none, grind (arith, nat_tests, length-take, length-append), grind (arith, length-append)),
+        (digits, All-from_recursion (λ b. b ≢ nul) parsed.name name_none, grind (arith, length-take, length-append), grind (arith, length-append)),
         checked_by options parsed.digits number parsed.name id,
         grind (arith, append_assoc),
         ap (λ (front : ParsedModeAndName). record { front = front; id = id }) same,

@@ -45,11 +45,8 @@ module _ (options : Options) (short : Malformation) (tree : ParsedObject) where
 -- ---- a tree from its first entry
 
 module _ (options : Options) (tree : ParsedObject) (left : ℕ) where
-  tree_ended : (text : List ℕ) → left ≡ 0 → tree_report options tree left text ≡ (nothing, Ok text)
-  tree_ended text none = grind (arith, entries_none)
-
   tree_faulty : (text : List ℕ) (fault : Malformation) → 0 < left → first_entry tree left text ≡ Err fault → tree_report options tree left text ≡ (nothing, Err fault)
-  tree_faulty text fault some e = grind (arith, entries_none, first_cut, All-nil, length-take, entries_first, nat_lt)
+  tree_faulty text fault some e = grind (arith, entries_none, first_cut, entries_first)
 
   tree_entry : (text : List ℕ) (len : ℕ) (entry : ParsedEntry) → 0 < len → len ≤ left → len ≤ length text
       → first_entry tree left text ≡ Ok (entry, take (left - len) (drop len text)) → tree_report options tree left text
@@ -63,7 +60,7 @@ module _ (options : Options) (tree : ParsedObject) (left : ℕ) where
 
   tree_begins : (text : List ℕ) (old new : Option (List ℕ)) → 0 < left → AppendsPrefixOf old new (first_said options tree (first_entry tree left text)).lines
       → AppendsPrefixOf old new (tree_report options tree left text).0.lines
-  tree_begins text old new some begins = grind (arith, entries_none, first_cut, All-nil, length-take, take-append-le, entries_first, nat_lt)
+  tree_begins text old new some begins = grind (arith, first_cut, length-take, take-append-le, entries_first)
 
 -- ---- a tree while it is read
 
@@ -81,7 +78,7 @@ module _ (options : Options) (tree : ParsedObject) (size left : ℕ) {a b old mi
       (nothing, tree_faulty options tree left rest fault some e.0, e.1)))
 
   pub tree_ends : left ≡ 0 → IfSome a (λ text. FollowsRule (tree_report options tree size text) b old mid (Ok (Ok refused)))
-  tree_ends none = IfSome_then a sofar.known (λ text so. grind (arith, append-nil, tree_ended))
+  tree_ends none = IfSome_then a sofar.known (λ text so. grind (arith, append-nil, entries_none))
 
   pub tree_stops : (c new : Option (List ℕ)) (stop : RunError) (r : Result (Result Bool Malformation) RunError) → 0 < left → r ≡ Err stop
       → IfSome b (λ rest. stop ≢ Write → AppendsPrefixOf mid new (first_said options tree (first_entry tree left rest)).lines)

@@ -20,10 +20,6 @@ use Rattle.check_trees.proofs.SpelledTrees.{entries_spelled, read_as_items}
 
 -- ---- an entry
 
-refused_by : (tree : ParsedObject) (entry : ParsedEntry) (modules : Bool) (fault : Option ComponentError)
-    → (finding_said tree entry (finding_by modules fault)).refused ≡ is_some fault
-refused_by tree entry modules fault = grind arith
-
 module _ (options : Options) (tree : ParsedObject) where
   abbrev IsAcceptedItem : Item → Type 0
   IsAcceptedItem item = fault_of item.protections item.mode item.name ≡ None

@@ -44,9 +44,6 @@ in_length (Some (b ∷ path)) =
     let shown = shown_length (b ∷ path) in
     omega (arith, length-append (codes " (in ") (shown_path (b ∷ path) ++ codes ")"), length-append (shown_path (b ∷ path)) (codes ")"))
 
-text_length : (fault : ComponentError) → length (text_of fault) ≤ 134
-text_length fault = grind arith
-
 mode_length : (mode : List ℕ) (number : ℕ) → number_of 8 mode ≡ Some number → 1 ≤ length mode
 unfolding number_of
 mode_length mode number e = grind arith

@@ -22,14 +22,8 @@ either_empty (x ∷ a) b e = absurd (grind arith)
 right_of : (a b : List ℕ) → is_empty (a ++ b) ≡ true → is_empty b ≡ true
 right_of a b e = (either_empty a b e).1
 
-none_by : (id name : List ℕ) (offset : ℕ) (fault : Option NameError) → is_empty (line_if id offset name fault) ≡ true → fault ≡ None
-none_by id name offset fault e = grind (arith, right_of)
-
 pub accepts : (id : List ℕ) (s : ℕ × Option (List ℕ)) → is_empty (line_of id s) ≡ true → IsAccepted s
-accepts id s e = grind (arith, none_by, right_of)
-
-no_line : (id : List ℕ) (s : ℕ × Option (List ℕ)) → IsAccepted s → line_of id s ≡ []
-no_line id s fine = grind arith
+accepts id s e = grind (arith, right_of)
 
 all_accept : (id : List ℕ) (all : List (ℕ × Option (List ℕ))) → is_empty (lines_of id all) ≡ true → AllByRecursion IsAccepted all
 all_accept id [] e = tt
@@ -37,7 +31,7 @@ all_accept id (s ∷ all) e = let both = either_empty (line_of id s) (lines_of i
 
 no_lines : (id : List ℕ) (all : List (ℕ × Option (List ℕ))) → AllByRecursion IsAccepted all → lines_of id all ≡ []
 no_lines id [] each = refl
-no_lines id (s ∷ all) (first, each) = grind (arith, no_line id s first, no_lines id all each)
+no_lines id (s ∷ all) (first, each) = grind (arith, no_lines id all each)
 
 -- ---- objects
 
@@ -45,19 +39,12 @@ file_by : (id bytes : List ℕ) (large : Bool) (size : ℕ) → nat_lt largest s
 file_by id bytes true size is e = absurd (let some : is_empty (too_large_line id) ≡ true = rw is at e in grind (arith, right_of _ (codes " bytes\n") some))
 file_by id bytes false size is e = (is, all_accept id (sections 0 bytes) (rw is at e))
 
-not_true : (b : Bool) → not b ≡ false → b ≡ true
-not_true b e = grind arith
-
 file_empty : (id bytes : List ℕ) (size : ℕ) → IsAcceptedFile size bytes → file_lines id size bytes ≡ []
 file_empty id bytes size (small, each) = rw small (no_lines id (sections 0 bytes) each)
 
 kind_accepts : (kind : Kind) (id bytes : List ℕ) (size : ℕ) → not (is_empty (object_lines kind id size bytes)) ≡ false → kind ≡ Blob → IsAcceptedFile size bytes
-kind_accepts kind id bytes size e is = grind (arith, file_by, not_true)
-
-kind_accepted : (kind : Kind) (id bytes : List ℕ) (size : ℕ) → (kind ≡ Blob → IsAcceptedFile size bytes) → not (is_empty (object_lines kind id size bytes))
-    ≡ false
-kind_accepted kind id bytes size fine = grind (arith, file_empty)
+kind_accepts kind id bytes size e is = grind (arith, file_by)
 
 pub object_same : (whole : Bool) (object : Spelled) → IsSpelled submodules_rule whole object
     → ((spelled_said submodules_rule object).refused ≡ false) ↔ IsAcceptedObject object
-object_same whole object good = (λ e. grind (arith, kind_accepts), λ fine. grind (arith, kind_accepted))
+object_same whole object good = (λ e. grind (arith, kind_accepts), λ fine. grind (arith, file_empty))

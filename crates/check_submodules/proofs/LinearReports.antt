@@ -29,11 +29,11 @@ text_length fault = grind arith
 start_length : (id : List ℕ) (offset : ℕ) → length id ≤ 64 → offset ≤ largest → length (line_start id offset) ≤ 74
 start_length id offset short within =
     let digits = length-decimal-le 8 offset (omega arith) (omega (arith, within)) (omega (arith, within)) in
-    grind (arith, length-append, digits)
+    grind (arith, length-append)
 
 if_length : (id : List ℕ) (offset : ℕ) (name : List ℕ) (fault : Option NameError) → length id ≤ 64 → offset ≤ largest
     → length (line_if id offset name fault) ≤ 4 * length name + 117
-if_length id offset name fault short within = grind (arith, length-append, start_length, quoted_length, text_length)
+if_length id offset name fault short within = grind (arith, length-append, start_length, quoted_length)
 
 unreadable_length : (id : List ℕ) (offset : ℕ) → length id ≤ 64 → offset ≤ largest → length (line_of id (offset, None)) ≤ 98
 unreadable_length id offset short within = grind (arith, length-append, start_length id offset short within)
@@ -52,11 +52,11 @@ end_length : (is : Bool) → option_length (cond is (Some []) None) ≤ 0
 end_length is = grind arith
 
 closed_length : (bytes : List ℕ) → option_length (closed bytes) ≤ 0
-closed_length bytes = grind (arith, end_length)
+closed_length bytes = grind arith
 
 next_by : (never ends : Bool) (b : ℕ) (bytes : List ℕ) (rest : Option (List ℕ))
     → option_length (cond never None (cond ends (closed bytes) (option_map (λ name. b ∷ name) rest))) ≤ 1 + option_length rest
-next_by never ends b bytes rest = grind (arith, closed_length)
+next_by never ends b bytes rest = grind arith
 
 next_length : (escaped : Bool) (b : ℕ) (bytes : List ℕ) → name_length escaped (b ∷ bytes) ≤ 1 + name_length (not escaped && b == byte "\\") bytes
 next_length escaped b bytes =
@@ -71,7 +71,7 @@ not_escaped escaped is e = grind arith
 
 next_plain : (escaped : Bool) (b : ℕ) (bytes : List ℕ) → b ≢ byte "\\" → name_length escaped (b ∷ bytes) ≤ 1 + name_length false bytes
 next_plain escaped b bytes other =
-    let e : (not escaped && b == byte "\\") ≡ false = not_escaped escaped (b == byte "\\") (grind (arith, nat_tests)) in
+    let e : (not escaped && b == byte "\\") ≡ false = not_escaped escaped (b == byte "\\") (grind arith) in
     let same : name_length (not escaped && b == byte "\\") bytes ≡ name_length false bytes = ap (λ is. name_length is bytes) e in
     omega (arith, next_length escaped b bytes, same)
 
@@ -79,13 +79,9 @@ front_length : (front rest : List ℕ) → AllByRecursion IsFront front → name
 front_length [] rest is = omega arith
 front_length (b ∷ front) rest (first, is) = omega (arith, next_plain false b (front ++ rest) first.1, front_length front rest is)
 
-unescaped_by : (is : Bool) (b : ℕ) (one other : List ℕ) (most : ℕ) → length one ≤ most → length other ≤ most
-    → length (cond is one (b ∷ other)) ≤ most + 1
-unescaped_by is b one other most few more = grind arith
-
 unescaped_length : (escaped : Bool) (bytes : List ℕ) → length (unescaped escaped bytes) ≤ length bytes
 unescaped_length escaped [] = grind arith
-unescaped_length escaped (b ∷ bytes) = grind (arith, unescaped_by, unescaped_length true bytes, unescaped_length false bytes)
+unescaped_length escaped (b ∷ bytes) = grind (arith, unescaped_length true bytes, unescaped_length false bytes)
 
 -- ---- headers
 
@@ -109,7 +105,7 @@ submodule_fronts : AllByRecursion IsFront (codes "submodule")
 submodule_fronts = search rules
 
 blank_front : (b : ℕ) → is_blank b ≡ true → IsFront b
-blank_front b e = (grind (arith, nat_tests), grind (arith, nat_tests))
+blank_front b e = (grind arith, grind arith)
 
 abbrev IsAfterBlanks : List ℕ → List ℕ → Type 0
 IsAfterBlanks bytes after = (front : List ℕ) × AllByRecursion IsFront front × (bytes ≡ front ++ after)
@@ -128,13 +124,9 @@ fronts_append [] more is others = others
 fronts_append (b ∷ front) more (first, is) others = (first, fronts_append front more is others)
 
 module _ (bytes : List ℕ) where
-  named_read : (front tail : List ℕ) (name : Option (List ℕ)) → bytes ≡ front ++ byte "\"" ∷ tail → AllByRecursion IsFront front → 10 ≤ length front
-      → escaped_name false tail ≡ name → IsRead bytes (named name)
-  named_read front tail name whole is long e = grind (arith, unescaped_length)
-
   quote_by : (is : Bool) (front : List ℕ) (q : ℕ) (tail : List ℕ) → (q == byte "\"") ≡ is → bytes ≡ front ++ q ∷ tail → AllByRecursion IsFront front
       → 10 ≤ length front → IsRead bytes (cond is (named (escaped_name false tail)) Unreadable)
-  quote_by is front q tail e whole given long = grind (arith, named_read)
+  quote_by is front q tail e whole given long = grind (arith, unescaped_length)
 
   quoted_read : (front after : List ℕ) → bytes ≡ front ++ after → AllByRecursion IsFront front → 10 ≤ length front → IsRead bytes (quoted_header after)
   quoted_read front after whole is long = grind (arith, quote_by)
@@ -154,7 +146,7 @@ module _ (bytes : List ℕ) where
 
   word_by : (is : Bool) → bytes_eq (map to_ascii_lowercase (take 9 bytes)) (codes "submodule") ≡ is
       → IsRead bytes (cond is (header_after_word (drop 9 bytes)) Other)
-  word_by true e = grind (arith, bytes_eq-Decides, word_after, take-append-drop 9 bytes, word_fronts, submodule_fronts, nine)
+  word_by true e = grind (arith, bytes_eq-Decides, word_after, take-append-drop 9 bytes, word_fronts)
   word_by false e = grind arith
 
   header_read : IsRead bytes (header_after_bracket bytes)
@@ -166,7 +158,7 @@ module _ (bytes : List ℕ) where
 passed : (offset n : ℕ) (front rest : List ℕ) → n ≡ offset + length front → AllByRecursion IsFront front → sections offset (front ++ rest) ≡ sections n rest
 passed offset n [] rest e is = ap (λ n. sections n rest) (sym (e ∙ add-zero offset))
 passed offset n (b ∷ front) rest e (first, is) =
-    let other : (b == byte "[") ≡ false = let no = first.0 in grind (arith, nat_tests) in
+    let other : (b == byte "[") ≡ false = let no = first.0 in grind arith in
     rw other (passed (offset + 1) n front rest (omega arith) is)
 
 module _ (id : List ℕ) (short : length id ≤ 64) where
@@ -220,7 +212,7 @@ module _ (id : List ℕ) (short : length id ≤ 64) where
       → length (lines_of id (cond is (begun offset (header_after_bracket bytes) ++ sections (offset + 1) bytes) (sections (offset + 1) bytes)))
       + 4 * name_length escaped (b ∷ bytes) ≤ 17 * (length bytes + 1)
   first_within true b bytes e go offset escaped fits =
-      let is : b ≡ byte "[" = grind (arith, nat_tests) in
+      let is : b ≡ byte "[" = grind arith in
       rw is (bracket_within bytes (header_after_bracket bytes) (header_read bytes) go offset escaped fits)
   first_within false b bytes e go offset escaped fits =
       omega (arith, next_length escaped b bytes, go bytes (omega arith) (offset + 1) (not escaped && b == byte "\\") (omega arith))
@@ -239,13 +231,13 @@ module _ (id : List ℕ) (short : length id ≤ 64) where
   file_by : (is : Bool) (size : ℕ) (bytes : List ℕ) → nat_lt largest size ≡ is → length bytes ≡ size
       → length (cond is (too_large_line id) (lines_of id (sections 0 bytes))) ≤ 17 * length bytes
   file_by true size bytes e whole =
-      let many : largest < size = grind (arith, nat_tests) in
+      let many : largest < size = grind arith in
       grind (arith, length-append, length-decimal-le 8 largest (omega arith) (omega arith) (omega arith))
   file_by false size bytes e whole =
-      let few : size ≤ largest = grind (arith, nat_tests) in omega (arith, sections_within (length bytes) bytes (omega arith) 0 false (omega (arith, few)))
+      let few : size ≤ largest = grind arith in omega (arith, sections_within (length bytes) bytes (omega arith) 0 false (omega (arith, few)))
 
   object_length : (kind : Kind) (size : ℕ) (bytes : List ℕ) → length bytes ≡ size → length (object_lines kind id size bytes) ≤ 17 * length bytes
-  object_length kind size bytes whole = grind (arith, file_by, nat_lt)
+  object_length kind size bytes whole = grind (arith, file_by)
 
 file_within : IsObjectWithin 17 submodules_rule
 file_within true object bytes good whole = omega arith

@@ -53,7 +53,7 @@ without_first : (s : ℕ × Option (List ℕ)) (all : Sections) → AreInOrder (
 without_first s all pairs = λ i j d lower below. pairs (suc i) (suc j) d (omega arith) (omega arith)
 
 after_one : (start offset : ℕ) (line : List ℕ) (rest : Lines) → start < offset → AllAfter start rest → AllAfter start (one offset line ++ rest)
-after_one start offset line rest first more = grind (arith, All-cons)
+after_one start offset line rest first more = grind arith
 
 after_all : (start : ℕ) (id : List ℕ) (all : Sections) → AllAfter start all → AllAfter start (found id all)
 after_all start id [] after = λ k d below. absurd (omega arith)
@@ -61,7 +61,7 @@ after_all start id (s ∷ all) after =
     after_one start s.0 (line_of id s) (found id all) (after 0 s (omega arith)) (after_all start id all (λ k d below. after (suc k) d (omega arith)))
 
 order_one : (offset : ℕ) (line : List ℕ) (rest : Lines) → AllAfter offset rest → AreInOrder rest → AreInOrder (one offset line ++ rest)
-order_one offset line rest after pairs = grind (arith, AllPairs-cons)
+order_one offset line rest after pairs = grind arith
 
 order_all : (id : List ℕ) (all : Sections) → AreInOrder all → AreInOrder (found id all)
 order_all id [] pairs = λ i j d lower below. absurd (omega arith)

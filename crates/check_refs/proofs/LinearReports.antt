@@ -20,7 +20,7 @@ use Rattle.check_refs.specs.declared.options.Options.{Options}
 use Rattle.check_refs.specs.declared.refusal.Refusal.{Refusal}
 use Rattle.check_refs.specs.declared.refusal.Refusal.TheVariants.{Name, Replacement}
 use Rattle.check_refs.specs.Refs.{ParsedUpdate, parsed_update, name_fault_of, refusal_of, is_deletion, update_refusal_of, refusal_text_of, refused_line}
-use Rattle.check_refs.specs.Refs.{id_line, lines_by}
+use Rattle.check_refs.specs.Refs.{lines_by}
 use Rattle.check_refs.specs.Report.{step_of, update_rule, refs_report}
 use Rattle.check_refs.specs.Spelled.{IsUpdate, update_line}
 use Rattle.check_refs.specs.Private.{update_leaves}
@@ -87,12 +87,9 @@ update_shortly allows update =
 refused_length : (name : List ℕ) (refusal : Refusal) → length (refusal_text_of refusal) ≤ 64 → length (refused_line name refusal) ≤ 4 * length name + 72
 refused_length name refusal short = grind (arith, length-append, quoted_length name)
 
-id_line_length : (is : Bool) (id : List ℕ) → length (cond is (id_line id) []) ≤ length id + 1
-id_line_length is id = grind (arith, length-append)
-
 lines_length : (options : Options) (update : ParsedUpdate) (refusal : Option Refusal) → IsShortly refusal
     → length (lines_by options update refusal) ≤ 4 * length update.name + length update.new_id + 72
-lines_length options update refusal short = grind (arith, refused_length, id_line_length)
+lines_length options update refusal short = grind (arith, refused_length, length-append)
 
 update_length : (update : ParsedUpdate) → length (update_line update) ≡ length update.old_id + length update.new_id + length update.name + 2
 update_length update = grind (arith, length-append)

@@ -1,5 +1,5 @@
 -- Updates that are written out are read as they are written, and no other input is well-formed.
-use Rattle.std.proofs.Common.{◌≡◌, ◌≢◌, ℕ, ◌<◌, List, [], ◌∷◌, ◌++◌, All, Option, Some, None, Ok, length, refl, arith, ◌∙◌}
+use Rattle.std.proofs.Common.{◌≡◌, ◌≢◌, ℕ, ◌<◌, List, [], ◌∷◌, ◌++◌, All, Option, Some, None, Ok, length, refl, arith}
 use Rattle.std.proofs.Common.{append_assoc, length-append}
 use Rattle.std.specs.List.{AllByRecursion, flat_map}
 use Rattle.std.proofs.lemmas.List.Elements.{All-append, All-cons, All-from_recursion}
@@ -72,7 +72,4 @@ unfolding report
 not_none options updates text is none e = grind (arith, lines_none (update_rule options) AfterALine 1)
 
 pub well_formed_only_if_spelled : (options : Options) → IsWellFormedOnlyIfSpelled options
-well_formed_only_if_spelled options text none =
-    let all = well_formed (updates_are_read options) text none in
-    let is : text ≡ flat_map spelling all.parts = all.text_is ∙ append-nil (flat_map spelling all.parts) in
-    record { updates = all.parts; some = not_none options all.parts text is none; each = all.each; text_is = is; said_is = all.said_is }
+well_formed_only_if_spelled options text none = grind (arith, well_formed (updates_are_read options) text none, append-nil, not_none)

@@ -2,7 +2,6 @@
 use Rattle.std.proofs.Common.{◌≡◌, ◌≢◌, ℕ, zero, suc, ◌+◌, ◌*◌, ◌<◌, ◌≤◌, nat_lt, Bool, true, false, cond, ◌==◌, ◌&&◌, not, List, [], ◌∷◌, ◌++◌, Option}
 use Rattle.std.proofs.Common.{None, Some}
 use Rattle.std.proofs.Common.{length, take, drop, map, codes, refl, ap, arith, length-append, take-append-drop, append_assoc, add-zero, sym, ◌∙◌, rules}
-use Rattle.std.proofs.lemmas.Bool.Decides.{nat_tests}
 use Rattle.std.proofs.lemmas.Fmt.{length-decimal-le}
 use Rattle.std.proofs.lemmas.Slice.Eq.{bytes_eq-Decides}
 use Rattle.std.specs.Prelude.{option_map, ⊤}
@@ -13,7 +12,6 @@ use Rattle.gix_validate.specs.declared.submodule.NameError.{NameError}
 use Rattle.gix_validate.specs.Submodule.{fault_of, text_of}
 use Rattle.gitmodules.specs.Sections.{is_never_in_name, closed, escaped_name, unescaped, Header, Named, Unreadable, Other, is_blank, without_blanks}
 use Rattle.gitmodules.specs.Sections.{named}
-use Rattle.gitmodules.proofs.SpelledSections.{nine}
 use Rattle.gitmodules.specs.Sections.{quoted_header, header_after_word, header_after_bracket, begun, sections}
 use Rattle.git_input.specs.declared.header.Kind.{Kind}
 use Rattle.git_input.specs.Reports.{PrintsAtMost}

@@ -1,7 +1,5 @@
 -- Nothing of a stream is refused if and only if each entry of each tree is accepted.
-use Rattle.std.proofs.Common.{◌≡◌, ℕ, Bool, false, List, Option, None, refl, arith, ap, ◌∙◌}
-use Rattle.std.specs.Option.{is_some}
-use Rattle.gix_validate.specs.declared.path.ComponentError.{ComponentError}
+use Rattle.std.proofs.Common.{◌≡◌, ℕ, Bool, false, List, None, refl, arith, ap, ◌∙◌}
 use Rattle.gix_validate.specs.Component.{fault_of}
 use Rattle.git_input.specs.declared.header.Kind.{Kind}
 use Rattle.git_input.specs.declared.header.Kind.TheVariants.{Blob, Tree, Commit, Tag}
@@ -13,9 +11,8 @@ use Rattle.std.proofs.Common.{◌↔◌}
 use Rattle.git_input.proofs.WrittenLines.{all_good}
 use Rattle.std.proofs.Common.{◌/◌, length}
 use Rattle.check_trees.specs.Options.{Options}
-use Rattle.check_trees.specs.Entries.{ParsedEntry}
-use Rattle.check_trees.specs.Report.{finding_by, finding_said, entries, judged_by_kind, tree_rule}
-use Rattle.check_trees.specs.Spelled.{Item, IsItem, entry_of_item, item_said, IsAcceptedTree, IsAcceptedObject}
+use Rattle.check_trees.specs.Report.{entries, judged_by_kind, tree_rule}
+use Rattle.check_trees.specs.Spelled.{Item, IsItem, item_said, IsAcceptedTree, IsAcceptedObject}
 use Rattle.check_trees.proofs.SpelledTrees.{entries_spelled, read_as_items}
 
 -- ---- an entry

@@ -1,6 +1,5 @@
 -- The parts of a list between its commas.
 use Rattle.std.proofs.Common.{◌≡◌, ℕ, ◌+◌, List, [], ◌∷◌, Option, Some, None, take, drop, refl, arith}
-use Rattle.std.proofs.lemmas.Bool.Decides.{nat_tests}
 use Rattle.std.proofs.lemmas.List.{take_rest}
 use Rattle.std.specs.Str.{byte}
 use Rattle.memchr.specs.Find.{is_byte, IsFirstByte}

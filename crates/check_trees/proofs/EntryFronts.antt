@@ -1,7 +1,6 @@
 -- What is before the NUL of an entry: the front of a plain file, for which the code has a shortcut.
-use Rattle.std.proofs.Common.{◌≡◌, List, ℕ, ◌++◌, Some, None, take, drop, codes, true, refl, arith, take-append-drop, take-take}
+use Rattle.std.proofs.Common.{◌≡◌, List, ℕ, ◌++◌, Some, None, take, drop, codes, true, refl, arith}
 use Rattle.std.specs.Str.{bytes_eq}
-use Rattle.std.proofs.lemmas.Slice.Eq.{bytes_eq-Decides}
 use Rattle.git_input.specs.Texts.{number_of}
 use Rattle.check_trees.specs.Entries.{parsed_front}
 

@@ -4,7 +4,6 @@ use Rattle.std.proofs.Common.{length, take, refl, arith, length-append, length-t
 use Rattle.std.proofs.lemmas.Bool.Decides.{nat_tests}
 use Rattle.std.specs.Prelude.{IfOk, flat_map}
 use Rattle.gix_validate.specs.declared.path.ComponentError.{ComponentError}
-use Rattle.gix_validate.specs.Component.{text_of}
 use Rattle.gix_validate.specs.Quoted.{quoted}
 use Rattle.git_input.specs.declared.header.Kind.{Kind}
 use Rattle.git_input.specs.declared.outcome.Malformation.{Malformation}

@@ -5,10 +5,8 @@ use Rattle.std.proofs.Common.{refl, ap, sym, ◌∙◌, arith, append_assoc, len
 use Rattle.std.specs.Prelude.{◌%◌, ◌==◌, ◌↔◌, IsTrue, Contains, IfSome, IfOk, map, flat_map}
 use Rattle.std.specs.List.{AllByRecursion, list_any}
 use Rattle.std.proofs.lemmas.List.Elements.{All-from_recursion, All-append, All-cons}
-use Rattle.std.proofs.lemmas.Bool.Decides.{nat_tests}
 use Rattle.std.proofs.lemmas.Grind.{common_steps}
 use Rattle.std.specs.Str.{byte, bytes_eq}
-use Rattle.std.proofs.lemmas.Bool.{false≢true}
 use Rattle.std.proofs.lemmas.Map.Views.{Contains-from_any}
 use Rattle.std.proofs.lemmas.Slice.Eq.{bytes_eq-Decides}
 use Rattle.gix_validate.specs.declared.path.ComponentMode.{ComponentMode}

@@ -1,4 +1,4 @@
-use Rattle.std.proofs.Common.{arith, append_assoc}
+use Rattle.std.proofs.Common.{arith}
 use Rattle.check_trees.proofs.report.set_refused.Goals as goal
 
 pub returns : goal.returns

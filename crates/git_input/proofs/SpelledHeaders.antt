@@ -61,7 +61,11 @@ unfolding parsed_header
 header_spelled object digits good number =
     let more = digits ++ rest_bytes object.rest in
     let facts = word_facts object.kind more in
-    grind (arith, split_found (byte " ") object.id (kind_word object.kind ++ byte " " ∷ more) (without (byte "0") (byte " ") object.id (omega arith) (id_high object.id good).0), size_spelled object.id object.kind digits object.rest object.size number)
+    grind (
+      arith,
+      split_found (byte " ") object.id (kind_word object.kind ++ byte " " ∷ more) (without (byte "0") (byte " ") object.id (omega arith) (id_high object.id good).0),
+      size_spelled object.id object.kind digits object.rest object.size number,
+    )
 
 pub missing_spelled : (id : List ℕ) → is_id id ≡ true → parsed_header (id ++ codes " missing") ≡ Some Missing
 unfolding parsed_header

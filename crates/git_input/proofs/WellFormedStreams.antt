@@ -92,7 +92,8 @@ module _ (rule : ObjectRule) where
 
 -- ---- a stream
 
-pub objects_are_read : (rule : ObjectRule) (whole : Bool) → AreRead (object_rule rule whole) (ending_of whole) (IsSpelled rule whole) spelling (spelled_said rule)
+pub objects_are_read : (rule : ObjectRule) (whole : Bool)
+    → AreRead (object_rule rule whole) (ending_of whole) (IsSpelled rule whole) spelling (spelled_said rule)
 objects_are_read rule whole = record {
   leaves = object_rule_leaves rule whole;
   read = λ object rest good. (some_bytes object rest, not_end rule whole (ending_of whole) object rest good, line_spelled rule whole object rest good);

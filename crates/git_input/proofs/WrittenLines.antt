@@ -1,5 +1,6 @@
 -- Texts that are written out, part by part: each is read as it is written, and no other text is well-formed.
-use Rattle.std.proofs.Common.{◌≡◌, ◌↔◌, ℕ, zero, suc, ◌+◌, ◌<◌, ◌≤◌, true, false, List, [], ◌∷◌, ◌++◌, None, Some, Ok, Err, length, map, refl, ap, sym, ◌∙◌, arith}
+use Rattle.std.proofs.Common.{◌≡◌, ◌↔◌, ℕ, zero, suc, ◌+◌, ◌<◌, ◌≤◌, true, false, List, [], ◌∷◌, ◌++◌, None, Some, Ok, Err, length, map, refl, ap}
+use Rattle.std.proofs.Common.{sym, ◌∙◌, arith}
 use Rattle.std.proofs.Common.{append_assoc}
 use Rattle.std.specs.Prelude.{IfOk, flat_map}
 use Rattle.std.specs.List.{AllByRecursion}
@@ -10,7 +11,8 @@ use Rattle.git_input.specs.declared.outcome.Malformation.{Malformation}
 use Rattle.git_input.specs.declared.outcome.Verdict.TheVariants.{Clean}
 use Rattle.git_input.specs.declared.lines.Ending.{Ending}
 use Rattle.git_input.specs.declared.lines.Ending.TheVariants.{AfterALine}
-use Rattle.git_input.specs.Reports.{Said, all_said, Step, LineRule, LeavesTheEnd, line_of, Report, before_report, lines_then, end_of, is_end, at_end, at_end_line}
+use Rattle.git_input.specs.Reports.{Said, all_said, Step, LineRule, LeavesTheEnd, line_of, Report, before_report, lines_then, end_of, is_end, at_end}
+use Rattle.git_input.specs.Reports.{at_end_line}
 use Rattle.git_input.specs.Reports.{lines_within, lines_from, report, verdict_of}
 use Rattle.git_input.proofs.LinesRead.{line_shorter, lines_first, lines_none, lines_end}
 
@@ -47,10 +49,12 @@ pub record AreRead {X : Type 0} (rule : LineRule) (ending : Ending) (IsPart : X 
   pub leaves : LeavesTheEnd rule
   pub read : (part : X) (rest : List ℕ) → IsPart part → (0 < length (spelling part ++ rest)) × (is_end ending (spelling part ++ rest) ≡ false)
       × (line_of rule (spelling part ++ rest) ≡ (said_of part, Ok rest))
-  pub only : (text : List ℕ) → IfOk (line_of rule text).1 (λ rest. (part : X) × IsPart part × (text ≡ spelling part ++ rest) × ((line_of rule text).0 ≡ said_of part))
+  pub only : (text : List ℕ)
+      → IfOk (line_of rule text).1 (λ rest. (part : X) × IsPart part × (text ≡ spelling part ++ rest) × ((line_of rule text).0 ≡ said_of part))
 
 -- a text that is written out, and what is said of it
-pub record AreParts {X : Type 0} (ending : Ending) (IsPart : X → Type 0) (spelling : X → List ℕ) (said_of : X → Said) (text : List ℕ) (said : Said) : Type 0 where
+pub record AreParts {X : Type 0} (ending : Ending) (IsPart : X → Type 0) (spelling : X → List ℕ) (said_of : X → Said) (text : List ℕ) (said : Said)
+    : Type 0 where
   pub parts : List X
   pub each : AllByRecursion IsPart parts
   pub text_is : text ≡ flat_map spelling parts ++ end_of ending
@@ -108,7 +112,14 @@ module _ {X : Type 0} {rule : LineRule} {ending : Ending} {IsPart : X → Type 0
         let all = well_formed text none in
         (all, (all_good said_of IsPart IsGood same all.parts all.each).0 (rw all.said_is at clean))
 
-    pub if_clean : (text : List ℕ) (parts : List X) → AllByRecursion IsPart parts → AllByRecursion IsGood parts → text ≡ flat_map spelling parts ++ end_of ending
+    pub if_clean : (text : List ℕ) (parts : List X) → AllByRecursion IsPart parts → AllByRecursion IsGood parts
+        → text ≡ flat_map spelling parts ++ end_of ending
         → (ending ≡ AfterALine → 0 < length parts) → verdict_of (report rule ending text) ≡ Clean
     unfolding report
-    if_clean text parts each good is some = grind (arith, all_in_order 1 parts (end_of ending) each, lines_none, lines_end, (all_good said_of IsPart IsGood same parts each).1 good)
+    if_clean text parts each good is some = grind (
+      arith,
+      all_in_order 1 parts (end_of ending) each,
+      lines_none,
+      lines_end,
+      (all_good said_of IsPart IsGood same parts each).1 good,
+    )

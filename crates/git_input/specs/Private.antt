@@ -19,7 +19,8 @@ closed_is judged text = grind (arith, nat_tests)
 drop_ends : (n : ℕ) (text rest : List ℕ) → drop n text ≡ line_end ∷ rest → EndsIn text rest
 drop_ends n text rest is = (take n text ++ line_end ∷ [], grind (arith, append_assoc, take-append-drop n text))
 
-header_leaves : (rule : ObjectRule) (needs_end : Bool) (header : Option ParsedHeader) (text : List ℕ) → IfOk (header_rule rule needs_end header text).1 (EndsIn text)
+header_leaves : (rule : ObjectRule) (needs_end : Bool) (header : Option ParsedHeader) (text : List ℕ)
+    → IfOk (header_rule rule needs_end header text).1 (EndsIn text)
 header_leaves rule needs_end None text = tt
 header_leaves rule true (Some Missing) text = tt
 header_leaves rule false (Some Missing) text = ([], refl)

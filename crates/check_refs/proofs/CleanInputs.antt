@@ -88,7 +88,8 @@ clean_if_accepted options text verdict is = (
   λ e.
       let (none, clean) = clean_by (refs_report options text) (sym is ∙ e) in
       let written = well_formed_only_if_spelled options text none in
-      let good = (all_good (said_of options) IsSpelled (IsAccepted options) (update_same options) written.updates written.each).0 (rw written.said_is at clean) in
+      let all = all_good (said_of options) IsSpelled (IsAccepted options) (update_same options) written.updates written.each in
+      let good = all.0 (rw written.said_is at clean) in
       record { updates = written.updates; some = written.some; each = written.each; accepted = good; text_is = written.text_is },
   λ all. is ∙ if_clean (updates_are_read options) (update_same options) text all.updates all.each all.accepted
       (all.text_is ∙ sym (append-nil (flat_map spelling all.updates))) (λ e. some_parts all.updates all.some),

@@ -51,7 +51,8 @@ name_whole front name each = All-from_recursion NoEnd name (each_after NoEnd fro
 abbrev IsFirst : Options → List ℕ → Said → List ℕ → Type 0
 IsFirst options text said rest = (update : ParsedUpdate) × IsSpelled update × (text ≡ spelling update ++ rest) × (said ≡ said_of options update)
 
-line_is : (options : Options) (line text : List ℕ) (parsed : Option ParsedUpdate) → parsed_update line ≡ parsed → AllByRecursion NoEnd line → length line < longest
+line_is : (options : Options) (line text : List ℕ) (parsed : Option ParsedUpdate) → parsed_update line ≡ parsed
+    → AllByRecursion NoEnd line → length line < longest
     → IfOk (step_of options parsed text).1 (IsFirst options (line ++ line_end ∷ text) (step_of options parsed text).0)
 line_is options line text None e none few = tt
 line_is options line text (Some update) e none few = grind (arith, read_spelled line update e, name_whole, append_assoc)

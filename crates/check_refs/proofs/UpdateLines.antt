@@ -27,7 +27,12 @@ passes update good = grind arith
 
 pub spelled_read : (update : ParsedUpdate) → IsUpdate update → parsed_update (update_line update) ≡ Some update
 unfolding parsed_update
-spelled_read update good = grind (arith, append_assoc update.old_id (byte " " ∷ update.new_id) (byte " " ∷ update.name), split_found (byte " ") update.old_id (update.new_id ++ byte " " ∷ update.name) (id_whole (byte " ") (omega arith) update.old_id good.old), split_found (byte " ") update.new_id update.name (id_whole (byte " ") (omega arith) update.new_id good.new))
+spelled_read update good = grind (
+  arith,
+  append_assoc update.old_id (byte " " ∷ update.new_id) (byte " " ∷ update.name),
+  split_found (byte " ") update.old_id (update.new_id ++ byte " " ∷ update.name) (id_whole (byte " ") (omega arith) update.old_id good.old),
+  split_found (byte " ") update.new_id update.name (id_whole (byte " ") (omega arith) update.new_id good.new),
+)
 
 -- the parts of a text give it back
 parts_joined : (text front rest : List ℕ) → split_once (byte " ") text ≡ Some (front, rest) → text ≡ front ++ byte " " ∷ rest

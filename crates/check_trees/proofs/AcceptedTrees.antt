@@ -9,7 +9,9 @@ use Rattle.git_input.specs.Objects.{Judged}
 use Rattle.git_input.specs.Spelled.{Spelled, Present, Absent, IsSpelled, spelled_said}
 use Rattle.std.proofs.Common.{◌↔◌}
 use Rattle.git_input.proofs.WrittenLines.{all_good}
-use Rattle.std.proofs.Common.{◌/◌, length}
+use Rattle.std.proofs.Common.{◌/◌, length, map}
+use Rattle.git_input.specs.Reports.{all_said}
+use Rattle.std.specs.List.{AllByRecursion}
 use Rattle.check_trees.specs.Options.{Options}
 use Rattle.check_trees.specs.Report.{entries, judged_by_kind, tree_rule}
 use Rattle.check_trees.specs.Spelled.{Item, IsItem, item_said, IsAcceptedTree, IsAcceptedObject}
@@ -23,6 +25,10 @@ module _ (options : Options) (tree : ParsedObject) where
 
   item_same : (item : Item) → IsItem (length tree.id / 2) item → ((item_said options tree item).refused ≡ false) ↔ IsAcceptedItem item
   item_same item good = (λ e. grind arith, λ fine. grind arith)
+
+  items_good : (items : List Item) → AllByRecursion (IsItem (length tree.id / 2)) items
+      → ((all_said (map (item_said options tree) items)).refused ≡ false) ↔ AllByRecursion IsAcceptedItem items
+  items_good = all_good (item_said options tree) (IsItem (length tree.id / 2)) IsAcceptedItem item_same
 
 -- ---- an object
 
@@ -39,7 +45,7 @@ module _ (options : Options) where
         items = tree.items;
         each = tree.each;
         checked = tree.checked;
-        accepted = (all_good (item_said options object) (IsItem (length object.id / 2)) (IsAcceptedItem options object) (item_same options object) tree.items tree.each).0 (rw tree.said_is at clean);
+        accepted = (items_good options object tree.items tree.each).0 (rw tree.said_is at clean);
         bytes_are = tree.bytes_are;
       }
   object_accepts whole (Absent id) good clean = tt
@@ -48,7 +54,7 @@ module _ (options : Options) where
       → (entries options Entry object content).0.refused ≡ false
   tree_accepted object content tree =
       ap (λ (judged : Judged). judged.0.refused) (ap (entries options Entry object) tree.bytes_are ∙ entries_spelled options Entry object tree.items tree.each tree.checked)
-      ∙ (all_good (item_said options object) (IsItem (length object.id / 2)) (IsAcceptedItem options object) (item_same options object) tree.items tree.each).1 tree.accepted
+      ∙ (items_good options object tree.items tree.each).1 tree.accepted
 
   by_kind_accepted : (object : ParsedObject) (content : List ℕ) (kind : Kind) → (kind ≡ Tree → IsAcceptedTree options object content)
       → (judged_by_kind options false object content kind).0.refused ≡ false

@@ -96,7 +96,15 @@ entry_spelled short width item more good =
     let front = item.digits ++ byte " " ∷ item.name in
     let none : All (λ b. b ≢ nul) front = All-append (λ b. b ≢ nul) item.digits (byte " " ∷ item.name) (without (byte "0") nul item.digits (omega arith) high)
     (All-cons (λ b. b ≢ nul) (byte " ") item.name (λ e. omega arith) good.1) in
-    grind (arith, length-append, append_assoc, entry_found short width front (item.id ++ more) none, drop_both (front ++ nul ∷ []) item.id more, id_after front item.id more (length front + 1) width refl, front_spelled item.digits item.name item.number good.0)
+    grind (
+      arith,
+      length-append,
+      append_assoc,
+      entry_found short width front (item.id ++ more) none,
+      drop_both (front ++ nul ∷ []) item.id more,
+      id_after front item.id more (length front + 1) width refl,
+      front_spelled item.digits item.name item.number good.0,
+    )
 
 pub entries_spelled : (options : Options) (short : Malformation) (tree : ParsedObject) (items : List Item) → AllByRecursion (IsItem (length tree.id / 2)) items
     → AllByRecursion (IsCheckedBy options) items

@@ -1,4 +1,3 @@
-pub mod SplitLines
 pub mod UpdateLines
 pub mod SpelledInputs
 pub mod CleanInputs

@@ -1,5 +1,5 @@
 -- At most four bytes are printed for each byte of an input.
-use Rattle.std.proofs.Common.{◌≡◌, ℕ, ◌+◌, ◌*◌, ◌≤◌, Bool, true, false, ◌&&◌, not, cond, List, [], ◌∷◌, Option, None, Some, length, codes, refl, ap, arith}
+use Rattle.std.proofs.Common.{◌≡◌, ℕ, ◌+◌, ◌*◌, ◌≤◌, Bool, cond, List, [], ◌∷◌, Option, None, Some, length, codes, refl, ap, arith}
 use Rattle.std.proofs.Common.{length-append}
 use Rattle.std.specs.Prelude.{IfSome}
 use Rattle.std.specs.Option.{option_map}
@@ -20,9 +20,10 @@ use Rattle.check_refs.specs.declared.options.Options.{Options}
 use Rattle.check_refs.specs.declared.refusal.Refusal.{Refusal}
 use Rattle.check_refs.specs.declared.refusal.Refusal.TheVariants.{Name, Replacement}
 use Rattle.check_refs.specs.Refs.{ParsedUpdate, parsed_update, name_fault_of, refusal_of, is_deletion, update_refusal_of, refusal_text_of, refused_line}
-use Rattle.check_refs.specs.Refs.{id_line, lines_by}
+use Rattle.check_refs.specs.Refs.{lines_by}
 use Rattle.check_refs.specs.Report.{step_of, update_rule, refs_report}
 use Rattle.check_refs.specs.Spelled.{IsUpdate, update_line}
+use Rattle.check_refs.specs.Private.{update_leaves}
 use Rattle.check_refs.proofs.UpdateLines.{read_spelled}
 
 -- ---- the text of a refusal
@@ -45,13 +46,10 @@ abbrev IsShort : Option NameError → Type 0
 IsShort fault = IfSome fault (λ fault. length (text_of fault) ≤ 64)
 
 carried_short : (fault : Option TagError) → IsShort (option_map carried fault)
-carried_short None = tt
-carried_short (Some fault) = carried_length fault
+carried_short fault = grind arith
 
 or_short : (first : Option NameError) (is : Bool) (other : NameError) → IsShort first → length (text_of other) ≤ 64 → IsShort (first orelse when is other)
-or_short (Some fault) is other short few = short
-or_short None true other short few = few
-or_short None false other short few = tt
+or_short first is other short few = grind arith
 
 partial_short : (x : List ℕ) → IsShort (partial_fault_of x)
 unfolding partial_fault_of
@@ -66,8 +64,7 @@ unfolding branch_fault_of
 branch_short x = or_short (full_fault_of x) (bytes_eq x (codes "refs/heads/HEAD")) (reserved (codes "refs/heads/HEAD")) (full_short x) (omega arith)
 
 either_short : (is : Bool) (one other : Option NameError) → IsShort one → IsShort other → IsShort (cond is one other)
-either_short true one other short more = short
-either_short false one other short more = more
+either_short is one other short more = grind arith
 
 name_short : (x : List ℕ) → IsShort (name_fault_of x)
 name_short x = either_short (begins x (codes "refs/heads/")) (branch_fault_of x) (full_fault_of x) (branch_short x) (full_short x)
@@ -76,13 +73,10 @@ abbrev IsShortly : Option Refusal → Type 0
 IsShortly refusal = IfSome refusal (λ refusal. length (refusal_text_of refusal) ≤ 64)
 
 named_shortly : (fault : Option NameError) (is : Bool) → IsShort fault → IsShortly (option_map Name fault orelse when is Replacement)
-named_shortly (Some fault) is short = short
-named_shortly None true short = omega arith
-named_shortly None false short = tt
+named_shortly fault is short = grind arith
 
 kept_shortly : (gone : Bool) (refusal : Option Refusal) → IsShortly refusal → IsShortly (cond gone None refusal)
-kept_shortly true refusal short = tt
-kept_shortly false refusal short = short
+kept_shortly gone refusal short = grind arith
 
 update_shortly : (allows : Bool) (update : ParsedUpdate) → IsShortly (update_refusal_of allows update)
 update_shortly allows update =
@@ -93,14 +87,9 @@ update_shortly allows update =
 refused_length : (name : List ℕ) (refusal : Refusal) → length (refusal_text_of refusal) ≤ 64 → length (refused_line name refusal) ≤ 4 * length name + 72
 refused_length name refusal short = grind (arith, length-append, quoted_length name)
 
-id_line_length : (is : Bool) (id : List ℕ) → length (cond is (id_line id) []) ≤ length id + 1
-id_line_length true id = omega (arith, length-append id (codes "\n"))
-id_line_length false id = omega arith
-
 lines_length : (options : Options) (update : ParsedUpdate) (refusal : Option Refusal) → IsShortly refusal
     → length (lines_by options update refusal) ≤ 4 * length update.name + length update.new_id + 72
-lines_length options update (Some refusal) short = omega (arith, refused_length update.name refusal short)
-lines_length options update None short = omega (arith, id_line_length (options.lists_ids && not (is_deletion update)) update.new_id)
+lines_length options update refusal short = grind (arith, refused_length, length-append)
 
 update_length : (update : ParsedUpdate) → length (update_line update) ≡ length update.old_id + length update.new_id + length update.name + 2
 update_length update = grind (arith, length-append)
@@ -125,4 +114,4 @@ line_within : (options : Options) → IsLineWithin 4 (update_rule options)
 line_within options line rest = said_within options line rest (parsed_update line) (parsed_of line (parsed_update line) refl)
 
 pub linear_report : (options : Options) → PrintsAtMost 4 (refs_report options)
-linear_report options = prints_at_most 4 (update_rule options) AfterALine (line_within options)
+linear_report options = prints_at_most 4 (update_rule options) (update_leaves options) AfterALine (line_within options)

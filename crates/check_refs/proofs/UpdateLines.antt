@@ -3,7 +3,6 @@ use Rattle.std.proofs.Common.{◌≡◌, ◌≢◌, ℕ, ◌<◌, true, List, []
 use Rattle.std.specs.Str.{byte}
 use Rattle.std.specs.List.{list_all, AllByRecursion}
 use Rattle.std.proofs.lemmas.List.Elements.{All-from_recursion}
-use Rattle.std.proofs.lemmas.Bool.Decides.{nat_tests}
 use Rattle.git_input.specs.Texts.{is_hex_digit, is_id, split_once}
 use Rattle.check_refs.specs.Refs.{ParsedUpdate, is_update, parsed_update}
 use Rattle.check_refs.specs.Spelled.{IsUpdate, update_line, IsReadAsSpelled}
@@ -12,7 +11,7 @@ use Rattle.git_input.proofs.SplitTexts.{split_found, split_cuts}
 module _ (separator : ℕ) (low : separator < byte "0") where
   digits_each : (text : List ℕ) → list_all is_hex_digit text ≡ true → AllByRecursion (λ b. b ≢ separator) text
   digits_each [] e = tt
-  digits_each (b ∷ text) e = grind (arith, nat_tests, digits_each text)
+  digits_each (b ∷ text) e = grind (arith, digits_each text)
 
   -- an id has no byte below its digits
   pub id_whole : (id : List ℕ) → is_id id ≡ true → All (λ b. b ≢ separator) id
@@ -21,10 +20,10 @@ module _ (separator : ℕ) (low : separator < byte "0") where
 
 -- both say the same of an update
 tested : (update : ParsedUpdate) → is_update update ≡ true → IsUpdate update
-tested update e = record { old = grind arith; new = grind arith; same_length = grind (arith, nat_tests); named = grind arith }
+tested update e = record { old = grind arith; new = grind arith; same_length = grind arith; named = grind arith }
 
 passes : (update : ParsedUpdate) → IsUpdate update → is_update update ≡ true
-passes update good = grind (arith, nat_tests)
+passes update good = grind arith
 
 pub spelled_read : (update : ParsedUpdate) → IsUpdate update → parsed_update (update_line update) ≡ Some update
 unfolding parsed_update
@@ -33,7 +32,6 @@ spelled_read update good = grind (
   append_assoc update.old_id (byte " " ∷ update.new_id) (byte " " ∷ update.name),
   split_found (byte " ") update.old_id (update.new_id ++ byte " " ∷ update.name) (id_whole (byte " ") (omega arith) update.old_id good.old),
   split_found (byte " ") update.new_id update.name (id_whole (byte " ") (omega arith) update.new_id good.new),
-  passes update good,
 )
 
 -- the parts of a text give it back

@@ -31,15 +31,12 @@ as_parsed update = record { old_id = update.old_id.now; new_id = update.new_id.n
 abbrev pub is_update : ParsedUpdate → Bool
 is_update update = is_id update.old_id && is_id update.new_id && length update.old_id == length update.new_id && not (is_empty update.name)
 
--- the update, if it is one
-abbrev pub if_update : ParsedUpdate → Option ParsedUpdate
-if_update update = when (is_update update) update
-
 -- what a line says, without its newline: an id, a space, an id of the same length, a space and the name, which is all the rest
 unfoldable pub parsed_update : List ℕ → Option ParsedUpdate
 parsed_update line =
     option_and_then (λ (old : List ℕ × List ℕ).
-    option_and_then (λ (new : List ℕ × List ℕ). if_update (record { old_id = old.0; new_id = new.0; name = new.1 }))
+    option_and_then (λ (new : List ℕ × List ℕ).
+    let update : ParsedUpdate = record { old_id = old.0; new_id = new.0; name = new.1 } in when (is_update update) update)
     (split_once (byte " ") old.1))
     (split_once (byte " ") line)
 

@@ -1,9 +1,9 @@
 //! The report of an input, line by line.
 
-ghost use Rattle.std.specs.Prelude.{◌≡◌, ◌↔◌, Some, IfOk, IfSome};
+ghost use Rattle.std.specs.Prelude.{◌≡◌, Some, IfOk, IfSome};
 ghost use Rattle.git_input.specs.Ends.{Gives};
 ghost use Rattle.git_input.specs.Promises.{Runs};
-ghost use Rattle.git_input.specs.Reports.{PrintsAtMost};
+ghost use Rattle.git_input.specs.Reports.{IsCleanIff, PrintsAtMost};
 ghost use Rattle.check_refs.specs.Accepted.{IsAcceptedInput};
 ghost use Rattle.check_refs.specs.Private.{update_leaves};
 ghost use Rattle.check_refs.specs.Report.{refs_report, update_rule};
@@ -48,8 +48,7 @@ impl Check<'_> for Options {
     ) -> Result<Verdict, RunError>
         ensures runs { Runs (refs_report self) (λ line. 0) (R.remaining input.old) (R.remaining input.new)
             (W.contents output.old) (W.contents output.new) result }
-        ensures clean { IfOk result (λ verdict. IfSome (R.remaining input.old) (λ text.
-            (verdict ≡ Verdict.Clean) ↔ IsAcceptedInput self text)) }
+        ensures clean { IfOk result (λ verdict. IfSome (R.remaining input.old) (IsCleanIff (IsAcceptedInput self) verdict)) }
         ensures spelled { IsReportedInOrder self }
         ensures well_formed { IsWellFormedOnlyIfSpelled self }
         ensures linear { PrintsAtMost 4 (refs_report self) }

@@ -8,12 +8,9 @@ mod refusal;
 mod report;
 mod update;
 
-use cli::arguments::arguments;
-use cli::fail;
-use cli::messages::Messages;
-use git_input::runs::{Program, answer, buffers};
+use git_input::run_program;
+use git_input::runs::Program;
 use options::{HELP, Options};
-use std::env;
 use std::process::ExitCode;
 
 const PROGRAM: Program<'_> = Program {
@@ -24,19 +21,5 @@ const PROGRAM: Program<'_> = Program {
 };
 
 fn main(rt: HostRuntime) -> ExitCode {
-    let mut errors = Messages::new(rt.stderr());
-    match arguments(rt.alloc(), env::args(&rt), PROGRAM.name, &mut errors) {
-        Ok(arguments) => match buffers(rt.alloc(), rt.stdin(), rt.stdout()) {
-            Ok((mut input, mut output)) => answer::<Options, _, _, _>(
-                PROGRAM,
-                rt.alloc(),
-                &arguments,
-                &mut input,
-                &mut output,
-                &mut errors,
-            ),
-            Err(stop) => fail(PROGRAM.name, stop, &mut errors),
-        },
-        Err(status) => status,
-    }
+    run_program!(Options, PROGRAM, rt)
 }

@@ -2,22 +2,18 @@
 use Rattle.std.proofs.Common.{◌≡◌, ◌≢◌, ℕ, zero, suc, ◌+◌, ◌*◌, ◌<◌, ◌≤◌, nat_lt, Bool, true, false, cond, ◌==◌, ◌&&◌, not, List, [], ◌∷◌, ◌++◌, Option}
 use Rattle.std.proofs.Common.{None, Some}
 use Rattle.std.proofs.Common.{length, take, drop, map, codes, refl, ap, arith, length-append, take-append-drop, append_assoc, add-zero, sym, ◌∙◌, rules}
-use Rattle.std.proofs.lemmas.Bool.Decides.{nat_tests}
 use Rattle.std.proofs.lemmas.Fmt.{length-decimal-le}
 use Rattle.std.proofs.lemmas.Slice.Eq.{bytes_eq-Decides}
-use Rattle.std.specs.Prelude.{option_map, ⊤, ◌||◌}
+use Rattle.std.specs.Prelude.{option_map, ⊤}
 use Rattle.std.specs.Char.{to_ascii_lowercase}
 use Rattle.std.specs.List.{AllByRecursion}
 use Rattle.std.specs.Str.{byte, bytes_eq}
 use Rattle.gix_validate.specs.declared.submodule.NameError.{NameError}
-use Rattle.gix_validate.specs.declared.submodule.NameError.TheVariants.{Empty, ParentComponent}
 use Rattle.gix_validate.specs.Submodule.{fault_of, text_of}
 use Rattle.gitmodules.specs.Sections.{is_never_in_name, closed, escaped_name, unescaped, Header, Named, Unreadable, Other, is_blank, without_blanks}
-use Rattle.gitmodules.specs.Sections.{is_word_byte, named}
-use Rattle.gitmodules.proofs.SpelledSections.{nine}
+use Rattle.gitmodules.specs.Sections.{named}
 use Rattle.gitmodules.specs.Sections.{quoted_header, header_after_word, header_after_bracket, begun, sections}
 use Rattle.git_input.specs.declared.header.Kind.{Kind}
-use Rattle.git_input.specs.declared.header.Kind.TheVariants.{Blob, Tree, Commit, Tag}
 use Rattle.git_input.specs.Reports.{PrintsAtMost}
 use Rattle.git_input.proofs.LinearReports.{quoted_length, id_length, IsObjectWithin, stream_prints_at_most}
 use Rattle.check_submodules.specs.Lines.{largest, line_start, line_if, line_of, lines_of, too_large_line}
@@ -26,19 +22,16 @@ use Rattle.check_submodules.specs.Report.{object_lines, submodules_rule, report}
 -- ---- a line
 
 text_length : (fault : NameError) → length (text_of fault) ≤ 39
-text_length Empty = omega arith
-text_length ParentComponent = omega arith
+text_length fault = grind arith
 
 start_length : (id : List ℕ) (offset : ℕ) → length id ≤ 64 → offset ≤ largest → length (line_start id offset) ≤ 74
 start_length id offset short within =
     let digits = length-decimal-le 8 offset (omega arith) (omega (arith, within)) (omega (arith, within)) in
-    grind (arith, length-append, digits)
+    grind (arith, length-append)
 
 if_length : (id : List ℕ) (offset : ℕ) (name : List ℕ) (fault : Option NameError) → length id ≤ 64 → offset ≤ largest
     → length (line_if id offset name fault) ≤ 4 * length name + 117
-if_length id offset name None short within = omega arith
-if_length id offset name (Some fault) short within =
-    grind (arith, length-append, start_length id offset short within, quoted_length name, text_length fault)
+if_length id offset name fault short within = grind (arith, length-append, start_length, quoted_length)
 
 unreadable_length : (id : List ℕ) (offset : ℕ) → length id ≤ 64 → offset ≤ largest → length (line_of id (offset, None)) ≤ 98
 unreadable_length id offset short within = grind (arith, length-append, start_length id offset short within)
@@ -54,19 +47,14 @@ abbrev name_length : Bool → List ℕ → ℕ
 name_length escaped bytes = option_length (escaped_name escaped bytes)
 
 end_length : (is : Bool) → option_length (cond is (Some []) None) ≤ 0
-end_length true = omega arith
-end_length false = omega arith
+end_length is = grind arith
 
 closed_length : (bytes : List ℕ) → option_length (closed bytes) ≤ 0
-closed_length [] = omega arith
-closed_length (b ∷ bytes) = end_length (b == byte "]")
+closed_length bytes = grind arith
 
 next_by : (never ends : Bool) (b : ℕ) (bytes : List ℕ) (rest : Option (List ℕ))
     → option_length (cond never None (cond ends (closed bytes) (option_map (λ name. b ∷ name) rest))) ≤ 1 + option_length rest
-next_by true ends b bytes rest = omega arith
-next_by false true b bytes rest = omega (arith, closed_length bytes)
-next_by false false b bytes None = omega arith
-next_by false false b bytes (Some name) = omega arith
+next_by never ends b bytes rest = grind arith
 
 next_length : (escaped : Bool) (b : ℕ) (bytes : List ℕ) → name_length escaped (b ∷ bytes) ≤ 1 + name_length (not escaped && b == byte "\\") bytes
 next_length escaped b bytes =
@@ -77,12 +65,11 @@ abbrev IsFront : ℕ → Type 0
 IsFront b = (b ≢ byte "[") × (b ≢ byte "\\")
 
 not_escaped : (escaped is : Bool) → is ≡ false → (not escaped && is) ≡ false
-not_escaped true is e = refl
-not_escaped false is e = e
+not_escaped escaped is e = grind arith
 
 next_plain : (escaped : Bool) (b : ℕ) (bytes : List ℕ) → b ≢ byte "\\" → name_length escaped (b ∷ bytes) ≤ 1 + name_length false bytes
 next_plain escaped b bytes other =
-    let e : (not escaped && b == byte "\\") ≡ false = not_escaped escaped (b == byte "\\") (grind (arith, nat_tests)) in
+    let e : (not escaped && b == byte "\\") ≡ false = not_escaped escaped (b == byte "\\") (grind arith) in
     let same : name_length (not escaped && b == byte "\\") bytes ≡ name_length false bytes = ap (λ is. name_length is bytes) e in
     omega (arith, next_length escaped b bytes, same)
 
@@ -90,19 +77,9 @@ front_length : (front rest : List ℕ) → AllByRecursion IsFront front → name
 front_length [] rest is = omega arith
 front_length (b ∷ front) rest (first, is) = omega (arith, next_plain false b (front ++ rest) first.1, front_length front rest is)
 
-unescaped_by : (is : Bool) (b : ℕ) (one other : List ℕ) (most : ℕ) → length one ≤ most → length other ≤ most
-    → length (cond is one (b ∷ other)) ≤ most + 1
-unescaped_by true b one other most few more = omega arith
-unescaped_by false b one other most few more = omega arith
-
 unescaped_length : (escaped : Bool) (bytes : List ℕ) → length (unescaped escaped bytes) ≤ length bytes
-unescaped_length escaped [] = omega arith
-unescaped_length escaped (b ∷ bytes) =
-    omega (
-      arith,
-      unescaped_by (not escaped && b == byte "\\") b (unescaped true bytes) (unescaped false bytes) (length bytes) (unescaped_length true bytes)
-          (unescaped_length false bytes),
-    )
+unescaped_length escaped [] = grind arith
+unescaped_length escaped (b ∷ bytes) = grind (arith, unescaped_length true bytes, unescaped_length false bytes)
 
 -- ---- headers
 
@@ -126,7 +103,7 @@ submodule_fronts : AllByRecursion IsFront (codes "submodule")
 submodule_fronts = search rules
 
 blank_front : (b : ℕ) → is_blank b ≡ true → IsFront b
-blank_front b e = (grind (arith, nat_tests), grind (arith, nat_tests))
+blank_front b e = (grind arith, grind arith)
 
 abbrev IsAfterBlanks : List ℕ → List ℕ → Type 0
 IsAfterBlanks bytes after = (front : List ℕ) × AllByRecursion IsFront front × (bytes ≡ front ++ after)
@@ -145,23 +122,12 @@ fronts_append [] more is others = others
 fronts_append (b ∷ front) more (first, is) others = (first, fronts_append front more is others)
 
 module _ (bytes : List ℕ) where
-  named_read : (front tail : List ℕ) (name : Option (List ℕ)) → bytes ≡ front ++ byte "\"" ∷ tail → AllByRecursion IsFront front → 10 ≤ length front
-      → escaped_name false tail ≡ name → IsRead bytes (named name)
-  named_read front tail None whole is long e = (front, byte "\"" ∷ tail, whole, is, omega arith)
-  named_read front tail (Some name) whole is long e =
-      let same : option_length (escaped_name false tail) ≡ length name = ap option_length e in
-      (front, tail, whole, is, long, omega (arith, same, unescaped_length false name))
-
   quote_by : (is : Bool) (front : List ℕ) (q : ℕ) (tail : List ℕ) → (q == byte "\"") ≡ is → bytes ≡ front ++ q ∷ tail → AllByRecursion IsFront front
       → 10 ≤ length front → IsRead bytes (cond is (named (escaped_name false tail)) Unreadable)
-  quote_by true front q tail e whole is long =
-      let quote : q ≡ byte "\"" = grind (arith, nat_tests) in
-      named_read front tail (escaped_name false tail) (whole ∙ ap (λ q. front ++ q ∷ tail) quote) is long refl
-  quote_by false front q tail e whole is long = (front, q ∷ tail, whole, is, omega arith)
+  quote_by is front q tail e whole given long = grind (arith, unescaped_length)
 
   quoted_read : (front after : List ℕ) → bytes ≡ front ++ after → AllByRecursion IsFront front → 10 ≤ length front → IsRead bytes (quoted_header after)
-  quoted_read front [] whole is long = (front, [], whole, is, omega arith)
-  quoted_read front (q ∷ tail) whole is long = quote_by (q == byte "\"") front q tail refl whole is long
+  quoted_read front after whole is long = grind (arith, quote_by)
 
   after_by : (blank other : Bool) (front : List ℕ) (b : ℕ) (after : List ℕ) → is_blank b ≡ blank → bytes ≡ front ++ b ∷ after → AllByRecursion IsFront front
       → length front ≡ 9 → IsRead bytes (cond blank (quoted_header (without_blanks after)) (cond other Other Unreadable))
@@ -174,16 +140,12 @@ module _ (bytes : List ℕ) where
   after_by false false front b after e whole is long = (front, b ∷ after, whole, is, omega arith)
 
   word_after : (front after : List ℕ) → bytes ≡ front ++ after → AllByRecursion IsFront front → length front ≡ 9 → IsRead bytes (header_after_word after)
-  word_after front [] whole is long = (front, [], whole, is, omega arith)
-  word_after front (b ∷ after) whole is long = after_by (is_blank b) (b == byte "]" || is_word_byte b) front b after refl whole is long
+  word_after front after whole is long = grind (arith, after_by)
 
   word_by : (is : Bool) → bytes_eq (map to_ascii_lowercase (take 9 bytes)) (codes "submodule") ≡ is
       → IsRead bytes (cond is (header_after_word (drop 9 bytes)) Other)
-  word_by true e =
-      let word : map to_ascii_lowercase (take 9 bytes) ≡ codes "submodule" = (bytes_eq-Decides _ (codes "submodule")).0 e in
-      word_after (take 9 bytes) (drop 9 bytes) (sym (take-append-drop 9 bytes))
-      (word_fronts (take 9 bytes) (codes "submodule") word submodule_fronts) (nine (take 9 bytes) word)
-  word_by false e = tt
+  word_by true e = grind (arith, bytes_eq-Decides, word_after, take-append-drop 9 bytes, word_fronts)
+  word_by false e = grind arith
 
   header_read : IsRead bytes (header_after_bracket bytes)
   unfolding header_after_bracket
@@ -194,7 +156,7 @@ module _ (bytes : List ℕ) where
 passed : (offset n : ℕ) (front rest : List ℕ) → n ≡ offset + length front → AllByRecursion IsFront front → sections offset (front ++ rest) ≡ sections n rest
 passed offset n [] rest e is = ap (λ n. sections n rest) (sym (e ∙ add-zero offset))
 passed offset n (b ∷ front) rest e (first, is) =
-    let other : (b == byte "[") ≡ false = let no = first.0 in grind (arith, nat_tests) in
+    let other : (b == byte "[") ≡ false = let no = first.0 in grind arith in
     rw other (passed (offset + 1) n front rest (omega arith) is)
 
 module _ (id : List ℕ) (short : length id ≤ 64) where
@@ -248,7 +210,7 @@ module _ (id : List ℕ) (short : length id ≤ 64) where
       → length (lines_of id (cond is (begun offset (header_after_bracket bytes) ++ sections (offset + 1) bytes) (sections (offset + 1) bytes)))
       + 4 * name_length escaped (b ∷ bytes) ≤ 17 * (length bytes + 1)
   first_within true b bytes e go offset escaped fits =
-      let is : b ≡ byte "[" = grind (arith, nat_tests) in
+      let is : b ≡ byte "[" = grind arith in
       rw is (bracket_within bytes (header_after_bracket bytes) (header_read bytes) go offset escaped fits)
   first_within false b bytes e go offset escaped fits =
       omega (arith, next_length escaped b bytes, go bytes (omega arith) (offset + 1) (not escaped && b == byte "\\") (omega arith))
@@ -267,16 +229,13 @@ module _ (id : List ℕ) (short : length id ≤ 64) where
   file_by : (is : Bool) (size : ℕ) (bytes : List ℕ) → nat_lt largest size ≡ is → length bytes ≡ size
       → length (cond is (too_large_line id) (lines_of id (sections 0 bytes))) ≤ 17 * length bytes
   file_by true size bytes e whole =
-      let many : largest < size = grind (arith, nat_tests) in
+      let many : largest < size = grind arith in
       grind (arith, length-append, length-decimal-le 8 largest (omega arith) (omega arith) (omega arith))
   file_by false size bytes e whole =
-      let few : size ≤ largest = grind (arith, nat_tests) in omega (arith, sections_within (length bytes) bytes (omega arith) 0 false (omega (arith, few)))
+      let few : size ≤ largest = grind arith in omega (arith, sections_within (length bytes) bytes (omega arith) 0 false (omega (arith, few)))
 
   object_length : (kind : Kind) (size : ℕ) (bytes : List ℕ) → length bytes ≡ size → length (object_lines kind id size bytes) ≤ 17 * length bytes
-  object_length Blob size bytes whole = file_by (nat_lt largest size) size bytes refl whole
-  object_length Tree size bytes whole = omega arith
-  object_length Commit size bytes whole = omega arith
-  object_length Tag size bytes whole = omega arith
+  object_length kind size bytes whole = grind (arith, file_by)
 
 file_within : IsObjectWithin 17 submodules_rule
 file_within true object bytes good whole = omega arith

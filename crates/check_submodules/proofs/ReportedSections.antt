@@ -1,14 +1,13 @@
 -- The lines of a file, and where its sections are.
-use Rattle.std.proofs.Common.{◌≡◌, ◌≢◌, ◌⊎◌, inl, inr, ℕ, ◌<◌, List, [], ◌∷◌, ◌++◌, All, Some, None, Option, length, refl, ap, sym, subst, ◌∙◌, arith, zero, suc}
+use Rattle.std.proofs.Common.{◌≡◌, ◌≢◌, ◌⊎◌, inl, inr, ℕ, ◌<◌, List, [], ◌∷◌, ◌++◌, All, Some, None, Option, refl, ap, sym, subst, ◌∙◌, arith, zero, suc}
 use Rattle.std.specs.Prelude.{Contains, flat_map}
 use Rattle.std.specs.List.{AllPairs}
-use Rattle.std.proofs.lemmas.List.Elements.{All-cons, Contains-append_right}
-use Rattle.std.proofs.lemmas.List.Kept.{AllPairs-cons}
+use Rattle.std.proofs.lemmas.List.Elements.{Contains-append_right}
 use Rattle.gix_validate.specs.declared.submodule.NameError.{NameError}
 use Rattle.gix_validate.specs.Submodule.{fault_of}
 use Rattle.gix_validate.specs.Bytes.{is_empty}
 use Rattle.gitmodules.specs.Sections.{sections}
-use Rattle.gitmodules.specs.Spelled.{SectionAt, name_of}
+use Rattle.gitmodules.specs.Spelled.{SectionAt}
 use Rattle.gitmodules.proofs.SpelledSections.{each_section_found}
 use Rattle.gitmodules.proofs.ReadSections.{each_header_given, each_name_spelled, in_order}
 use Rattle.check_submodules.specs.Lines.{line_if, line_of, lines_of}
@@ -53,7 +52,7 @@ without_first : (s : ℕ × Option (List ℕ)) (all : Sections) → AreInOrder (
 without_first s all pairs = λ i j d lower below. pairs (suc i) (suc j) d (omega arith) (omega arith)
 
 after_one : (start offset : ℕ) (line : List ℕ) (rest : Lines) → start < offset → AllAfter start rest → AllAfter start (one offset line ++ rest)
-after_one start offset line rest first more = grind (arith, All-cons)
+after_one start offset line rest first more = grind arith
 
 after_all : (start : ℕ) (id : List ℕ) (all : Sections) → AllAfter start all → AllAfter start (found id all)
 after_all start id [] after = λ k d below. absurd (omega arith)
@@ -61,7 +60,7 @@ after_all start id (s ∷ all) after =
     after_one start s.0 (line_of id s) (found id all) (after 0 s (omega arith)) (after_all start id all (λ k d below. after (suc k) d (omega arith)))
 
 order_one : (offset : ℕ) (line : List ℕ) (rest : Lines) → AllAfter offset rest → AreInOrder rest → AreInOrder (one offset line ++ rest)
-order_one offset line rest after pairs = grind (arith, AllPairs-cons)
+order_one offset line rest after pairs = grind arith
 
 order_all : (id : List ℕ) (all : Sections) → AreInOrder all → AreInOrder (found id all)
 order_all id [] pairs = λ i j d lower below. absurd (omega arith)
@@ -97,11 +96,7 @@ fault_line : (id file : List ℕ) (offset : ℕ) (name : List ℕ) (fault : Opti
 fault_line id file offset name fault at is some = grind arith
 
 section_found : (file : List ℕ) (offset : ℕ) (name : List ℕ) → SectionAt file offset name → Contains (sections 0 file) (offset, Some name)
-section_found file offset name at =
-    let found = each_section_found at.before at.after at.word at.blanks at.spelled at.is_section in
-    let in_file = subst (λ bytes. Contains (sections 0 bytes) (length at.before, Some (name_of at.spelled))) (sym at.is_file) found in
-    let at_offset = subst (λ n. Contains (sections 0 file) (n, Some (name_of at.spelled))) at.is_offset in_file in
-    subst (λ own. Contains (sections 0 file) (offset, Some own)) at.is_name at_offset
+section_found file offset name at = grind (arith, each_section_found at.before at.after at.word at.blanks at.spelled at.is_section)
 
 section_line : (id file : List ℕ) (s : ℕ × Option (List ℕ)) → Contains (sections 0 file) s → line_of id s ≢ [] → IsLineOf id file (s.0, line_of id s)
 section_line id file (offset, Some name) there some = fault_line id file offset name (fault_of name) (each_name_spelled file offset name there) refl some

@@ -2,7 +2,7 @@
 use Rattle.std.specs.Prelude.{ℕ, Bool, not, nat_lt, if◌then◌else◌, List, [], None}
 use Rattle.gix_validate.specs.Bytes.{is_empty}
 use Rattle.git_input.specs.declared.header.Kind.{Kind}
-use Rattle.git_input.specs.declared.header.Kind.TheVariants.{Blob, Tree, Commit, Tag}
+use Rattle.git_input.specs.declared.header.Kind.TheVariants.{Blob}
 use Rattle.git_input.specs.Reports.{Said, nothing, Report}
 use Rattle.git_input.specs.Objects.{ObjectRule, object_report}
 use Rattle.gitmodules.specs.Sections.{sections}
@@ -15,9 +15,7 @@ file_lines id size bytes = if nat_lt largest size then too_large_line id else li
 -- the lines of an object: only a blob is a file
 abbrev pub object_lines : Kind → List ℕ → ℕ → List ℕ → List ℕ
 object_lines Blob id size bytes = file_lines id size bytes
-object_lines Tree id size bytes = []
-object_lines Commit id size bytes = []
-object_lines Tag id size bytes = []
+object_lines kind id size bytes = []
 
 -- each line is of something that is refused
 abbrev pub said_of : List ℕ → Said

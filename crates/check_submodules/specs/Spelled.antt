@@ -7,9 +7,7 @@ use Rattle.gix_validate.specs.Quoted.{quoted}
 use Rattle.gitmodules.specs.Sections.{sections}
 use Rattle.gitmodules.specs.Spelled.{SectionAt, HeaderAt}
 use Rattle.git_input.specs.declared.header.Kind.TheVariants.{Blob}
-use Rattle.git_input.specs.declared.outcome.Verdict.{Verdict}
-use Rattle.git_input.specs.declared.outcome.Verdict.TheVariants.{Clean}
-use Rattle.git_input.specs.Spelled.{Spelled, Present, Absent, IsSpelled, spelling, end_of}
+use Rattle.git_input.specs.Spelled.{Spelled, Present, Absent, IsStreamOf}
 use Rattle.check_submodules.specs.Lines.{largest, line_start, lines_of}
 use Rattle.check_submodules.specs.Report.{submodules_rule}
 
@@ -47,12 +45,5 @@ IsAcceptedObject (Present object digits content) = object.kind ≡ Blob → IsAc
 IsAcceptedObject (Absent id) = ⊤
 
 -- a stream of which each blob is accepted
-pub record IsAcceptedStream (needs_end : Bool) (text : List ℕ) : Type 0 where
-  pub stream : List Spelled
-  pub each : AllByRecursion (IsSpelled submodules_rule needs_end) stream
-  pub accepted : AllByRecursion IsAcceptedObject stream
-  pub text_is : text ≡ flat_map spelling stream ++ end_of needs_end
-
--- A run finds a text clean if and only if it is such a stream.
-abbrev pub IsCleanIff : Bool → Verdict → List ℕ → Type 0
-IsCleanIff needs_end verdict text = (verdict ≡ Clean) ↔ IsAcceptedStream needs_end text
+abbrev pub IsAcceptedStream : Bool → List ℕ → Type 0
+IsAcceptedStream needs_end = IsStreamOf submodules_rule needs_end IsAcceptedObject

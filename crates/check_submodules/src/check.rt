@@ -8,11 +8,11 @@ ghost use Rattle.std.proofs.Common.{ap, subst};
 ghost use Rattle.git_input.specs.Ends.{Gives};
 ghost use Rattle.git_input.specs.Objects.{IsWholeStream, object_reach};
 ghost use Rattle.git_input.specs.Promises.{Runs, as_object};
-ghost use Rattle.git_input.specs.Reports.{PrintsAtMost};
+ghost use Rattle.git_input.specs.Reports.{IsCleanIff, PrintsAtMost};
 ghost use Rattle.git_input.specs.Spelled.{IsReportedInOrder, IsWellFormedOnlyIfSpelled};
 ghost use Rattle.check_submodules.specs.Private.{Reads};
 ghost use Rattle.check_submodules.specs.Report.{report, submodules_rule};
-ghost use Rattle.check_submodules.specs.Spelled.{IsAcceptedStream, IsCleanIff, IsEachSectionReported};
+ghost use Rattle.check_submodules.specs.Spelled.{IsAcceptedStream, IsEachSectionReported};
 
 use crate::options::Options;
 use crate::report::{push_lines, push_too_large};
@@ -56,7 +56,7 @@ impl Check<'_> for Options {
     ) -> Result<Verdict, RunError>
         ensures runs { Runs (report self.needs_end) object_reach (R.remaining input.old) (R.remaining input.new)
             (W.contents output.old) (W.contents output.new) result }
-        ensures clean { IfOk result (λ verdict. IfSome (R.remaining input.old) (IsCleanIff self.needs_end verdict)) }
+        ensures clean { IfOk result (λ verdict. IfSome (R.remaining input.old) (IsCleanIff (IsAcceptedStream self.needs_end) verdict)) }
         ensures spelled { IsReportedInOrder submodules_rule self.needs_end }
         ensures well_formed { IsWellFormedOnlyIfSpelled submodules_rule self.needs_end }
         ensures whole { IsWholeStream submodules_rule self.needs_end }

@@ -6,12 +6,9 @@ mod check;
 mod options;
 mod report;
 
-use cli::arguments::arguments;
-use cli::fail;
-use cli::messages::Messages;
-use git_input::runs::{Program, answer, buffers};
+use git_input::run_program;
+use git_input::runs::Program;
 use options::{HELP, Options};
-use std::env;
 use std::process::ExitCode;
 
 const PROGRAM: Program<'_> = Program {
@@ -23,19 +20,5 @@ const PROGRAM: Program<'_> = Program {
 };
 
 fn main(rt: HostRuntime) -> ExitCode {
-    let mut errors = Messages::new(rt.stderr());
-    match arguments(rt.alloc(), env::args(&rt), PROGRAM.name, &mut errors) {
-        Ok(arguments) => match buffers(rt.alloc(), rt.stdin(), rt.stdout()) {
-            Ok((mut input, mut output)) => answer::<Options, _, _, _>(
-                PROGRAM,
-                rt.alloc(),
-                &arguments,
-                &mut input,
-                &mut output,
-                &mut errors,
-            ),
-            Err(stop) => fail(PROGRAM.name, stop, &mut errors),
-        },
-        Err(status) => status,
-    }
+    run_program!(Options, PROGRAM, rt)
 }

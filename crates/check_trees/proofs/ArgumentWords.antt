@@ -1,6 +1,5 @@
 -- The parts of a list between its commas.
 use Rattle.std.proofs.Common.{◌≡◌, ℕ, ◌+◌, List, [], ◌∷◌, Option, Some, None, take, drop, refl, arith}
-use Rattle.std.proofs.lemmas.Bool.Decides.{nat_tests}
 use Rattle.std.proofs.lemmas.List.{take_rest}
 use Rattle.std.specs.Str.{byte}
 use Rattle.memchr.specs.Find.{is_byte, IsFirstByte}
@@ -15,7 +14,7 @@ parts_of text (Some parts) = parts.0 ∷ comma_parts parts.1
 
 comma_parts_split : (text : List ℕ) → comma_parts text ≡ parts_of text (split_once (byte ",") text)
 comma_parts_split [] = refl
-comma_parts_split (b ∷ text) = grind (arith, nat_tests, comma_parts_split text)
+comma_parts_split (b ∷ text) = grind (arith, comma_parts_split text)
 
 pub last_part : (text : List ℕ) → IsFirstByte (is_byte (byte ",")) text None → comma_parts text ≡ text ∷ []
 last_part text nowhere = grind (arith, comma_parts_split, split_searched (byte ",") text None nowhere)

@@ -1,7 +1,6 @@
 -- What is before the NUL of an entry: the front of a plain file, for which the code has a shortcut.
-use Rattle.std.proofs.Common.{◌≡◌, List, ℕ, ◌++◌, Some, None, take, drop, codes, true, refl, arith, take-append-drop, take-take}
+use Rattle.std.proofs.Common.{◌≡◌, List, ℕ, ◌++◌, Some, None, take, drop, codes, true, refl, arith}
 use Rattle.std.specs.Str.{bytes_eq}
-use Rattle.std.proofs.lemmas.Slice.Eq.{bytes_eq-Decides}
 use Rattle.git_input.specs.Texts.{number_of}
 use Rattle.check_trees.specs.Entries.{parsed_front}
 
@@ -11,6 +10,4 @@ plain_name name = refl
 
 pub plain_file : (front : List ℕ) → bytes_eq (take 7 front) (codes "100644 ") ≡ true
     → parsed_front front ≡ Some (record { digits = take 6 front; mode = None; is_file = true; name = drop 7 front })
-plain_file front e =
-    let there : take 7 front ≡ codes "100644 " = (bytes_eq-Decides (take 7 front) (codes "100644 ")).0 e in
-    grind (arith, plain_name (drop 7 front), take-append-drop 7 front, take-take 6 7 front)
+plain_file front e = grind (arith, plain_name)

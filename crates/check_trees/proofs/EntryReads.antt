@@ -1,22 +1,15 @@
 -- No more of the input is read than an entry, or than what is left of its tree.
-use Rattle.std.proofs.Common.{ℕ, ◌+◌, ◌≤◌, Bool, true, false, List, ◌∷◌, [], ◌++◌, Option, length, arith, length-append}
+use Rattle.std.proofs.Common.{ℕ, ◌+◌, ◌≤◌, Bool, List, ◌∷◌, [], ◌++◌, Option, length, arith, length-append}
 use Rattle.git_input.specs.declared.input.Found.TheVariants.{Byte}
-use Rattle.git_input.specs.Promises.{ReadsBefore, ReadsUpTo, ReadsExactly}
+use Rattle.git_input.specs.Promises.{ReadsBefore, ReadsUpTo}
 use Rattle.git_input.proofs.LinesStop.{up_to_more}
 use Rattle.check_trees.specs.declared.check.Finding.{Finding}
-use Rattle.check_trees.specs.declared.check.Finding.TheVariants.{Accepted, Modules, Refused}
 use Rattle.check_trees.specs.Entries.{nul}
 use Rattle.check_trees.specs.Private.{PassesId}
 
 module _ (a b : Option (List ℕ)) where
-  skip_within : (count : ℕ) (bytes : List ℕ) (whole : Bool) → ReadsExactly count a b bytes whole → ReadsUpTo count a b
-  skip_within count bytes true (skipped, long) = (bytes, skipped, omega arith)
-  skip_within count bytes false (skipped, short, end) = (bytes, skipped, omega arith)
-
   id_within : (count : ℕ) (finding : Finding) (id : List ℕ) (whole : Bool) → PassesId finding count a b id whole → ReadsUpTo count a b
-  id_within count Modules id whole skips = skip_within count id whole skips
-  id_within count Accepted id whole (bytes, skips) = skip_within count bytes whole skips
-  id_within count (Refused fault) id whole (bytes, skips) = skip_within count bytes whole skips
+  id_within count finding id whole skips = grind (arith)
 
 pub entry_within : (limit : ℕ) (a b c : Option (List ℕ)) (front : List ℕ) (left count : ℕ) (finding : Finding) (id : List ℕ) (whole : Bool)
     → ReadsBefore nul limit a b front Byte → PassesId finding count b c id whole → length front + 1 + count ≤ left → ReadsUpTo left a c

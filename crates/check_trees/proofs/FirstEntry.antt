@@ -20,7 +20,6 @@ use Rattle.git_input.proofs.SplitTexts.{take_after, take_past, drop_before, drop
 use Rattle.check_trees.specs.Options.{Options}
 use Rattle.check_trees.specs.declared.check.Checked.{Checked}
 use Rattle.check_trees.specs.declared.check.Finding.{Finding}
-use Rattle.check_trees.specs.declared.check.Finding.TheVariants.{Accepted, Modules, Refused}
 use Rattle.check_trees.specs.Entries.{nul, ParsedModeAndName, ParsedEntry, parsed_front, entry_at, entry_with, entry_of}
 use Rattle.check_trees.specs.Report.{short_of, finding_of, finding_said, entry_said}
 use Rattle.check_trees.specs.Private.{first_entry, EntryGives, PassesId}
@@ -39,11 +38,11 @@ module _ (short : Malformation) (width : ℕ) where
   pub entry_found : (front rest : List ℕ) → All (λ b. b ≢ nul) front → length front < longest
       → entry_of short width (front ++ nul ∷ rest) ≡ entry_at short width (front ++ nul ∷ rest) (length front + 1) (parsed_front front)
   unfolding entry_of
-  entry_found front rest none few = grind (arith, nat_tests, split_within nul front rest longest none few)
+  entry_found front rest none few = grind (arith, split_within nul front rest longest none few)
 
   -- what follows an entry is shorter
   with_shorter : (bytes : List ℕ) (parts : Option (List ℕ × List ℕ)) → IfOk (entry_with short width bytes parts) (λ entry. length entry.1 < length bytes)
-  with_shorter bytes parts = grind (arith, nat_tests, length-drop)
+  with_shorter bytes parts = grind (arith, length-drop)
 
   pub entry_shorter : (bytes : List ℕ) → IfOk (entry_of short width bytes) (λ entry. length entry.1 < length bytes)
   unfolding entry_of
@@ -52,14 +51,8 @@ module _ (short : Malformation) (width : ℕ) where
 -- ---- the first entry of a text
 
 module _ (tree : ParsedObject) (front rest : List ℕ) (left : ℕ) (none : All (λ b. b ≢ nul) front) where
-  first_past : length front ≡ left → left < longest → first_entry tree left (front ++ rest) ≡ Err Entry
-  first_past size few = grind (arith, nat_tests, entry_cut, take_at, length-append)
-
-  first_long : length front ≡ longest → longest ≤ left → first_entry tree left (front ++ rest) ≡ Err TooLong
-  first_long size many = grind (arith, entry_long, take_after)
-
   pub first_cut : length front < left → length front < longest → first_entry tree left front ≡ Err Ended
-  first_cut cut few = grind (arith, nat_tests, entry_cut, take_all)
+  first_cut cut few = grind (arith, entry_cut, take_all)
 
   first_found : length front < left → length front < longest → first_entry tree left (front ++ nul ∷ rest)
       ≡ entry_at (short_of (nat_lt (length (front ++ nul ∷ rest)) left)) (length tree.id / 2) (take left (front ++ nul ∷ rest)) (length front + 1)
@@ -89,11 +82,11 @@ module _ (options : Options) (tree : ParsedObject) (left : ℕ) (out : Option (L
     (is : limit ≡ min left longest) where
   pub gives_past : ReadsBefore nul limit old new front Limit → left < longest
       → IfSome old (λ text. EntryGives options tree left text new out out (Ok (Err Entry)))
-  gives_past read few = grind (arith, append-nil, length-append, first_past)
+  gives_past read few = grind (arith, append-nil, length-append, entry_cut, take_at)
 
   pub gives_long : ReadsBefore nul limit old new front Limit → longest ≤ left
       → IfSome old (λ text. EntryGives options tree left text new out out (Ok (Err TooLong)))
-  gives_long read many = grind (arith, append-nil, length-append, first_long)
+  gives_long read many = grind (arith, append-nil, entry_long, take_after)
 
   pub gives_cut : ReadsBefore nul limit old new front End → IfSome old (λ text. EntryGives options tree left text new out out (Ok (Err Ended)))
   gives_cut read = grind (arith, append-nil, first_cut)
@@ -107,9 +100,7 @@ passed : (finding : Finding) (count : ℕ) (a b : Option (List ℕ)) (kept : Lis
     → (bytes : List ℕ) × ReadsExactly count a b bytes whole
     × ((tree : ParsedObject) (front : ParsedModeAndName)
     → finding_said tree (record { front = front; id = kept }) finding ≡ finding_said tree (record { front = front; id = bytes }) finding)
-passed Accepted count a b kept whole (bytes, skips) = (bytes, skips, λ tree front. refl)
-passed Modules count a b kept whole skips = (kept, skips, λ tree front. refl)
-passed (Refused fault) count a b kept whole (bytes, skips) = (bytes, skips, λ tree front. refl)
+passed finding count a b kept whole skips = grind arith
 
 -- and for the id after a mode and a name, of which so many bytes are in the tree
 module _ (options : Options) (tree : ParsedObject) (left : ℕ) (new out : Option (List ℕ)) {old mid : Option (List ℕ)} {limit count : ℕ}

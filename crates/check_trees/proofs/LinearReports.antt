@@ -1,15 +1,11 @@
 -- The lines of a tree have at most 32 bytes for each of its own.
-use Rattle.std.proofs.Common.{◌≡◌, ℕ, zero, suc, ◌+◌, ◌*◌, ◌/◌, ◌≤◌, nat_lt, Bool, true, false, cond, List, [], ◌∷◌, ◌++◌, Option, None, Some, Result, Ok, Err}
-use Rattle.std.proofs.Common.{length, take, refl, ap, arith, length-append, length-take, codes}
+use Rattle.std.proofs.Common.{◌≡◌, ℕ, zero, suc, ◌+◌, ◌*◌, ◌/◌, ◌≤◌, nat_lt, Bool, true, false, cond, List, [], ◌∷◌, ◌++◌, Option, None, Some, Result}
+use Rattle.std.proofs.Common.{length, take, refl, arith, length-append, length-take, codes}
 use Rattle.std.proofs.lemmas.Bool.Decides.{nat_tests}
 use Rattle.std.specs.Prelude.{IfOk, flat_map}
 use Rattle.gix_validate.specs.declared.path.ComponentError.{ComponentError}
-use Rattle.gix_validate.specs.declared.path.ComponentError.TheVariants.{Empty, PathSeparator, WindowsPathPrefix, WindowsReservedName}
-use Rattle.gix_validate.specs.declared.path.ComponentError.TheVariants.{WindowsIllegalCharacter, DotGitDir, SymlinkedGitModules, Relative}
-use Rattle.gix_validate.specs.Component.{text_of}
 use Rattle.gix_validate.specs.Quoted.{quoted}
 use Rattle.git_input.specs.declared.header.Kind.{Kind}
-use Rattle.git_input.specs.declared.header.Kind.TheVariants.{Blob, Tree, Commit, Tag}
 use Rattle.git_input.specs.declared.outcome.Malformation.{Malformation}
 use Rattle.git_input.specs.Texts.{number_of, is_id, hex_pair}
 use Rattle.git_input.specs.Headers.{ParsedObject}
@@ -20,8 +16,8 @@ use Rattle.check_trees.specs.Options.{Options}
 use Rattle.check_trees.specs.declared.check.Finding.{Finding}
 use Rattle.check_trees.specs.declared.check.Finding.TheVariants.{Accepted, Modules, Refused}
 use Rattle.check_trees.specs.Entries.{ParsedModeAndName, ParsedEntry, entry_of, named}
-use Rattle.check_trees.specs.Report.{longest_path, shown_path, in_path, place, refused_line, modules_line, finding_of, finding_said, entry_said}
-use Rattle.check_trees.specs.Report.{entries_then, entries_within, entries, short_of, judged_by_kind, tree_rule, report}
+use Rattle.check_trees.specs.Report.{longest_path, shown_path, in_path, place, refused_line, modules_line, finding_said}
+use Rattle.check_trees.specs.Report.{entries_then, entries_within, entries, judged_by_kind, tree_rule, report}
 use Rattle.check_trees.specs.Spelled.{Item, IsItem, item_bytes}
 use Rattle.check_trees.proofs.SpelledTrees.{IsFirst, item_first}
 
@@ -44,27 +40,12 @@ in_length : (path : Option (List ℕ)) → length (in_path path) ≤ 525
 in_length None = omega arith
 in_length (Some []) = omega arith
 in_length (Some (b ∷ path)) =
-    omega (
-      arith,
-      length-append (codes " (in ") (shown_path (b ∷ path) ++ codes ")"),
-      length-append (shown_path (b ∷ path)) (codes ")"),
-      shown_length (b ∷ path),
-    )
-
-text_length : (fault : ComponentError) → length (text_of fault) ≤ 134
-text_length Empty = omega arith
-text_length PathSeparator = omega arith
-text_length WindowsPathPrefix = omega arith
-text_length WindowsReservedName = omega arith
-text_length WindowsIllegalCharacter = omega arith
-text_length DotGitDir = omega arith
-text_length SymlinkedGitModules = omega arith
-text_length Relative = omega arith
+    let shown = shown_length (b ∷ path) in
+    omega (arith, length-append (codes " (in ") (shown_path (b ∷ path) ++ codes ")"), length-append (shown_path (b ∷ path)) (codes ")"))
 
 mode_length : (mode : List ℕ) (number : ℕ) → number_of 8 mode ≡ Some number → 1 ≤ length mode
 unfolding number_of
-mode_length [] number e = grind arith
-mode_length (d ∷ mode) number e = omega arith
+mode_length mode number e = grind arith
 
 -- ---- a line
 
@@ -73,36 +54,23 @@ module _ (tree : ParsedObject) (front : ParsedModeAndName) where
   place_length = grind (arith, length-append, quoted_length front.name)
 
   refused_length : (fault : ComponentError) → length (refused_line tree front fault) ≤ length tree.id + length front.digits + 4 * length front.name + 665
-  refused_length fault = grind (arith, length-append, place_length, text_length fault, in_length tree.rest)
+  refused_length fault = grind (arith, length-append, place_length, in_length tree.rest)
 
   modules_length : (id : List ℕ) → length (modules_line tree front id) ≤ 2 * length id + length tree.id + length front.digits + 4 * length front.name + 539
   modules_length id = grind (arith, length-append, hex_length id, place_length, in_length tree.rest)
 
-item_length : (item : Item) → length (item_bytes item) ≡ length item.digits + length item.name + length item.id + 2
-item_length item = grind (arith, length-append)
+item_length : (width : ℕ) (item : Item) → IsItem width item
+    → (length (item_bytes item) ≡ length item.digits + length item.name + length item.id + 2) × (1 ≤ length item.digits)
+item_length width item is = (grind (arith, length-append), mode_length item.digits item.number is.0)
 
 module _ (tree : ParsedObject) (good : is_id tree.id ≡ true) where
   said_length : (item : Item) (finding : Finding) → IsItem (length tree.id / 2) item
       → length (finding_said tree (record { front = named item.digits item.name item.number; id = item.id }) finding).lines ≤ 32 * length (item_bytes item)
   said_length item Accepted is = omega arith
   said_length item Modules is =
-      omega (
-        arith,
-        modules_length tree (named item.digits item.name item.number) item.id,
-        id_length tree.id good,
-        mode_length item.digits item.number is.0,
-        is.2,
-        item_length item,
-      )
+      omega (arith, modules_length tree (named item.digits item.name item.number) item.id, id_length tree.id good, is.2, item_length _ item is)
   said_length item (Refused fault) is =
-      omega (
-        arith,
-        refused_length tree (named item.digits item.name item.number) fault,
-        id_length tree.id good,
-        mode_length item.digits item.number is.0,
-        is.2,
-        item_length item,
-      )
+      omega (arith, refused_length tree (named item.digits item.name item.number) fault, id_length tree.id good, is.2, item_length _ item is)
 
   -- ---- a tree
 
@@ -110,19 +78,7 @@ module _ (tree : ParsedObject) (good : is_id tree.id ≡ true) where
     then_length : (more : List ℕ → Judged) (r : Result (ParsedEntry × List ℕ) Malformation) (bytes : List ℕ)
         → ((rest : List ℕ) → length (more rest).0.lines ≤ 32 * length rest)
         → IfOk r (IsFirst options (length tree.id / 2) bytes) → length (entries_then more options tree r).0.lines ≤ 32 * length bytes
-    then_length more (Err fault) bytes go first = omega arith
-    then_length more (Ok entry) bytes go (item, is, by, cut, same) =
-        let long : length bytes ≡ length (item_bytes item ++ entry.1) = ap length cut in
-        let few = said_length item (finding_of options (named item.digits item.name item.number)) is in
-        let lines : length (entry_said options tree entry.0).lines ≤ 32 * length (item_bytes item) = rw same few in
-        omega (
-          arith,
-          lines,
-          go entry.1,
-          long,
-          length-append (item_bytes item) entry.1,
-          length-append (entry_said options tree entry.0).lines (more entry.1).0.lines,
-        )
+    then_length more r bytes go first = grind (arith, said_length, length-append)
 
     within_length : (fuel : ℕ) (bytes : List ℕ) → length (entries_within fuel options short tree bytes).0.lines ≤ 32 * length bytes
     within_length zero bytes = omega arith
@@ -137,10 +93,7 @@ module _ (tree : ParsedObject) (good : is_id tree.id ≡ true) where
 
   kind_length : (options : Options) (cut : Bool) (bytes : List ℕ) (kind : Kind) → length (judged_by_kind options cut tree bytes kind).0.lines
       ≤ 32 * length bytes
-  kind_length options cut bytes Tree = entries_length options (short_of cut) bytes
-  kind_length options cut bytes Blob = omega arith
-  kind_length options cut bytes Commit = omega arith
-  kind_length options cut bytes Tag = omega arith
+  kind_length options cut bytes kind = grind (arith, entries_length)
 
 tree_within : (options : Options) → IsObjectWithin 32 (tree_rule options)
 tree_within options cut object bytes good whole = kind_length object good options cut bytes object.kind

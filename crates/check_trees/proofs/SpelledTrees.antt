@@ -5,10 +5,8 @@ use Rattle.std.proofs.Common.{refl, ap, sym, ◌∙◌, arith, append_assoc, len
 use Rattle.std.specs.Prelude.{◌%◌, ◌==◌, ◌↔◌, IsTrue, Contains, IfSome, IfOk, map, flat_map}
 use Rattle.std.specs.List.{AllByRecursion, list_any}
 use Rattle.std.proofs.lemmas.List.Elements.{All-from_recursion, All-append, All-cons}
-use Rattle.std.proofs.lemmas.Bool.Decides.{nat_tests}
 use Rattle.std.proofs.lemmas.Grind.{common_steps}
 use Rattle.std.specs.Str.{byte, bytes_eq}
-use Rattle.std.proofs.lemmas.Bool.{false≢true}
 use Rattle.std.proofs.lemmas.Map.Views.{Contains-from_any}
 use Rattle.std.proofs.lemmas.Slice.Eq.{bytes_eq-Decides}
 use Rattle.gix_validate.specs.declared.path.ComponentMode.{ComponentMode}
@@ -44,9 +42,9 @@ from_any names name any = Contains-from_any {eq = λ a b. bytes_eq b a} (λ a b 
 type_is : (number type : ℕ) → type < 16 → ((number / 4096 % 16 == type) ≡ true) ↔ HasType number type
 type_is number type small = (
   λ is.
-      let same : number / 4096 % 16 ≡ type = grind (arith, nat_tests) in
+      let same : number / 4096 % 16 ≡ type = grind arith in
       (number / 4096 / 16, number % 4096, omega arith, omega (arith, same)),
-  λ (above, below, few, is). let same : number / 4096 % 16 ≡ type = omega (arith, few, is, small) in grind (arith, nat_tests),
+  λ (above, below, few, is). let same : number / 4096 % 16 ≡ type = omega (arith, few, is, small) in grind arith,
 )
 
 -- an entry with the rules for its name
@@ -62,7 +60,7 @@ item_by options digits number name id = record {
 }
 
 checked_by : (options : Options) (digits : List ℕ) (number : ℕ) (name id : List ℕ) → IsCheckedBy options (item_by options digits number name id)
-checked_by options digits number name id = grind (arith, nat_tests, false≢true, from_any, any_from, type_is)
+checked_by options digits number name id = grind (arith, from_any, any_from, type_is)
 
 -- there is one way to check a name
 bools : (a b : Bool) (P : Type 0) → (IsTrue a ↔ P) → (IsTrue b ↔ P) → a ≡ b
@@ -100,7 +98,6 @@ entry_spelled short width item more good =
     (All-cons (λ b. b ≢ nul) (byte " ") item.name (λ e. omega arith) good.1) in
     grind (
       arith,
-      nat_tests,
       length-append,
       append_assoc,
       entry_found short width front (item.id ++ more) none,
@@ -133,8 +130,7 @@ IsFirst options width bytes entry =
 
 -- what a test lets through
 if_ok : {T : Type 0} (test : Bool) (fault : Malformation) (x : T) (P : T → Type 0) → (test ≡ false → P x) → IfOk (if test then Err fault else Ok x) P
-if_ok true fault x P holds = tt
-if_ok false fault x P holds = holds refl
+if_ok test fault x P holds = grind arith
 
 module _ (options : Options) (short : Malformation) (width : ℕ) where
   item_at : (bytes front : List ℕ) (parsed : Option ParsedModeAndName) → bytes ≡ front ++ nul ∷ drop (length front + 1) bytes → length front < longest
@@ -147,7 +143,7 @@ module _ (options : Options) (short : Malformation) (width : ℕ) where
       let after : drop (length front + 1) bytes ≡ id ++ drop (length front + 1 + width) bytes =
       rw (← (drop-drop width (length front + 1) bytes)) (sym (take-append-drop width (drop (length front + 1) bytes))) in (
         item_by options parsed.digits number parsed.name id,
-        (digits, All-from_recursion (λ b. b ≢ nul) parsed.name name_none, grind (arith, nat_tests, length-take, length-append), grind (arith, length-append)),
+        (digits, All-from_recursion (λ b. b ≢ nul) parsed.name name_none, grind (arith, length-take, length-append), grind (arith, length-append)),
         checked_by options parsed.digits number parsed.name id,
         grind (arith, append_assoc),
         ap (λ (front : ParsedModeAndName). record { front = front; id = id }) same,

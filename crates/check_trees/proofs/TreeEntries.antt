@@ -2,10 +2,8 @@
 use Rattle.std.proofs.Common.{◌≡◌, ◌≢◌, ℕ, zero, suc, ◌-◌, ◌/◌, ◌<◌, ◌≤◌, nat_lt, Bool, ◌||◌, List, [], ◌∷◌, Option, None, Result, Ok, Err, length, take, drop}
 use Rattle.std.proofs.Common.{refl, arith, append-nil, length-take, length-drop, drop-drop}
 use Rattle.std.proofs.lemmas.List.{take-append-le}
-use Rattle.std.proofs.lemmas.List.Elements.{All-nil}
 use Rattle.std.proofs.lemmas.Option.{IfSome_then}
 use Rattle.std.proofs.lemmas.Bool.Decides.{nat_tests}
-use Rattle.std.proofs.lemmas.Grind.{common_steps}
 use Rattle.std.specs.Prelude.{IfSome}
 use Rattle.git_input.specs.declared.outcome.Malformation.{Malformation}
 use Rattle.cli.specs.declared.outcome.RunError.{RunError}
@@ -17,7 +15,7 @@ use Rattle.git_input.specs.Promises.{FollowsRule}
 use Rattle.git_input.proofs.ReportSoFar.{SoFar, goes, ends, stops}
 use Rattle.check_trees.specs.Options.{Options}
 use Rattle.check_trees.specs.declared.check.Checked.{Checked}
-use Rattle.check_trees.specs.Entries.{nul, ParsedEntry, entry_of}
+use Rattle.check_trees.specs.Entries.{ParsedEntry, entry_of}
 use Rattle.check_trees.specs.Report.{entry_said, entries_then, entries_within, entries, short_of}
 use Rattle.check_trees.specs.Private.{first_entry, first_said, tree_report, EntryGives}
 use Rattle.check_trees.proofs.FirstEntry.{entry_shorter, first_cut}
@@ -46,17 +44,8 @@ module _ (options : Options) (short : Malformation) (tree : ParsedObject) where
 -- ---- a tree from its first entry
 
 module _ (options : Options) (tree : ParsedObject) (left : ℕ) where
-  tree_ended : (text : List ℕ) → left ≡ 0 → tree_report options tree left text ≡ (nothing, Ok text)
-  tree_ended text none = grind (arith, entries_none)
-
   tree_faulty : (text : List ℕ) (fault : Malformation) → 0 < left → first_entry tree left text ≡ Err fault → tree_report options tree left text ≡ (nothing, Err fault)
-  tree_faulty [] fault some e = grind (arith, common_steps, entries_none, first_cut tree [] [] left (All-nil (λ b. b ≢ nul)) some)
-  tree_faulty (b ∷ text) fault some e = grind (
-    arith,
-    length-take,
-    entries_first options (short_of (nat_lt (length (b ∷ text)) left)) tree
-        (take left (b ∷ text)),
-  )
+  tree_faulty text fault some e = grind (arith, entries_none, first_cut, entries_first)
 
   tree_entry : (text : List ℕ) (len : ℕ) (entry : ParsedEntry) → 0 < len → len ≤ left → len ≤ length text
       → first_entry tree left text ≡ Ok (entry, take (left - len) (drop len text)) → tree_report options tree left text
@@ -70,9 +59,7 @@ module _ (options : Options) (tree : ParsedObject) (left : ℕ) where
 
   tree_begins : (text : List ℕ) (old new : Option (List ℕ)) → 0 < left → AppendsPrefixOf old new (first_said options tree (first_entry tree left text)).lines
       → AppendsPrefixOf old new (tree_report options tree left text).0.lines
-  tree_begins [] old new some begins = grind (arith, common_steps, entries_none, first_cut tree [] [] left (All-nil (λ b. b ≢ nul)) some)
-  tree_begins (b ∷ text) old new some begins =
-      grind (arith, length-take, take-append-le, entries_first options (short_of (nat_lt (length (b ∷ text)) left)) tree (take left (b ∷ text)))
+  tree_begins text old new some begins = grind (arith, first_cut, length-take, take-append-le, entries_first)
 
 -- ---- a tree while it is read
 
@@ -90,7 +77,7 @@ module _ (options : Options) (tree : ParsedObject) (size left : ℕ) {a b old mi
       (nothing, tree_faulty options tree left rest fault some e.0, e.1)))
 
   pub tree_ends : left ≡ 0 → IfSome a (λ text. FollowsRule (tree_report options tree size text) b old mid (Ok (Ok refused)))
-  tree_ends none = IfSome_then a sofar.known (λ text so. grind (arith, append-nil, tree_ended))
+  tree_ends none = IfSome_then a sofar.known (λ text so. grind (arith, append-nil, entries_none))
 
   pub tree_stops : (c new : Option (List ℕ)) (stop : RunError) (r : Result (Result Bool Malformation) RunError) → 0 < left → r ≡ Err stop
       → IfSome b (λ rest. stop ≢ Write → AppendsPrefixOf mid new (first_said options tree (first_entry tree left rest)).lines)

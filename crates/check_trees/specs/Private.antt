@@ -12,7 +12,7 @@ use Rattle.git_input.specs.Promises.{ReadsUpTo, ReadsExactly, or_cut, judged_wit
 use Rattle.check_trees.specs.Options.{Options}
 use Rattle.check_trees.specs.declared.check.Checked.{Checked}
 use Rattle.check_trees.specs.declared.check.Finding.{Finding}
-use Rattle.check_trees.specs.declared.check.Finding.TheVariants.{Accepted, Modules, Refused}
+use Rattle.check_trees.specs.declared.check.Finding.TheVariants.{Modules}
 use Rattle.check_trees.specs.declared.entry.ModeAndName.{ModeAndName}
 use Rattle.check_trees.specs.Entries.{ParsedModeAndName, ParsedEntry, entry_of}
 use Rattle.check_trees.specs.Report.{entry_said, entries, short_of}
@@ -56,5 +56,4 @@ EntryReads left old new (Err fault) = ReadsUpTo left old new
 -- the bytes of an id were passed, and kept where the entry is listed
 abbrev pub PassesId : Finding → ℕ → Option (List ℕ) → Option (List ℕ) → List ℕ → Bool → Type 0
 PassesId Modules count old new id whole = ReadsExactly count old new id whole
-PassesId Accepted count old new id whole = (bytes : List ℕ) × ReadsExactly count old new bytes whole
-PassesId (Refused fault) count old new id whole = (bytes : List ℕ) × ReadsExactly count old new bytes whole
+PassesId finding count old new id whole = (bytes : List ℕ) × ReadsExactly count old new bytes whole

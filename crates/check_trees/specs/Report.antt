@@ -1,16 +1,15 @@
 -- What is said of a stream of objects: a line for each entry of a tree whose name is refused, and, if these are asked for, for each file
 -- that a checkout reads as `.gitmodules`.
-use Rattle.std.specs.Prelude.{ℕ, zero, suc, ◌/◌, Bool, true, false, ◌&&◌, nat_lt, flat_map, if◌then◌else◌, List, [], ◌∷◌, ◌++◌, length, take, codes}
+use Rattle.std.specs.Prelude.{ℕ, suc, ◌/◌, Bool, true, false, ◌&&◌, nat_lt, flat_map, if◌then◌else◌, List, [], ◌∷◌, ◌++◌, length, take, codes}
 use Rattle.std.specs.Prelude.{Option, Some, None, Result, Ok, Err}
 use Rattle.gix_validate.specs.declared.path.ComponentOptions.{ComponentOptions}
 use Rattle.gix_validate.specs.declared.path.ComponentError.{ComponentError}
-use Rattle.gix_validate.specs.declared.path.ComponentError.TheVariants.{Empty, PathSeparator, WindowsPathPrefix, WindowsReservedName}
-use Rattle.gix_validate.specs.declared.path.ComponentError.TheVariants.{WindowsIllegalCharacter, DotGitDir, SymlinkedGitModules, Relative}
+use Rattle.gix_validate.specs.declared.path.ComponentError.TheVariants.{SymlinkedGitModules}
 use Rattle.gix_validate.specs.declared.path.ComponentMode.TheVariants.{Symlink}
 use Rattle.gix_validate.specs.Component.{fault_of, text_of}
 use Rattle.gix_validate.specs.Quoted.{quoted}
 use Rattle.git_input.specs.declared.header.Kind.{Kind}
-use Rattle.git_input.specs.declared.header.Kind.TheVariants.{Blob, Tree, Commit, Tag}
+use Rattle.git_input.specs.declared.header.Kind.TheVariants.{Tree}
 use Rattle.git_input.specs.declared.outcome.Malformation.{Malformation}
 use Rattle.git_input.specs.declared.outcome.Malformation.TheVariants.{Ended, Entry}
 use Rattle.git_input.specs.Texts.{line_end, hex_pair}
@@ -35,9 +34,8 @@ shown_path path = if nat_lt longest_path (length path) then quoted (take longest
 
 -- where a tree is, if that is known: its path as Git gives it
 abbrev pub in_path : Option (List ℕ) → List ℕ
-in_path None = []
-in_path (Some []) = []
 in_path (Some (b ∷ path)) = codes " (in " ++ shown_path (b ∷ path) ++ codes ")"
+in_path path = []
 
 -- the tree's id, the mode and the quoted name
 abbrev pub place : ParsedObject → ParsedModeAndName → List ℕ
@@ -53,14 +51,7 @@ modules_line tree front id = codes "modules " ++ flat_map hex_pair id ++ codes "
 
 abbrev pub is_gitmodules_fault : Option ComponentError → Bool
 is_gitmodules_fault (Some SymlinkedGitModules) = true
-is_gitmodules_fault (Some Empty) = false
-is_gitmodules_fault (Some PathSeparator) = false
-is_gitmodules_fault (Some WindowsPathPrefix) = false
-is_gitmodules_fault (Some WindowsReservedName) = false
-is_gitmodules_fault (Some WindowsIllegalCharacter) = false
-is_gitmodules_fault (Some DotGitDir) = false
-is_gitmodules_fault (Some Relative) = false
-is_gitmodules_fault None = false
+is_gitmodules_fault fault = false
 
 -- A protected system takes the name for `.gitmodules` if and only if a symbolic link may not have it for that reason.
 abbrev pub is_gitmodules : ComponentOptions → List ℕ → Bool
@@ -93,10 +84,9 @@ entries_then more options tree (Err fault) = (nothing, Some fault)
 entries_then more options tree (Ok entry) = let others = more entry.1 in (then_said (entry_said options tree entry.0) others.0, others.1)
 
 abbrev pub entries_within : ℕ → Options → Malformation → ParsedObject → List ℕ → Judged
-entries_within zero options short tree bytes = (nothing, None)
-entries_within (suc fuel) options short tree [] = (nothing, None)
 entries_within (suc fuel) options short tree (b ∷ bytes) =
     entries_then (entries_within fuel options short tree) options tree (entry_of short (length tree.id / 2) (b ∷ bytes))
+entries_within fuel options short tree bytes = (nothing, None)
 
 -- a tree of these bytes; `short` is what it means that they end within an entry
 unfoldable pub entries : Options → Malformation → ParsedObject → List ℕ → Judged
@@ -110,9 +100,7 @@ short_of cut = if cut then Ended else Entry
 
 abbrev pub judged_by_kind : Options → Bool → ParsedObject → List ℕ → Kind → Judged
 judged_by_kind options cut object bytes Tree = entries options (short_of cut) object bytes
-judged_by_kind options cut object bytes Blob = (nothing, None)
-judged_by_kind options cut object bytes Commit = (nothing, None)
-judged_by_kind options cut object bytes Tag = (nothing, None)
+judged_by_kind options cut object bytes kind = (nothing, None)
 
 -- Trees are checked, and other objects are passed over.
 abbrev pub tree_rule : Options → ObjectRule

@@ -7,13 +7,11 @@ use Rattle.gix_validate.specs.declared.path.ComponentMode.{ComponentMode}
 use Rattle.gix_validate.specs.declared.path.ComponentMode.TheVariants.{Symlink}
 use Rattle.gix_validate.specs.declared.path.ComponentOptions.{ComponentOptions}
 use Rattle.gix_validate.specs.Component.{fault_of}
-use Rattle.git_input.specs.declared.outcome.Verdict.{Verdict}
-use Rattle.git_input.specs.declared.outcome.Verdict.TheVariants.{Clean}
 use Rattle.git_input.specs.Texts.{number_of}
 use Rattle.git_input.specs.Headers.{ParsedObject}
 use Rattle.git_input.specs.Reports.{longest, Said, all_said}
 use Rattle.git_input.specs.declared.header.Kind.TheVariants.{Tree}
-use Rattle.git_input.specs.Spelled.{Spelled, Present, Absent, IsSpelled, spelling, end_of}
+use Rattle.git_input.specs.Spelled.{Spelled, Present, Absent, IsStreamOf}
 use Rattle.check_trees.specs.Options.{Options}
 use Rattle.check_trees.specs.Entries.{nul, ParsedEntry}
 use Rattle.check_trees.specs.Report.{finding_by, finding_said, is_gitmodules, tree_rule}
@@ -88,12 +86,5 @@ IsAcceptedObject options (Present object digits content) = object.kind ≡ Tree 
 IsAcceptedObject options (Absent id) = ⊤
 
 -- a stream each of whose trees is accepted
-pub record IsAcceptedStream (options : Options) (text : List ℕ) : Type 0 where
-  pub stream : List Spelled
-  pub each : AllByRecursion (IsSpelled (tree_rule options) options.needs_end) stream
-  pub accepted : AllByRecursion (IsAcceptedObject options) stream
-  pub text_is : text ≡ flat_map spelling stream ++ end_of options.needs_end
-
--- A run finds a text clean if and only if it is such a stream.
-abbrev pub IsCleanIff : Options → Verdict → List ℕ → Type 0
-IsCleanIff options verdict text = (verdict ≡ Clean) ↔ IsAcceptedStream options text
+abbrev pub IsAcceptedStream : Options → List ℕ → Type 0
+IsAcceptedStream options = IsStreamOf (tree_rule options) options.needs_end (IsAcceptedObject options)

@@ -5,7 +5,7 @@ ghost use Rattle.std.proofs.Common.{ap, subst};
 ghost use Rattle.std.specs.List.{list_any};
 ghost use Rattle.std.specs.Str.{bytes_eq};
 ghost use Rattle.git_input.specs.Ends.{Gives};
-ghost use Rattle.git_input.specs.Reports.{PrintsAtMost};
+ghost use Rattle.git_input.specs.Reports.{IsCleanIff, PrintsAtMost};
 ghost use Rattle.git_input.specs.Objects.{IsWholeStream, object_reach};
 ghost use Rattle.git_input.specs.Promises.{Runs, FollowsRule, ReadsUpTo, as_object};
 ghost use Rattle.git_input.specs.Spelled.{IsReportedInOrder, IsWellFormedOnlyIfSpelled};
@@ -13,7 +13,7 @@ ghost use Rattle.gix_validate.specs.Component.{fault_of};
 ghost use Rattle.gix_validate.specs.Pieces.{pieces};
 ghost use Rattle.check_trees.specs.Options.{as_options, protections_for};
 ghost use Rattle.check_trees.specs.Report.{finding_by, finding_of, finding_said, is_gitmodules_fault, report, tree_rule};
-ghost use Rattle.check_trees.specs.Spelled.{IsAcceptedStream, IsCleanIff, IsReadAsItems};
+ghost use Rattle.check_trees.specs.Spelled.{IsAcceptedStream, IsReadAsItems};
 ghost use Rattle.check_trees.specs.Private.{EntryGives, EntryReads, PassesId, Says, as_front, tree_report};
 
 use crate::entry::{ModeAndName, front_of};
@@ -57,7 +57,7 @@ impl<'a> Check<'a> for CheckOptions<'a> {
     ) -> Result<Verdict, RunError>
         ensures runs { Runs (report (as_options self.entry)) object_reach (R.remaining input.old) (R.remaining input.new)
             (W.contents output.old) (W.contents output.new) result }
-        ensures clean { IfOk result (λ verdict. IfSome (R.remaining input.old) (IsCleanIff (as_options self.entry) verdict)) }
+        ensures clean { IfOk result (λ verdict. IfSome (R.remaining input.old) (IsCleanIff (IsAcceptedStream (as_options self.entry)) verdict)) }
         ensures spelled { IsReportedInOrder (tree_rule (as_options self.entry)) self.entry.needs_end }
         ensures well_formed { IsWellFormedOnlyIfSpelled (tree_rule (as_options self.entry)) self.entry.needs_end }
         ensures whole { IsWholeStream (tree_rule (as_options self.entry)) self.entry.needs_end }

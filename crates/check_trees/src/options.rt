@@ -1,7 +1,6 @@
 //! The program's options (docs/RULES.md, "The report of trees").
 
-ghost use Rattle.std.specs.Prelude.{◌≡◌, Some, None};
-ghost use Rattle.cli.specs.Arguments.{effect_of};
+ghost use Rattle.std.specs.Prelude.{◌≡◌};
 ghost use Rattle.check_trees.specs.Arguments.{no_options, protections_of, rule, switched_on};
 ghost use Rattle.check_trees.specs.Options.{Options, as_options};
 
@@ -77,51 +76,36 @@ impl<'a> Options<'a> for CheckOptions<'a> {
 
     fn set(self, name: &str, value: Option<&'a str>) -> Setting<'a, Self> {
         match value {
-            None => set_alone(self, name),
-            Some(value) => set_to(self, name, value),
+            None => match name {
+                "--modules" => Setting::Set(CheckOptions {
+                    modules: true,
+                    ..self
+                }),
+                "--end" => Setting::Set(CheckOptions {
+                    needs_end: true,
+                    ..self
+                }),
+                "--protect" | "--accept" => Setting::NeedsValue,
+                _ => Setting::Unknown,
+            },
+            Some(value) => match name {
+                "--protect" => match protections_of(value.as_bytes()) {
+                    Some(protections) => Setting::Set(CheckOptions {
+                        protections,
+                        ..self
+                    }),
+                    None => Setting::Invalid(
+                        value,
+                        "windows, hfs or ntfs, separated by commas, or none",
+                    ),
+                },
+                "--accept" => Setting::Set(CheckOptions {
+                    accepted: value,
+                    ..self
+                }),
+                _ => Setting::Unknown,
+            },
         }
-    }
-}
-
-/// What an option does without a value.
-fn set_alone<'a>(options: CheckOptions<'a>, name: &str) -> Setting<'a, CheckOptions<'a>>
-    ensures { effect_of as_options result ≡ rule name.now None (as_options options.entry) }
-{
-    match name {
-        "--modules" => Setting::Set(CheckOptions {
-            modules: true,
-            ..options
-        }),
-        "--end" => Setting::Set(CheckOptions {
-            needs_end: true,
-            ..options
-        }),
-        "--protect" | "--accept" => Setting::NeedsValue,
-        _ => Setting::Unknown,
-    }
-}
-
-/// What an option does with this value.
-fn set_to<'a>(
-    options: CheckOptions<'a>,
-    name: &str,
-    value: &'a str,
-) -> Setting<'a, CheckOptions<'a>>
-    ensures { effect_of as_options result ≡ rule name.now (Some value.now) (as_options options.entry) }
-{
-    match name {
-        "--protect" => match protections_of(value.as_bytes()) {
-            Some(protections) => Setting::Set(CheckOptions {
-                protections,
-                ..options
-            }),
-            None => Setting::Invalid(value, "windows, hfs or ntfs, separated by commas, or none"),
-        },
-        "--accept" => Setting::Set(CheckOptions {
-            accepted: value,
-            ..options
-        }),
-        _ => Setting::Unknown,
     }
 }
 

@@ -3,11 +3,11 @@ pub mod Numbers
 pub mod ReportSoFar
 pub mod LinesRead
 pub mod LinesStop
+pub mod WrittenLines
 pub mod WholeStreams
 pub mod ObjectsRead
 pub mod SpelledHeaders
 pub mod SpelledStreams
 pub mod WellFormedStreams
-pub mod CleanStreams
 pub mod LinearReports
 mod Rows

@@ -1,11 +1,11 @@
 -- A line of an input, and the lines of an input while it is read.
 use Rattle.std.proofs.Common.{◌≡◌, ◌≢◌, ℕ, zero, suc, ◌+◌, ◌<◌, ◌≤◌, Bool, true, false, cond, ◌&&◌, ◌||◌, List, [], ◌∷◌, ◌++◌, All, Option, None, Some}
-use Rattle.std.proofs.Common.{Result, Ok, Err, length, take, drop}
-use Rattle.std.proofs.Common.{refl, ap, ◌∙◌, arith, take_all, append-nil, append_assoc, length-append, length-take, length-drop}
+use Rattle.std.proofs.Common.{Result, Ok, Err, length, take}
+use Rattle.std.proofs.Common.{refl, ap, arith, take_all, append-nil, append_assoc, length-append, length-take}
 use Rattle.std.proofs.lemmas.List.{take-append-le}
-use Rattle.std.proofs.lemmas.Option.{IfSome_then, MatchOption-at_some}
+use Rattle.std.proofs.lemmas.Option.{IfSome_then}
 use Rattle.std.proofs.lemmas.Bool.Decides.{nat_tests}
-use Rattle.std.specs.Prelude.{IfSome, IfOk, ⊤}
+use Rattle.std.specs.Prelude.{IfSome, IfOk}
 use Rattle.std.specs.Str.{bytes_eq}
 use Rattle.std.proofs.lemmas.Slice.Eq.{bytes_eq-Decides}
 use Rattle.std.specs.Io.KnownBytes.{Appends, Consumes}
@@ -20,12 +20,14 @@ use Rattle.git_input.specs.declared.lines.Ending.{Ending}
 use Rattle.git_input.specs.declared.lines.Ending.TheVariants.{Anywhere, EndLine, AfterALine}
 use Rattle.git_input.specs.declared.input.Found.TheVariants.{Byte, Limit, End}
 use Rattle.git_input.specs.Texts.{line_end, split_once}
-use Rattle.git_input.specs.Reports.{longest, Said, nothing, then_said, Step, LineRule, LeavesTheEnd, line_with, line_of, Report, lines_then, end_word, end_line}
+use Rattle.git_input.specs.Reports.{longest, Said, nothing, Step, LineRule, LeavesTheEnd, line_with, line_of, Report, lines_then, end_word, end_line}
 use Rattle.git_input.specs.Reports.{is_end, fault_at_end, at_end, at_end_line, lines_within, lines_from, report, verdict_of}
 use Rattle.cli.specs.Writes.{AppendsPrefixOf}
 use Rattle.git_input.specs.Promises.{FollowsRule, ReadsBefore, is_end_word}
-use Rattle.git_input.proofs.SplitTexts.{drop_both, split_found, split_within, split_short, split_long}
-use Rattle.git_input.specs.Private.{ok_then}
+use Rattle.std.specs.List.{AllByRecursion}
+use Rattle.std.proofs.lemmas.Result.{IfOk-weaker}
+use Rattle.git_input.specs.Reports.{EndsIn}
+use Rattle.git_input.proofs.SplitTexts.{IsCut, split_cuts, whole, drop_both, split_found, split_within, split_short, split_long}
 use Rattle.git_input.proofs.ReportSoFar.{SoFar, when_known, goes, stops, said_nothing}
 
 -- ---- the first line of a text
@@ -46,28 +48,19 @@ module _ (rule : LineRule) where
 
 -- ---- the line that ends a text
 
-end_split : split_once line_end end_line ≡ Some (end_word, [])
-end_split = refl
-
-same_parts : (text : List ℕ) {front rest word more : List ℕ} → split_once line_end text ≡ Some (front, rest) → split_once line_end text ≡ Some (word, more)
-    → (front ≡ word) × (rest ≡ more)
-same_parts text p q = grind arith
-
 end_length : (text : List ℕ) → bytes_eq text end_line ≡ true → length text ≡ 14
 end_length text e = ap length ((bytes_eq-Decides text end_line).0 e)
 
 -- it is one line
 end_alone : (front rest : List ℕ) → All (λ b. b ≢ line_end) front → bytes_eq (front ++ line_end ∷ rest) end_line ≡ true
     → (front ≡ end_word) × (rest ≡ [])
-end_alone front rest none e =
-    let same : front ++ line_end ∷ rest ≡ end_line = (bytes_eq-Decides (front ++ line_end ∷ rest) end_line).0 e in
-    same_parts (front ++ line_end ∷ rest) (split_found line_end front rest none) (ap (split_once line_end) same ∙ end_split)
+end_alone front rest none e = grind (arith, bytes_eq-Decides (front ++ line_end ∷ rest) end_line, split_found line_end front rest none)
 
 not_end_line : (ending : Ending) (front rest : List ℕ) → All (λ b. b ≢ line_end) front → (is_end_word ending front && is_empty rest) ≡ false
     → is_end ending (front ++ line_end ∷ rest) ≡ false
 not_end_line Anywhere front rest none other = refl
 not_end_line AfterALine front rest none other = refl
-not_end_line EndLine front rest none other = grind (arith, end_alone front rest none, bytes_eq-Decides)
+not_end_line EndLine front rest none other = grind (arith, end_alone front rest none)
 
 not_end_without : (ending : Ending) (text : List ℕ) → split_once line_end text ≡ None → is_end ending text ≡ false
 not_end_without Anywhere text none = refl
@@ -98,23 +91,34 @@ module _ {rule : LineRule} {ending : Ending} {front : List ℕ} {a b old : Optio
   long_gives read = record { known = grind (arith, append-nil, length-append, line_long, not_end_long) }
 
   pub cut_gives : ReadsBefore line_end longest a b front End → 0 < length front → LineGives rule ending a None old old (Ok (Err Ended))
-  cut_gives read some = record { known = grind (arith, append-nil, length-append, line_cut, not_end_cut) }
+  cut_gives read some = record { known = grind (arith, append-nil, line_cut, not_end_cut) }
 
 -- ---- the lines of a text
 
-module _ (rule : LineRule) (leaves : LeavesTheEnd rule) (ending : Ending) where
-  -- what follows a line is shorter
-  with_shorter : (text : List ℕ) (parts : Option (List ℕ × List ℕ)) → 0 < length text
-      → IfOk (line_with rule text parts).1 (λ rest. length rest < length text)
-  with_shorter text None some = grind arith
-  with_shorter text (Some parts) some =
-      let rest = drop (length parts.0 + 1) text in
-      ok_then (rule parts.0 rest).1 _ _ (leaves parts.0 rest) (λ after (front, is). grind (arith, length-append, length-drop (length parts.0 + 1) text))
+-- what holds of each line and what belongs to it holds of the first of a text
+module _ (rule : LineRule) (Q : List ℕ → Said → List ℕ → Type 0) (each : (line text : List ℕ) → length line < longest
+    → AllByRecursion (λ b. b ≢ line_end) line → IfOk (rule line text).1 (Q (line ++ line_end ∷ text) (rule line text).0)) where
+  by_parts : (text : List ℕ) (parts : Option (List ℕ × List ℕ)) → IfSome parts (IsCut line_end (take longest text))
+      → IfOk (line_with rule text parts).1 (Q text (line_with rule text parts).0)
+  by_parts text None cut = grind arith
+  by_parts text (Some parts) cut = grind (arith, whole line_end text parts.0 parts.1 longest cut.0)
 
-  line_shorter : (text : List ℕ) → 0 < length text → IfOk (line_of rule text).1 (λ rest. length rest < length text)
+  pub by_line : (text : List ℕ) → IfOk (line_of rule text).1 (Q text (line_of rule text).0)
   unfolding line_of
-  line_shorter text some = with_shorter text (split_once line_end (take longest text)) some
+  by_line text = by_parts text (split_once line_end (take longest text)) (split_cuts line_end (take longest text))
 
+module _ (rule : LineRule) (leaves : LeavesTheEnd rule) where
+  pub line_ends : (text : List ℕ) → IfOk (line_of rule text).1 (EndsIn text)
+  line_ends = by_line rule (λ text said rest. EndsIn text rest)
+      (λ line text few none. IfOk-weaker (rule line text).1 (EndsIn text) (EndsIn (line ++ line_end ∷ text))
+      (λ rest ends. ((line ++ line_end ∷ []) ++ ends.0, grind (arith, append_assoc))) (leaves line text))
+
+  -- what follows a line is shorter
+  pub line_shorter : (text : List ℕ) → IfOk (line_of rule text).1 (λ rest. length rest < length text)
+  line_shorter = by_line rule (λ text said rest. length rest < length text)
+      (λ line text few none. grind (arith, length-append))
+
+module _ (rule : LineRule) (leaves : LeavesTheEnd rule) (ending : Ending) where
   -- the fuel says nothing, where there is enough
   lines_enough : (f g number : ℕ) (text : List ℕ) → length text ≤ f → length text ≤ g
       → lines_within f rule ending number text ≡ lines_within g rule ending number text
@@ -122,13 +126,13 @@ module _ (rule : LineRule) (leaves : LeavesTheEnd rule) (ending : Ending) where
   lines_enough zero (suc g) number text p q = grind arith
   lines_enough (suc f) zero number text p q = grind arith
   lines_enough (suc f) (suc g) number [] p q = refl
-  lines_enough (suc f) (suc g) number (b ∷ text) p q = grind (arith, line_shorter (b ∷ text), lines_enough f g (number + 1))
+  lines_enough (suc f) (suc g) number (b ∷ text) p q = grind (arith, line_shorter rule leaves (b ∷ text), lines_enough f g (number + 1))
 
   pub lines_first : (number : ℕ) (text : List ℕ) → 0 < length text → is_end ending text ≡ false
       → lines_from rule ending number text ≡ lines_then (lines_from rule ending (number + 1)) number text (line_of rule text)
   unfolding lines_from
   lines_first number [] some other = grind arith
-  lines_first number (b ∷ text) some other = grind (arith, line_shorter (b ∷ text), lines_enough)
+  lines_first number (b ∷ text) some other = grind (arith, line_shorter rule leaves (b ∷ text), lines_enough)
 
 module _ (rule : LineRule) (ending : Ending) where
   pub lines_none : (number : ℕ) → lines_from rule ending number [] ≡ at_end ending number
@@ -155,16 +159,9 @@ is_marked Anywhere front rest last = grind arith
 is_marked AfterALine front rest last = grind arith
 is_marked EndLine front rest last = grind (arith, bytes_eq-Decides)
 
-marked_rest : (how : Ending) {front : List ℕ} {b after : Option (List ℕ)} → ReadsBefore line_end longest b after front Byte
-    → IfSome after (λ rest. true ≡ (is_end_word how front && is_empty rest)) → IfSome b (λ rest. (how ≡ EndLine) × (rest ≡ end_line))
-marked_rest how read last = grind (arith, append_assoc, is_marked)
-
 marked_report : (rule : LineRule) (how : Ending) (number : ℕ) (rest : List ℕ) → (how ≡ EndLine) × (rest ≡ end_line)
     → lines_report rule how number rest ≡ (nothing, (None, []))
 marked_report rule how number rest (is, e) = rw (is, e) (ap (λ (all : Report). (all.said, (all.malformed, all.rest))) (lines_end rule number))
-
-said_last : {E : Type 0} (said : Said) (now : Said × E) (end : E) → now ≡ (nothing, end) → ◌≡◌ {A = Said × E} (then_said said now.0, now.1) (said, end)
-said_last said now end e = grind (arith, said_nothing)
 
 module _ (rule : LineRule) (leaves : LeavesTheEnd rule) (ending : Ending) (number : ℕ) {a b old mid : Option (List ℕ)} {refused : Bool}
     (sofar : SoFar (lines_report rule ending 1) (lines_report rule ending number) a b old mid refused) where
@@ -177,12 +174,7 @@ module _ (rule : LineRule) (leaves : LeavesTheEnd rule) (ending : Ending) (numbe
   pub stream_faults : {new : Option (List ℕ)} {fault : Malformation} → LineGives rule ending b None mid new (Ok (Err fault))
       → IfSome a (λ text. Appends old new (report rule ending text).said.lines × (Malformed number fault ≡ verdict_of (report rule ending text)))
   unfolding report
-  stream_faults {new = new} {fault = fault} gives =
-      IfSome_then a sofar.known (λ text (rest, said, there, done, found, all).
-      let (some, other, (appends, is)) = MatchOption-at_some ⊤ _ rest there gives.known in
-      let first : lines_report rule ending number rest ≡ ((line_of rule rest).0, (Some (number, fault), rest)) = grind
-      (arith, lines_first rule leaves ending number rest) in
-      grind (arith, Appends-trans))
+  stream_faults {new = new} {fault = fault} gives = grind (arith, lines_first, Appends-trans)
 
   -- nothing is left, and nothing has to be
   pub stream_ends : {front : List ℕ} {now : Option (List ℕ)} → ReadsBefore line_end longest b now front End → front ≡ [] → None ≡ fault_at_end ending number
@@ -202,15 +194,11 @@ module _ (rule : LineRule) (leaves : LeavesTheEnd rule) (ending : Ending) (numbe
       → IfSome after (λ rest. true ≡ (is_end_word ending front && is_empty rest))
       → IfSome a (λ text. Appends old mid (report rule ending text).said.lines × (cond refused Refused Clean ≡ verdict_of (report rule ending text)))
   unfolding report
-  stream_marked read last = IfSome_then a sofar.known (λ text (rest, said, there, done, found, all).
-      let here = MatchOption-at_some ⊤ _ rest there (marked_rest ending read last) in
-      let whole : lines_report rule ending 1 text ≡ (said, (None, [])) =
-      all ∙ said_last said (lines_report rule ending number rest) (None, []) (marked_report rule ending number rest here) in
-      grind arith)
+  stream_marked read last = grind (arith, IfSome_then, is_marked, said_nothing, marked_report)
 
   pub stream_spent : (now : Option (List ℕ)) {front : List ℕ} {after : Option (List ℕ)} → ReadsBefore line_end longest b after front Byte
       → IfSome after (λ rest. true ≡ (is_end_word ending front && is_empty rest)) → Consumes after now [] → IfSome a (λ _. now ≡ Some [])
-  stream_spent now read last kept = IfSome_then a sofar.known (λ text so. grind (arith, append-nil))
+  stream_spent now read last kept = IfSome_then a sofar.known (λ text so. grind arith)
 
   pub stream_stops : {new : Option (List ℕ)} {stop : RunError} → stop ≢ Write → LineGives rule ending b None mid new (Err stop)
       → IfSome a (λ text. AppendsPrefixOf old new (report rule ending text).said.lines)

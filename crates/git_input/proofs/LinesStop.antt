@@ -1,8 +1,7 @@
 -- A run reads no further than the first malformed line and what can belong to it.
 use Rattle.std.proofs.Common.{◌≡◌, ◌≢◌, ℕ, ◌+◌, ◌<◌, ◌≤◌, Bool, List, [], ◌∷◌, ◌++◌, All, Option, None, Some, Result, Ok, Err, length}
 use Rattle.std.proofs.Common.{arith, append-nil, append_assoc, length-append}
-use Rattle.std.proofs.lemmas.Option.{IfSome_then, MatchOption-at_some}
-use Rattle.std.specs.Prelude.{IfOk, IfSome, ⊤}
+use Rattle.std.specs.Prelude.{IfOk, IfSome}
 use Rattle.std.specs.Io.KnownBytes.{Consumes}
 use Rattle.std.proofs.KnownBytes.{Consumes-nil, Consumes-trans}
 use Rattle.git_input.specs.declared.outcome.Malformation.{Malformation}
@@ -31,8 +30,7 @@ up_to_next n m a b c (Ok x) first next = up_to_more n m (n + m) a b c first next
 up_to_next n m a b c (Err stop) first next = tt
 
 pub next_within : (a b : Option (List ℕ)) (byte : Option ℕ) → ReadsNext a b byte → ReadsUpTo 1 a b
-next_within a b (Some byte) next = (byte ∷ [], next, omega arith)
-next_within a b None next = ([], next.0, omega arith)
+next_within a b byte given = grind arith
 
 -- ---- a line and what is read for it
 
@@ -54,25 +52,15 @@ module _ (reach : Reach) where
   pub line_within : (front : List ℕ) (a b mid c : Option (List ℕ)) → ReadsBefore line_end longest a b front Byte → Consumes b mid []
       → ReadsUpTo (reach front) mid c
       → IfSome a (λ text. ReadsUpTo (extent reach text) (Some text) c)
-  line_within front None b mid c read kept more = tt
-  line_within front (Some x) None mid c read kept more = absurd read.bytes
-  line_within front (Some x) (Some y) mid c read kept (bytes, next, few) = (
-    (front ++ line_end ∷ []) ++ bytes,
-    Consumes-trans (Some x) (Some y) c (front ++ line_end ∷ []) bytes read.bytes (Consumes-trans (Some y) mid c [] bytes kept next),
-    grind (arith, append_assoc, length-append, extent_found front y read.none read.reach),
-  )
+  line_within front a b mid c given known held = grind (arith, Consumes-trans, append_assoc, length-append, extent_found)
 
   pub long_within : (front : List ℕ) (a b : Option (List ℕ)) → ReadsBefore line_end longest a b front Limit
       → IfSome a (λ text. ReadsUpTo (extent reach text) (Some text) b)
-  long_within front None b read = tt
-  long_within front (Some x) None read = absurd read.bytes
-  long_within front (Some x) (Some y) read = (front, read.bytes, grind (arith, extent_long front y read.none read.reach))
+  long_within front a b given = grind (arith, extent_long)
 
   pub cut_within : (front : List ℕ) (a b : Option (List ℕ)) → ReadsBefore line_end longest a b front End
       → IfSome a (λ text. ReadsUpTo (extent reach text) (Some text) b)
-  cut_within front None b read = tt
-  cut_within front (Some x) None read = absurd read.bytes
-  cut_within front (Some x) (Some y) read = (front, read.bytes, grind (arith, append-nil, extent_cut front read.none read.reach.0))
+  cut_within front a b given = grind (arith, append-nil, extent_cut)
 
 -- ---- an input while it is read
 
@@ -81,18 +69,10 @@ module _ (rule : LineRule) (leaves : LeavesTheEnd rule) (ending : Ending) (numbe
   pub faults_within : {new : Option (List ℕ)} {fault : Malformation} (c : Option (List ℕ)) → LineGives rule ending b None mid new (Ok (Err fault))
       → IfSome b (λ rest. ReadsUpTo (extent reach rest) (Some rest) c) → IfSome a (λ text. StopsWithin reach (report rule ending text) c)
   unfolding report
-  faults_within c gives within = IfSome_then a sofar.known (λ text (rest, said, there, done, found, all).
-      let (some, other, (appends, is)) = MatchOption-at_some ⊤ _ rest there gives.known in
-      let here = MatchOption-at_some ⊤ _ rest there within in
-      let left : (report rule ending text).rest ≡ rest = grind (arith, lines_first rule leaves ending number rest) in
-      rw left here)
+  faults_within c gives within = grind (arith, lines_first)
 
   -- nothing is left
   pub ends_within : (front : List ℕ) (c : Option (List ℕ)) → ReadsBefore line_end longest b c front End → front ≡ []
       → IfSome a (λ text. StopsWithin reach (report rule ending text) c)
   unfolding report
-  ends_within front c read none = IfSome_then a sofar.known (λ text (rest, said, there, done, found, all).
-      let here = MatchOption-at_some ⊤ _ rest there (cut_within reach front b c read) in
-      let is : rest ≡ [] = grind (arith, append-nil) in
-      let left : (report rule ending text).rest ≡ rest = grind (arith, lines_none) in
-      rw left here)
+  ends_within front c read none = grind (arith, lines_none)

@@ -23,9 +23,6 @@ Begins_more a b c done lines first (front, next, starts) =
 pub then_said_assoc : (a b c : Said) → then_said a (then_said b c) ≡ then_said (then_said a b) c
 then_said_assoc a b c = grind (arith, append_assoc)
 
-pub nothing_said : (a : Said) → then_said nothing a ≡ a
-nothing_said a = refl
-
 pub said_nothing : (a : Said) → then_said a nothing ≡ a
 said_nothing a = grind (arith, append-nil)
 

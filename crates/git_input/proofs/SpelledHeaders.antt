@@ -4,10 +4,8 @@ use Rattle.std.proofs.Common.{refl, arith, append-nil}
 use Rattle.std.specs.Prelude.{IfSome}
 use Rattle.std.specs.List.{list_all, AllByRecursion}
 use Rattle.std.specs.Str.{byte, bytes_eq}
-use Rattle.std.proofs.lemmas.List.Elements.{All-from_recursion, All-append, All-cons, All-nil}
-use Rattle.std.proofs.lemmas.Bool.Decides.{nat_tests}
+use Rattle.std.proofs.lemmas.List.Elements.{All-from_recursion, All-append, All-cons}
 use Rattle.git_input.specs.declared.header.Kind.{Kind}
-use Rattle.git_input.specs.declared.header.Kind.TheVariants.{Blob, Tree, Commit, Tag}
 use Rattle.git_input.specs.Texts.{line_end, split_once, is_digit, number_of, is_hex_digit, is_id}
 use Rattle.git_input.specs.Headers.{ParsedObject, Missing, Object, kind_word, kind_of_word, sized_parts, parsed_header}
 use Rattle.git_input.specs.Spelled.{rest_bytes, header_line}
@@ -24,11 +22,11 @@ without n sep text less high = All-from_recursion (λ b. b ≢ sep) text (high_e
 
 digits_high : (base : ℕ) (digits : List ℕ) → list_all (is_digit base) digits ≡ true → list_all (nat_le (byte "0")) digits ≡ true
 digits_high base [] e = refl
-digits_high base (d ∷ digits) e = grind (arith, nat_tests, digits_high base digits)
+digits_high base (d ∷ digits) e = grind (arith, digits_high base digits)
 
 hex_high : (text : List ℕ) → list_all is_hex_digit text ≡ true → list_all (nat_le (byte "0")) text ≡ true
 hex_high [] e = refl
-hex_high (b ∷ text) e = grind (arith, nat_tests, hex_high text)
+hex_high (b ∷ text) e = grind (arith, hex_high text)
 
 pub number_high : (base : ℕ) (digits : List ℕ) (n : ℕ) → number_of base digits ≡ Some n → list_all (nat_le (byte "0")) digits ≡ true
 unfolding number_of
@@ -42,16 +40,10 @@ id_high id e = grind (arith, hex_high)
 
 word_facts : (kind : Kind) (more : List ℕ) → (bytes_eq (kind_word kind ++ byte " " ∷ more) (codes "missing") ≡ false)
     × (split_once (byte " ") (kind_word kind ++ byte " " ∷ more) ≡ Some (kind_word kind, more)) × (kind_of_word (kind_word kind) ≡ Some kind)
-word_facts Blob more = (refl, refl, refl)
-word_facts Tree more = (refl, refl, refl)
-word_facts Commit more = (refl, refl, refl)
-word_facts Tag more = (refl, refl, refl)
+word_facts kind more = grind arith
 
 word_high : (kind : Kind) → list_all (nat_le (byte "0")) (kind_word kind) ≡ true
-word_high Blob = refl
-word_high Tree = refl
-word_high Commit = refl
-word_high Tag = refl
+word_high kind = grind arith
 
 -- ---- a header line
 
@@ -71,11 +63,7 @@ header_spelled object digits good number =
     let facts = word_facts object.kind more in
     grind (
       arith,
-      split_found (byte " ") object.id (kind_word object.kind ++ byte " " ∷ more)
-          (without (byte "0") (byte " ") object.id (omega arith) (id_high object.id good).0),
-      facts.0,
-      facts.1,
-      facts.2,
+      split_found (byte " ") object.id (kind_word object.kind ++ byte " " ∷ more) (without (byte "0") (byte " ") object.id (omega arith) (id_high object.id good).0),
       size_spelled object.id object.kind digits object.rest object.size number,
     )
 
@@ -86,8 +74,7 @@ missing_spelled id good = grind (arith, split_found (byte " ") id (codes "missin
 -- ---- it is one line
 
 rest_none : (rest : Option (List ℕ)) → IfSome rest (λ rest. All (λ b. b ≢ line_end) rest) → All (λ b. b ≢ line_end) (rest_bytes rest)
-rest_none None none = All-nil (λ b. b ≢ line_end)
-rest_none (Some rest) none = All-cons (λ b. b ≢ line_end) (byte " ") rest (λ e. omega arith) none
+rest_none rest given = grind arith
 
 pub header_none : (object : ParsedObject) (digits : List ℕ) → is_id object.id ≡ true → number_of 10 digits ≡ Some object.size
     → IfSome object.rest (λ rest. All (λ b. b ≢ line_end) rest) → All (λ b. b ≢ line_end) (header_line object digits)

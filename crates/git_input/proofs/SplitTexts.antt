@@ -30,14 +30,14 @@ drop_both a b rest n is = grind (arith, append_assoc a b rest, drop_at (a ++ b) 
 
 module _ (separator : ℕ) where
   pub split_found : (front rest : List ℕ) → All (λ b. b ≢ separator) front → split_once separator (front ++ separator ∷ rest) ≡ Some (front, rest)
-  split_found [] rest none = grind (arith, nat_tests)
+  split_found [] rest none = grind arith
   split_found (b ∷ front) rest none =
-      grind (arith, nat_tests, All-head (λ c. c ≢ separator) b front none, split_found front rest (All-tail (λ c. c ≢ separator) b front none))
+      grind (arith, All-head (λ c. c ≢ separator) b front none, split_found front rest (All-tail (λ c. c ≢ separator) b front none))
 
   pub split_nowhere : (text : List ℕ) → All (λ b. b ≢ separator) text → split_once separator text ≡ None
-  split_nowhere [] none = grind (arith, nat_tests)
+  split_nowhere [] none = grind arith
   split_nowhere (b ∷ text) none =
-      grind (arith, nat_tests, All-head (λ c. c ≢ separator) b text none, split_nowhere text (All-tail (λ c. c ≢ separator) b text none))
+      grind (arith, All-head (λ c. c ≢ separator) b text none, split_nowhere text (All-tail (λ c. c ≢ separator) b text none))
 
   -- a text of so many bytes
   pub split_within : (front rest : List ℕ) (n : ℕ) → All (λ b. b ≢ separator) front → length front < n
@@ -68,7 +68,7 @@ IsCut separator text parts = (text ≡ parts.0 ++ separator ∷ parts.1) × AllB
 
 pub split_cuts : (separator : ℕ) (text : List ℕ) → IfSome (split_once separator text) (IsCut separator text)
 split_cuts separator [] = tt
-split_cuts separator (b ∷ text) = grind (arith, nat_tests, split_cuts separator text)
+split_cuts separator (b ∷ text) = grind (arith, split_cuts separator text)
 
 -- the text in full, of which the search sees a front
 pub whole : (separator : ℕ) (text front seen : List ℕ) (n : ℕ) → take n text ≡ front ++ separator ∷ seen

@@ -1,5 +1,5 @@
 -- How a program ends after a run.
-use Rattle.std.specs.Prelude.{◌≡◌, ◌⊎◌, ◌↔◌, ℕ, ◌==◌, if◌then◌else◌, List, [], ◌++◌, codes, Option, Result, Ok, Err, IfOk, IfSome}
+use Rattle.std.specs.Prelude.{◌≡◌, ◌⊎◌, ℕ, ◌==◌, if◌then◌else◌, List, [], ◌++◌, codes, Option, Result, Ok, Err, IfOk, IfSome}
 use Rattle.std.specs.Fmt.{decimal}
 use Rattle.std.specs.Io.KnownBytes.{Keeps}
 use Rattle.std.specs.Process.{exit_status}
@@ -14,7 +14,7 @@ use Rattle.git_input.specs.declared.outcome.Verdict.{Verdict}
 use Rattle.git_input.specs.declared.outcome.Verdict.TheVariants.{Clean, Refused, Malformed}
 use Rattle.git_input.specs.declared.runs.Program.{Program}
 use Rattle.git_input.specs.Messages.{fault_text_of}
-use Rattle.git_input.specs.Reports.{Reach, Report}
+use Rattle.git_input.specs.Reports.{Reach, Report, IsCleanIff}
 use Rattle.git_input.specs.Promises.{Runs}
 
 -- how a run ends: it may fail
@@ -24,7 +24,7 @@ Ran = Result Verdict RunError
 -- A run did what the report of its input says, and found a text clean if and only if it is accepted.
 abbrev pub Gives : (List ℕ → Report) → Reach → (List ℕ → Type 0) → (input rest output written : Option (List ℕ)) → Ran → Type 0
 Gives report reach IsAccepted input rest output written ran =
-    Runs report reach input rest output written ran × IfOk ran (λ verdict. IfSome input (λ text. (verdict ≡ Clean) ↔ IsAccepted text))
+    Runs report reach input rest output written ran × IfOk ran (λ verdict. IfSome input (IsCleanIff IsAccepted verdict))
 
 -- what a message adds if the first line is not a header line
 abbrev pub hint_of : List ℕ → ℕ → Malformation → List ℕ

@@ -42,9 +42,8 @@ object_rule rule needs_end line text = header_rule rule needs_end (parsed_header
 
 -- how many bytes can belong to a header line: those of the object, and the byte after it, which has to be LF
 abbrev pub header_reach : Option ParsedHeader → ℕ
-header_reach None = 0
-header_reach (Some Missing) = 0
 header_reach (Some (Object object)) = object.size + 1
+header_reach header = 0
 
 abbrev pub object_reach : Reach
 object_reach line = header_reach (parsed_header line)

@@ -12,27 +12,21 @@ pub ok_then : {T E : Type 0} (r : Result T E) (P Q : T → Type 0) → IfOk r P 
 ok_then (Ok x) P Q p more = more x p
 ok_then (Err e) P Q p more = tt
 
-end_is : (text : List ℕ) → IfOk (after_end text) (λ rest. text ≡ line_end ∷ rest)
-end_is [] = tt
-end_is (b ∷ text) = grind (arith, nat_tests)
-
 -- an object is right, and LF follows it
 pub closed_is : (judged : Judged) (text : List ℕ) → IfOk (closed judged text).1 (λ rest. (judged.1 ≡ None) × (text ≡ line_end ∷ rest))
-closed_is (said, Some fault) text = tt
-closed_is (said, None) text = ok_then (after_end text) _ _ (end_is text) (λ rest e. (refl, e))
+closed_is judged text = grind (arith, nat_tests)
 
-pub drop_ends : (n : ℕ) (text rest : List ℕ) → EndsIn (drop n text) rest → EndsIn text rest
-drop_ends n text rest (front, is) = (take n text ++ front, grind (arith, append_assoc, take-append-drop n text))
+drop_ends : (n : ℕ) (text rest : List ℕ) → drop n text ≡ line_end ∷ rest → EndsIn text rest
+drop_ends n text rest is = (take n text ++ line_end ∷ [], grind (arith, append_assoc, take-append-drop n text))
 
-module _ (rule : ObjectRule) where
-  header_leaves : (needs_end : Bool) (header : Option ParsedHeader) (text : List ℕ) → IfOk (header_rule rule needs_end header text).1 (EndsIn text)
-  header_leaves needs_end None text = tt
-  header_leaves true (Some Missing) text = tt
-  header_leaves false (Some Missing) text = ([], refl)
-  header_leaves needs_end (Some (Object object)) text =
-      let judged = rule (nat_lt (length text) object.size) object (take object.size text) in
-      ok_then (closed judged (drop object.size text)).1 _ _ (closed_is judged (drop object.size text)) (λ rest (right, e).
-      drop_ends object.size text rest (line_end ∷ [], e))
+header_leaves : (rule : ObjectRule) (needs_end : Bool) (header : Option ParsedHeader) (text : List ℕ)
+    → IfOk (header_rule rule needs_end header text).1 (EndsIn text)
+header_leaves rule needs_end None text = tt
+header_leaves rule true (Some Missing) text = tt
+header_leaves rule false (Some Missing) text = ([], refl)
+header_leaves rule needs_end (Some (Object object)) text =
+    let judged = rule (nat_lt (length text) object.size) object (take object.size text) in
+    ok_then (closed judged (drop object.size text)).1 _ _ (closed_is judged (drop object.size text)) (λ rest right. drop_ends object.size text rest right.1)
 
 pub object_rule_leaves : (rule : ObjectRule) (needs_end : Bool) → LeavesTheEnd (object_rule rule needs_end)
 object_rule_leaves rule needs_end line text = header_leaves rule needs_end (parsed_header line) text

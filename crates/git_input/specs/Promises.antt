@@ -36,8 +36,7 @@ as_parsed (header.Object object) = parsed.Object (as_object object)
 -- what was read for a byte: what is before it, and it alone where it was found
 abbrev pub taken : ℕ → Found → List ℕ → List ℕ
 taken byte Byte front = front ++ byte ∷ []
-taken byte Limit front = front
-taken byte End front = front
+taken byte found front = front
 
 -- how far that goes
 abbrev pub Reaches : ℕ → Option (List ℕ) → Option (List ℕ) → List ℕ → Found → Type 0
@@ -90,9 +89,8 @@ pub record Runs (report : List ℕ → Report) (reach : Reach) (old new before a
 
 -- the line has to end the text
 abbrev pub is_end_word : Ending → List ℕ → Bool
-is_end_word Anywhere line = false
-is_end_word AfterALine line = false
 is_end_word EndLine line = bytes_eq line end_word
+is_end_word how line = false
 
 -- what a step found, and left, is what the rule says of it
 abbrev pub FollowsRule : Step → Option (List ℕ) → Option (List ℕ) → Option (List ℕ) → Result (Result Bool Malformation) RunError → Type 0

@@ -1,7 +1,7 @@
 -- The report of a text that is read line by line: what each line and what belongs to it give, in order, up to the first
 -- that is malformed. `Spelled` says it from the other side, with no steps: what is reported of a stream that is written out,
 -- object by object, and that no other text is well-formed.
-use Rattle.std.specs.Prelude.{◌≡◌, ℕ, zero, suc, ◌+◌, ◌*◌, ◌≤◌, Bool, true, false, ◌==◌, ◌||◌, nat_lt, if◌then◌else◌, List, [], ◌∷◌, ◌++◌, length, take}
+use Rattle.std.specs.Prelude.{◌≡◌, ◌↔◌, ℕ, zero, suc, ◌+◌, ◌*◌, ◌≤◌, Bool, true, false, ◌==◌, ◌||◌, nat_lt, if◌then◌else◌, List, [], ◌∷◌, ◌++◌, length, take}
 use Rattle.std.specs.Prelude.{drop, codes}
 use Rattle.std.specs.Prelude.{Option, Some, None, Result, Ok, Err, IfOk, option_map}
 use Rattle.std.specs.Str.{bytes_eq}
@@ -87,11 +87,15 @@ end_word = codes "..end missing"
 abbrev pub end_line : List ℕ
 end_line = end_word ++ line_end ∷ []
 
+-- what is last in a text that ends so
+abbrev pub end_of : Ending → List ℕ
+end_of EndLine = end_line
+end_of how = []
+
 -- nothing is left but that line
 abbrev pub is_end : Ending → List ℕ → Bool
-is_end Anywhere text = false
-is_end AfterALine text = false
 is_end EndLine text = bytes_eq text end_line
+is_end how text = false
 
 -- what is wrong where the text ends before a line of this number
 abbrev pub fault_at_end : Ending → ℕ → Option Malformation
@@ -109,11 +113,10 @@ at_end_line = record { said = nothing; malformed = None; rest = [] }
 
 -- The lines of a text, the first of which has this number. (`fuel` is at least their number.)
 abbrev pub lines_within : ℕ → LineRule → Ending → ℕ → List ℕ → Report
-lines_within zero rule ending number text = at_end ending number
-lines_within (suc fuel) rule ending number [] = at_end ending number
 lines_within (suc fuel) rule ending number (b ∷ text) =
     if is_end ending (b ∷ text) then at_end_line
     else lines_then (lines_within fuel rule ending (number + 1)) number (b ∷ text) (line_of rule (b ∷ text))
+lines_within fuel rule ending number text = at_end ending number
 
 unfoldable pub lines_from : LineRule → Ending → ℕ → List ℕ → Report
 lines_from rule ending number text = lines_within (length text) rule ending number text
@@ -130,11 +133,14 @@ verdict_by refused None = if refused then Refused else Clean
 abbrev pub verdict_of : Report → Verdict
 verdict_of report = verdict_by report.said.refused report.malformed
 
+-- A text is found clean if and only if it is accepted.
+abbrev pub IsCleanIff : (List ℕ → Type 0) → Verdict → List ℕ → Type 0
+IsCleanIff IsAccepted verdict text = (verdict ≡ Clean) ↔ IsAccepted text
+
 -- whether it says that something is malformed
 abbrev pub is_malformed : Verdict → Bool
-is_malformed Clean = false
-is_malformed Refused = false
 is_malformed (Malformed number fault) = true
+is_malformed verdict = false
 
 -- ---- what is read where a line is malformed
 

@@ -1,13 +1,11 @@
 -- The report of a stream that is written out, object by object, and that no other text is well-formed.
-use Rattle.std.specs.Prelude.{◌≡◌, ◌≢◌, ◌↔◌, ℕ, ◌+◌, ◌<◌, Bool, true, false, if◌then◌else◌, List, [], ◌∷◌, ◌++◌, All, length, map, flat_map, codes, Option}
+use Rattle.std.specs.Prelude.{◌≡◌, ◌≢◌, ℕ, ◌+◌, ◌<◌, Bool, true, false, List, [], ◌∷◌, ◌++◌, All, length, map, flat_map, codes, Option}
 use Rattle.std.specs.Prelude.{None, Some, IfSome}
 use Rattle.std.specs.List.{AllByRecursion}
 use Rattle.std.specs.Str.{byte}
-use Rattle.git_input.specs.declared.outcome.Verdict.{Verdict}
-use Rattle.git_input.specs.declared.outcome.Verdict.TheVariants.{Clean}
 use Rattle.git_input.specs.Texts.{line_end, number_of, is_id}
 use Rattle.git_input.specs.Headers.{ParsedObject, kind_word}
-use Rattle.git_input.specs.Reports.{Said, nothing, all_said, longest, end_line, before_report, lines_from}
+use Rattle.git_input.specs.Reports.{Said, nothing, all_said, longest, end_of, before_report, lines_from}
 use Rattle.git_input.specs.Objects.{ObjectRule, object_rule, ending_of, object_report}
 
 -- an object with the digits of its size and its bytes, or the id of one that is missing
@@ -50,13 +48,10 @@ IsReportedInOrder rule needs_end =
     → report_from number (spelling object ++ rest) ≡ before_report (spelled_said rule object) (report_from (number + 1) rest)
 
 -- a stream that is written out, and its end line if it needs one
-abbrev pub end_of : Bool → List ℕ
-end_of needs_end = if needs_end then end_line else []
-
 pub record IsStream (rule : ObjectRule) (needs_end : Bool) (text : List ℕ) (said : Said) : Type 0 where
   pub stream : List Spelled
   pub each : AllByRecursion (IsSpelled rule needs_end) stream
-  pub text_is : text ≡ flat_map spelling stream ++ end_of needs_end
+  pub text_is : text ≡ flat_map spelling stream ++ end_of (ending_of needs_end)
   pub said_is : said ≡ all_said (map (spelled_said rule) stream)
 
 -- A text is well-formed only if it is such a stream, and then just that is said.
@@ -66,13 +61,13 @@ IsWellFormedOnlyIfSpelled rule needs_end =
 
 -- ---- nothing refused
 
--- a stream of which nothing is refused
-pub record IsCleanStream (rule : ObjectRule) (needs_end : Bool) (text : List ℕ) : Type 0 where
+-- such a stream, each of whose objects is as `IsGood` says
+pub record IsStreamOf (rule : ObjectRule) (needs_end : Bool) (IsGood : Spelled → Type 0) (text : List ℕ) : Type 0 where
   pub stream : List Spelled
   pub each : AllByRecursion (IsSpelled rule needs_end) stream
-  pub clean : AllByRecursion (λ object. (spelled_said rule object).refused ≡ false) stream
-  pub text_is : text ≡ flat_map spelling stream ++ end_of needs_end
+  pub good : AllByRecursion IsGood stream
+  pub text_is : text ≡ flat_map spelling stream ++ end_of (ending_of needs_end)
 
--- A run finds a text clean if and only if it is such a stream.
-abbrev pub IsCleanIff : ObjectRule → Bool → Verdict → List ℕ → Type 0
-IsCleanIff rule needs_end verdict text = (verdict ≡ Clean) ↔ IsCleanStream rule needs_end text
+-- a stream of which nothing is refused
+abbrev pub IsCleanStream : ObjectRule → Bool → List ℕ → Type 0
+IsCleanStream rule needs_end = IsStreamOf rule needs_end (λ object. (spelled_said rule object).refused ≡ false)

@@ -3,7 +3,8 @@
 ghost use Rattle.std.specs.Prelude.{◌≡◌, ◌+◌, Some, false, IfOk, IfSome};
 ghost use Rattle.git_input.specs.Objects.{IsWholeStream, ObjectRule, ending_of, object_reach, object_report, object_rule, object_step};
 ghost use Rattle.git_input.specs.Promises.{Runs, Closes, FollowsRule, ReadsUpTo, as_object, body_step};
-ghost use Rattle.git_input.specs.Spelled.{IsCleanIff, IsReportedInOrder, IsWellFormedOnlyIfSpelled};
+ghost use Rattle.git_input.specs.Reports.{IsCleanIff};
+ghost use Rattle.git_input.specs.Spelled.{IsCleanStream, IsReportedInOrder, IsWellFormedOnlyIfSpelled};
 ghost use Rattle.git_input.specs.Private.{object_rule_leaves};
 
 use crate::header::{Header, Object, header_of};
@@ -105,7 +106,7 @@ fn close<R: BufRead>(refused: bool, input: &mut R) -> Result<Result<bool, Malfor
 ///
 /// It allocates memory for the longest header line, of at most 65,536 bytes, and what `check`
 /// allocates, from `alloc`.
-#[tactic(auto, using(crate::proofs::CleanStreams::object_laws))]
+#[tactic(auto, using(crate::proofs::WellFormedStreams::object_laws))]
 pub fn run<C: ObjectCheck, R: BufRead, W: Write>(
     alloc: Global,
     check: C,
@@ -115,8 +116,7 @@ pub fn run<C: ObjectCheck, R: BufRead, W: Write>(
 ) -> Result<Verdict, RunError>
     ensures runs { Runs (object_report (C.object_rule check) needs_end) object_reach (R.remaining input.old) (R.remaining input.new)
         (W.contents output.old) (W.contents output.new) result }
-    ensures clean { IfOk result (λ verdict. IfSome (R.remaining input.old) (λ text.
-        IsCleanIff (C.object_rule check) needs_end verdict text)) }
+    ensures clean { IfOk result (λ verdict. IfSome (R.remaining input.old) (IsCleanIff (IsCleanStream (C.object_rule check) needs_end) verdict)) }
     ensures spelled { IsReportedInOrder (C.object_rule check) needs_end }
     ensures well_formed { IsWellFormedOnlyIfSpelled (C.object_rule check) needs_end }
     ensures whole { IsWholeStream (C.object_rule check) needs_end }

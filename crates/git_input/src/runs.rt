@@ -164,3 +164,26 @@ pub fn buffers<R: Read + Drop, W: Write + Drop>(
     let output = BufWriter::with_capacity(alloc, BUFFERED, output).map_err(|_| RunError::Memory)?;
     Ok((input, output))
 }
+
+/// What the `main` of a program does with its runtime, which `main` alone holds: it passes the
+/// arguments and buffered streams to [`answer`], under options of this type.
+#[macro_export]
+macro_rules! run_program {
+    ($options:ty, $program:ident, $rt:ident) => {{
+        let mut errors = cli::messages::Messages::new($rt.stderr());
+        match cli::arguments::arguments($rt.alloc(), std::env::args(&$rt), $program.name, &mut errors) {
+            Ok(arguments) => match $crate::runs::buffers($rt.alloc(), $rt.stdin(), $rt.stdout()) {
+                Ok((mut input, mut output)) => $crate::runs::answer::<$options, _, _, _>(
+                    $program,
+                    $rt.alloc(),
+                    &arguments,
+                    &mut input,
+                    &mut output,
+                    &mut errors,
+                ),
+                Err(stop) => cli::fail($program.name, stop, &mut errors),
+            },
+            Err(status) => status,
+        }
+    }};
+}

@@ -31,28 +31,28 @@ pub returns-then-not-branch-clause-gives : goal.returns-then-not-branch-clause-g
 returns-then-not-branch-clause-gives g c =
     let read = rw c.in-Byte.is at c.in_ok-read_before.ensures.read in
     gives_id_cut (as_options c.args.options) (as_object c.args.tree) _ _ _ c.min-limit.ensures read (c.in-Some.ensures ∙ ap parsed_front c.deref.ensures.value)
-    (grind (arith, common_steps)) _ _ (rw c.if-not-branch.true at c.in_ok-pass_id.ensures)
+    (grind arith) _ _ (rw c.if-not-branch.true at c.in_ok-pass_id.ensures)
 
 pub returns-then-id_left-id_len-clause-gives : goal.returns-then-id_left-id_len-clause-gives
 returns-then-id_left-id_len-clause-gives g c =
     let read = rw c.in-Byte.is at c.in_ok-read_before.ensures.read in
     gives_id_past (as_options c.args.options) (as_object c.args.tree) _ _ _ c.min-limit.ensures read (c.in-Some.ensures ∙ ap parsed_front c.deref.ensures.value)
-    (grind (arith, common_steps)) _ _ (rw c.if-not-branch.false at c.in_ok-pass_id.ensures) c.if-id_left-id_len.true
+    (grind arith) _ _ (rw c.if-not-branch.false at c.in_ok-pass_id.ensures) c.if-id_left-id_len.true
 
 pub returns-in_err-refused-clause-gives : goal.returns-in_err-refused-clause-gives
 returns-in_err-refused-clause-gives g c =
     let read = rw c.in-Byte.is at c.in_ok-read_before.ensures.read in
     gives_stop (as_options c.args.options) (as_object c.args.tree) _ _ _ c.min-limit.ensures read (c.in-Some.ensures ∙ ap parsed_front c.deref.ensures.value)
-    (grind (arith, common_steps)) _ _ _ _ _ c.finding_of-finding.ensures (rw c.if-not-branch.false at c.in_ok-pass_id.ensures) c.if-id_left-id_len.false
-    (grind (arith, c.from_residual-in_err-refused.ensures)) (rw c.deref-2.ensures.value at c.in_err-refused.ensures)
+    (grind arith) _ _ _ _ _ c.finding_of-finding.ensures (rw c.if-not-branch.false at c.in_ok-pass_id.ensures) c.if-id_left-id_len.false
+    (grind arith) (rw c.deref-2.ensures.value at c.in_err-refused.ensures)
 
 pub returns-clause-gives : goal.returns-clause-gives
 returns-clause-gives g c =
     let read = rw c.in-Byte.is at c.in_ok-read_before.ensures.read in
     let said = rw c.deref-2.ensures.value at c.in_ok-refused.ensures in
     gives_entry (as_options c.args.options) (as_object c.args.tree) _ _ _ c.min-limit.ensures read (c.in-Some.ensures ∙ ap parsed_front c.deref.ensures.value)
-    (grind (arith, common_steps)) _ _ _ _ c.finding_of-finding.ensures (rw c.if-not-branch.false at c.in_ok-pass_id.ensures) c.if-id_left-id_len.false
-    (grind (arith, common_steps)) said.0 said.1
+    (grind arith) _ _ _ _ c.finding_of-finding.ensures (rw c.if-not-branch.false at c.in_ok-pass_id.ensures) c.if-id_left-id_len.false
+    (grind arith) said.0 said.1
 
 pub returns-then-not-branch-clause-within : goal.returns-then-not-branch-clause-within
 returns-then-not-branch-clause-within g c =

@@ -23,7 +23,7 @@ pub returns-clause-gives : goal.returns-clause-gives
 returns-clause-gives g c = tree_ends _ _ _ _ c.loop-left.invariant.2 (omega (arith, c.loop-left-test.false))
 
 pub returns-in_err-entry-clause-gives : goal.returns-in_err-entry-clause-gives
-returns-in_err-entry-clause-gives g c = tree_stops _ _ _ _ c.loop-left.invariant.2 _ _ _ _ c.loop-left-test.true (grind (arith, c.from_residual.ensures))
+returns-in_err-entry-clause-gives g c = tree_stops _ _ _ _ c.loop-left.invariant.2 _ _ _ _ c.loop-left-test.true (grind arith)
     c.in_err-entry.ensures.gives
 
 pub returns-in-Err-clause-within : goal.returns-in-Err-clause-within

@@ -31,9 +31,7 @@ returns-then-branch-clause-verdict g c =
     (rw (c.if-branch.true, c.deref.ensures.value) at c.in_ok-is_last-in-Byte.ensures.known))
 
 pub returns-then-branch-clause-spent : goal.returns-then-branch-clause-spent
-returns-then-branch-clause-spent g c = λ _. stream_spent _ (g.met.C.LineCheck.leaves _) _ _ c.loop-before.invariant _
-    (rw c.in-Byte.is at c.in_ok-read_before.ensures.read)
-    (rw (c.if-branch.true, c.deref.ensures.value) at c.in_ok-is_last-in-Byte.ensures.known) c.in_ok-is_last-in-Byte.ensures.kept
+returns-then-branch-clause-spent g c = grind (arith, stream_spent)
 
 pub returns-in_err-more-in-Byte-clause-stopped : goal.returns-in_err-more-in-Byte-clause-stopped
 returns-in_err-more-in-Byte-clause-stopped g c = λ other. on_err c.from_residual-in_err-more-in-Byte.result _

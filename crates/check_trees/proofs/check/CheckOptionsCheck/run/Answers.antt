@@ -1,11 +1,16 @@
+use Rattle.git_input.proofs.WellFormedStreams.{clean_run}
 use Rattle.check_trees.specs.Options.{as_options}
-use Rattle.check_trees.proofs.AcceptedTrees.{clean_run}
+use Rattle.check_trees.proofs.AcceptedTrees.{object_same}
+use Rattle.check_trees.specs.Report.{tree_rule}
+use Rattle.check_trees.specs.Spelled.{IsAcceptedObject}
 use Rattle.check_trees.proofs.LinearReports.{linear_report}
 use Rattle.check_trees.proofs.SpelledTrees.{read_as_items}
 use Rattle.check_trees.proofs.check.CheckOptionsCheck.run.Goals as goal
 
 pub returns-clause-clean : goal.returns-clause-clean
-returns-clause-clean g c = clean_run (as_options c.args.self) _ _ c.run.ensures.clean
+returns-clause-clean g c =
+    let options = as_options c.args.self in
+    clean_run (tree_rule options) options.needs_end (IsAcceptedObject options) (object_same options) c.run.result c.run.ensures.runs
 
 pub returns-clause-items : goal.returns-clause-items
 returns-clause-items g c = read_as_items (as_options c.args.self)

@@ -1,19 +1,13 @@
 -- The answer of a line from what it asks for, and the answers of a text from its first line.
-use Rattle.std.proofs.Common.{◌≡◌, ◌≢◌, ℕ, List, [], ◌∷◌, ◌++◌, false}
-use Rattle.std.proofs.Common.{Option, Some, None, IfSome, Result, MatchResult, codes, refl, sym, ap, ◌∙◌, append_assoc, append-nil, arith}
-use Rattle.std.specs.List.{AllByRecursion}
-use Rattle.std.specs.Str.{byte, bytes_eq}
-use Rattle.std.proofs.lemmas.Bool.{cond-false, false_from_ne_true}
-use Rattle.std.proofs.lemmas.Slice.Eq.{bytes_eq-Decides}
+use Rattle.gix_validate.proofs.Common.{◌≡◌, ◌≢◌, ℕ, List, [], ◌∷◌, ◌++◌, false, Option, Some, None, IfSome, Result, MatchResult, codes, refl, sym, ap, ◌∙◌}
+use Rattle.gix_validate.proofs.Common.{append_assoc, append-nil, arith, AllByRecursion, byte, bytes_eq, cond-false, false_from_ne_true, bytes_eq-Decides}
+use Rattle.gix_validate.proofs.Common.{nat_tests, common_steps, take_rest}
 use Rattle.bstr.specs.declared.bstr.BStr.{BStr}
 use Rattle.bstr.specs.BStr.{bstr_bytes}
 use Rattle.typed_names.specs.Names.{NewChecks}
 use Rattle.gix_validate.specs.Pieces.{names_in}
 use Rattle.check_names.specs.Lines.{line_end, lines, request_of}
 use Rattle.check_names.specs.Answers.{answer_by, answer_of, answer_to, answers, kinds, unknown_kind, verdict}
-use Rattle.std.proofs.lemmas.Bool.Decides.{nat_tests}
-use Rattle.std.proofs.lemmas.Grind.{common_steps}
-use Rattle.std.proofs.lemmas.List.{take_rest}
 use Rattle.gix_validate.proofs.Texts.NamesIn.{names_in-cut, names_in-last}
 
 -- ---- one line

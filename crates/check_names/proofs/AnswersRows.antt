@@ -1,6 +1,5 @@
 -- The lines of a text and their answers, computed on literals.
-use Rattle.std.proofs.Common.{refl, [], ◌∷◌, Some, None}
-use Rattle.std.specs.Prelude.{codes}
+use Rattle.gix_validate.proofs.Common.{refl, [], ◌∷◌, Some, None, codes}
 use Rattle.gix_validate.proofs.OnLiterals.{names_on_literals, components_on_literals}
 use Rattle.gix_validate.proofs.Rows.Tables.{Gives}
 use Rattle.gix_validate.specs.Pieces.{names_in}

@@ -1,7 +1,6 @@
 -- What a writer of text has after some writes, if each appends its text.
-use Rattle.std.proofs.Common.{◌≡◌, ℕ, List, [], ◌∷◌, ◌++◌, append_assoc, append-nil, subst, arith, Option, Some, None, IfSome}
-use Rattle.std.specs.List.{FoldsTo, concat}
-use Rattle.std.specs.Fmt.{WritesInCalls, WritesText, option_append}
+use Rattle.gix_validate.proofs.Common.{◌≡◌, ℕ, List, [], ◌∷◌, ◌++◌, append_assoc, append-nil, subst, arith, Option, Some, None, IfSome, FoldsTo, concat}
+use Rattle.gix_validate.proofs.Common.{WritesInCalls, WritesText, option_append}
 
 module _ {W N : Type 0} (name : W → N) (contents : W → List ℕ) where
   -- the writer keeps its name, and the text follows what it had

@@ -1,11 +1,6 @@
 -- The verdict is clean if and only if the input is accepted.
-use Rattle.std.proofs.Common.{◌≡◌, ◌≢◌, ◌↔◌, ℕ, Bool, true, false, not, ◌&&◌, ◌||◌, IsTrue, List, [], ◌∷◌, ◌⊎◌, Option, None, cond, length}
-use Rattle.std.proofs.Common.{codes}
-use Rattle.std.proofs.Common.{refl, arith, ap, ◌∙◌, sym, append-nil}
-use Rattle.std.specs.List.{flat_map}
-use Rattle.std.specs.Option.{is_some, is_none, option_map}
-use Rattle.std.specs.Str.{bytes_eq}
-use Rattle.std.proofs.lemmas.Slice.Eq.{bytes_eq-Decides}
+use Rattle.gix_validate.proofs.Common.{◌≡◌, ◌≢◌, ◌↔◌, ℕ, Bool, true, false, not, ◌&&◌, ◌||◌, IsTrue, List, [], ◌∷◌, ◌⊎◌, Option, None, cond, length, codes}
+use Rattle.gix_validate.proofs.Common.{refl, arith, ap, ◌∙◌, sym, append-nil, flat_map, is_some, is_none, option_map, bytes_eq, bytes_eq-Decides, ◌<◌, subst}
 use Rattle.gix_validate.specs.declared.reference.NameError.{NameError}
 use Rattle.gix_validate.specs.Bytes.{begins}
 use Rattle.gix_validate.specs.Faults.{when, ◌orelse◌}
@@ -15,8 +10,6 @@ use Rattle.git_input.specs.declared.outcome.Verdict.{Verdict}
 use Rattle.git_input.specs.Reports.{verdict_of}
 use Rattle.git_input.proofs.WrittenLines.{clean_by, all_good, if_clean}
 use Rattle.git_input.specs.Reports.{IsCleanIff}
-use Rattle.std.proofs.Common.{◌<◌}
-use Rattle.std.proofs.Common.{subst}
 use Rattle.check_refs.specs.declared.options.Options.{Options}
 use Rattle.check_refs.specs.Refs.{ParsedUpdate, is_deletion, name_fault_of, refusal_of, update_refusal_of}
 use Rattle.check_refs.specs.declared.refusal.Refusal.TheVariants.{Name, Replacement}

@@ -1,9 +1,6 @@
 -- At most four bytes are printed for each byte of an input.
-use Rattle.std.proofs.Common.{◌≡◌, ℕ, ◌+◌, ◌*◌, ◌≤◌, Bool, cond, List, [], ◌∷◌, Option, None, Some, length, codes, refl, ap, arith}
-use Rattle.std.proofs.Common.{length-append}
-use Rattle.std.specs.Prelude.{IfSome}
-use Rattle.std.specs.Option.{option_map}
-use Rattle.std.specs.Str.{bytes_eq}
+use Rattle.gix_validate.proofs.Common.{◌≡◌, ℕ, ◌+◌, ◌*◌, ◌≤◌, Bool, cond, List, [], ◌∷◌, Option, None, Some, length, codes, refl, ap, arith, length-append}
+use Rattle.gix_validate.proofs.Common.{IfSome, option_map, bytes_eq}
 use Rattle.gix_validate.specs.declared.tag.NameError.{NameError as TagError}
 use Rattle.gix_validate.specs.declared.tag.NameError.TheVariants as tag
 use Rattle.gix_validate.specs.declared.reference.NameError.{NameError}

@@ -1,6 +1,5 @@
 -- The definitions computed on lines: what is printed of each, or that it says no update.
-use Rattle.std.proofs.Common.{◌≡◌, ℕ, true, false, refl, List, [], ◌∷◌, ◌++◌, Option, Some, None, map, codes}
-use Rattle.std.specs.Option.{option_map}
+use Rattle.gix_validate.proofs.Common.{◌≡◌, ℕ, true, false, refl, List, [], ◌∷◌, ◌++◌, Option, Some, None, map, codes, option_map}
 use Rattle.gix_validate.specs.Bytes.{is_bad}
 use Rattle.gix_validate.specs.Faults.{at_first_offset}
 use Rattle.gix_validate.specs.Reference.{partial_fault_of, full_fault_of, branch_fault_of}

@@ -1,14 +1,9 @@
 -- Updates that are written out are read as they are written, and no other input is well-formed.
-use Rattle.std.proofs.Common.{◌≡◌, ◌≢◌, ℕ, ◌<◌, List, [], ◌∷◌, ◌++◌, All, Option, Some, None, Ok, length, refl, arith}
-use Rattle.std.proofs.Common.{append_assoc, length-append}
-use Rattle.std.specs.List.{AllByRecursion, flat_map}
-use Rattle.std.proofs.lemmas.List.Elements.{All-append, All-cons, All-from_recursion}
-use Rattle.std.specs.Str.{byte}
+use Rattle.gix_validate.proofs.Common.{◌≡◌, ◌≢◌, ℕ, ◌<◌, List, [], ◌∷◌, ◌++◌, All, Option, Some, None, Ok, length, refl, arith, append_assoc, length-append}
+use Rattle.gix_validate.proofs.Common.{AllByRecursion, flat_map, All-append, All-cons, All-from_recursion, byte, IfOk, append-nil}
 use Rattle.git_input.specs.declared.lines.Ending.TheVariants.{AfterALine}
 use Rattle.git_input.specs.Texts.{line_end}
 use Rattle.git_input.specs.Reports.{Said, line_of, report}
-use Rattle.std.specs.Prelude.{IfOk}
-use Rattle.std.proofs.Common.{append-nil}
 use Rattle.git_input.specs.Reports.{longest}
 use Rattle.git_input.proofs.LinesRead.{line_found, lines_none, by_line}
 use Rattle.git_input.proofs.WellFormedStreams.{each_after}

@@ -1,8 +1,6 @@
 -- A line is read as an update if and only if it is that update's line.
-use Rattle.std.proofs.Common.{◌≡◌, ◌≢◌, ℕ, ◌<◌, true, List, [], ◌∷◌, ◌++◌, All, Some, arith, append_assoc}
-use Rattle.std.specs.Str.{byte}
-use Rattle.std.specs.List.{list_all, AllByRecursion}
-use Rattle.std.proofs.lemmas.List.Elements.{All-from_recursion}
+use Rattle.gix_validate.proofs.Common.{◌≡◌, ◌≢◌, ℕ, ◌<◌, true, List, [], ◌∷◌, ◌++◌, All, Some, arith, append_assoc, byte, list_all, AllByRecursion}
+use Rattle.gix_validate.proofs.Common.{All-from_recursion}
 use Rattle.git_input.specs.Texts.{is_hex_digit, is_id, split_once}
 use Rattle.check_refs.specs.Refs.{ParsedUpdate, is_update, parsed_update}
 use Rattle.check_refs.specs.Spelled.{IsUpdate, update_line, IsReadAsSpelled}

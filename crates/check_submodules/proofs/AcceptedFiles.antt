@@ -1,12 +1,9 @@
 -- Nothing of a stream is refused if and only if each section of each file is accepted.
-use Rattle.std.proofs.Common.{◌≡◌, ℕ, Bool, true, false, not, ◌++◌, codes, List, [], ◌∷◌, Option, refl, arith}
-use Rattle.std.specs.Prelude.{nat_lt}
-use Rattle.std.specs.List.{AllByRecursion}
+use Rattle.gix_validate.proofs.Common.{◌≡◌, ℕ, Bool, true, false, not, ◌++◌, codes, List, [], ◌∷◌, Option, refl, arith, nat_lt, AllByRecursion, ◌↔◌}
 use Rattle.gix_validate.specs.Bytes.{is_empty}
 use Rattle.gitmodules.specs.Sections.{sections}
 use Rattle.git_input.specs.declared.header.Kind.{Kind}
 use Rattle.git_input.specs.declared.header.Kind.TheVariants.{Blob}
-use Rattle.std.proofs.Common.{◌↔◌}
 use Rattle.git_input.specs.Spelled.{Spelled, IsSpelled, spelled_said}
 use Rattle.check_submodules.specs.Lines.{largest, line_of, lines_of, too_large_line}
 use Rattle.check_submodules.specs.Report.{file_lines, object_lines, submodules_rule}

@@ -1,13 +1,8 @@
 -- The lines of a file have at most 17 bytes for each of its own: a section has ten bytes at least, and two names never overlap.
-use Rattle.std.proofs.Common.{◌≡◌, ◌≢◌, ℕ, zero, suc, ◌+◌, ◌*◌, ◌<◌, ◌≤◌, nat_lt, Bool, true, false, cond, ◌==◌, ◌&&◌, not, List, [], ◌∷◌, ◌++◌, Option}
-use Rattle.std.proofs.Common.{None, Some}
-use Rattle.std.proofs.Common.{length, take, drop, map, codes, refl, ap, arith, length-append, take-append-drop, append_assoc, add-zero, sym, ◌∙◌, rules}
+use Rattle.gix_validate.proofs.Common.{◌≡◌, ◌≢◌, ℕ, zero, suc, ◌+◌, ◌*◌, ◌<◌, ◌≤◌, nat_lt, Bool, true, false, cond, ◌==◌, ◌&&◌, not, List, [], ◌∷◌, ◌++◌}
+use Rattle.gix_validate.proofs.Common.{Option, None, Some, length, take, drop, map, codes, refl, ap, arith, length-append, take-append-drop, append_assoc}
+use Rattle.gix_validate.proofs.Common.{add-zero, sym, ◌∙◌, rules, bytes_eq-Decides, option_map, ⊤, to_ascii_lowercase, AllByRecursion, byte, bytes_eq}
 use Rattle.std.proofs.lemmas.Fmt.{length-decimal-le}
-use Rattle.std.proofs.lemmas.Slice.Eq.{bytes_eq-Decides}
-use Rattle.std.specs.Prelude.{option_map, ⊤}
-use Rattle.std.specs.Char.{to_ascii_lowercase}
-use Rattle.std.specs.List.{AllByRecursion}
-use Rattle.std.specs.Str.{byte, bytes_eq}
 use Rattle.gix_validate.specs.declared.submodule.NameError.{NameError}
 use Rattle.gix_validate.specs.Submodule.{fault_of, text_of}
 use Rattle.gitmodules.specs.Sections.{is_never_in_name, closed, escaped_name, unescaped, Header, Named, Unreadable, Other, is_blank, without_blanks}

@@ -1,5 +1,5 @@
 -- Nothing of a stream is refused if and only if each entry of each tree is accepted.
-use Rattle.std.proofs.Common.{◌≡◌, ℕ, Bool, false, List, None, refl, arith, ap, ◌∙◌}
+use Rattle.gix_validate.proofs.Common.{◌≡◌, ℕ, Bool, false, List, None, refl, arith, ap, ◌∙◌, ◌↔◌, ◌/◌, length, map, AllByRecursion}
 use Rattle.gix_validate.specs.Component.{fault_of}
 use Rattle.git_input.specs.declared.header.Kind.{Kind}
 use Rattle.git_input.specs.declared.header.Kind.TheVariants.{Blob, Tree, Commit, Tag}
@@ -7,11 +7,8 @@ use Rattle.git_input.specs.declared.outcome.Malformation.TheVariants.{Entry}
 use Rattle.git_input.specs.Headers.{ParsedObject}
 use Rattle.git_input.specs.Objects.{Judged}
 use Rattle.git_input.specs.Spelled.{Spelled, Present, Absent, IsSpelled, spelled_said}
-use Rattle.std.proofs.Common.{◌↔◌}
 use Rattle.git_input.proofs.WrittenLines.{all_good}
-use Rattle.std.proofs.Common.{◌/◌, length, map}
 use Rattle.git_input.specs.Reports.{all_said}
-use Rattle.std.specs.List.{AllByRecursion}
 use Rattle.check_trees.specs.Options.{Options}
 use Rattle.check_trees.specs.Report.{entries, judged_by_kind, tree_rule}
 use Rattle.check_trees.specs.Spelled.{Item, IsItem, item_said, IsAcceptedTree, IsAcceptedObject}

@@ -1,7 +1,5 @@
 -- The parts of a list between its commas.
-use Rattle.std.proofs.Common.{◌≡◌, ℕ, ◌+◌, List, [], ◌∷◌, Option, Some, None, take, drop, refl, arith}
-use Rattle.std.proofs.lemmas.List.{take_rest}
-use Rattle.std.specs.Str.{byte}
+use Rattle.gix_validate.proofs.Common.{◌≡◌, ℕ, ◌+◌, List, [], ◌∷◌, Option, Some, None, take, drop, refl, arith, take_rest, byte}
 use Rattle.memchr.specs.Find.{is_byte, IsFirstByte}
 use Rattle.git_input.specs.Texts.{split_once}
 use Rattle.check_trees.specs.Arguments.{comma_parts}

@@ -1,6 +1,5 @@
 -- What is before the NUL of an entry: the front of a plain file, for which the code has a shortcut.
-use Rattle.std.proofs.Common.{◌≡◌, List, ℕ, ◌++◌, Some, None, take, drop, codes, true, refl, arith}
-use Rattle.std.specs.Str.{bytes_eq}
+use Rattle.gix_validate.proofs.Common.{◌≡◌, List, ℕ, ◌++◌, Some, None, take, drop, codes, true, refl, arith, bytes_eq}
 use Rattle.git_input.specs.Texts.{number_of}
 use Rattle.check_trees.specs.Entries.{parsed_front}
 

@@ -1,5 +1,5 @@
 -- No more of the input is read than an entry, or than what is left of its tree.
-use Rattle.std.proofs.Common.{ℕ, ◌+◌, ◌≤◌, Bool, List, ◌∷◌, [], ◌++◌, Option, length, arith, length-append}
+use Rattle.gix_validate.proofs.Common.{ℕ, ◌+◌, ◌≤◌, Bool, List, ◌∷◌, [], ◌++◌, Option, length, arith, length-append}
 use Rattle.git_input.specs.declared.input.Found.TheVariants.{Byte}
 use Rattle.git_input.specs.Promises.{ReadsBefore, ReadsUpTo}
 use Rattle.git_input.proofs.LinesStop.{up_to_more}

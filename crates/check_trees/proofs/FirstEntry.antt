@@ -1,11 +1,7 @@
 -- The first entry of what is left of a tree, and what the reads of it give.
-use Rattle.std.proofs.Common.{◌≡◌, ◌≢◌, ℕ, ◌+◌, ◌-◌, ◌/◌, ◌<◌, ◌≤◌, min, nat_lt, Bool, true, false, List, ◌∷◌, ◌++◌, All, Option, Some, None, Result, Ok, Err}
-use Rattle.std.proofs.Common.{[], length, take, drop}
-use Rattle.std.proofs.Common.{refl, ap, ◌∙◌, arith, append-nil, append_assoc, length-append, length-take, length-drop, take_all, take_at, drop_at, take-take}
-use Rattle.std.proofs.lemmas.Option.{IfSome_then}
-use Rattle.std.proofs.lemmas.Bool.Decides.{nat_tests}
-use Rattle.std.specs.Prelude.{IfSome, IfOk}
-use Rattle.std.specs.Io.KnownBytes.{Appends}
+use Rattle.gix_validate.proofs.Common.{◌≡◌, ◌≢◌, ℕ, ◌+◌, ◌-◌, ◌/◌, ◌<◌, ◌≤◌, min, nat_lt, Bool, true, false, List, ◌∷◌, ◌++◌, All, Option, Some, None, Result}
+use Rattle.gix_validate.proofs.Common.{Ok, Err, [], length, take, drop, refl, ap, ◌∙◌, arith, append-nil, append_assoc, length-append, length-take, length-drop}
+use Rattle.gix_validate.proofs.Common.{take_all, take_at, drop_at, take-take, IfSome_then, nat_tests, IfSome, IfOk, Appends}
 use Rattle.git_input.specs.declared.outcome.Malformation.{Malformation}
 use Rattle.git_input.specs.declared.outcome.Malformation.TheVariants.{Ended, TooLong, Entry}
 use Rattle.cli.specs.declared.outcome.RunError.{RunError}

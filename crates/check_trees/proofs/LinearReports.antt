@@ -1,8 +1,6 @@
 -- The lines of a tree have at most 32 bytes for each of its own.
-use Rattle.std.proofs.Common.{◌≡◌, ℕ, zero, suc, ◌+◌, ◌*◌, ◌/◌, ◌≤◌, nat_lt, Bool, true, false, cond, List, [], ◌∷◌, ◌++◌, Option, None, Some, Result}
-use Rattle.std.proofs.Common.{length, take, refl, arith, length-append, length-take, codes}
-use Rattle.std.proofs.lemmas.Bool.Decides.{nat_tests}
-use Rattle.std.specs.Prelude.{IfOk, flat_map}
+use Rattle.gix_validate.proofs.Common.{◌≡◌, ℕ, zero, suc, ◌+◌, ◌*◌, ◌/◌, ◌≤◌, nat_lt, Bool, true, false, cond, List, [], ◌∷◌, ◌++◌, Option, None, Some, Result}
+use Rattle.gix_validate.proofs.Common.{length, take, refl, arith, length-append, length-take, codes, nat_tests, IfOk, flat_map}
 use Rattle.gix_validate.specs.declared.path.ComponentError.{ComponentError}
 use Rattle.gix_validate.specs.Quoted.{quoted}
 use Rattle.git_input.specs.declared.header.Kind.{Kind}

@@ -1,6 +1,5 @@
 -- The definitions of a tree's entries, computed on literals.
-use Rattle.std.proofs.Common.{refl, ℕ, List, [], ◌∷◌, ◌++◌, true, false, Some, None}
-use Rattle.std.specs.Prelude.{codes, option_map}
+use Rattle.gix_validate.proofs.Common.{refl, ℕ, List, [], ◌∷◌, ◌++◌, true, false, Some, None, codes, option_map}
 use Rattle.gix_validate.proofs.OnLiterals.{components_on_literals}
 use Rattle.gix_validate.proofs.Rows.Tables.{Gives}
 use Rattle.gix_validate.specs.declared.path.ComponentError.TheVariants.{WindowsReservedName, DotGitDir}

@@ -1,14 +1,9 @@
 -- The bytes of a tree are read as its entries, and nothing else is well-formed.
-use Rattle.std.proofs.Common.{◌≡◌, ◌≢◌, ℕ, zero, suc, ◌+◌, ◌/◌, ◌<◌, ◌≤◌, Bool, true, false, if◌then◌else◌, List, [], ◌∷◌, ◌++◌, All, Option, None, Some}
-use Rattle.std.proofs.Common.{Result, Ok, Err, length, take, drop}
-use Rattle.std.proofs.Common.{refl, ap, sym, ◌∙◌, arith, append_assoc, length-append, length-take, take-append-drop, drop-drop}
-use Rattle.std.specs.Prelude.{◌%◌, ◌==◌, ◌↔◌, IsTrue, Contains, IfSome, IfOk, map, flat_map}
-use Rattle.std.specs.List.{AllByRecursion, list_any}
-use Rattle.std.proofs.lemmas.List.Elements.{All-from_recursion, All-append, All-cons}
-use Rattle.std.proofs.lemmas.Grind.{common_steps}
-use Rattle.std.specs.Str.{byte, bytes_eq}
+use Rattle.gix_validate.proofs.Common.{◌≡◌, ◌≢◌, ℕ, zero, suc, ◌+◌, ◌/◌, ◌<◌, ◌≤◌, Bool, true, false, if◌then◌else◌, List, [], ◌∷◌, ◌++◌, All, Option, None}
+use Rattle.gix_validate.proofs.Common.{Some, Result, Ok, Err, length, take, drop, refl, ap, sym, ◌∙◌, arith, append_assoc, length-append, length-take}
+use Rattle.gix_validate.proofs.Common.{take-append-drop, drop-drop, ◌%◌, ◌==◌, ◌↔◌, IsTrue, Contains, IfSome, IfOk, map, flat_map, AllByRecursion, list_any}
+use Rattle.gix_validate.proofs.Common.{All-from_recursion, All-append, All-cons, common_steps, byte, bytes_eq, bytes_eq-Decides}
 use Rattle.std.proofs.lemmas.Map.Views.{Contains-from_any}
-use Rattle.std.proofs.lemmas.Slice.Eq.{bytes_eq-Decides}
 use Rattle.gix_validate.specs.declared.path.ComponentMode.{ComponentMode}
 use Rattle.gix_validate.specs.declared.path.ComponentMode.TheVariants.{Symlink}
 use Rattle.gix_validate.specs.declared.path.ComponentOptions.{ComponentOptions}

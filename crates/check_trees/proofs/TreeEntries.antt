@@ -1,10 +1,6 @@
 -- The entries of a tree, one after the other, and a tree while it is read.
-use Rattle.std.proofs.Common.{◌≡◌, ◌≢◌, ℕ, zero, suc, ◌-◌, ◌/◌, ◌<◌, ◌≤◌, nat_lt, Bool, ◌||◌, List, [], ◌∷◌, Option, None, Result, Ok, Err, length, take, drop}
-use Rattle.std.proofs.Common.{refl, arith, append-nil, length-take, length-drop, drop-drop}
-use Rattle.std.proofs.lemmas.List.{take-append-le}
-use Rattle.std.proofs.lemmas.Option.{IfSome_then}
-use Rattle.std.proofs.lemmas.Bool.Decides.{nat_tests}
-use Rattle.std.specs.Prelude.{IfSome}
+use Rattle.gix_validate.proofs.Common.{◌≡◌, ◌≢◌, ℕ, zero, suc, ◌-◌, ◌/◌, ◌<◌, ◌≤◌, nat_lt, Bool, ◌||◌, List, [], ◌∷◌, Option, None, Result, Ok, Err, length}
+use Rattle.gix_validate.proofs.Common.{take, drop, refl, arith, append-nil, length-take, length-drop, drop-drop, take-append-le, IfSome_then, nat_tests, IfSome}
 use Rattle.git_input.specs.declared.outcome.Malformation.{Malformation}
 use Rattle.cli.specs.declared.outcome.RunError.{RunError}
 use Rattle.cli.specs.declared.outcome.RunError.TheVariants.{Write}

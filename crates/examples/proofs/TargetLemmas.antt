@@ -1,13 +1,8 @@
 -- How a name is found in a ref store, and what a write to one changes.
-use Rattle.std.proofs.Common.{◌≡◌, ◌≢◌, ℕ, ◌<◌, length, List, [], ◌∷◌, ◌++◌, map, get_or, set, Some, None, refl, arith}
-use Rattle.std.specs.List.{position}
-use Rattle.std.proofs.lemmas.Grind.{get_or-set_at}
-use Rattle.std.proofs.lemmas.List.{get_or-set_other, length-map, length-set, map-set, map-append}
-use Rattle.std.proofs.lemmas.List.Folds.{find_at, find-set, find_past, find-append}
+use Rattle.gix_validate.proofs.Common.{◌≡◌, ◌≢◌, ℕ, ◌<◌, length, List, [], ◌∷◌, ◌++◌, map, get_or, set, Some, None, refl, arith, position, get_or-set_at}
+use Rattle.gix_validate.proofs.Common.{get_or-set_other, length-map, length-set, map-set, map-append, find_at, find-set, find_past, find-append}
+use Rattle.gix_validate.proofs.Common.{fails_before_first, slice_get-map, slice_get_past, slice_get_read, bytes_eq-Decides}
 use Rattle.std.proofs.lemmas.List.Quantifiers.{all_pairs_push, position-Some}
-use Rattle.std.proofs.lemmas.List.Sums.{fails_before_first}
-use Rattle.std.proofs.lemmas.Option.{slice_get-map, slice_get_past, slice_get_read}
-use Rattle.std.proofs.lemmas.Slice.Eq.{bytes_eq-Decides}
 use Rattle.examples.specs.declared.ref_store.ObjectId.{ObjectId}
 use Rattle.examples.specs.declared.ref_store.Reference.{Reference}
 use Rattle.examples.specs.Targets.{Entries, HasDistinctNames, entry_of, is_named, target_of}

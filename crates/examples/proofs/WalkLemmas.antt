@@ -1,7 +1,5 @@
 -- The names of a path are accepted under the options of the place that it was taken from.
-use Rattle.std.proofs.Common.{◌≡◌, List, map, None, Result, Ok, Err}
-use Rattle.std.specs.Prelude.{All, IfOk}
-use Rattle.std.proofs.lemmas.List.Elements.{All-map}
+use Rattle.gix_validate.proofs.Common.{◌≡◌, List, map, None, Result, Ok, Err, All, IfOk, All-map}
 use Rattle.bstr.specs.declared.bstr.BStr.{BStr}
 use Rattle.bstr.specs.declared.bstring.BString.{BString}
 use Rattle.bstr.specs.BStr.{bstr_bytes}

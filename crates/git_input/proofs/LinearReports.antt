@@ -1,9 +1,6 @@
 -- For each byte of a text no more than so many are printed, if that holds of each line and what belongs to it.
-use Rattle.std.proofs.Common.{◌≡◌, ℕ, ◌+◌, ◌*◌, ◌/◌, ◌≤◌, Bool, true, false, if◌then◌else◌, nat_lt, List, [], ◌∷◌, Option}
-use Rattle.std.proofs.Common.{None, Some, Ok, Err}
-use Rattle.std.proofs.Common.{length, take, drop, arith, length-append, length-take, length-drop}
-use Rattle.std.proofs.Math.Nat.{mul-le-mul_left, mul-add}
-use Rattle.std.specs.Prelude.{IfSome, ⊤, flat_map}
+use Rattle.gix_validate.proofs.Common.{◌≡◌, ℕ, ◌+◌, ◌*◌, ◌/◌, ◌≤◌, Bool, true, false, if◌then◌else◌, nat_lt, List, [], ◌∷◌, Option, None, Some, Ok, Err, length}
+use Rattle.gix_validate.proofs.Common.{take, drop, arith, length-append, length-take, length-drop, mul-le-mul_left, mul-add, IfSome, ⊤, flat_map}
 use Rattle.gix_validate.specs.Quoted.{escape_of, quoted}
 use Rattle.git_input.specs.declared.outcome.Malformation.TheVariants.{Absent}
 use Rattle.git_input.specs.declared.lines.Ending.{Ending}

@@ -1,15 +1,8 @@
 -- A line of an input, and the lines of an input while it is read.
-use Rattle.std.proofs.Common.{◌≡◌, ◌≢◌, ℕ, zero, suc, ◌+◌, ◌<◌, ◌≤◌, Bool, true, false, cond, ◌&&◌, ◌||◌, List, [], ◌∷◌, ◌++◌, All, Option, None, Some}
-use Rattle.std.proofs.Common.{Result, Ok, Err, length, take}
-use Rattle.std.proofs.Common.{refl, ap, arith, take_all, append-nil, append_assoc, length-append, length-take}
-use Rattle.std.proofs.lemmas.List.{take-append-le}
-use Rattle.std.proofs.lemmas.Option.{IfSome_then}
-use Rattle.std.proofs.lemmas.Bool.Decides.{nat_tests}
-use Rattle.std.specs.Prelude.{IfSome, IfOk}
-use Rattle.std.specs.Str.{bytes_eq}
-use Rattle.std.proofs.lemmas.Slice.Eq.{bytes_eq-Decides}
-use Rattle.std.specs.Io.KnownBytes.{Appends, Consumes}
-use Rattle.std.proofs.KnownBytes.{Appends-nil, Appends-trans}
+use Rattle.gix_validate.proofs.Common.{◌≡◌, ◌≢◌, ℕ, zero, suc, ◌+◌, ◌<◌, ◌≤◌, Bool, true, false, cond, ◌&&◌, ◌||◌, List, [], ◌∷◌, ◌++◌, All, Option, None, Some}
+use Rattle.gix_validate.proofs.Common.{Result, Ok, Err, length, take, refl, ap, arith, take_all, append-nil, append_assoc, length-append, length-take}
+use Rattle.gix_validate.proofs.Common.{take-append-le, IfSome_then, nat_tests, IfSome, IfOk, bytes_eq, bytes_eq-Decides, Appends, Consumes, Appends-nil}
+use Rattle.gix_validate.proofs.Common.{Appends-trans, AllByRecursion, IfOk-weaker}
 use Rattle.gix_validate.specs.Bytes.{is_empty}
 use Rattle.git_input.specs.declared.outcome.Malformation.{Malformation}
 use Rattle.git_input.specs.declared.outcome.Malformation.TheVariants.{TooLong, Ended}
@@ -24,8 +17,6 @@ use Rattle.git_input.specs.Reports.{longest, Said, nothing, Step, LineRule, Leav
 use Rattle.git_input.specs.Reports.{is_end, fault_at_end, at_end, at_end_line, lines_within, lines_from, report, verdict_of}
 use Rattle.cli.specs.Writes.{AppendsPrefixOf}
 use Rattle.git_input.specs.Promises.{FollowsRule, ReadsBefore, is_end_word}
-use Rattle.std.specs.List.{AllByRecursion}
-use Rattle.std.proofs.lemmas.Result.{IfOk-weaker}
 use Rattle.git_input.specs.Reports.{EndsIn}
 use Rattle.git_input.proofs.SplitTexts.{IsCut, split_cuts, whole, drop_both, split_found, split_within, split_short, split_long}
 use Rattle.git_input.proofs.ReportSoFar.{SoFar, when_known, goes, stops, said_nothing}

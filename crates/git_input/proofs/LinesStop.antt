@@ -1,9 +1,6 @@
 -- A run reads no further than the first malformed line and what can belong to it.
-use Rattle.std.proofs.Common.{◌≡◌, ◌≢◌, ℕ, ◌+◌, ◌<◌, ◌≤◌, Bool, List, [], ◌∷◌, ◌++◌, All, Option, None, Some, Result, Ok, Err, length}
-use Rattle.std.proofs.Common.{arith, append-nil, append_assoc, length-append}
-use Rattle.std.specs.Prelude.{IfOk, IfSome}
-use Rattle.std.specs.Io.KnownBytes.{Consumes}
-use Rattle.std.proofs.KnownBytes.{Consumes-nil, Consumes-trans}
+use Rattle.gix_validate.proofs.Common.{◌≡◌, ◌≢◌, ℕ, ◌+◌, ◌<◌, ◌≤◌, Bool, List, [], ◌∷◌, ◌++◌, All, Option, None, Some, Result, Ok, Err, length, arith}
+use Rattle.gix_validate.proofs.Common.{append-nil, append_assoc, length-append, IfOk, IfSome, Consumes, Consumes-nil, Consumes-trans}
 use Rattle.git_input.specs.declared.outcome.Malformation.{Malformation}
 use Rattle.git_input.specs.declared.lines.Ending.{Ending}
 use Rattle.git_input.specs.declared.input.Found.TheVariants.{Byte, Limit, End}

@@ -1,10 +1,5 @@
 -- An object's bytes, and then the LF after them.
-use Rattle.std.proofs.Common.{◌≡◌, ℕ, Bool, List, Option, Result, Ok, Err}
-use Rattle.std.proofs.Common.{arith, drop_of_length-le}
-use Rattle.std.proofs.Common.{take_all}
-use Rattle.std.proofs.lemmas.Option.{IfSome_then}
-use Rattle.std.specs.Prelude.{IfSome}
-use Rattle.std.specs.Io.KnownBytes.{Appends}
+use Rattle.gix_validate.proofs.Common.{◌≡◌, ℕ, Bool, List, Option, Result, Ok, Err, arith, drop_of_length-le, take_all, IfSome_then, IfSome, Appends}
 use Rattle.cli.specs.declared.outcome.RunError.{RunError}
 use Rattle.git_input.specs.declared.outcome.Malformation.{Malformation}
 use Rattle.git_input.specs.Headers.{ParsedObject}

@@ -1,11 +1,7 @@
 -- A text of which a part is read: its report is what was said so far, whose lines are appended, and then the report of what is left.
-use Rattle.std.proofs.Common.{◌≡◌, ℕ, Bool, false, ◌||◌, List, ◌++◌, Option, Some, Result, length, refl, arith}
-use Rattle.std.proofs.Common.{append_assoc, append-nil, length-append}
+use Rattle.gix_validate.proofs.Common.{◌≡◌, ℕ, Bool, false, ◌||◌, List, ◌++◌, Option, Some, Result, length, refl, arith, append_assoc, append-nil}
+use Rattle.gix_validate.proofs.Common.{length-append, IfSome_then, MatchOption-at_some, IfSome, OnErr, ⊤, Appends, Appends-nil, Appends-trans}
 use lib.Seq.{take-append-add}
-use Rattle.std.proofs.lemmas.Option.{IfSome_then, MatchOption-at_some}
-use Rattle.std.specs.Prelude.{IfSome, OnErr, ⊤}
-use Rattle.std.specs.Io.KnownBytes.{Appends}
-use Rattle.std.proofs.KnownBytes.{Appends-nil, Appends-trans}
 use Rattle.git_input.specs.Reports.{Said, nothing, then_said}
 use Rattle.cli.specs.Writes.{AppendsPrefixOf}
 

@@ -1,7 +1,6 @@
 -- A stream that is written out, object by object, is read as it is written.
-use Rattle.std.proofs.Common.{◌≡◌, ℕ, ◌<◌, Bool, true, false, List, [], ◌∷◌, ◌++◌, None, Some, Ok, length, codes}
-use Rattle.std.proofs.Common.{arith, append_assoc, length-append, take_at, drop_at}
-use Rattle.std.specs.Str.{byte}
+use Rattle.gix_validate.proofs.Common.{◌≡◌, ℕ, ◌<◌, Bool, true, false, List, [], ◌∷◌, ◌++◌, None, Some, Ok, length, codes, arith, append_assoc, length-append}
+use Rattle.gix_validate.proofs.Common.{take_at, drop_at, byte, common_steps}
 use Rattle.git_input.specs.declared.lines.Ending.{Ending}
 use Rattle.git_input.specs.Texts.{is_id}
 use Rattle.git_input.specs.Reports.{line_of, is_end}
@@ -10,7 +9,6 @@ use Rattle.git_input.specs.Headers.{ParsedObject, Object, kind_word}
 use Rattle.git_input.specs.Spelled.{Spelled, Present, Absent, rest_bytes, IsSpelled, spelling, spelled_said}
 use Rattle.git_input.proofs.SpelledHeaders.{id_high, header_spelled, header_none, missing_spelled, missing_none}
 use Rattle.git_input.proofs.LinesRead.{line_found}
-use Rattle.std.proofs.lemmas.Grind.{common_steps}
 
 module _ (rule : ObjectRule) (whole : Bool) where
   body_spelled : (object : ParsedObject) (content rest : List ℕ) → length content ≡ object.size → (rule false object content).1 ≡ None

@@ -1,14 +1,8 @@
 -- A text that is cut: after so many bytes, or at its first byte of a kind, and what a search for that byte says.
-use Rattle.std.proofs.Common.{◌≡◌, ◌≢◌, ℕ, suc, ◌+◌, ◌-◌, ◌<◌, ◌≤◌, List, [], ◌∷◌, ◌++◌, All, Option, Some, None, length, take, drop, ap, ◌∙◌, arith}
-use Rattle.std.proofs.Common.{sym, take-append-drop, append_assoc, length-append, length-take, take_at, drop_at, get_or-take, eq-eqb}
+use Rattle.gix_validate.proofs.Common.{◌≡◌, ◌≢◌, ℕ, suc, ◌+◌, ◌-◌, ◌<◌, ◌≤◌, List, [], ◌∷◌, ◌++◌, All, Option, Some, None, length, take, drop, ap, ◌∙◌, arith}
+use Rattle.gix_validate.proofs.Common.{sym, take-append-drop, append_assoc, length-append, length-take, take_at, drop_at, get_or-take, eq-eqb, drop-take}
+use Rattle.gix_validate.proofs.Common.{take_rest, All-from_get_or, All-head, All-tail, All-take, nat_tests, common_steps, option_map, IfSome, AllByRecursion}
 use lib.Seq.{take-append-add}
-use Rattle.std.proofs.lemmas.List.{drop-take, take_rest}
-use Rattle.std.proofs.lemmas.List.Elements.{All-from_get_or, All-head, All-tail, All-take}
-use Rattle.std.proofs.lemmas.Bool.Decides.{nat_tests}
-use Rattle.std.proofs.lemmas.Grind.{common_steps}
-use Rattle.std.specs.Option.{option_map}
-use Rattle.std.specs.Prelude.{IfSome}
-use Rattle.std.specs.List.{AllByRecursion}
 use Rattle.memchr.specs.Find.{is_byte, IsFirstByte}
 use Rattle.git_input.specs.Texts.{split_once}
 

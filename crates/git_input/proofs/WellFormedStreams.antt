@@ -1,8 +1,9 @@
 -- A text that is reported as well-formed is a stream that is written out, object by object, and what is said of such a stream.
-use Rattle.std.proofs.Common.{◌↔◌}
+use Rattle.gix_validate.proofs.Common.{◌↔◌, Result, Ok, Err, ◌≡◌, ◌≢◌, ℕ, ◌<◌, Bool, true, false, nat_lt, List, [], ◌∷◌, ◌++◌, Option, None, Some, All, length}
+use Rattle.gix_validate.proofs.Common.{take, drop, codes, refl, ap, sym, ◌∙◌, arith, append_assoc, append-nil, length-take, length-drop, take-append-drop}
+use Rattle.gix_validate.proofs.Common.{IfSome, IfOk, AllByRecursion, option_and_then, byte, bytes_eq-Decides, All-from_recursion, IfSome_then}
 use Rattle.git_input.specs.declared.outcome.Verdict.{Verdict}
 use Rattle.git_input.specs.Objects.{ending_of, object_report}
-use Rattle.std.proofs.Common.{Result, Ok, Err}
 use Rattle.cli.specs.declared.outcome.RunError.{RunError}
 use Rattle.git_input.specs.Promises.{Runs}
 use Rattle.git_input.specs.Reports.{Reach, verdict_of, IsCleanIff}
@@ -11,16 +12,6 @@ use Rattle.git_input.specs.Private.{object_rule_leaves}
 use Rattle.git_input.proofs.SpelledStreams.{line_spelled, some_bytes, not_end}
 use Rattle.git_input.proofs.WrittenLines.{AreRead, in_order, well_formed, only_clean, if_clean}
 use Rattle.git_input.proofs.WholeStreams.{whole_stream}
-use Rattle.std.proofs.Common.{◌≡◌, ◌≢◌, ℕ, ◌<◌, Bool, true, false, nat_lt, List, [], ◌∷◌, ◌++◌, Option, None, Some, All}
-use Rattle.std.proofs.Common.{length, take, drop, codes}
-use Rattle.std.proofs.Common.{refl, ap, sym, ◌∙◌, arith, append_assoc, append-nil, length-take, length-drop, take-append-drop}
-use Rattle.std.specs.Prelude.{IfSome, IfOk}
-use Rattle.std.specs.List.{AllByRecursion}
-use Rattle.std.specs.Option.{option_and_then}
-use Rattle.std.specs.Str.{byte}
-use Rattle.std.proofs.lemmas.Slice.Eq.{bytes_eq-Decides}
-use Rattle.std.proofs.lemmas.List.Elements.{All-from_recursion}
-use Rattle.std.proofs.lemmas.Option.{IfSome_then}
 use Rattle.git_input.specs.declared.header.Kind.{Kind}
 use Rattle.git_input.specs.Texts.{line_end, split_once, number_of, is_id}
 use Rattle.git_input.specs.Headers.{ParsedObject, ParsedHeader, Missing, Object, kind_word, kind_of_word, sized_parts, sized, parsed_header}

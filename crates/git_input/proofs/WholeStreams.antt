@@ -1,6 +1,5 @@
 -- A text that has to end in a line is well-formed only if it does.
-use Rattle.std.proofs.Common.{◌≡◌, ℕ, Bool, List, [], ◌++◌, None, arith, append_assoc}
-use Rattle.std.proofs.lemmas.Slice.Eq.{bytes_eq-Decides}
+use Rattle.gix_validate.proofs.Common.{◌≡◌, ℕ, Bool, List, [], ◌++◌, None, arith, append_assoc, bytes_eq-Decides}
 use Rattle.git_input.specs.declared.lines.Ending.TheVariants.{EndLine}
 use Rattle.git_input.specs.Objects.{ObjectRule, IsWholeStream}
 use Rattle.git_input.specs.Private.{object_rule_leaves}

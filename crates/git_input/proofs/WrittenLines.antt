@@ -1,12 +1,6 @@
 -- Texts that are written out, part by part: each is read as it is written, and no other text is well-formed.
-use Rattle.std.proofs.Common.{◌≡◌, ◌↔◌, ℕ, zero, suc, ◌+◌, ◌<◌, ◌≤◌, true, false, List, [], ◌∷◌, ◌++◌, None, Some, Ok, Err, length, map, refl, ap}
-use Rattle.std.proofs.Common.{sym, ◌∙◌, arith}
-use Rattle.std.proofs.Common.{append_assoc}
-use Rattle.std.specs.Prelude.{IfOk, flat_map}
-use Rattle.std.specs.List.{AllByRecursion}
-use Rattle.std.proofs.lemmas.Bool.{cond_both}
-use Rattle.std.proofs.lemmas.Result.{IfOk-weaker}
-use Rattle.std.proofs.lemmas.Slice.Eq.{bytes_eq-Decides}
+use Rattle.gix_validate.proofs.Common.{◌≡◌, ◌↔◌, ℕ, zero, suc, ◌+◌, ◌<◌, ◌≤◌, true, false, List, [], ◌∷◌, ◌++◌, None, Some, Ok, Err, length, map, refl, ap, sym}
+use Rattle.gix_validate.proofs.Common.{◌∙◌, arith, append_assoc, IfOk, flat_map, AllByRecursion, cond_both, IfOk-weaker, bytes_eq-Decides}
 use Rattle.git_input.specs.declared.outcome.Malformation.{Malformation}
 use Rattle.git_input.specs.declared.outcome.Verdict.TheVariants.{Clean}
 use Rattle.git_input.specs.declared.lines.Ending.{Ending}

@@ -6,7 +6,7 @@ use Rattle.std.specs.Prelude.{IfOk}
 use Rattle.git_input.specs.Texts.{line_end}
 use Rattle.git_input.specs.Headers.{ParsedHeader, Missing, Object, parsed_header}
 use Rattle.git_input.specs.Reports.{EndsIn, LeavesTheEnd}
-use Rattle.git_input.specs.Objects.{ObjectRule, Judged, after_end, closed, header_rule, object_rule}
+use Rattle.git_input.specs.Objects.{ObjectRule, Judged, closed, header_rule, object_rule}
 
 pub ok_then : {T E : Type 0} (r : Result T E) (P Q : T → Type 0) → IfOk r P → ((x : T) → P x → Q x) → IfOk r Q
 ok_then (Ok x) P Q p more = more x p

@@ -3,7 +3,7 @@ use Rattle.std.specs.Prelude.{◌≡◌, ◌≢◌, ℕ, ◌<◌, ◌≤◌, nat
 use Rattle.std.specs.Prelude.{Some, None, Result, Ok, Err, IfOk, IfSome, OnErr, OnSome, ⊤, option_map}
 use Rattle.std.specs.Str.{bytes_eq}
 use Rattle.git_input.specs.declared.lines.Ending.{Ending}
-use Rattle.git_input.specs.declared.lines.Ending.TheVariants.{Anywhere, EndLine, AfterALine}
+use Rattle.git_input.specs.declared.lines.Ending.TheVariants.{EndLine}
 use Rattle.std.specs.Io.KnownBytes.{Appends, Consumes, IsAtEnd}
 use Rattle.cli.specs.declared.outcome.RunError.{RunError}
 use Rattle.cli.specs.declared.outcome.RunError.TheVariants.{Write}

@@ -1,3 +1,4 @@
+pub mod Common
 pub mod Texts
 pub mod Blocks
 pub mod TagNames

@@ -1,5 +1,5 @@
 -- What a caller unfolds so that the rules of names are computed on literals.
-use Rattle.std.specs.Prelude.{⊤}
+use Rattle.gix_validate.proofs.Common.{⊤}
 use Rattle.gix_validate.specs.Bytes.{is_bad, lower_byte}
 use Rattle.gix_validate.specs.Component.{conditions, fault_of as component_fault_of, is_component}
 use Rattle.gix_validate.specs.Faults.{at_first_offset}

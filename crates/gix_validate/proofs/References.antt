@@ -1,11 +1,7 @@
 -- Partial, full and branch names: a slash in a name, and two tag names that a slash joins.
-use Rattle.std.proofs.Common.{◌≡◌, ℕ, true, false, IsTrue, List, [], ◌∷◌, ◌⊎◌, arith, ◌++◌, length}
-use Rattle.std.specs.Prelude.{All, Contains, ◌==◌, Option, is_some}
-use Rattle.std.specs.List.{list_any}
-use Rattle.std.specs.Str.{byte}
-use Rattle.std.proofs.lemmas.Slice.Eq.{bytes_eq-Decides}
-use Rattle.std.proofs.lemmas.List.Folds.{list_any_at, list_all-append, list_any-append, Any-from_list_any}
-use Rattle.std.proofs.lemmas.List.Sums.{AllPass-from_list_all, list_all-from_AllPass}
+use Rattle.gix_validate.proofs.Common.{◌≡◌, ℕ, true, false, IsTrue, List, [], ◌∷◌, ◌⊎◌, arith, ◌++◌, length, All, Contains, ◌==◌, Option, is_some, list_any}
+use Rattle.gix_validate.proofs.Common.{byte, bytes_eq-Decides, list_any_at, list_all-append, list_any-append, Any-from_list_any, AllPass-from_list_all}
+use Rattle.gix_validate.proofs.Common.{list_all-from_AllPass, common_steps, nat_tests}
 use Rattle.gix_validate.specs.Pieces.{pieces, joined}
 use Rattle.gix_validate.specs.Reference.{is_standalone_byte, has_slash_or_stands_alone, is_full_name, is_partial_name}
 use Rattle.gix_validate.specs.Tag.{is_good_piece, is_tag_name}
@@ -13,8 +9,6 @@ use Rattle.gix_validate.specs.Private.Scan.{Finds, at_both}
 use Rattle.gix_validate.proofs.Blocks.Parts.{none_at}
 use Rattle.gix_validate.proofs.Texts.Pieces.{pieces_some}
 use Rattle.gix_validate.proofs.Texts.Endings.{ends_read}
-use Rattle.std.proofs.lemmas.Grind.{common_steps}
-use Rattle.std.proofs.lemmas.Bool.Decides.{nat_tests}
 
 -- The first slash, or none, says whether a text has one.
 pub slash_found : (x : List ℕ) (found : Option ℕ) → Finds (at_both (λ a b. a == byte "/") x x) (length x) (length x) found

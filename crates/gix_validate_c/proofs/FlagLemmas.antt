@@ -1,6 +1,5 @@
 -- Bits of the flags past the fourth change neither the options nor the mode.
-use Rattle.std.proofs.Common.{◌/◌, ◌^◌, refl, ◌≡◌, ℕ, ◌%◌, List, arith}
-use Rattle.std.proofs.lemmas.Nat.Bits.{and_pow}
+use Rattle.gix_validate.proofs.Common.{◌/◌, ◌^◌, refl, ◌≡◌, ℕ, ◌%◌, List, arith, and_pow}
 use Rattle.gix_validate.specs.Component.{fault_of}
 use Rattle.gix_validate_c.specs.Flags.{has_flag, options_of, mode_of}
 

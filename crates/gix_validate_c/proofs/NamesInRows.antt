@@ -1,7 +1,5 @@
 -- The names in buffers, computed on literals.
-use Rattle.std.proofs.Common.{refl, [], ◌∷◌}
-use Rattle.std.specs.Prelude.{codes}
-use Rattle.std.specs.Str.{byte}
+use Rattle.gix_validate.proofs.Common.{refl, [], ◌∷◌, codes, byte}
 use Rattle.gix_validate.proofs.Rows.Tables.{Gives}
 use Rattle.gix_validate.specs.Pieces.{names_in}
 

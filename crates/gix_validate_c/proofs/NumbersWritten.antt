@@ -1,8 +1,6 @@
 -- The numbers of names that are written so far, where the names are walked in order.
-use Rattle.std.proofs.Common.{◌≡◌, ℕ, ◌+◌, ◌<◌, ◌≤◌, List, [], ◌∷◌, ◌++◌, length, take, drop, map, set, sym, ap, ◌∙◌, arith}
-use Rattle.std.proofs.Common.{append_assoc, length-append}
-use Rattle.std.proofs.lemmas.List.{map-append, length-map, drop-drop, take_more_set, take-append-le, drop-set-lt, take_rest}
-use Rattle.std.proofs.lemmas.Grind.{common_steps}
+use Rattle.gix_validate.proofs.Common.{◌≡◌, ℕ, ◌+◌, ◌<◌, ◌≤◌, List, [], ◌∷◌, ◌++◌, length, take, drop, map, set, sym, ap, ◌∙◌, arith, append_assoc}
+use Rattle.gix_validate.proofs.Common.{length-append, map-append, length-map, drop-drop, take_more_set, take-append-le, drop-set-lt, take_rest, common_steps}
 use Rattle.gix_validate.proofs.Texts.NamesIn.{names_in-cut, names_in-none}
 
 -- of these names so many are done, and these are left; the numbers of those done that fit are written, and nothing else is

@@ -1,8 +1,6 @@
 -- The first unit of a text is as long as what `bstr` decodes first: for both, the first byte says in which ranges the bytes after it have to be.
-use Rattle.std.proofs.Common.{◌≡◌, ℕ, ◌+◌, max, Bool, true, false, cond, ◌&&◌, not, nat_lt, None, unwrap_or, List, [], ◌∷◌, refl, sym, ◌∙◌, arith}
-use Rattle.std.specs.Bool.{◌==◌}
-use Rattle.std.proofs.lemmas.Bool.{false≢true}
-use Rattle.std.proofs.lemmas.Bool.Decides.{nat_tests}
+use Rattle.gix_validate.proofs.Common.{◌≡◌, ℕ, ◌+◌, max, Bool, true, false, cond, ◌&&◌, not, nat_lt, None, unwrap_or, List, [], ◌∷◌, refl, sym, ◌∙◌, arith}
+use Rattle.gix_validate.proofs.Common.{◌==◌, false≢true, nat_tests}
 use Rattle.bstr.specs.Utf8.{second, decoded}
 use Rattle.gix_validate.specs.Units.{is_within, fitting_len, whole_len, begun_len, first_unit_len, whole_sequences}
 use Rattle.rule_laws.specs.Decoded.{FirstUnitIsDecoded}

@@ -1,9 +1,5 @@
 -- The laws of the rule of tag names.
-use Rattle.std.proofs.Common.{◌≡◌, ℕ, List, [], ◌∷◌, ◌++◌, eqb, sym, ap, ◌∙◌, arith}
-use Rattle.std.proofs.lemmas.List.Splits.{join_with_byte-slice_split}
-use Rattle.std.proofs.lemmas.Bool.Decides.{nat_tests}
-use Rattle.std.specs.Str.{byte}
-use Rattle.std.proofs.lemmas.Grind.{common_steps}
+use Rattle.gix_validate.proofs.Common.{◌≡◌, ℕ, List, [], ◌∷◌, ◌++◌, eqb, sym, ap, ◌∙◌, arith, join_with_byte-slice_split, nat_tests, byte, common_steps}
 use Rattle.gix_validate.specs.Bytes.{is_bad, ends}
 use Rattle.gix_validate.specs.Pieces.{pieces}
 use Rattle.gix_validate.specs.Tag.{fault_table, faults_at}

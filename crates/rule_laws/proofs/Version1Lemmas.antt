@@ -1,6 +1,5 @@
 -- Version 1 and the library read all but the NTFS form in the same way, so their conditions are the same but for two.
-use Rattle.std.proofs.Common.{◌≡◌, ℕ, Option, is_some, List, [], ◌∷◌, ◌++◌, take, drop, refl}
-use Rattle.std.specs.Prelude.{◌&&◌, ⊤}
+use Rattle.gix_validate.proofs.Common.{◌≡◌, ℕ, Option, is_some, List, [], ◌∷◌, ◌++◌, take, drop, refl, ◌&&◌, ⊤}
 use Rattle.gix_validate.specs.declared.path.ComponentError.{ComponentError}
 use Rattle.gix_validate.specs.declared.path.ComponentError.TheVariants.{DotGitDir, SymlinkedGitModules}
 use Rattle.gix_validate.specs.declared.path.ComponentOptions.{ComponentOptions}

@@ -1,6 +1,5 @@
 -- The rule of version 1, and what version 2 adds, computed on literal names.
-use Rattle.std.proofs.Common.{◌≡◌, refl, [], ◌∷◌, true, false, Some, None}
-use Rattle.std.specs.Prelude.{codes}
+use Rattle.gix_validate.proofs.Common.{◌≡◌, refl, [], ◌∷◌, true, false, Some, None, codes}
 use Rattle.gix_validate.proofs.Rows.Tables.{Gives}
 use Rattle.gix_validate.specs.declared.path.ComponentError.TheVariants.{PathSeparator, DotGitDir, SymlinkedGitModules}
 use Rattle.gix_validate.specs.declared.path.ComponentMode.TheVariants.{Symlink}

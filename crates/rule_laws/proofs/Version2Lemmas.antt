@@ -1,15 +1,8 @@
 -- What a backslash changes in the NTFS form, why version 1 found nothing where it does, and how the answers of the versions differ.
-use Rattle.std.proofs.Common.{◌≡◌, ℕ, ◌+◌, ◌≤◌, Bool, true, false, not, ◌&&◌, ◌||◌, cond, Option, Some, None, is_some, List, [], ◌∷◌, ◌++◌}
-use Rattle.std.proofs.Common.{length, take, drop, get_or, refl, sym, ◌∙◌, arith, codes}
-use Rattle.std.specs.Prelude.{◌==◌}
-use Rattle.std.specs.List.{list_any, list_all, range_with_len}
-use Rattle.std.specs.Str.{byte, bytes_eq}
-use Rattle.std.proofs.lemmas.Slice.Eq.{bytes_eq-Decides}
-use Rattle.std.proofs.lemmas.List.{length-reverse, take-append-drop, get_or_past}
-use Rattle.std.proofs.lemmas.List.Folds.{prefix_len-append, list_any-append}
-use Rattle.std.proofs.lemmas.List.Sums.{suffix_len-le-length}
-use Rattle.std.proofs.lemmas.Bool.{false≢true, or_cases}
-use Rattle.std.proofs.lemmas.Grind.{common_steps, reverse_onto}
+use Rattle.gix_validate.proofs.Common.{◌≡◌, ℕ, ◌+◌, ◌≤◌, Bool, true, false, not, ◌&&◌, ◌||◌, cond, Option, Some, None, is_some, List, [], ◌∷◌, ◌++◌, length}
+use Rattle.gix_validate.proofs.Common.{take, drop, get_or, refl, sym, ◌∙◌, arith, codes, ◌==◌, list_any, list_all, range_with_len, byte, bytes_eq}
+use Rattle.gix_validate.proofs.Common.{bytes_eq-Decides, length-reverse, take-append-drop, get_or_past, prefix_len-append, list_any-append}
+use Rattle.gix_validate.proofs.Common.{suffix_len-le-length, false≢true, or_cases, common_steps, reverse_onto, nat_tests}
 use Rattle.gix_validate.proofs.OnLiterals.{components_on_literals}
 use Rattle.gix_validate.specs.declared.path.ComponentError.{ComponentError}
 use Rattle.gix_validate.specs.declared.path.ComponentError.TheVariants.{DotGitDir, SymlinkedGitModules}
@@ -22,7 +15,6 @@ use Rattle.rule_laws.specs.Version1.{is_among, is_empty, lower, without_end, is_
 use Rattle.rule_laws.specs.Version1.{ntfs_form as old_ntfs_form, fault_of as old_fault_of}
 use Rattle.rule_laws.specs.Version2.{front, added_fault_of, ReadsTheFront, OldFaultsComeFirst, StaysElsewhere, ShowsTheChange}
 use Rattle.rule_laws.proofs.Version1Lemmas.{version_1_on_literals, conditions_by, present_conditions, past_conditions}
-use Rattle.std.proofs.lemmas.Bool.Decides.{nat_tests}
 
 -- The forms, with one byte more in front.
 

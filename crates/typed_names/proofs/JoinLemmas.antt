@@ -1,14 +1,9 @@
 -- Components that are joined by slashes.
-use Rattle.std.proofs.Common.{◌≡◌, ◌∙◌, sym, ℕ, List, [], ◌∷◌, ◌++◌, get_or, map, refl, ap, Bor}
+use Rattle.gix_validate.proofs.Common.{◌≡◌, ◌∙◌, sym, ℕ, List, [], ◌∷◌, ◌++◌, get_or, map, refl, ap, Bor, YieldsList-from_slice, items_from_drains, append-nil}
+use Rattle.gix_validate.proofs.Common.{map-map, None, All, byte}
 use Rattle.std.proofs.iter.Yields.{fronts}
-use Rattle.std.proofs.lemmas.Iterator.{YieldsList-from_slice, items_from_drains}
-use Rattle.std.proofs.lemmas.List.{append-nil}
-use Rattle.std.proofs.lemmas.Simd.{map-map}
-use Rattle.std.specs.Prelude.{None}
 use Rattle.std.specs.Iterator.{Drains}
-use Rattle.std.specs.List.{All}
 use Rattle.std.specs.Slice.Iter.{iter_rest}
-use Rattle.std.specs.Str.{byte}
 use Rattle.bstr.specs.Owned.{joined as joined_by}
 use Rattle.gix_validate.specs.Component.{fault_of}
 use Rattle.gix_validate.specs.ComponentLaws.{no_protections}

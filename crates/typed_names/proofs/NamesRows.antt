@@ -1,7 +1,5 @@
 -- The words of the contracts, computed on the worked names.
-use Rattle.std.proofs.Common.{◌≡◌, ℕ, true, false, refl, List, [], ◌∷◌, Some, None}
-use Rattle.std.specs.Prelude.{codes}
-use Rattle.std.specs.List.{after_first}
+use Rattle.gix_validate.proofs.Common.{◌≡◌, ℕ, true, false, refl, List, [], ◌∷◌, Some, None, codes, after_first}
 use Rattle.bstr.specs.declared.bstr.BStr.{BStr}
 use Rattle.gix_validate.specs.Pieces.{is_slash, has_no_slash}
 use Rattle.typed_names.specs.Pieces.{pieces_left}

@@ -1,11 +1,7 @@
 -- The first slash of a text: what a search for it finds, and what it means for the pieces.
-use Rattle.std.proofs.Common.{◌≡◌, ◌≢◌, ℕ, ◌+◌, true, not, List, [], ◌∷◌, ◌++◌, length, take, drop, arith}
-use Rattle.std.proofs.lemmas.List.{take_rest}
-use Rattle.std.proofs.lemmas.List.Elements.{All-from_get_or}
-use Rattle.std.proofs.lemmas.List.Splits.{slice_split_none, slice_split_first, join_with_byte-slice_split}
-use Rattle.std.proofs.lemmas.List.Sums.{position_or_len_is, AllPass-from_list_all, list_all-from_AllPass}
-use Rattle.std.specs.List.{list_all, after_first, position_or_len}
-use Rattle.std.specs.Str.{byte}
+use Rattle.gix_validate.proofs.Common.{◌≡◌, ◌≢◌, ℕ, ◌+◌, true, not, List, [], ◌∷◌, ◌++◌, length, take, drop, arith, take_rest, All-from_get_or}
+use Rattle.gix_validate.proofs.Common.{slice_split_none, slice_split_first, join_with_byte-slice_split, position_or_len_is, AllPass-from_list_all}
+use Rattle.gix_validate.proofs.Common.{list_all-from_AllPass, list_all, after_first, position_or_len, byte}
 use Rattle.bstr.specs.Find.{Nowhere, NoneBefore, Passes, is_byte}
 use Rattle.gix_validate.specs.Pieces.{is_slash, pieces, has_no_slash}
 

@@ -1,11 +1,6 @@
 -- The pieces of a tag name, and that what follows its first slash is a tag name.
-use Rattle.std.proofs.Common.{◌≡◌, ◌≢◌, ℕ, suc, true, not, IsTrue, List, [], ◌∷◌, ◌++◌, length, length-append, arith}
-use Rattle.std.specs.Prelude.{codes}
-use Rattle.std.proofs.lemmas.List.Splits.{join_with_byte-slice_split}
-use Rattle.std.proofs.lemmas.List.Sums.{AllPass-from_list_all}
-use Rattle.std.proofs.Math.Seq.{drop-append-add}
-use Rattle.std.specs.List.{All}
-use Rattle.std.specs.Str.{byte}
+use Rattle.gix_validate.proofs.Common.{◌≡◌, ◌≢◌, ℕ, suc, true, not, IsTrue, List, [], ◌∷◌, ◌++◌, length, length-append, arith, codes}
+use Rattle.gix_validate.proofs.Common.{join_with_byte-slice_split, AllPass-from_list_all, drop-append-add, All, byte}
 use Rattle.gix_validate.specs.Bytes.{ends}
 use Rattle.gix_validate.specs.Pieces.{pieces, joined, has_no_slash}
 use Rattle.gix_validate.specs.Tag.{is_good_piece, is_tag_name}

@@ -1,13 +1,7 @@
 -- The classes of the bytes of a name: by two tables, by blocks that overlap, and what they say under each mask.
-use Rattle.std.proofs.Common.{◌≡◌, ℕ, suc, ◌+◌, ◌/◌, ◌%◌, ◌<◌, ◌≤◌, Bool, true, not, ◌||◌, eqb, List, [], ◌∷◌, map, length}
-use Rattle.std.proofs.Common.{get_or, replicate, bit_and, bit_or, refl, sym, ap, ap₂, ◌∙◌, arith, w8, Fits}
-use Rattle.std.specs.List.{list_any}
-use Rattle.std.specs.Str.{byte}
-use Rattle.std.proofs.lemmas.Bool.{agree_below, agree_below_at}
-use Rattle.std.proofs.lemmas.Nat.Bits.{bit_at_and, bit_at_or, same_from_bits}
-use Rattle.std.proofs.lemmas.Nat.{le_or_l}
-use Rattle.std.proofs.lemmas.Simd.{length-chunk, length-zip2, zip2_splat}
-use Rattle.std.proofs.lemmas.List.{get_or-map, length-map}
+use Rattle.gix_validate.proofs.Common.{◌≡◌, ℕ, suc, ◌+◌, ◌/◌, ◌%◌, ◌<◌, ◌≤◌, Bool, true, not, ◌||◌, eqb, List, [], ◌∷◌, map, length, get_or, replicate, bit_and}
+use Rattle.gix_validate.proofs.Common.{bit_or, refl, sym, ap, ap₂, ◌∙◌, arith, w8, Fits, list_any, byte, agree_below, agree_below_at, bit_at_and, bit_at_or}
+use Rattle.gix_validate.proofs.Common.{same_from_bits, le_or_l, length-chunk, length-zip2, zip2_splat, get_or-map, length-map, nat_tests}
 use lib.Lanes.{chunk, zip2, Each1}
 use Rattle.gix_validate.proofs.Blocks.Parts.{AreAll, parts_cover, AreShort, both_cover, either_among, any_overlap, any_two_chunks, whole_chunk}
 use Rattle.gix_validate.specs.Private.Lanes.{HasParts, is_nonzero}
@@ -18,7 +12,6 @@ use Rattle.gix_validate.specs.Bytes.{is_among}
 use Rattle.gix_validate.specs.Private.Ordinary.{is_classed}
 use Rattle.gix_validate.specs.Private.Classes.{class_of, any_class, has_class, HaveClassesOf}
 use Rattle.gix_validate.specs.declared.path.classes.TheConstants.{SLASH, SEPARATORS, ILLEGAL, ANY}
-use Rattle.std.proofs.lemmas.Bool.Decides.{nat_tests}
 
 pub classes_by_tables : (v : List ℕ) → Each1 (Fits w8) v
     → map (λ b. bit_and (get_or BY_LOW_NIBBLE (b % 16) 0) (get_or BY_HIGH_NIBBLE (b / 16) 0)) v ≡ map class_of v

@@ -1,17 +1,11 @@
 -- Sixteen lanes: look-ups in a table of sixteen, tests whether some lane passes, and suspect bytes.
-use Rattle.std.proofs.Common.{◌≡◌, ℕ, zero, suc, ◌+◌, ◌/◌, ◌%◌, ◌^◌, ◌<◌, ◌≤◌, Bool, true, false, not, ◌&&◌, ◌||◌, cond, eqb, List, [], ◌∷◌, map, length, get_or, replicate, bit_and, bit_or, refl, sym, ap, ap₂, ◌∙◌, arith, w8, Fits, eqb-true, ◌-◌, ◌↔◌, add-one, bit_xor, ltb}
-use Rattle.std.proofs.lemmas.Bool.{agree_below, agree_below_at, cases_lt, ltb-true}
-use Rattle.std.proofs.lemmas.Bool.Decides.{nat_tests}
-use Rattle.std.proofs.lemmas.Nat.Bits.{bit_at_above, same_from_bits}
-use Rattle.std.proofs.lemmas.List.{get_or-map, get_or_past, length-map}
-use Rattle.std.proofs.lemmas.Nat.{and_mask, le_or_l, le_or_r}
-use Rattle.std.proofs.lemmas.Simd.{get_or-zip2, zip2_splat, zip2-map, length-zip2, mask_l-lt, mask_l-mod, bit_mask_l, bitmask_splat, swz_l, SwzOk}
-use Rattle.std.specs.Int.{bit_at}
-use Rattle.std.specs.List.{list_any}
+use Rattle.gix_validate.proofs.Common.{◌≡◌, ℕ, zero, suc, ◌+◌, ◌/◌, ◌%◌, ◌^◌, ◌<◌, ◌≤◌, Bool, true, false, not, ◌&&◌, ◌||◌, cond, eqb, List, [], ◌∷◌, map}
+use Rattle.gix_validate.proofs.Common.{length, get_or, replicate, bit_and, bit_or, refl, sym, ap, ap₂, ◌∙◌, arith, w8, Fits, eqb-true, ◌-◌, ◌↔◌, add-one}
+use Rattle.gix_validate.proofs.Common.{bit_xor, ltb, agree_below, agree_below_at, cases_lt, ltb-true, nat_tests, bit_at_above, same_from_bits, get_or-map}
+use Rattle.gix_validate.proofs.Common.{get_or_past, length-map, and_mask, le_or_l, le_or_r, get_or-zip2, zip2_splat, zip2-map, length-zip2, mask_l-lt}
+use Rattle.gix_validate.proofs.Common.{mask_l-mod, bit_mask_l, bitmask_splat, swz_l, SwzOk, bit_at, list_any, codes, ◌==◌, if◌then◌else◌, byte}
 use lib.Lanes.{zip2, mask_l, fold_l, top, Each1, sel_l}
 use Rattle.gix_validate.specs.Private.Lanes.{is_nonzero}
-use Rattle.std.specs.Prelude.{codes, ◌==◌, if◌then◌else◌}
-use Rattle.std.specs.Str.{byte}
 use Rattle.gix_validate.specs.declared.adjacent.TheConstants.{CLASSES_BY_LOW_NIBBLE, CLASSES_BY_HIGH_NIBBLE, SUSPECT_AFTER, AFTER_DOT, AFTER_SLASH, ANYWHERE}
 use Rattle.gix_validate.specs.Bytes.{is_bad, is_among, ends}
 use Rattle.gix_validate.specs.Private.TagWalk.{may_be_faulty}

@@ -1,19 +1,12 @@
 -- Parts of a text that together are all of it, a short text as one block, and what the lanes of a scan say of offsets.
-use Rattle.std.proofs.Common.{◌≡◌, ℕ, ◌+◌, ◌-◌, ◌%◌, ◌<◌, ◌≤◌, ◌↔◌, Bool, true, false, ◌||◌, eqb, List, [], ◌∷◌, ◌++◌, max, length, take, drop, get_or, replicate, refl, ap, ap₂, ◌∙◌, arith, take-add, eqb-true, ◌^◌, cond, ltb, Option}
-use Rattle.std.proofs.Math.Nat.{mod-lt, mod-eq_of_lt}
-use Rattle.std.proofs.lemmas.Bool.{agree_below, agree_below_at, cases_lt}
-use Rattle.std.proofs.lemmas.List.{get_or-map, get_or-replicate, get_or_append_left, get_or-append_right, drop-drop, take-append-drop, get_or-take, length-take-le}
-use Rattle.std.specs.List.{list_any}
+use Rattle.gix_validate.proofs.Common.{◌≡◌, ℕ, ◌+◌, ◌-◌, ◌%◌, ◌<◌, ◌≤◌, ◌↔◌, Bool, true, false, ◌||◌, eqb, List, [], ◌∷◌, ◌++◌, max, length, take, drop, get_or}
+use Rattle.gix_validate.proofs.Common.{replicate, refl, ap, ap₂, ◌∙◌, arith, take-add, eqb-true, ◌^◌, cond, ltb, Option, mod-lt, mod-eq_of_lt, agree_below}
+use Rattle.gix_validate.proofs.Common.{agree_below_at, cases_lt, get_or-map, get_or-replicate, get_or_append_left, get_or-append_right, drop-drop}
+use Rattle.gix_validate.proofs.Common.{take-append-drop, get_or-take, length-take-le, list_any, All-from_get_or, list_any-append, list_any_at, list_any_none}
+use Rattle.gix_validate.proofs.Common.{length-chunk, get_or-chunk, common_steps, nat_tests, bit_at, bit_at_above, bit_at-zero}
 use Rattle.gix_validate.specs.Bytes.{is_among}
-use Rattle.std.proofs.lemmas.List.Elements.{All-from_get_or}
-use Rattle.std.proofs.lemmas.List.Folds.{list_any-append, list_any_at, list_any_none}
-use Rattle.std.proofs.lemmas.Simd.{length-chunk, get_or-chunk}
 use lib.Lanes.{chunk, pick_l}
 use Rattle.gix_validate.specs.Private.Lanes.{HasParts, offset_of}
-use Rattle.std.proofs.lemmas.Grind.{common_steps}
-use Rattle.std.proofs.lemmas.Bool.Decides.{nat_tests}
-use Rattle.std.specs.Int.{bit_at}
-use Rattle.std.proofs.lemmas.Nat.Bits.{bit_at_above, bit_at-zero}
 use Rattle.gix_validate.specs.Private.Scan.{NoneBelow, IsFirst, Finds, at_both, at_pair}
 
 -- no element passes if and only if none does at its offset

@@ -1,14 +1,7 @@
 -- Device forms: which text ends one, and which names have the form of a device's name.
-use Rattle.std.proofs.Common.{◌≡◌, ℕ, ◌+◌, ◌-◌, ◌%◌, ◌<◌, ◌≤◌, bit_and, Bool, true, false, ◌&&◌, ◌||◌, cond, eqb, List, [], ◌∷◌, ◌++◌, length, drop, get_or}
-use Rattle.std.proofs.Common.{refl, sym, ap, ◌∙◌, arith, codes}
-use Rattle.std.specs.Prelude.{IsTrue, ◌==◌, map, nat_le}
-use Rattle.std.specs.List.{list_all, list_any}
-use Rattle.std.specs.Str.{byte, bytes_eq}
-use Rattle.std.proofs.lemmas.Bool.Decides.{nat_tests}
-use Rattle.std.proofs.lemmas.Slice.Eq.{bytes_eq-Decides}
-use Rattle.std.proofs.Math.Bool.{or-false}
-use Rattle.std.proofs.lemmas.Grind.{common_steps}
-use Rattle.std.proofs.lemmas.List.{get_or-drop, drop-drop, take_all, length-drop, length-map}
+use Rattle.gix_validate.proofs.Common.{◌≡◌, ℕ, ◌+◌, ◌-◌, ◌%◌, ◌<◌, ◌≤◌, bit_and, Bool, true, false, ◌&&◌, ◌||◌, cond, eqb, List, [], ◌∷◌, ◌++◌, length, drop}
+use Rattle.gix_validate.proofs.Common.{get_or, refl, sym, ap, ◌∙◌, arith, codes, IsTrue, ◌==◌, map, nat_le, list_all, list_any, byte, bytes_eq, nat_tests}
+use Rattle.gix_validate.proofs.Common.{bytes_eq-Decides, or-false, common_steps, get_or-drop, drop-drop, take_all, length-drop, length-map}
 use Rattle.gix_validate.specs.Bytes.{is_empty, is_among, lower, lower_byte, begins}
 use Rattle.gix_validate.specs.Ntfs.{is_digit}
 use Rattle.gix_validate.specs.Windows.{device_form, devices, is_device, is_device_form}

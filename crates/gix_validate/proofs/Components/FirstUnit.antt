@@ -1,7 +1,5 @@
 -- The first unit by the row of the table that has its first byte.
-use Rattle.std.proofs.Common.{◌≡◌, ℕ, ◌<◌, ◌≤◌, Bool, true, cond, List, [], ◌∷◌, length, drop, get_or, ◌⊎◌, ◌∙◌, refl, arith}
-use Rattle.std.proofs.lemmas.List.{at_drop_all}
-use Rattle.std.proofs.lemmas.Bool.Decides.{nat_tests}
+use Rattle.gix_validate.proofs.Common.{◌≡◌, ℕ, ◌<◌, ◌≤◌, Bool, true, cond, List, [], ◌∷◌, length, drop, get_or, ◌⊎◌, ◌∙◌, refl, arith, at_drop_all, nat_tests}
 use Rattle.gix_validate.specs.Units.{is_within, fitting_len, whole_sequences, first_unit_len}
 
 abbrev pub begins_row : List (ℕ × ℕ) → ℕ → Bool

@@ -1,12 +1,7 @@
 -- The HFS form: what the bytes in front do to it, and that it is the units without the ignored characters.
-use Rattle.std.proofs.Common.{◌≡◌, ℕ, suc, ◌+◌, ◌-◌, ◌<◌, ◌≤◌, Bool, true, false, ◌&&◌, not, nat_le, eqb}
-use Rattle.std.proofs.Common.{List, [], ◌∷◌, ◌++◌, length, take, drop, get_or, ◌⊎◌, refl, inl, inr, arith}
-use Rattle.std.specs.List.{list_all, list_any, filter, concat}
-use Rattle.std.specs.Str.{bytes_eq}
-use Rattle.std.proofs.lemmas.Bool.{cases_Bool}
-use Rattle.std.proofs.lemmas.Bool.Decides.{nat_tests}
-use Rattle.std.proofs.lemmas.Grind.{common_steps}
-use Rattle.std.proofs.lemmas.List.{length-drop}
+use Rattle.gix_validate.proofs.Common.{◌≡◌, ℕ, suc, ◌+◌, ◌-◌, ◌<◌, ◌≤◌, Bool, true, false, ◌&&◌, not, nat_le, eqb, List, [], ◌∷◌, ◌++◌, length, take, drop}
+use Rattle.gix_validate.proofs.Common.{get_or, ◌⊎◌, refl, inl, inr, arith, list_all, list_any, filter, concat, bytes_eq, cases_Bool, nat_tests, common_steps}
+use Rattle.gix_validate.proofs.Common.{length-drop}
 use Rattle.gix_validate.specs.Bytes.{lower, lower_byte}
 use Rattle.gix_validate.specs.Hfs.{is_ignored, hfs_form, is_ignored_unit}
 use Rattle.gix_validate.specs.Private.Ordinary.{is_lead}

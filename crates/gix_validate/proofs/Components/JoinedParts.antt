@@ -1,18 +1,12 @@
 -- Joined texts, one text after the other, and how long they are.
-use Rattle.std.proofs.Common.{◌≡◌, ℕ, zero, suc, ◌+◌, ◌-◌, ◌<◌, ◌≤◌, List, [], ◌∷◌, ◌++◌, length, take, get_or, map, cond, eqb, ap, append_assoc}
-use Rattle.std.proofs.Common.{length-append, arith}
-use Rattle.std.specs.Prelude.{None}
-use Rattle.std.specs.List.{All, sum_by}
-use Rattle.std.specs.Str.{byte}
-use Rattle.std.proofs.lemmas.List.{take_more, get_or-map, length-map}
-use Rattle.std.proofs.lemmas.List.Elements.{All-map}
-use Rattle.std.proofs.lemmas.List.Sums.{list_all-from_AllPass}
+use Rattle.gix_validate.proofs.Common.{◌≡◌, ℕ, zero, suc, ◌+◌, ◌-◌, ◌<◌, ◌≤◌, List, [], ◌∷◌, ◌++◌, length, take, get_or, map, cond, eqb, ap, append_assoc}
+use Rattle.gix_validate.proofs.Common.{length-append, arith, None, All, sum_by, byte, take_more, get_or-map, length-map, All-map, list_all-from_AllPass}
+use Rattle.gix_validate.proofs.Common.{common_steps}
 use Rattle.gix_validate.specs.Pieces.{pieces, joined, has_no_slash}
 use Rattle.gix_validate.specs.Component.{fault_of}
 use Rattle.gix_validate.specs.ComponentLaws.{no_protections, IsBasicName}
 use Rattle.gix_validate.proofs.Texts.Pieces.{pieces-joined, joined-push}
 use Rattle.gix_validate.proofs.Components.Laws.{basic_law}
-use Rattle.std.proofs.lemmas.Grind.{common_steps}
 
 -- The first texts joined are no longer than all.
 pub joined-take-le : (texts : List (List ℕ)) (i : ℕ) → length (joined (take i texts)) ≤ length (joined texts)

@@ -1,11 +1,6 @@
 -- The laws of path components, proved of their definitions.
-use Rattle.std.proofs.Common.{◌≡◌, ℕ, ◌+◌, Bool, true, false, is_none, is_some, Option, None, List, [], ◌∷◌, length, refl, sym, arith}
-use Rattle.std.specs.Prelude.{codes, slice_index, IsTrue}
-use Rattle.std.specs.Bool.{◌==◌}
-use Rattle.std.specs.List.{list_all}
-use Rattle.std.specs.Str.{byte, bytes_eq}
-use Rattle.std.proofs.lemmas.Bool.{false≢true, and_parts, agree_below}
-use Rattle.std.proofs.lemmas.Slice.Eq.{bytes_eq-Decides}
+use Rattle.gix_validate.proofs.Common.{◌≡◌, ℕ, ◌+◌, Bool, true, false, is_none, is_some, Option, None, List, [], ◌∷◌, length, refl, sym, arith, codes}
+use Rattle.gix_validate.proofs.Common.{slice_index, IsTrue, ◌==◌, list_all, byte, bytes_eq, false≢true, and_parts, agree_below, bytes_eq-Decides, nat_tests}
 use Rattle.gix_validate.specs.declared.path.ComponentError.{ComponentError}
 use Rattle.gix_validate.specs.declared.path.ComponentOptions.{ComponentOptions}
 use Rattle.gix_validate.specs.declared.path.ComponentMode.{ComponentMode}
@@ -24,7 +19,6 @@ use Rattle.gix_validate.proofs.Components.Forms.{form_cut, form_trimmed}
 use Rattle.gix_validate.proofs.Components.HfsForm.{hfs_form-units}
 use Rattle.gix_validate.proofs.Texts.LetterCase.{test-lower_byte, lower-lower, list_any-lower, bytes_eq-lower}
 use Rattle.gix_validate.proofs.Texts.LetterCase.{before_first-lower, without_end-lower, ends-lower}
-use Rattle.std.proofs.lemmas.Bool.Decides.{nat_tests}
 use Rattle.std.proofs.Math.ListN.{get_or-map}
 
 -- The first unit is as long in lower case: no range of the table parts a letter from its small letter.

@@ -1,10 +1,6 @@
 -- NTFS forms: which text ends one, and which names have a given form.
-use Rattle.std.proofs.Common.{◌≡◌, ℕ, zero, suc, Bool, true, false, ◌&&◌, cond, eqb, List, [], ◌∷◌, length, drop, get_or, refl}
-use Rattle.std.proofs.Common.{arith, codes}
-use Rattle.std.specs.Prelude.{IsTrue, not, ◌==◌}
-use Rattle.std.proofs.lemmas.Bool.Decides.{nat_tests}
-use Rattle.std.specs.List.{list_all}
-use Rattle.std.specs.Str.{byte, bytes_eq}
+use Rattle.gix_validate.proofs.Common.{◌≡◌, ℕ, zero, suc, Bool, true, false, ◌&&◌, cond, eqb, List, [], ◌∷◌, length, drop, get_or, refl, arith, codes, IsTrue}
+use Rattle.gix_validate.proofs.Common.{not, ◌==◌, nat_tests, list_all, byte, bytes_eq}
 use Rattle.gix_validate.specs.Bytes.{is_empty, is_among, lower, lower_byte, begins}
 use Rattle.gix_validate.specs.Ntfs.{ntfs_form, is_git_form}
 use Rattle.gix_validate.specs.Private.Forms.{stays_in_form}

@@ -1,17 +1,11 @@
 -- Ordinary names: no condition but the one on devices refuses one.
-use Rattle.std.proofs.Common.{◌≡◌, ℕ, ◌-◌, ◌<◌, ◌≤◌, Bool, true, false, ◌&&◌, ◌||◌, Option, None, Some, List}
-use Rattle.std.proofs.Common.{[], ◌∷◌, ◌++◌, length, get_or, refl, ◌∙◌, arith, codes}
-use Rattle.std.specs.Prelude.{slice_index, is_some}
-use Rattle.std.specs.Bool.{◌==◌}
-use Rattle.std.specs.List.{list_any}
-use Rattle.std.specs.Str.{byte, bytes_eq}
-use Rattle.std.proofs.lemmas.Bool.{or_parts}
-use Rattle.std.proofs.lemmas.Slice.Eq.{bytes_eq-Decides}
+use Rattle.gix_validate.proofs.Common.{◌≡◌, ℕ, ◌-◌, ◌<◌, ◌≤◌, Bool, true, false, ◌&&◌, ◌||◌, Option, None, Some, List, [], ◌∷◌, ◌++◌, length, get_or, refl, ◌∙◌}
+use Rattle.gix_validate.proofs.Common.{arith, codes, slice_index, is_some, ◌==◌, list_any, byte, bytes_eq, or_parts, bytes_eq-Decides, length-map, nat_tests}
+use Rattle.gix_validate.proofs.Common.{list_any_none, list_any_at, common_steps}
 use Rattle.gix_validate.specs.declared.path.ComponentError.TheVariants.{WindowsReservedName, PathSeparator, DotGitDir, SymlinkedGitModules, Relative}
 use Rattle.gix_validate.specs.declared.path.ComponentOptions.{ComponentOptions}
 use Rattle.gix_validate.specs.declared.path.ComponentMode.{ComponentMode}
 use Rattle.gix_validate.specs.Bytes.{is_among, ends, lower}
-use Rattle.std.proofs.lemmas.List.{length-map}
 use Rattle.gix_validate.specs.Faults.{when}
 use Rattle.gix_validate.specs.Units.{first_unit_len}
 use Rattle.gix_validate.specs.Ntfs.{ntfs_form, is_git_form, is_modules_form, is_short_name}
@@ -23,10 +17,7 @@ use Rattle.gix_validate.proofs.OnLiterals.{components_on_literals}
 use Rattle.gix_validate.proofs.Texts.LetterCase.{list_any-lower}
 use Rattle.gix_validate.proofs.Texts.Endings.{ends_read}
 use Rattle.gix_validate.proofs.Components.HfsForm.{hfs_form_same}
-use Rattle.std.proofs.lemmas.Bool.Decides.{nat_tests}
 use Rattle.gix_validate.proofs.Components.Forms.{form, form_at}
-use Rattle.std.proofs.lemmas.List.Folds.{list_any_none, list_any_at}
-use Rattle.std.proofs.lemmas.Grind.{common_steps}
 
 abbrev is_tilde : ℕ → Bool
 is_tilde b = b == byte "~"
@@ -86,8 +77,21 @@ ordinary_fault options mode (b ∷ x) some end classed git modules =
     let none = unclassed (b ∷ x) classed in
     let ntfs = form_same (is_among (codes ":\\")) (is_among (codes " .")) b x (uncut (b ∷ x) classed) (grind (arith, ends_read)) in
     let forms = no_form (lower (b ∷ x)) (list_any-lower is_tilde refl (b ∷ x) ∙ none.4) git modules in
-    rw (other_end (b ∷ x) ends.0, none.2, none.3, legal_no_prefix (b ∷ x) (first_unit_len (b ∷ x)) none.0, hfs_form_same (b ∷ x) none.1, ntfs, forms.0, forms.1,
-    git, modules, none.0, ends.0, ends.1) (grind arith)
+    rw (
+      other_end (b ∷ x) ends.0,
+      none.2,
+      none.3,
+      legal_no_prefix (b ∷ x) (first_unit_len (b ∷ x)) none.0,
+      hfs_form_same (b ∷ x) none.1,
+      ntfs,
+      forms.0,
+      forms.1,
+      git,
+      modules,
+      none.0,
+      ends.0,
+      ends.1,
+    ) (grind arith)
 
 -- `.git` and `.gitmodules` in any letter case
 pub special_fault : (options : ComponentOptions) (mode : Option ComponentMode) (x : List ℕ)

@@ -1,17 +1,9 @@
 -- NTFS forms that stand for `.gitmodules`: all but `.gitmodules` itself have eight plain bytes.
-use Rattle.std.proofs.Common.{◌≡◌, ℕ, suc, ◌+◌, ◌<◌, ◌≤◌, Bool, true, false, ◌&&◌, ◌||◌, eqb, List, [], ◌∷◌, ◌++◌, length, take, drop, get_or}
-use Rattle.std.proofs.Common.{refl, sym, ap, ◌∙◌, arith, codes, ◌⊎◌, inl, inr}
-use Rattle.std.specs.Prelude.{◌==◌, nat_le, slice_index}
-use Rattle.std.specs.List.{list_all, list_any, range_with_len}
-use Rattle.std.specs.Str.{byte, bytes_eq}
-use Rattle.std.proofs.lemmas.List.{take-map, drop-map, length-map, get_or-drop, drop-drop, take-append-drop, length-take-le}
-use Rattle.std.proofs.lemmas.List.{at_drop_more}
+use Rattle.gix_validate.proofs.Common.{◌≡◌, ℕ, suc, ◌+◌, ◌<◌, ◌≤◌, Bool, true, false, ◌&&◌, ◌||◌, eqb, List, [], ◌∷◌, ◌++◌, length, take, drop, get_or, refl}
+use Rattle.gix_validate.proofs.Common.{sym, ap, ◌∙◌, arith, codes, ◌⊎◌, inl, inr, ◌==◌, nat_le, slice_index, list_all, list_any, range_with_len, byte, bytes_eq}
+use Rattle.gix_validate.proofs.Common.{take-map, drop-map, length-map, get_or-drop, drop-drop, take-append-drop, length-take-le, at_drop_more, list_all-append}
+use Rattle.gix_validate.proofs.Common.{bytes_eq-Decides, or_cases, and_parts, false≢true, nat_tests, common_steps}
 use Rattle.std.proofs.lemmas.List.FromFn.{get_or-range_with_len}
-use Rattle.std.proofs.lemmas.List.Folds.{list_all-append}
-use Rattle.std.proofs.lemmas.Slice.Eq.{bytes_eq-Decides}
-use Rattle.std.proofs.lemmas.Bool.{or_cases, and_parts, false≢true}
-use Rattle.std.proofs.lemmas.Bool.Decides.{nat_tests}
-use Rattle.std.proofs.lemmas.Grind.{common_steps}
 use Rattle.gix_validate.specs.Bytes.{is_empty, lower, lower_byte}
 use Rattle.gix_validate.specs.Ntfs.{ntfs_form, is_modules_form, is_short_name, is_digit}
 use Rattle.gix_validate.specs.Private.Forms.{stays_in_form}

@@ -1,7 +1,5 @@
 -- The words of the laws on path components, at literal names and options.
-use Rattle.std.proofs.Common.{arith, true, false, [], ◌∷◌, ◌++◌, refl}
-use Rattle.std.specs.Prelude.{codes}
-use Rattle.std.proofs.lemmas.Bool.{false≢true}
+use Rattle.gix_validate.proofs.Common.{arith, true, false, [], ◌∷◌, ◌++◌, refl, codes, false≢true}
 use Rattle.gix_validate.specs.Bytes.{lower_byte}
 use Rattle.gix_validate.specs.Units.{units_within, first_unit_len, whole_sequences}
 use Rattle.gix_validate.specs.Hfs.{is_ignored, hfs_form}

@@ -1,6 +1,5 @@
 -- The definitions of reference names, computed on literals.
-use Rattle.std.proofs.Common.{refl, [], ◌∷◌, Some, None}
-use Rattle.std.specs.Prelude.{codes}
+use Rattle.gix_validate.proofs.Common.{refl, [], ◌∷◌, Some, None, codes}
 use Rattle.gix_validate.proofs.OnLiterals.{names_on_literals}
 use Rattle.gix_validate.proofs.Rows.Tables.{Gives, Judges}
 use Rattle.gix_validate.specs.Reference.{is_partial_name, is_full_name, is_branch_name, reserved, partial_fault_of}

@@ -1,6 +1,6 @@
 -- What a table of rows states. Where a row is wrong, the check names the table, and says what the row has (expected) and
 -- what is computed (found), bytes as numbers.
-use Rattle.std.proofs.Common.{◌≡◌, Bool, List, Option, is_none, map}
+use Rattle.gix_validate.proofs.Common.{◌≡◌, Bool, List, Option, is_none, map}
 
 -- the function gives the second of each row for its first
 abbrev pub Gives : {A B : Type 0} → (A → B) → List (A × B) → Type 0

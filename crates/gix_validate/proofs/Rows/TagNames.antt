@@ -1,6 +1,5 @@
 -- The definitions of tag names, computed on literals.
-use Rattle.std.proofs.Common.{refl, [], ◌∷◌, Some, None}
-use Rattle.std.specs.Prelude.{codes}
+use Rattle.gix_validate.proofs.Common.{refl, [], ◌∷◌, Some, None, codes}
 use Rattle.gix_validate.proofs.OnLiterals.{names_on_literals}
 use Rattle.gix_validate.proofs.Rows.Tables.{Gives, Judges}
 use Rattle.gix_validate.specs.declared.tag.NameError.TheVariants.{InvalidByte, StartsWithSlash, RepeatedSlash, RepeatedDot, LockFileSuffix}

@@ -1,12 +1,8 @@
 -- The laws of the sanitised text.
-use Rattle.std.proofs.Common.{◌≡◌, ◌≢◌, ◌⊎◌, ℕ, ◌≤◌, max, true, false, List, [], ◌∷◌, length, map, refl, sym, ap, ◌∙◌, arith, length-append, length-take}
-use Rattle.std.specs.Prelude.{codes, not, ◌↔◌, IsTrue, filter}
-use Rattle.std.specs.List.{list_all}
-use Rattle.std.specs.Str.{byte, bytes_eq}
-use Rattle.std.proofs.lemmas.Bool.{and_from, not_from_false, cond_both, false_from_ne_true}
-use Rattle.std.proofs.lemmas.List.{same_from_push, length-map, nil_from_length}
-use Rattle.std.proofs.lemmas.List.Splits.{join_with_byte-slice_split}
-use Rattle.std.proofs.lemmas.Slice.Eq.{bytes_eq-Decides}
+use Rattle.gix_validate.proofs.Common.{◌≡◌, ◌≢◌, ◌⊎◌, ℕ, ◌≤◌, max, true, false, List, [], ◌∷◌, length, map, refl, sym, ap, ◌∙◌, arith, length-append}
+use Rattle.gix_validate.proofs.Common.{length-take, codes, not, ◌↔◌, IsTrue, filter, list_all, byte, bytes_eq, and_from, not_from_false, cond_both}
+use Rattle.gix_validate.proofs.Common.{false_from_ne_true, same_from_push, length-map, nil_from_length, join_with_byte-slice_split, bytes_eq-Decides}
+use Rattle.gix_validate.proofs.Common.{common_steps, nat_tests}
 use Rattle.gix_validate.specs.Bytes.{is_bad, is_empty, ends}
 use Rattle.gix_validate.specs.Pieces.{pieces, joined, has_no_slash}
 use Rattle.gix_validate.specs.Tag.{is_good_piece, is_tag_name}
@@ -17,8 +13,6 @@ use Rattle.gix_validate.proofs.Texts.Endings.{ends-false}
 use Rattle.gix_validate.proofs.Sanitizing.MendedPieces.{mend_good, mend-own, mend_apart, length-mend, is_good_piece-empty}
 use Rattle.gix_validate.proofs.Texts.Pieces.{pieces_apart, pieces-joined}
 use Rattle.gix_validate.proofs.Texts.Joined.{dash_last_of-good, dash_last_of-apart, length-dash_last_of, dash_last_of-cons, joined-dash_last_of, good_nonempty}
-use Rattle.std.proofs.lemmas.Grind.{common_steps}
-use Rattle.std.proofs.lemmas.Bool.Decides.{nat_tests}
 
 -- what becomes of these pieces
 abbrev pub mended_of : List (List ℕ) → List (List ℕ)

@@ -1,13 +1,7 @@
 -- One piece: which bytes may follow which in a good one, what cleaning it writes byte by byte, and the laws of the mended piece.
-use Rattle.std.proofs.Common.{◌≡◌, ℕ, Bool, true, false, List, [], ◌∷◌, ◌++◌, arith, ◌≢◌, ◌≤◌, length, refl, ◌-◌, take, drop, append_assoc}
-use Rattle.std.specs.Prelude.{codes, ◌&&◌, ◌||◌, not, ◌==◌, Option, Some, None, if◌then◌else◌}
-use Rattle.std.specs.List.{list_any}
-use Rattle.std.specs.Str.{byte}
-use Rattle.std.proofs.lemmas.Bool.{and_parts, cond_both}
-use Rattle.std.proofs.lemmas.Grind.{common_steps}
-use Rattle.std.proofs.lemmas.Bool.Decides.{nat_tests}
-use Rattle.std.proofs.lemmas.List.{take-append-drop, same_from_push}
-use Rattle.std.proofs.lemmas.List.Folds.{list_all-append}
+use Rattle.gix_validate.proofs.Common.{◌≡◌, ℕ, Bool, true, false, List, [], ◌∷◌, ◌++◌, arith, ◌≢◌, ◌≤◌, length, refl, ◌-◌, take, drop, append_assoc, codes}
+use Rattle.gix_validate.proofs.Common.{◌&&◌, ◌||◌, not, ◌==◌, Option, Some, None, if◌then◌else◌, list_any, byte, and_parts, cond_both, common_steps, nat_tests}
+use Rattle.gix_validate.proofs.Common.{take-append-drop, same_from_push, list_all-append}
 use Rattle.gix_validate.specs.Bytes.{is_bad, is_empty, ends, holds, begins}
 use Rattle.gix_validate.specs.Tag.{is_good_piece}
 use Rattle.gix_validate.specs.Pieces.{is_slash, has_no_slash}

@@ -1,12 +1,8 @@
 -- The text is mended and repaired within one buffer: what is written is before the offset that is read next.
-use Rattle.std.proofs.Common.{◌≡◌, ◌≢◌, ℕ, zero, suc, ◌+◌, ◌-◌, ◌≤◌, ◌<◌, true, false, List, [], ◌∷◌, ◌++◌, length, take, drop, set, get_or, refl}
-use Rattle.std.proofs.Common.{sym, ap, inl, inr, add-one, arith, length-set, append-nil, max}
-use Rattle.std.specs.Prelude.{codes, ◌==◌, if◌then◌else◌, Option, Some, None}
-use Rattle.std.specs.Str.{byte}
-use Rattle.std.proofs.lemmas.Bool.{cases_Bool}
-use Rattle.std.proofs.lemmas.Bool.Decides.{nat_tests}
-use Rattle.std.proofs.lemmas.List.{take_more, take_more_set, drop_all}
-use Rattle.std.proofs.lemmas.List.{drop-set-lt, drop-drop, drop_more, take-append-le}
+use Rattle.gix_validate.proofs.Common.{◌≡◌, ◌≢◌, ℕ, zero, suc, ◌+◌, ◌-◌, ◌≤◌, ◌<◌, true, false, List, [], ◌∷◌, ◌++◌, length, take, drop, set, get_or, refl, sym}
+use Rattle.gix_validate.proofs.Common.{ap, inl, inr, add-one, arith, length-set, append-nil, max, codes, ◌==◌, if◌then◌else◌, Option, Some, None, byte}
+use Rattle.gix_validate.proofs.Common.{cases_Bool, nat_tests, take_more, take_more_set, drop_all, drop-set-lt, drop-drop, drop_more, take-append-le}
+use Rattle.gix_validate.proofs.Common.{length-take}
 use Rattle.std.proofs.lemmas.Slice.{drop-append-drop}
 use Rattle.gix_validate.specs.Private.Adjacent.{is_suspect, suspect_at}
 use Rattle.gix_validate.specs.Private.Scan.{NoneBelow}
@@ -16,7 +12,6 @@ use Rattle.gix_validate.specs.Sanitized.{Dots, Other, byte_of, mended_pieces, re
 use Rattle.gix_validate.proofs.Texts.Endings.{ends-no}
 use Rattle.gix_validate.proofs.TagNames.ClearTexts.{no_lock, pair_quiet, clear_is_partial}
 use Rattle.gix_validate.proofs.Sanitizing.Laws.{sanitized-own, sanitized_laws}
-use Rattle.std.proofs.Common.{length-take}
 use Rattle.gix_validate.proofs.Sanitizing.LockSuffixes.{cut-own}
 use Rattle.gix_validate.proofs.Sanitizing.MendedPieces.{added}
 use Rattle.gix_validate.proofs.Sanitizing.WrittenPiece.{in_piece, closed, finished, GivesWhole, GivesWhole-start, GivesWhole-slash}

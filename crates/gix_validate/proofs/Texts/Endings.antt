@@ -1,16 +1,9 @@
 -- How a text ends: as an equation, by its bytes, and by its last piece.
-use Rattle.std.proofs.Common.{◌≡◌, ◌≢◌, ℕ, ◌-◌, ◌<◌, ◌≤◌, true, false, cond, eqb, List, [], ◌∷◌, ◌++◌, length, take, get_or, refl, ◌∙◌, arith}
-use Rattle.std.proofs.Common.{length-append}
-use Rattle.std.proofs.lemmas.Slice.Eq.{bytes_eq-Decides}
-use Rattle.std.proofs.lemmas.List.{take-append-drop, drop_at}
-use Rattle.std.proofs.lemmas.List.Folds.{list_all-append}
-use Rattle.std.proofs.lemmas.Bool.{false_from_ne_true}
-use Rattle.std.specs.Prelude.{codes}
-use Rattle.std.specs.Str.{byte}
+use Rattle.gix_validate.proofs.Common.{◌≡◌, ◌≢◌, ℕ, ◌-◌, ◌<◌, ◌≤◌, true, false, cond, eqb, List, [], ◌∷◌, ◌++◌, length, take, get_or, refl, ◌∙◌, arith}
+use Rattle.gix_validate.proofs.Common.{length-append, bytes_eq-Decides, take-append-drop, drop_at, list_all-append, false_from_ne_true, codes, byte}
+use Rattle.gix_validate.proofs.Common.{common_steps, nat_tests}
 use Rattle.gix_validate.specs.Bytes.{is_empty, ends}
 use Rattle.gix_validate.specs.Pieces.{is_slash, has_no_slash}
-use Rattle.std.proofs.lemmas.Grind.{common_steps}
-use Rattle.std.proofs.lemmas.Bool.Decides.{nat_tests}
 
 pub ends-true : (x back : List ℕ) → ends x back ≡ true → x ≡ take (length x - length back) x ++ back
 ends-true x back h = grind (arith, bytes_eq-Decides, take-append-drop)

@@ -1,16 +1,10 @@
 -- Letter case: what `lower` leaves as it is, and words against a text in any letter case.
-use Rattle.std.proofs.Common.{true, false, eqb, ◌≡◌, ℕ, ◌+◌, ◌-◌, ◌<◌, Bool, not, nat_eq, List, [], ◌∷◌, reverse}
-use Rattle.std.proofs.Common.{length, take, refl, inl, inr, arith}
-use Rattle.std.specs.List.{list_any, list_all, prefix_len, before_first}
-use Rattle.std.specs.Str.{byte, bytes_eq}
-use Rattle.std.proofs.lemmas.Bool.{cases_lt, agree_below, agree_below_at, and_parts}
-use Rattle.std.proofs.lemmas.List.{length-map, take-map, drop-map}
-use Rattle.std.proofs.lemmas.Slice.Eq.{bytes_eq-Decides}
+use Rattle.gix_validate.proofs.Common.{true, false, eqb, ◌≡◌, ℕ, ◌+◌, ◌-◌, ◌<◌, Bool, not, nat_eq, List, [], ◌∷◌, reverse, length, take, refl, inl, inr, arith}
+use Rattle.gix_validate.proofs.Common.{list_any, list_all, prefix_len, before_first, byte, bytes_eq, cases_lt, agree_below, agree_below_at, and_parts}
+use Rattle.gix_validate.proofs.Common.{length-map, take-map, drop-map, bytes_eq-Decides, and-false, to_ascii_lowercase}
 use mathlib.Core.List.{reverse_aux}
 use Rattle.gix_validate.specs.Bytes.{lower_byte, lower, ends, begins}
 use Rattle.gix_validate.specs.Ntfs.{without_end}
-use Rattle.std.proofs.Math.Bool.{and-false}
-use Rattle.std.specs.Char.{to_ascii_lowercase}
 
 pub lower_byte-is : (b : ℕ) → to_ascii_lowercase b ≡ lower_byte b
 unfolding lower_byte

@@ -1,9 +1,6 @@
 -- The first name in a buffer, by the index of the first byte that ends a name.
-use Rattle.std.proofs.Common.{◌≡◌, ◌≢◌, ℕ, ◌+◌, ◌<◌, true, false, List, [], ◌∷◌, ◌==◌, length, take, get_or, drop, refl, arith}
-use Rattle.std.proofs.lemmas.Bool.{false_from_ne_true}
-use Rattle.std.proofs.lemmas.List.Sums.{position_or_len_is}
-use Rattle.std.proofs.lemmas.List.Elements.{All-from_get_or}
-use Rattle.std.proofs.lemmas.List.Splits.{slice_split_first, slice_split_none, length-slice_split}
+use Rattle.gix_validate.proofs.Common.{◌≡◌, ◌≢◌, ℕ, ◌+◌, ◌<◌, true, false, List, [], ◌∷◌, ◌==◌, length, take, get_or, drop, refl, arith, false_from_ne_true}
+use Rattle.gix_validate.proofs.Common.{position_or_len_is, All-from_get_or, slice_split_first, slice_split_none, length-slice_split}
 use Rattle.gix_validate.specs.Pieces.{names_in}
 
 -- the first name ends before the first such byte

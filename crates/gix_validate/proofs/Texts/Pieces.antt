@@ -1,7 +1,5 @@
 -- Texts without a slash are the pieces of what they join to.
-use Rattle.std.proofs.Common.{◌≡◌, ◌≢◌, ℕ, true, List, [], ◌∷◌, ◌++◌, append_assoc}
-use Rattle.std.specs.List.{list_all}
-use Rattle.std.specs.Str.{byte}
+use Rattle.gix_validate.proofs.Common.{◌≡◌, ◌≢◌, ℕ, true, List, [], ◌∷◌, ◌++◌, append_assoc, list_all, byte}
 use Rattle.gix_validate.specs.Pieces.{pieces, joined, has_no_slash}
 use native.Mathlib.Omega.{arith}
 

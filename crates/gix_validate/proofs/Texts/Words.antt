@@ -1,15 +1,10 @@
 -- A form against a word, without ASCII case: byte by byte from the front, and what then is left of the form.
-use Rattle.std.proofs.Common.{◌≡◌, ℕ, ◌+◌, ◌<◌, ◌≤◌, Bool, true, false, ◌&&◌, cond, eqb, List, [], ◌∷◌, ◌++◌, get_or, length, drop, refl, arith}
-use Rattle.std.proofs.Common.{codes, append-nil}
-use Rattle.std.specs.Prelude.{◌==◌}
-use Rattle.std.specs.List.{list_all}
-use Rattle.std.specs.Str.{byte, bytes_eq}
-use Rattle.std.proofs.lemmas.Bool.Decides.{nat_tests}
+use Rattle.gix_validate.proofs.Common.{◌≡◌, ℕ, ◌+◌, ◌<◌, ◌≤◌, Bool, true, false, ◌&&◌, cond, eqb, List, [], ◌∷◌, ◌++◌, get_or, length, drop, refl, arith, codes}
+use Rattle.gix_validate.proofs.Common.{append-nil, ◌==◌, list_all, byte, bytes_eq, nat_tests, common_steps}
 use Rattle.gix_validate.specs.Bytes.{is_empty, is_among, lower, lower_byte, begins}
 use Rattle.gix_validate.specs.Private.Forms.{stays_in_form}
 use Rattle.gix_validate.proofs.Components.Forms.{form, form_at}
 use Rattle.gix_validate.proofs.Texts.LetterCase.{test-lower_byte, eqb_turned}
-use Rattle.std.proofs.lemmas.Grind.{common_steps}
 
 -- plain bytes are neither a cut nor trimmed
 abbrev pub KeepsPlain : (ℕ → Bool) → (ℕ → Bool) → Type 0

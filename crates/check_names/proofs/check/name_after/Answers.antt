@@ -1,6 +1,4 @@
-use Rattle.std.proofs.Common.{Some, None}
-use Rattle.std.proofs.lemmas.Slice.Eq.{strip_prefix_is}
-use Rattle.std.proofs.lemmas.Bool.Decides.{Decides-eqb}
+use Rattle.gix_validate.proofs.Common.{Some, None, strip_prefix_is, Decides-eqb}
 use Rattle.check_names.proofs.check.name_after.Goals as goal
 
 pub returns-in_err-name : goal.returns-in_err-name

@@ -1,4 +1,4 @@
-use Rattle.std.proofs.lemmas.Result.{on_ok_weaker}
+use Rattle.gix_validate.proofs.Common.{on_ok_weaker}
 use Rattle.typed_names.specs.Names.{name_text}
 use Rattle.gix_validate.specs.Tag
 use Rattle.check_names.proofs.AnswerLemmas.{verdict-of_kept}

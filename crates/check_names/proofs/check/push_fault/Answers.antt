@@ -1,10 +1,7 @@
-use Rattle.std.proofs.Common.{rules, codes, ◌≡◌, Result, OnOk, is_ok}
-use Rattle.std.proofs.lemmas.Bool.{false≢true}
-use Rattle.std.proofs.lemmas.Option.{IfSome_then}
+use Rattle.gix_validate.proofs.Common.{rules, codes, ◌≡◌, Result, OnOk, is_ok, false≢true, IfSome_then, nat_tests}
 use Rattle.check_names.proofs.WriteLemmas.{took_format}
 use Rattle.check_names.proofs.check.push_fault.Goals as goal
 use native.Mathlib.Omega.{arith}
-use Rattle.std.proofs.lemmas.Bool.Decides.{nat_tests}
 
 OnOk-from_same : {T U E F P Q : Type 0} (r : Result T E) (s : Result U F) → is_ok r ≡ is_ok s → (P → Q) → OnOk s P → OnOk r Q
 OnOk-from_same r s hh1 hh2 hh3 = grind (arith, nat_tests, false≢true)

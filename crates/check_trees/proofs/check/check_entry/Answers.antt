@@ -1,6 +1,5 @@
 use Rattle.check_trees.specs.Options.{as_options}
-use Rattle.std.proofs.Common.{◌∙◌, ap, arith}
-use Rattle.std.proofs.lemmas.Grind.{common_steps}
+use Rattle.gix_validate.proofs.Common.{◌∙◌, ap, arith, common_steps}
 use Rattle.git_input.specs.Promises.{as_object}
 use Rattle.check_trees.specs.Entries.{parsed_front}
 use Rattle.check_trees.proofs.FirstEntry.{gives_past, gives_long, gives_cut, gives_malformed, gives_id_cut, gives_id_past, gives_stop, gives_entry}

@@ -1,4 +1,4 @@
-use Rattle.std.proofs.Common.{◌-◌, arith}
+use Rattle.gix_validate.proofs.Common.{◌-◌, arith}
 use Rattle.git_input.proofs.ReportSoFar.{starts}
 use Rattle.git_input.proofs.LinesStop.{up_to_none, up_to_more}
 use Rattle.check_trees.proofs.TreeEntries.{tree_goes, tree_faults, tree_ends, tree_stops}

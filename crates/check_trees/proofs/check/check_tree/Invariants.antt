@@ -1,6 +1,6 @@
 -- no more was read than the entries so far;
 -- what was said of the entries so far is appended, and what is said of those that are left follows
-use Rattle.std.proofs.Common.{◌-◌, ◌≤◌}
+use Rattle.gix_validate.proofs.Common.{◌-◌, ◌≤◌}
 use Rattle.git_input.specs.Promises.{ReadsUpTo, as_object}
 use Rattle.git_input.proofs.ReportSoFar.{SoFar}
 use Rattle.check_trees.specs.Options.{as_options}

@@ -1,7 +1,4 @@
-use Rattle.std.proofs.Common.{◌==◌, rules, tests}
-use Rattle.std.proofs.lemmas.Iterator.Splits.{YieldsList-from_slice_split}
-use Rattle.std.proofs.lemmas.Iterator.Search.{any_from_yields_List}
-use Rattle.std.specs.Str.{bytes_eq}
+use Rattle.gix_validate.proofs.Common.{◌==◌, rules, tests, YieldsList-from_slice_split, any_from_yields_List, bytes_eq}
 use Rattle.check_trees.proofs.check.is_piece.Goals as goal
 
 pub returns : goal.returns

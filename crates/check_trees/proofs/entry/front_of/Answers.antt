@@ -1,5 +1,4 @@
-use Rattle.std.proofs.Common.{sym, rules}
-use Rattle.std.proofs.lemmas.List.{take_rest}
+use Rattle.gix_validate.proofs.Common.{sym, rules, take_rest}
 use Rattle.check_trees.proofs.EntryFronts.{plain_file}
 use Rattle.check_trees.proofs.entry.front_of.Goals as goal
 

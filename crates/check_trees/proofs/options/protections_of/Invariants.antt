@@ -1,5 +1,5 @@
 -- the words so far are on: with the others they give what all give
-use Rattle.std.proofs.Common.{◌≡◌, length}
+use Rattle.gix_validate.proofs.Common.{◌≡◌, length}
 use Rattle.check_trees.specs.Arguments.{comma_parts, all_switched_on}
 use Rattle.gix_validate.specs.ComponentLaws.{no_protections}
 use Rattle.check_trees.proofs.options.protections_of.Given as goal

@@ -1,4 +1,4 @@
-use Rattle.std.proofs.Common.{arith, length-take}
+use Rattle.gix_validate.proofs.Common.{arith, length-take}
 use Rattle.check_trees.proofs.report.push_shown.Goals as goal
 
 pub slice_bounds-front-end : goal.slice_bounds-front-end

@@ -1,4 +1,4 @@
-use Rattle.std.proofs.Common.{arith}
+use Rattle.gix_validate.proofs.Common.{arith}
 use Rattle.check_trees.proofs.report.set_refused.Goals as goal
 
 pub returns : goal.returns

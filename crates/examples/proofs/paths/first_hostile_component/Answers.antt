@@ -1,6 +1,4 @@
-use Rattle.std.proofs.Common.{◌==◌, rules, tests, None, not}
-use Rattle.std.proofs.lemmas.Iterator.Splits.{YieldsList-from_slice_split}
-use Rattle.std.proofs.lemmas.Iterator.Search.{position_from_yields_List}
+use Rattle.gix_validate.proofs.Common.{◌==◌, rules, tests, None, not, YieldsList-from_slice_split, position_from_yields_List}
 use Rattle.gix_validate.specs.Component.{is_component}
 use Rattle.examples.proofs.paths.first_hostile_component.Goals as goal
 

@@ -1,6 +1,5 @@
 -- The names that the loop has passed are tag names.
-use Rattle.std.proofs.Common.{IsTrue}
-use Rattle.std.specs.List.{AllWithin}
+use Rattle.gix_validate.proofs.Common.{IsTrue, AllWithin}
 use Rattle.bstr.specs.BStr.{bstr_bytes}
 use Rattle.gix_validate.specs.Tag.{is_tag_name}
 use Rattle.examples.proofs.slices.all_are_tag_names.Given as goal

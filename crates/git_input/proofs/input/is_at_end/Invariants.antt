@@ -1,6 +1,5 @@
 -- nothing was read
-use Rattle.std.proofs.Common.{[]}
-use Rattle.std.specs.Io.KnownBytes.{Consumes}
+use Rattle.gix_validate.proofs.Common.{[], Consumes}
 use Rattle.git_input.proofs.input.is_at_end.Given as goal
 
 abbrev pub invariant-loop : goal.invariant-loop

@@ -1,6 +1,5 @@
 -- what was read so far, less than the limit allows, is a front with no such byte
-use Rattle.std.proofs.Common.{◌≢◌, ◌≤◌, All, length, vec_capacity}
-use Rattle.std.specs.Io.KnownBytes.{Consumes}
+use Rattle.gix_validate.proofs.Common.{◌≢◌, ◌≤◌, All, length, vec_capacity, Consumes}
 use Rattle.git_input.proofs.input.read_before.Given as goal
 
 abbrev pub invariant-loop : goal.invariant-loop

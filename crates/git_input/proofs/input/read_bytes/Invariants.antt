@@ -1,6 +1,5 @@
 -- what was read so far is no more than was asked for
-use Rattle.std.proofs.Common.{◌≤◌, length, vec_capacity}
-use Rattle.std.specs.Io.KnownBytes.{Consumes}
+use Rattle.gix_validate.proofs.Common.{◌≤◌, length, vec_capacity, Consumes}
 use Rattle.git_input.proofs.input.read_bytes.Given as goal
 
 abbrev pub invariant-loop : goal.invariant-loop

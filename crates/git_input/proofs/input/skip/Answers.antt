@@ -1,7 +1,6 @@
-use Rattle.std.proofs.Common.{◌≤◌, ◌++◌, length, take, subst, arith, length-append, length-take-le}
+use Rattle.gix_validate.proofs.Common.{◌≤◌, ◌++◌, length, take, subst, arith, length-append, length-take-le, Consumes-trans}
 use Rattle.std.specs.Io.BufRead.{FillKeeps}
 use Rattle.std.proofs.BufReadLemmas.{Consumes_shown}
-use Rattle.std.proofs.KnownBytes.{Consumes-trans}
 use Rattle.git_input.proofs.input.skip.Goals as goal
 
 pub loop-preserved : goal.loop-preserved

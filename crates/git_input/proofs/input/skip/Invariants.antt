@@ -1,6 +1,5 @@
 -- what was passed over so far
-use Rattle.std.proofs.Common.{◌≡◌, ℕ, ◌+◌, List, length}
-use Rattle.std.specs.Io.KnownBytes.{Consumes}
+use Rattle.gix_validate.proofs.Common.{◌≡◌, ℕ, ◌+◌, List, length, Consumes}
 use Rattle.git_input.proofs.input.skip.Given as goal
 
 abbrev pub invariant-loop : goal.invariant-loop

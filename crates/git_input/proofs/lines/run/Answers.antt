@@ -1,5 +1,4 @@
-use Rattle.std.proofs.Common.{arith}
-use Rattle.std.proofs.lemmas.Grind.{common_steps}
+use Rattle.gix_validate.proofs.Common.{arith, common_steps}
 use Rattle.git_input.proofs.ReportSoFar.{starts, on_err}
 use Rattle.git_input.proofs.LinesRead.{line_gives, long_gives, cut_gives}
 use Rattle.git_input.proofs.LinesRead.{stream_goes, stream_faults, stream_ends, stream_breaks, stream_marked, stream_spent, stream_stops, stream_pauses}

@@ -1,5 +1,5 @@
 -- what was said of the lines so far is appended, and what is said of those that are left follows
-use Rattle.std.proofs.Common.{◌+◌}
+use Rattle.gix_validate.proofs.Common.{◌+◌}
 use Rattle.git_input.proofs.ReportSoFar.{SoFar}
 use Rattle.git_input.proofs.LinesRead.{lines_report}
 use Rattle.git_input.proofs.lines.run.Given as goal

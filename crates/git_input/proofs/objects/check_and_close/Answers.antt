@@ -1,4 +1,4 @@
-use Rattle.std.proofs.Common.{None}
+use Rattle.gix_validate.proofs.Common.{None}
 use Rattle.git_input.specs.Promises.{as_object}
 use Rattle.git_input.proofs.ObjectsRead.{closed_gives, faulty_gives}
 use Rattle.git_input.proofs.LinesStop.{up_to_next}

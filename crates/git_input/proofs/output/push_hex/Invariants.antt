@@ -1,6 +1,5 @@
 -- the digits of the bytes so far are appended
-use Rattle.std.proofs.Common.{◌≡◌, ◌++◌, take}
-use Rattle.std.specs.Prelude.{flat_map}
+use Rattle.gix_validate.proofs.Common.{◌≡◌, ◌++◌, take, flat_map}
 use Rattle.git_input.specs.Texts.{hex_pair}
 use Rattle.git_input.proofs.output.push_hex.Given as goal
 

@@ -1,6 +1,5 @@
 -- the quote and the escapes of the bytes so far are appended
-use Rattle.std.proofs.Common.{◌≡◌, ◌++◌, take}
-use Rattle.std.specs.Prelude.{codes, flat_map}
+use Rattle.gix_validate.proofs.Common.{◌≡◌, ◌++◌, take, codes, flat_map}
 use Rattle.gix_validate.specs.Quoted.{escape_of}
 use Rattle.git_input.proofs.output.push_quoted.Given as goal
 

@@ -1,6 +1,5 @@
 -- whether the bytes so far are such digits
-use Rattle.std.proofs.Common.{◌≡◌, take}
-use Rattle.std.specs.List.{list_all}
+use Rattle.gix_validate.proofs.Common.{◌≡◌, take, list_all}
 use Rattle.git_input.specs.Texts.{is_hex_digit}
 use Rattle.git_input.proofs.text.are_hex_digits.Given as goal
 

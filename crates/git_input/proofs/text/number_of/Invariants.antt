@@ -1,5 +1,5 @@
 -- the digits so far gave the number: with the others it gives what all give
-use Rattle.std.proofs.Common.{◌≡◌, ◌<◌, ◌^◌, drop}
+use Rattle.gix_validate.proofs.Common.{◌≡◌, ◌<◌, ◌^◌, drop}
 use Rattle.git_input.specs.Texts.{number_of}
 use Rattle.git_input.proofs.Numbers.{number_on}
 use Rattle.git_input.proofs.text.number_of.Given as goal

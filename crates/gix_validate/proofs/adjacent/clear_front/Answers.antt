@@ -1,5 +1,4 @@
-use Rattle.std.proofs.Common.{arith, sym, ◌∙◌}
-use Rattle.std.proofs.lemmas.Bool.Decides.{nat_tests}
+use Rattle.gix_validate.proofs.Common.{arith, sym, ◌∙◌, nat_tests}
 use Rattle.gix_validate.proofs.Blocks.Lanes.{first_look, quiet_by_looks, clear_by_looks}
 use Rattle.gix_validate.proofs.adjacent.clear_front.Goals as goal
 

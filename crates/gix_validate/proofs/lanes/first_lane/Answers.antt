@@ -1,5 +1,4 @@
-use Rattle.std.proofs.Common.{arith, w64}
-use Rattle.std.proofs.lemmas.Nat.Bits.{bit_at-trailing_zeros}
+use Rattle.gix_validate.proofs.Common.{arith, w64, bit_at-trailing_zeros}
 use Rattle.gix_validate.proofs.lanes.first_lane.Goals as goal
 
 pub returns : goal.returns

@@ -1,4 +1,4 @@
-use Rattle.std.proofs.Common.{eqb, not}
+use Rattle.gix_validate.proofs.Common.{eqb, not}
 use Rattle.gix_validate.proofs.Blocks.Lanes.{lane_mask}
 use Rattle.gix_validate.proofs.lanes.nonzero_lanes.Goals as goal
 

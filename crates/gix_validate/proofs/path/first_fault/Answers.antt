@@ -1,5 +1,5 @@
 -- What the classes of a short name say of it.
-use Rattle.std.proofs.Common.{arith}
+use Rattle.gix_validate.proofs.Common.{arith}
 use Rattle.gix_validate.proofs.Blocks.ByteClasses.{classes_tell}
 use Rattle.gix_validate.proofs.path.first_fault.Goals as goal
 use Rattle.gix_validate.proofs.path.first_fault.Goals.{then-windows, else-windows, else-not-is_empty+else-has_separator}

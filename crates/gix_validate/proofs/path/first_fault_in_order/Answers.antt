@@ -1,5 +1,5 @@
 -- Each condition was tried, and none holds.
-use Rattle.std.proofs.Common.{drop, arith}
+use Rattle.gix_validate.proofs.Common.{drop, arith}
 use Rattle.gix_validate.specs.Bytes.{lower_byte}
 use Rattle.gix_validate.specs.Component.{conditions, fault_of}
 use Rattle.gix_validate.specs.Windows.{is_illegal}

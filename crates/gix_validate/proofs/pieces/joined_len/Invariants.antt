@@ -1,6 +1,5 @@
 -- The length so far has all the slashes, and the parts that were passed.
-use Rattle.std.proofs.Common.{◌≡◌, ◌+◌, ◌-◌, ◌<◌, ◌^◌, length, take}
-use Rattle.std.specs.List.{sum_by}
+use Rattle.gix_validate.proofs.Common.{◌≡◌, ◌+◌, ◌-◌, ◌<◌, ◌^◌, length, take, sum_by}
 use Rattle.bstr.specs.BStr.{bstr_bytes}
 use Rattle.gix_validate.proofs.pieces.joined_len.Given as goal
 

@@ -1,5 +1,5 @@
 -- The buffer has what it had and the parts so far, joined, and its capacity has not shrunk.
-use Rattle.std.proofs.Common.{◌≡◌, ◌≤◌, ◌++◌, map, take, vec_capacity}
+use Rattle.gix_validate.proofs.Common.{◌≡◌, ◌≤◌, ◌++◌, map, take, vec_capacity}
 use Rattle.bstr.specs.BStr.{bstr_bytes}
 use Rattle.gix_validate.specs.Pieces.{joined}
 use Rattle.gix_validate.proofs.pieces.write_joined.Given as goal

@@ -1,4 +1,4 @@
-use Rattle.std.proofs.Common.{◌-◌, length, arith, subst}
+use Rattle.gix_validate.proofs.Common.{◌-◌, length, arith, subst}
 use Rattle.gix_validate.specs.Private.Scan.{IsFirst, at_both}
 use Rattle.gix_validate.proofs.Blocks.Parts.{parts_found, in_front, in_back}
 use Rattle.gix_validate.proofs.scan.first_of_parts.Goals as goal

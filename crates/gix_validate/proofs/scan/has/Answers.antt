@@ -1,4 +1,4 @@
-use Rattle.std.proofs.Common.{◌-◌, ◌||◌, length, sym, ap₂, ◌∙◌, arith}
+use Rattle.gix_validate.proofs.Common.{◌-◌, ◌||◌, length, sym, ap₂, ◌∙◌, arith}
 use Rattle.gix_validate.proofs.Blocks.Parts.{any_in_chunk, any_with_chunk, any_to_end}
 use Rattle.gix_validate.proofs.scan.has.Goals as goal
 

@@ -1,6 +1,5 @@
 -- No byte so far is a hit.
-use Rattle.std.proofs.Common.{◌≡◌, ◌+◌, ◌-◌, false, take, length}
-use Rattle.std.specs.List.{list_any}
+use Rattle.gix_validate.proofs.Common.{◌≡◌, ◌+◌, ◌-◌, false, take, length, list_any}
 use Rattle.gix_validate.proofs.scan.has.Given as goal
 
 abbrev pub invariant-loop-at : goal.invariant-loop-at

@@ -1,5 +1,4 @@
-use Rattle.std.proofs.Common.{arith}
-use Rattle.std.proofs.lemmas.Bool.Decides.{nat_tests}
+use Rattle.gix_validate.proofs.Common.{arith, nat_tests}
 use Rattle.gix_validate.proofs.TagNames.ClearTexts.{fault_found, fault_none, none_to_suspect}
 use Rattle.gix_validate.proofs.tag.fault_at_first_offset.Goals as goal
 

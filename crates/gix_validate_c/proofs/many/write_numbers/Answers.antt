@@ -1,4 +1,4 @@
-use Rattle.std.proofs.Common.{arith}
+use Rattle.gix_validate.proofs.Common.{arith}
 use Rattle.gix_validate_c.proofs.NumbersWritten.{one_more, no_room}
 use Rattle.gix_validate_c.specs.Numbers.{code_by}
 use Rattle.gix_validate_c.proofs.many.write_numbers.Goals as goal

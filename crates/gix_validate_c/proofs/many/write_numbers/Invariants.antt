@@ -1,4 +1,4 @@
-use Rattle.std.proofs.Common.{◌+◌, ◌≤◌, length}
+use Rattle.gix_validate.proofs.Common.{◌+◌, ◌≤◌, length}
 use Rattle.gix_validate.specs.Pieces.{names_in}
 use Rattle.gix_validate_c.proofs.NumbersWritten.{Written}
 use Rattle.gix_validate_c.specs.Numbers.{code_by}

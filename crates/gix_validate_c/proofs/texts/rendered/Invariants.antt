@@ -1,6 +1,5 @@
 -- The words, the quote and the escapes of the bytes so far are in the text, at most four bytes an escape.
-use Rattle.std.proofs.Common.{◌≡◌, ◌+◌, ◌*◌, ◌≤◌, ◌++◌, length, take}
-use Rattle.std.specs.Prelude.{codes, flat_map}
+use Rattle.gix_validate.proofs.Common.{◌≡◌, ◌+◌, ◌*◌, ◌≤◌, ◌++◌, length, take, codes, flat_map}
 use Rattle.arrayvec.specs.ArrayString.{array_string_len}
 use Rattle.gix_validate.specs.Quoted.{escape_of}
 use Rattle.gix_validate_c.proofs.texts.rendered.Given as goal

@@ -1,6 +1,4 @@
-use Rattle.std.proofs.Common.{◌∙◌, rules, tests}
-use Rattle.std.proofs.lemmas.Iterator.{YieldsList-from_slice}
-use Rattle.std.proofs.lemmas.Iterator.Search.{position_from_yields_List}
+use Rattle.gix_validate.proofs.Common.{◌∙◌, rules, tests, YieldsList-from_slice, position_from_yields_List}
 use Rattle.typed_names.specs.Names.{name_bytes}
 use Rattle.examples.specs.Targets.{entry_of, is_named}
 use Rattle.examples.proofs.TargetLemmas.{position_in_entries}

@@ -1,5 +1,4 @@
-use Rattle.std.proofs.Common.{arith}
-use Rattle.std.proofs.lemmas.Nat.Bits.{bit_at-zero}
+use Rattle.gix_validate.proofs.Common.{arith, bit_at-zero}
 use Rattle.gix_validate.proofs.Blocks.Lanes.{none_nonzero, suspect_lane}
 use Rattle.gix_validate.proofs.adjacent.SuspectPattern.hits.Goals as goal
 

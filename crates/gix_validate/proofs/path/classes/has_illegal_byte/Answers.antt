@@ -1,4 +1,4 @@
-use Rattle.std.proofs.Common.{◌∙◌}
+use Rattle.gix_validate.proofs.Common.{◌∙◌}
 use Rattle.gix_validate.proofs.Blocks.ByteClasses.{illegal_is}
 use Rattle.gix_validate.proofs.path.classes.has_illegal_byte.Goals as goal
 

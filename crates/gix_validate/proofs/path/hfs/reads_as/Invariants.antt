@@ -1,5 +1,4 @@
-use Rattle.std.proofs.Common.{◌≡◌, drop}
-use Rattle.std.specs.Str.{bytes_eq}
+use Rattle.gix_validate.proofs.Common.{◌≡◌, drop, bytes_eq}
 use Rattle.gix_validate.specs.Bytes.{lower}
 use Rattle.gix_validate.specs.Hfs.{hfs_form}
 use Rattle.gix_validate.proofs.path.hfs.reads_as.Given as goal

@@ -1,4 +1,4 @@
-use Rattle.std.proofs.Common.{◌≡◌, ◌+◌, drop}
+use Rattle.gix_validate.proofs.Common.{◌≡◌, ◌+◌, drop}
 use Rattle.gix_validate.specs.Units.{fitting_len}
 use Rattle.gix_validate.proofs.path.units.fitting_len.Given as goal
 

@@ -1,4 +1,4 @@
-use Rattle.std.proofs.Common.{◌≡◌, drop}
+use Rattle.gix_validate.proofs.Common.{◌≡◌, drop}
 use Rattle.gix_validate.specs.Bytes.{is_empty}
 use Rattle.gix_validate.specs.Windows.{device_form}
 use Rattle.gix_validate.proofs.path.windows.ends_form.Given as goal

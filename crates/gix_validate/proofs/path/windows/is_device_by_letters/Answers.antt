@@ -1,5 +1,4 @@
-use Rattle.std.proofs.Common.{sym, arith}
-use Rattle.std.proofs.lemmas.Bool.Decides.{nat_tests}
+use Rattle.gix_validate.proofs.Common.{sym, arith, nat_tests}
 use Rattle.gix_validate.proofs.Components.Devices.{device_unlettered, are_letters}
 use Rattle.gix_validate.proofs.path.windows.is_device_by_letters.Goals as goal
 

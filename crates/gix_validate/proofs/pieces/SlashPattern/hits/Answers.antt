@@ -1,5 +1,4 @@
-use Rattle.std.proofs.Common.{eqb}
-use Rattle.std.specs.Str.{byte}
+use Rattle.gix_validate.proofs.Common.{eqb, byte}
 use Rattle.gix_validate.proofs.Blocks.Lanes.{lane_mask}
 use Rattle.gix_validate.proofs.pieces.SlashPattern.hits.Goals as goal
 

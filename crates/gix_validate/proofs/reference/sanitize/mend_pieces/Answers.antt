@@ -1,6 +1,4 @@
-use Rattle.std.proofs.Common.{arith, length-take}
-use Rattle.std.proofs.lemmas.Bool.Decides.{nat_tests}
-use Rattle.std.proofs.lemmas.List.{take-take}
+use Rattle.gix_validate.proofs.Common.{arith, length-take, nat_tests, take-take}
 use Rattle.gix_validate.proofs.Sanitizing.OneBuffer.{MendedUpTo, MendedUpTo-start, MendedUpTo-byte, MendedUpTo-dots, MendedUpTo-slash}
 use Rattle.gix_validate.proofs.Sanitizing.OneBuffer.{mended_text, before_front, added-plain, mended-some, mended-none}
 use Rattle.gix_validate.proofs.reference.sanitize.mend_pieces.Goals as goal

@@ -1,5 +1,4 @@
-use Rattle.std.proofs.Common.{arith}
-use Rattle.std.proofs.lemmas.Grind.{common_steps}
+use Rattle.gix_validate.proofs.Common.{arith, common_steps}
 use Rattle.gix_validate.proofs.reference.sanitize.repair_end.Goals as goal
 
 pub returns-then-last-eq46-clause-text : goal.returns-then-last-eq46-clause-text

@@ -1,4 +1,4 @@
-use Rattle.std.proofs.Common.{◌≡◌, true, take, subst, sym, refl, arith}
+use Rattle.gix_validate.proofs.Common.{◌≡◌, true, take, subst, sym, refl, arith}
 use Rattle.gix_validate.specs.Reference.{is_partial_name}
 use Rattle.gix_validate.specs.Sanitized.{sanitized, IsPiecewise}
 use Rattle.gix_validate.proofs.Sanitizing.OneBuffer.{in_place}

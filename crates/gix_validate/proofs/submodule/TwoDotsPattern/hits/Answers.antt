@@ -1,5 +1,4 @@
-use Rattle.std.proofs.Common.{bit_and, eqb}
-use Rattle.std.specs.Str.{byte}
+use Rattle.gix_validate.proofs.Common.{bit_and, eqb, byte}
 use Rattle.gix_validate.proofs.Blocks.Lanes.{both_mask, of_both}
 use Rattle.gix_validate.proofs.submodule.TwoDotsPattern.hits.Goals as goal
 

@@ -1,7 +1,5 @@
 -- The words, the quote and the escapes of the bytes so far are written.
-use Rattle.std.proofs.Common.{◌++◌, take}
-use Rattle.std.specs.Fmt.{HasWritten, IsPlainFormatter}
-use Rattle.std.specs.Prelude.{codes, flat_map}
+use Rattle.gix_validate.proofs.Common.{◌++◌, take, HasWritten, IsPlainFormatter, codes, flat_map}
 use Rattle.gix_validate.specs.Quoted.{escape_of}
 use Rattle.gix_validate.proofs.text.TextDisplay.fmt.Given as goal
 

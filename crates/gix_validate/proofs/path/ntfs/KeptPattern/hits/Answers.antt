@@ -1,5 +1,4 @@
-use Rattle.std.proofs.Common.{ℕ, bit_and, eqb, not}
-use Rattle.std.specs.Str.{byte}
+use Rattle.gix_validate.proofs.Common.{ℕ, bit_and, eqb, not, byte}
 use Rattle.gix_validate.proofs.Blocks.Lanes.{both_mask, of_both}
 use Rattle.gix_validate.proofs.path.ntfs.KeptPattern.hits.Goals as goal
 

@@ -1,5 +1,4 @@
-//! What is printed for a `.gitmodules` file. A function fails only if a vector can't grow. The
-//! beginning of its lines may have been appended then.
+//! What is printed for a `.gitmodules` file.
 
 ghost use Rattle.std.specs.Prelude.{◌≡◌, ◌++◌, OnOk};
 ghost use Rattle.gitmodules.specs.Sections.{sections};
@@ -21,6 +20,11 @@ use std::io::Write;
 /// push_lines(id, b"[submodule \"..\"]\n", &mut name, &mut lines)?;
 /// // ID 0 ".." Submodules names must not contains '..'
 /// ```
+///
+/// # Errors
+///
+/// An error if `name` or `lines` can't grow. The beginning of the lines may have been appended
+/// then.
 ///
 /// # Memory
 ///
@@ -74,6 +78,10 @@ fn push_start(id: &[u8], offset: usize, lines: &mut Vec<u8>) -> io::Result<()>
 }
 
 /// Appends the line of a file that is too large to be read.
+///
+/// # Errors
+///
+/// An error if `lines` can't grow. The beginning of the line may have been appended then.
 pub(crate) fn push_too_large(id: &[u8], lines: &mut Vec<u8>) -> io::Result<()>
     ensures { OnOk result (lines.new.items ≡ lines.old.items ++ too_large_line id.now) }
 {

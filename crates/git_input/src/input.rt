@@ -1,7 +1,4 @@
 //! Bounded reads that say where the input ends.
-//!
-//! Each fails with [`RunError::Read`] if reading failed. Those into a vector drop its old contents.
-//! They fail with [`RunError::Memory`] if it can't grow, and nothing else allocates.
 
 ghost use Rattle.std.specs.Prelude.{◌≡◌, ◌≢◌, ◌↔◌, ◌<◌, ℕ, true, List, [], vec_capacity, Err, IsOk, IfOk, IfSome, OnErr, OnSome, Some};
 ghost use Rattle.std.specs.IoError.{error_kind};
@@ -53,8 +50,12 @@ pub enum Found {
     End,
 }
 
-/// Reads the bytes before the first `byte` into `front`, and then `byte` itself, which is not
-/// appended. It reads at most `limit` bytes.
+/// Reads the bytes before the first `byte` into `front`, whose old contents are dropped, and then
+/// `byte` itself, which is not appended. It reads at most `limit` bytes. Only `front` allocates.
+///
+/// # Errors
+///
+/// [`RunError::Read`] if reading failed, and [`RunError::Memory`] if `front` can't grow.
 pub fn read_before<R: BufRead>(
     input: &mut R,
     byte: u8,
@@ -96,7 +97,12 @@ fn cut_at(byte: u8, shown: &[u8]) -> (&[u8], usize, Option<Found>)
     }
 }
 
-/// Reads `count` bytes into `bytes`, and returns whether the input had that many.
+/// Reads `count` bytes into `bytes`, whose old contents are dropped, and returns whether the input
+/// had that many. Only `bytes` allocates.
+///
+/// # Errors
+///
+/// [`RunError::Read`] if reading failed, and [`RunError::Memory`] if `bytes` can't grow.
 pub fn read_bytes<R: BufRead>(
     input: &mut R,
     count: usize,
@@ -123,7 +129,11 @@ pub fn read_bytes<R: BufRead>(
     Err(RunError::Read)
 }
 
-/// Skips `count` bytes, and returns whether the input had that many.
+/// Skips `count` bytes, and returns whether the input had that many. It does not allocate.
+///
+/// # Errors
+///
+/// [`RunError::Read`] if reading failed.
 pub fn skip<R: BufRead>(input: &mut R, count: u64) -> Result<bool, RunError>
     ensures read { IfOk result (λ whole. (bytes : List ℕ)
         × ReadsExactly count (R.remaining input.old) (R.remaining input.new) bytes whole) }
@@ -145,7 +155,11 @@ pub fn skip<R: BufRead>(input: &mut R, count: u64) -> Result<bool, RunError>
     Err(RunError::Read)
 }
 
-/// Reads a byte, if one is left.
+/// Reads a byte, if one is left. It does not allocate.
+///
+/// # Errors
+///
+/// [`RunError::Read`] if reading failed.
 pub fn read_byte<R: BufRead>(input: &mut R) -> Result<Option<u8>, RunError>
     ensures byte { IfOk result (λ byte. ReadsNext (R.remaining input.old) (R.remaining input.new) byte) }
     ensures stop { OnErr result (result ≡ Err RunError.Read) }
@@ -161,7 +175,11 @@ pub fn read_byte<R: BufRead>(input: &mut R) -> Result<Option<u8>, RunError>
     Err(RunError::Read)
 }
 
-/// Returns whether the input has ended. It consumes no byte.
+/// Returns whether the input has ended. It consumes no byte, and does not allocate.
+///
+/// # Errors
+///
+/// [`RunError::Read`] if reading failed.
 pub fn is_at_end<R: BufRead>(input: &mut R) -> Result<bool, RunError>
     ensures known { IfOk result (λ ended. IfSome (R.remaining input.old) (λ rest. ended ≡ is_empty rest)) }
     ensures kept { IfOk result (λ ended. Consumes (R.remaining input.old) (R.remaining input.new) []) }

@@ -1,4 +1,4 @@
-//! Output: quoted names, and ids in hexadecimal digits. A function fails only if `line` can't grow.
+//! Output: quoted names, and ids in hexadecimal digits.
 
 ghost use Rattle.std.specs.Prelude.{◌≡◌, ◌++◌, flat_map, OnOk};
 ghost use Rattle.gix_validate.specs.Quoted.{quoted};
@@ -10,6 +10,10 @@ use std::alloc::AllocError;
 const HEX_DIGITS: &[u8; 16] = b"0123456789abcdef";
 
 /// Appends two hexadecimal digits, in lower case, for each byte.
+///
+/// # Errors
+///
+/// `AllocError` if `line` can't grow.
 pub fn push_hex(line: &mut Vec<u8>, bytes: &[u8]) -> Result<(), AllocError>
     ensures { OnOk result (line.new.items ≡ line.old.items ++ flat_map hex_pair bytes.now) }
 {
@@ -29,6 +33,10 @@ fn push_pair(line: &mut Vec<u8>, byte: u8) -> Result<(), AllocError>
 }
 
 /// Appends a name between double quotes, with its bytes escaped (docs/RULES.md, "Quoted bytes").
+///
+/// # Errors
+///
+/// `AllocError` if `line` can't grow.
 pub fn push_quoted(line: &mut Vec<u8>, name: &[u8]) -> Result<(), AllocError>
     ensures { OnOk result (line.new.items ≡ line.old.items ++ quoted name.now) }
 {

@@ -1,5 +1,4 @@
 //! Parts of a line: the bytes before a separator, a number in digits, and the id of an object.
-//! Nothing allocates.
 
 ghost use Rattle.std.specs.Prelude.{◌≡◌};
 ghost use Rattle.std.specs.List.{list_all};
@@ -13,6 +12,8 @@ use memchr::memchr;
 /// ```
 /// split_once(b' ', b"tree 32"); // Some((b"tree", b"32"))
 /// ```
+///
+/// It does not allocate.
 #[tactic(auto, using(crate::proofs::SplitTexts::searched))]
 pub fn split_once(separator: u8, text: &[u8]) -> Option<(&[u8], &[u8])>
     ensures parts { option_map (λ parts. (parts.0.now, parts.1.now)) result ≡ split_once separator text.now }
@@ -22,6 +23,8 @@ pub fn split_once(separator: u8, text: &[u8]) -> Option<(&[u8], &[u8])>
 }
 
 /// Whether the bytes are a full object id: 40 or 64 hexadecimal digits in lower case.
+///
+/// It does not allocate.
 #[tactic(auto, unfolding(crate::specs::Texts::is_id))]
 pub fn is_id(text: &[u8]) -> bool
     ensures id { result ≡ is_id text.now }
@@ -46,6 +49,8 @@ fn are_hex_digits(text: &[u8]) -> bool
 /// ```
 /// number_of(8, b"100644"); // Some(0o100644)
 /// ```
+///
+/// It does not allocate.
 #[tactic(auto, using(std::proofs::lemmas::Grind::common_steps, crate::proofs::Numbers::numbers))]
 pub fn number_of(base: u64, digits: &[u8]) -> Option<u64>
     ensures number { result ≡ number_of base digits.now }

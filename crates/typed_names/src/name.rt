@@ -78,7 +78,11 @@ impl<'a, R: Rule> Name<'a, R> {
     ghost use Rattle.typed_names.specs.Names.{name_text, NewChecks};
 
     /// Returns `name` as a typed name if the rule accepts it. It does not allocate.
-    /// The aliases have examples.
+    ///
+    /// ```
+    /// FullName::new(BStr::from("refs/heads/main"))?; // keeps `refs/heads/main`
+    /// FullName::new(BStr::from("main")); // SomeLowercase
+    /// ```
     ///
     /// # Errors
     ///

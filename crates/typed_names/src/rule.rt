@@ -48,7 +48,11 @@ pub trait Rule {
 }
 
 /// The rule of tag names, [`tag::name`] (docs/RULES.md, "Tag names").
-/// [`TagName`](crate::TagName) has examples.
+///
+/// ```
+/// Tag::check(BStr::from("v1.2.3"))?; // returns `v1.2.3`
+/// Tag::check(BStr::from("v1..2")); // RepeatedDot
+/// ```
 pub enum Tag {}
 
 impl Rule for Tag {
@@ -66,7 +70,11 @@ impl Rule for Tag {
 }
 
 /// The rule of partial names, [`reference::name_partial`] (docs/RULES.md, "Reference names").
-/// [`PartialName`](crate::PartialName) has examples.
+///
+/// ```
+/// Partial::check(BStr::from("main"))?; // returns `main`
+/// Partial::check(BStr::from("@")); // Reserved, with the name `@`
+/// ```
 pub enum Partial {}
 
 impl Rule for Partial {
@@ -84,7 +92,11 @@ impl Rule for Partial {
 }
 
 /// The rule of full names, [`reference::name`] (docs/RULES.md, "Reference names").
-/// [`FullName`](crate::FullName) has examples.
+///
+/// ```
+/// Full::check(BStr::from("HEAD"))?; // returns `HEAD`
+/// Full::check(BStr::from("main")); // SomeLowercase
+/// ```
 pub enum Full {}
 
 impl Rule for Full {
@@ -102,7 +114,11 @@ impl Rule for Full {
 }
 
 /// The rule of names of branches, [`reference::branch_name`] (docs/RULES.md, "Reference names").
-/// [`BranchName`](crate::BranchName) has examples.
+///
+/// ```
+/// Branch::check(BStr::from("refs/heads/main"))?; // returns `refs/heads/main`
+/// Branch::check(BStr::from("refs/heads/HEAD")); // Reserved, with the name `refs/heads/HEAD`
+/// ```
 pub enum Branch {}
 
 impl Rule for Branch {
@@ -120,7 +136,11 @@ impl Rule for Branch {
 }
 
 /// The rule of submodule names, [`submodule::name`] (docs/RULES.md, "Submodule names").
-/// [`SubmoduleName`](crate::SubmoduleName) has examples.
+///
+/// ```
+/// Submodule::check(BStr::from("vendor/package"))?; // returns `vendor/package`
+/// Submodule::check(BStr::from("a/../b")); // ParentComponent
+/// ```
 pub enum Submodule {}
 
 impl Rule for Submodule {

@@ -37,7 +37,7 @@ first_entry tree left text = entry_of (short_of (nat_lt (length text) left)) (le
 
 abbrev pub first_said : Options → ParsedObject → Result (ParsedEntry × List ℕ) Malformation → Said
 first_said options tree (Ok entry) = entry_said options tree entry.0
-first_said options tree (Err fault) = nothing
+first_said options tree (Err malformation) = nothing
 
 abbrev pub EntryGives : Options → ParsedObject → ℕ → List ℕ → Option (List ℕ) → Option (List ℕ) → Option (List ℕ)
     → Result (Result Checked Malformation) RunError → Type 0
@@ -45,13 +45,13 @@ EntryGives options tree left text new before after (Ok (Ok checked)) =
     (entry : ParsedEntry) × (first_entry tree left text ≡ Ok (entry, take (left - checked.len) (drop checked.len text)))
     × (new ≡ Some (drop checked.len text)) × (checked.len ≤ length text)
     × Appends before after (entry_said options tree entry).lines × (checked.refused ≡ (entry_said options tree entry).refused)
-EntryGives options tree left text new before after (Ok (Err fault)) = (first_entry tree left text ≡ Err fault) × Appends before after []
+EntryGives options tree left text new before after (Ok (Err malformation)) = (first_entry tree left text ≡ Err malformation) × Appends before after []
 EntryGives options tree left text new before after (Err stop) = stop ≢ Write → AppendsPrefixOf before after (first_said options tree (first_entry tree left text)).lines
 
 -- no more was read than the entry, or than was left of the tree
 abbrev pub EntryReads : ℕ → Option (List ℕ) → Option (List ℕ) → Result Checked Malformation → Type 0
 EntryReads left old new (Ok checked) = ReadsUpTo checked.len old new
-EntryReads left old new (Err fault) = ReadsUpTo left old new
+EntryReads left old new (Err malformation) = ReadsUpTo left old new
 
 -- the bytes of an id were passed, and kept where the entry is listed
 abbrev pub PassesId : Finding → ℕ → Option (List ℕ) → Option (List ℕ) → List ℕ → Bool → Type 0

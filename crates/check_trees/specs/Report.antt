@@ -80,7 +80,7 @@ entry_said options tree entry = finding_said tree entry (finding_of options entr
 
 -- The entries of a tree, one after the other until its bytes are used up. (`fuel` is at least their number.)
 abbrev pub entries_then : (List ℕ → Judged) → Options → ParsedObject → Result (ParsedEntry × List ℕ) Malformation → Judged
-entries_then more options tree (Err fault) = (nothing, Some fault)
+entries_then more options tree (Err malformation) = (nothing, Some malformation)
 entries_then more options tree (Ok entry) = let others = more entry.1 in (then_said (entry_said options tree entry.0) others.0, others.1)
 
 abbrev pub entries_within : ℕ → Options → Malformation → ParsedObject → List ℕ → Judged

@@ -109,7 +109,7 @@ fn check_tree<R: BufRead, W: Write>(
                 left -= entry.len;
                 refused |= entry.refused;
             }
-            Err(fault) => return Ok(Err(fault)),
+            Err(malformation) => return Ok(Err(malformation)),
         }
     }
     Ok(Ok(refused))

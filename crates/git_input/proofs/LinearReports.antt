@@ -36,7 +36,7 @@ id_length id e = grind arith
 -- so many bytes are read, or else those before what is left
 abbrev pub IsStepWithin : ℕ → ℕ → Step → Type 0
 IsStepWithin most count (said, Ok rest) = length said.lines + most * length rest ≤ most * count
-IsStepWithin most count (said, Err fault) = length said.lines ≤ most * count
+IsStepWithin most count (said, Err malformation) = length said.lines ≤ most * count
 
 -- what is said of a line without its end, and of what belongs to it
 abbrev pub IsLineWithin : ℕ → LineRule → Type 0
@@ -58,7 +58,7 @@ module _ (most : ℕ) (rule : LineRule) (leaves : LeavesTheEnd rule) (ending : E
   pub prints_at_most : PrintsAtMost most (report rule ending)
   unfolding report
   prints_at_most = by_lines rule leaves ending (λ text all. length all.said.lines ≤ most * length text) (λ number. omega arith) (λ text is. omega arith)
-      (λ number text said fault e. rw e at (line_within text))
+      (λ number text said malformation e. rw e at (line_within text))
       (λ text said rest after e go. (let step = rw e at (line_within text) in omega (arith, step, go, length-append said.lines after.said.lines))) 1
 
 -- ---- objects
@@ -87,7 +87,7 @@ module _ (most count : ℕ) (said : Said) (front : List ℕ) (few : length said.
 module _ (most : ℕ) where
   closed_within : (count : ℕ) (judged : Judged) (front after : List ℕ) → length judged.0.lines ≤ most * length front → length front + length after ≤ count
       → IsStepWithin most count (closed judged after)
-  closed_within count (said, Some fault) front after few fits = few_within most count said front few (omega (arith, fits))
+  closed_within count (said, Some malformation) front after few fits = few_within most count said front few (omega (arith, fits))
   closed_within count (said, None) front after few fits = after_within most count said front few after fits
 
   missing_within : (whole : Bool) (count : ℕ) (text : List ℕ) → length text ≤ count → IsStepWithin most count (nothing, if whole then Err Absent else Ok text)

@@ -14,7 +14,7 @@ use Rattle.git_input.specs.declared.lines.Ending.TheVariants.{Anywhere, EndLine,
 use Rattle.git_input.specs.declared.input.Found.TheVariants.{Byte, Limit, End}
 use Rattle.git_input.specs.Texts.{line_end, split_once}
 use Rattle.git_input.specs.Reports.{longest, Said, nothing, Step, LineRule, LeavesTheEnd, line_with, line_of, Report, lines_then, end_word, end_line}
-use Rattle.git_input.specs.Reports.{is_end, fault_at_end, at_end, at_end_line, lines_within, lines_from, report, verdict_of}
+use Rattle.git_input.specs.Reports.{is_end, malformation_at_end, at_end, at_end_line, lines_within, lines_from, report, verdict_of}
 use Rattle.cli.specs.Writes.{AppendsPrefixOf}
 use Rattle.git_input.specs.Promises.{FollowsRule, ReadsBefore, is_end_word}
 use Rattle.git_input.specs.Reports.{EndsIn}
@@ -162,21 +162,21 @@ module _ (rule : LineRule) (leaves : LeavesTheEnd rule) (ending : Ending) (numbe
       goes sofar _ c new more (IfSome_then b gives.known (λ rest (some, other, (appends, found, (after, left, is))).
       ((line_of rule rest).0, after, left, grind (arith, lines_first rule leaves ending number rest), appends, found)))
 
-  pub stream_faults : {new : Option (List ℕ)} {fault : Malformation} → LineGives rule ending b None mid new (Ok (Err fault))
-      → IfSome a (λ text. Appends old new (report rule ending text).said.lines × (Malformed number fault ≡ verdict_of (report rule ending text)))
+  pub stream_faults : {new : Option (List ℕ)} {malformation : Malformation} → LineGives rule ending b None mid new (Ok (Err malformation))
+      → IfSome a (λ text. Appends old new (report rule ending text).said.lines × (Malformed number malformation ≡ verdict_of (report rule ending text)))
   unfolding report
-  stream_faults {new = new} {fault = fault} gives = grind (arith, lines_first, Appends-trans)
+  stream_faults {new = new} {malformation = malformation} gives = grind (arith, lines_first, Appends-trans)
 
   -- nothing is left, and nothing has to be
-  pub stream_ends : {front : List ℕ} {now : Option (List ℕ)} → ReadsBefore line_end longest b now front End → front ≡ [] → None ≡ fault_at_end ending number
+  pub stream_ends : {front : List ℕ} {now : Option (List ℕ)} → ReadsBefore line_end longest b now front End → front ≡ [] → None ≡ malformation_at_end ending number
       → IfSome a (λ text. Appends old mid (report rule ending text).said.lines × (cond refused Refused Clean ≡ verdict_of (report rule ending text)))
   unfolding report
   stream_ends read none other = IfSome_then a sofar.known (λ text so. grind (arith, append-nil, lines_none))
 
   -- nothing is left, and something has to be
-  pub stream_breaks : {front : List ℕ} {now : Option (List ℕ)} {fault : Malformation} → ReadsBefore line_end longest b now front End → front ≡ []
-      → Some fault ≡ fault_at_end ending number
-      → IfSome a (λ text. Appends old mid (report rule ending text).said.lines × (Malformed number fault ≡ verdict_of (report rule ending text)))
+  pub stream_breaks : {front : List ℕ} {now : Option (List ℕ)} {malformation : Malformation} → ReadsBefore line_end longest b now front End → front ≡ []
+      → Some malformation ≡ malformation_at_end ending number
+      → IfSome a (λ text. Appends old mid (report rule ending text).said.lines × (Malformed number malformation ≡ verdict_of (report rule ending text)))
   unfolding report
   stream_breaks read none asked = IfSome_then a sofar.known (λ text so. grind (arith, append-nil, lines_none))
 

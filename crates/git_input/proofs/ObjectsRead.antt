@@ -9,7 +9,7 @@ use Rattle.cli.specs.Writes.{AppendsPrefixOf}
 use Rattle.git_input.specs.Promises.{FollowsRule, Closes, body_step}
 
 abbrev pub then_closed : Step → Step
-then_closed (said, Err fault) = (said, Err fault)
+then_closed (said, Err malformation) = (said, Err malformation)
 then_closed (said, Ok text) = (said, after_end text)
 
 step_closed : (rule : ObjectRule) (object : ParsedObject) (text : List ℕ)
@@ -30,7 +30,7 @@ pub closed_gives : (rule : ObjectRule) (object : ParsedObject) (a b c old new : 
 closed_gives rule object a b c old new refused r body end = grind (arith, IfSome_then, closes_gives)
 
 -- what they gave is wrong
-pub faulty_gives : (rule : ObjectRule) (object : ParsedObject) (a b c old new : Option (List ℕ)) (fault : Malformation)
-    → IfSome a (λ text. FollowsRule (body_step rule object text) b old new (Ok (Err fault)))
-    → IfSome a (λ text. FollowsRule (object_step rule object text) c old new (Ok (Err fault)))
-faulty_gives rule object a b c old new fault body = IfSome_then a body (λ text e. grind (arith, step_closed rule object text))
+pub faulty_gives : (rule : ObjectRule) (object : ParsedObject) (a b c old new : Option (List ℕ)) (malformation : Malformation)
+    → IfSome a (λ text. FollowsRule (body_step rule object text) b old new (Ok (Err malformation)))
+    → IfSome a (λ text. FollowsRule (object_step rule object text) c old new (Ok (Err malformation)))
+faulty_gives rule object a b c old new malformation body = IfSome_then a body (λ text e. grind (arith, step_closed rule object text))

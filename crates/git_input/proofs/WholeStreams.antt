@@ -14,7 +14,7 @@ module _ (rule : LineRule) (leaves : LeavesTheEnd rule) where
   pub ended_whole : IsWhole rule
   unfolding report
   ended_whole text = by_lines rule leaves EndLine (λ text all. all.malformed ≡ None → EndsIn text end_line) (λ number none. grind arith)
-      (λ text is none. ([], (bytes_eq-Decides text end_line).0 is)) (λ number text said fault e none. grind arith)
+      (λ text is none. ([], (bytes_eq-Decides text end_line).0 is)) (λ number text said malformation e none. grind arith)
       (λ text said rest after e go none. ends_then text rest end_line (rw e at (line_ends rule leaves text)) (go none)) 1 text
 
 pub whole_stream : (rule : ObjectRule) (whole : Bool) → IsWholeStream rule whole

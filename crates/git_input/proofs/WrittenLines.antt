@@ -14,8 +14,8 @@ use Rattle.git_input.proofs.LinesRead.{line_shorter, lines_first, lines_none, li
 
 module _ (rule : LineRule) (leaves : LeavesTheEnd rule) (ending : Ending) (P : List ℕ → Report → Type 0) (none : (number : ℕ) → P [] (at_end ending number))
     (marked : (text : List ℕ) → is_end ending text ≡ true → P text at_end_line)
-    (malformed : (number : ℕ) (text : List ℕ) (said : Said) (fault : Malformation) → line_of rule text ≡ (said, Err fault)
-    → P text (record { said = said; malformed = Some (number, fault); rest = text }))
+    (malformed : (number : ℕ) (text : List ℕ) (said : Said) (malformation : Malformation) → line_of rule text ≡ (said, Err malformation)
+    → P text (record { said = said; malformed = Some (number, malformation); rest = text }))
     (before : (text : List ℕ) (said : Said) (rest : List ℕ) (after : Report) → line_of rule text ≡ (said, Ok rest) → P rest after
     → P text (before_report said after)) where
   by_step : (more : List ℕ → Report) (number : ℕ) (text : List ℕ) (step : Step) → line_of rule text ≡ step → IfOk step.1 (λ rest. P rest (more rest))
@@ -85,7 +85,7 @@ module _ {X : Type 0} {rule : LineRule} {ending : Ending} {IsPart : X → Type 0
   well_formed text = by_lines rule are.leaves ending (λ text all. all.malformed ≡ None → AreParts ending IsPart spelling said_of text all.said)
       (λ number none. record { parts = []; each = tt; text_is = no_parts ending number none; said_is = refl })
       (λ text is none. record { parts = []; each = tt; text_is = end_marked ending text is; said_is = refl })
-      (λ number text said fault e none. absurd (grind arith))
+      (λ number text said malformation e none. absurd (grind arith))
       (λ text said rest after e go none.
       let (part, good, cut, same) = rw e at (are.only text) in
       let more = go none in

@@ -13,7 +13,7 @@ use Rattle.git_input.specs.declared.outcome.Malformation.TheVariants.{Header}
 use Rattle.git_input.specs.declared.outcome.Verdict.{Verdict}
 use Rattle.git_input.specs.declared.outcome.Verdict.TheVariants.{Clean, Refused, Malformed}
 use Rattle.git_input.specs.declared.runs.Program.{Program}
-use Rattle.git_input.specs.Messages.{fault_text_of}
+use Rattle.git_input.specs.Messages.{malformation_text_of}
 use Rattle.git_input.specs.Reports.{Reach, Report, IsCleanIff}
 use Rattle.git_input.specs.Promises.{Runs}
 
@@ -29,20 +29,20 @@ Gives report reach IsAccepted input rest output written ran =
 -- what a message adds if the first line is not a header line
 abbrev pub hint_of : List ℕ → ℕ → Malformation → List ℕ
 hint_of hint number Header = if number == 1 then hint else []
-hint_of hint number fault = []
+hint_of hint number malformation = []
 
 -- what is said of a malformed part of an input
 abbrev pub malformed_text : Program → ℕ → Malformation → List ℕ
-malformed_text program number fault =
-    codes "malformed input: " ++ program.unit.now ++ codes " " ++ decimal number ++ codes ": " ++ fault_text_of fault
-    ++ hint_of program.hint.now number fault
+malformed_text program number malformation =
+    codes "malformed input: " ++ program.unit.now ++ codes " " ++ decimal number ++ codes ": " ++ malformation_text_of malformation
+    ++ hint_of program.hint.now number malformation
 
 -- The status after a run and what is said: 0 or 1 and nothing, or 2 and what is malformed, or why the run failed.
 abbrev pub EndsBy : {E : Type 0} → Program → (E → Option (List ℕ)) → (errors said : Messages E) → ExitCode → Ran → Type 0
 EndsBy program contents errors said ended (Ok Clean) = (exit_status ended ≡ 0) × (said ≡ errors)
 EndsBy program contents errors said ended (Ok Refused) = (exit_status ended ≡ 1) × (said ≡ errors)
-EndsBy program contents errors said ended (Ok (Malformed number fault)) =
-    (exit_status ended ≡ 2) × Says contents errors said (message program.name.now (malformed_text program number fault))
+EndsBy program contents errors said ended (Ok (Malformed number malformation)) =
+    (exit_status ended ≡ 2) × Says contents errors said (message program.name.now (malformed_text program number malformation))
 EndsBy program contents errors said ended (Err stop) =
     (exit_status ended ≡ 2) × Says contents errors said (message program.name.now (stop_text_of stop))
 

@@ -24,7 +24,7 @@ after_end (b ∷ text) = if b == line_end then Ok text else Err LineEnd
 
 -- an object that is judged so, and the text after it
 abbrev pub closed : Judged → List ℕ → Step
-closed (said, Some fault) text = (said, Err fault)
+closed (said, Some malformation) text = (said, Err malformation)
 closed (said, None) text = (said, after_end text)
 
 -- an object at the front of what follows its header line

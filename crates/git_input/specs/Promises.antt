@@ -96,16 +96,16 @@ is_end_word how line = false
 abbrev pub FollowsRule : Step → Option (List ℕ) → Option (List ℕ) → Option (List ℕ) → Result (Result Bool Malformation) RunError → Type 0
 FollowsRule wanted left old new (Ok (Ok refused)) =
     Appends old new wanted.0.lines × (refused ≡ wanted.0.refused) × ((text : List ℕ) × (left ≡ Some text) × (wanted.1 ≡ Ok text))
-FollowsRule wanted left old new (Ok (Err fault)) = Appends old new wanted.0.lines × (wanted.1 ≡ Err fault)
+FollowsRule wanted left old new (Ok (Err malformation)) = Appends old new wanted.0.lines × (wanted.1 ≡ Err malformation)
 FollowsRule wanted left old new (Err stop) = stop ≢ Write → AppendsPrefixOf old new wanted.0.lines
 
 -- what a rule judges of an object, where the text after its header may have fewer bytes than it: then the input ended within it
 abbrev pub or_cut : Bool → Judged → Judged
-or_cut cut (said, Some fault) = (said, Some fault)
+or_cut cut (said, Some malformation) = (said, Some malformation)
 or_cut cut (said, None) = (said, when cut Ended)
 
 abbrev pub judged_with_rest : Judged → List ℕ → Step
-judged_with_rest (said, Some fault) text = (said, Err fault)
+judged_with_rest (said, Some malformation) text = (said, Err malformation)
 judged_with_rest (said, None) text = (said, Ok text)
 
 -- an object's bytes in the text after its header
@@ -116,5 +116,5 @@ body_step rule object text =
 -- the LF after an object was read
 abbrev pub Closes : Bool → List ℕ → Option (List ℕ) → Result (Result Bool Malformation) RunError → Type 0
 Closes refused text new (Ok (Ok found)) = (found ≡ refused) × ((rest : List ℕ) × (new ≡ Some rest) × (after_end text ≡ Ok rest))
-Closes refused text new (Ok (Err fault)) = after_end text ≡ Err fault
+Closes refused text new (Ok (Err malformation)) = after_end text ≡ Err malformation
 Closes refused text new (Err stop) = ⊤

@@ -76,7 +76,7 @@ before_report said report = record { said = then_said said report.said; malforme
 
 -- the first line of a text, which has this number, and what follows it
 abbrev pub lines_then : (List ℕ → Report) → ℕ → List ℕ → Step → Report
-lines_then more number text (said, Err fault) = record { said = said; malformed = Some (number, fault); rest = text }
+lines_then more number text (said, Err malformation) = record { said = said; malformed = Some (number, malformation); rest = text }
 lines_then more number text (said, Ok rest) = before_report said (more rest)
 
 -- The end line, without its newline and with it. Git prints it for the word `..end`, which no object, reference or path
@@ -98,14 +98,14 @@ is_end EndLine text = bytes_eq text end_line
 is_end how text = false
 
 -- what is wrong where the text ends before a line of this number
-abbrev pub fault_at_end : Ending → ℕ → Option Malformation
-fault_at_end Anywhere number = None
-fault_at_end EndLine number = Some NoEnd
-fault_at_end AfterALine number = when (number == 1) Empty
+abbrev pub malformation_at_end : Ending → ℕ → Option Malformation
+malformation_at_end Anywhere number = None
+malformation_at_end EndLine number = Some NoEnd
+malformation_at_end AfterALine number = when (number == 1) Empty
 
 -- nothing is left
 abbrev pub at_end : Ending → ℕ → Report
-at_end ending number = record { said = nothing; malformed = option_map (λ fault. (number, fault)) (fault_at_end ending number); rest = [] }
+at_end ending number = record { said = nothing; malformed = option_map (λ malformation. (number, malformation)) (malformation_at_end ending number); rest = [] }
 
 -- nothing more is said
 abbrev pub at_end_line : Report
@@ -139,7 +139,7 @@ IsCleanIff IsAccepted verdict text = (verdict ≡ Clean) ↔ IsAccepted text
 
 -- whether it says that something is malformed
 abbrev pub is_malformed : Verdict → Bool
-is_malformed (Malformed number fault) = true
+is_malformed (Malformed number malformation) = true
 is_malformed verdict = false
 
 -- ---- what is read where a line is malformed

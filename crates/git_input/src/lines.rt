@@ -8,7 +8,7 @@ ghost use Rattle.std.specs.Prelude.{◌≡◌, ◌≢◌, ◌<◌, [], Some, Err
 ghost use Rattle.std.specs.Io.KnownBytes.{Appends, Consumes, IsAtEnd};
 ghost use Rattle.cli.specs.Writes.{AppendsPrefixOf};
 ghost use Rattle.gix_validate.specs.Bytes.{is_empty};
-ghost use Rattle.git_input.specs.Reports.{IsWhole, LeavesTheEnd, LineRule, Reach, fault_at_end, is_malformed, report, verdict_of};
+ghost use Rattle.git_input.specs.Reports.{IsWhole, LeavesTheEnd, LineRule, Reach, malformation_at_end, is_malformed, report, verdict_of};
 ghost use Rattle.git_input.specs.Promises.{FollowsRule, ReadsUpTo, StopsWithin, is_end_word};
 
 use crate::input::{Found, TURNS, is_at_end, read_before};
@@ -113,7 +113,7 @@ pub fn run<C: LineCheck, R: BufRead, W: Write>(
     let mut refused = false;
     for before in 0..TURNS {
         let number = before + 1;
-        let fault = match read_before(input, b'\n', MAX_LINE as usize, &mut line)? {
+        let malformation = match read_before(input, b'\n', MAX_LINE as usize, &mut line)? {
             Found::Byte => {
                 if is_last(ending, &line, input)? {
                     return Ok(whole_input(refused));
@@ -123,17 +123,20 @@ pub fn run<C: LineCheck, R: BufRead, W: Write>(
                         refused |= more;
                         continue;
                     }
-                    Err(fault) => fault,
+                    Err(malformation) => malformation,
                 }
             }
             Found::Limit => Malformation::TooLong,
             Found::End if !line.is_empty() => Malformation::Ended,
-            Found::End => match fault_at_end(ending, number) {
-                Some(fault) => fault,
+            Found::End => match malformation_at_end(ending, number) {
+                Some(malformation) => malformation,
                 None => return Ok(whole_input(refused)),
             },
         };
-        return Ok(Verdict::Malformed { number, fault });
+        return Ok(Verdict::Malformed {
+            number,
+            malformation,
+        });
     }
     Err(RunError::Read)
 }
@@ -152,8 +155,8 @@ fn is_last<R: BufRead>(ending: Ending, line: &[u8], input: &mut R) -> Result<boo
 }
 
 /// What is wrong if the input ends before the line with this number.
-fn fault_at_end(ending: Ending, number: u64) -> Option<Malformation>
-    ensures { result ≡ fault_at_end ending number }
+fn malformation_at_end(ending: Ending, number: u64) -> Option<Malformation>
+    ensures { result ≡ malformation_at_end ending number }
 {
     match ending {
         Ending::EndLine => Some(Malformation::NoEnd),

@@ -81,7 +81,7 @@ fn check_and_close<C: ObjectCheck, R: BufRead, W: Write>(
 {
     match check.check_object(object, input, output, buffers)? {
         Ok(refused) => close(refused, input),
-        Err(fault) => Ok(Err(fault)),
+        Err(malformation) => Ok(Err(malformation)),
     }
 }
 

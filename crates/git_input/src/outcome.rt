@@ -15,8 +15,11 @@ pub enum Verdict {
     Clean,
     /// The input is well-formed, and something is refused.
     Refused,
-    /// The object or line with this number, counted from 1, is malformed, for the reason `fault`.
-    Malformed { number: u64, fault: Malformation },
+    /// The object or line with this number, counted from 1, is malformed in this way.
+    Malformed {
+        number: u64,
+        malformation: Malformation,
+    },
 }
 
 /// Why an object or a line of the input is malformed (docs/RULES.md, "Streams of objects").
@@ -43,9 +46,9 @@ pub enum Malformation {
 }
 
 impl fmt::Display for Malformation {
-    ghost use Rattle.git_input.specs.Messages.{fault_text_of};
+    ghost use Rattle.git_input.specs.Messages.{malformation_text_of};
 
-    ghost output = { λ fault. Some (fault_text_of fault) };
+    ghost output = { λ malformation. Some (malformation_text_of malformation) };
 
     fn fmt<W: fmt::Write>(&self, f: &mut fmt::Formatter<W>) -> fmt::Result {
         f.write_str(match self {

@@ -116,7 +116,12 @@ fn exit_code<E: Write>(
     match ran {
         Ok(Verdict::Clean) => ExitCode::SUCCESS,
         Ok(Verdict::Refused) => ExitCode::FAILURE,
-        Ok(Verdict::Malformed { number, fault }) => fail_malformed(program, number, fault, errors),
+        Ok(
+            Verdict::Malformed {
+                number,
+                malformation,
+            },
+        ) => fail_malformed(program, number, malformation, errors),
         Err(stop) => fail(program.name, stop, errors),
     }
 }
@@ -125,22 +130,22 @@ fn exit_code<E: Write>(
 fn fail_malformed<E: Write>(
     program: Program<'_>,
     number: u64,
-    fault: Malformation,
+    malformation: Malformation,
     errors: &mut Messages<E>,
 ) -> ExitCode
     ensures status { exit_status result ≡ 2 }
-    ensures said { Says E.contents errors.old errors.new (message program.entry.name.now (malformed_text program.entry number fault)) }
+    ensures said { Says E.contents errors.old errors.new (message program.entry.name.now (malformed_text program.entry number malformation)) }
 {
-    let (unit, hint) = (program.unit, hint_of(program.hint, number, fault));
-    let what = format_args!("malformed input: {unit} {number}: {fault}{hint}");
+    let (unit, hint) = (program.unit, hint_of(program.hint, number, malformation));
+    let what = format_args!("malformed input: {unit} {number}: {malformation}{hint}");
     fail(program.name, what, errors)
 }
 
-/// What the message adds for this fault of the part with this number.
-fn hint_of(hint: &str, number: u64, fault: Malformation) -> &str
-    ensures { result.now ≡ hint_of hint.now number fault }
+/// What the message adds for this malformation of the part with this number.
+fn hint_of(hint: &str, number: u64, malformation: Malformation) -> &str
+    ensures { result.now ≡ hint_of hint.now number malformation }
 {
-    match fault {
+    match malformation {
         Malformation::Header if number == 1 => hint,
         _ => "",
     }

@@ -48,16 +48,16 @@ returns-clause-stopped g c = λ _. stream_pauses _ (g.met.C.LineCheck.leaves _) 
 
 pub returns-in-loop-before-clause-verdict : goal.returns-in-loop-before-clause-verdict
 returns-in-loop-before-clause-verdict g c = elim c.match-branch-2.branch [
-  | in-Byte+in_ok-is_last-in-Byte+else-branch+in_ok-more-in-Byte+in-Err w ↦ rw (w.output-is, w.fault-is)
+  | in-Byte+in_ok-is_last-in-Byte+else-branch+in_ok-more-in-Byte+in-Err w ↦ rw (w.output-is, w.malformation-is)
       (stream_faults _ (g.met.C.LineCheck.leaves _) _ _ c.loop-before.invariant
       (line_gives _ (rw w.in-Byte.is at c.in_ok-read_before.ensures.read)
       (rw (w.if-branch.false, w.deref.ensures.value) at w.in_ok-is_last-in-Byte.ensures.known) w.in_ok-is_last-in-Byte.ensures.kept
       (rw (w.in-Err.is, w.deref-in-Byte.ensures.value) at w.in_ok-more-in-Byte.ensures.gives)))
-  | in-Limit w ↦ rw (w.output-is, w.fault-is) (stream_faults _ (g.met.C.LineCheck.leaves _) _ _ c.loop-before.invariant
+  | in-Limit w ↦ rw (w.output-is, w.malformation-is) (stream_faults _ (g.met.C.LineCheck.leaves _) _ _ c.loop-before.invariant
       (long_gives (rw w.in-Limit.is at c.in_ok-read_before.ensures.read)))
-  | in-End w ↦ rw (w.output-is, w.fault-is) (stream_faults _ (g.met.C.LineCheck.leaves _) _ _ c.loop-before.invariant
+  | in-End w ↦ rw (w.output-is, w.malformation-is) (stream_faults _ (g.met.C.LineCheck.leaves _) _ _ c.loop-before.invariant
       (cut_gives (rw w.in-End.is at c.in_ok-read_before.ensures.read) (grind (arith, common_steps))))
-  | in-End-2+in-Some w ↦ rw (w.output-is, w.fault-is) (stream_breaks _ (g.met.C.LineCheck.leaves _) _ _ c.loop-before.invariant
+  | in-End-2+in-Some w ↦ rw (w.output-is, w.malformation-is) (stream_breaks _ (g.met.C.LineCheck.leaves _) _ _ c.loop-before.invariant
       (rw w.in-End-2.is at c.in_ok-read_before.ensures.read) (grind (arith, common_steps)) (grind (arith, common_steps)))
 ]
 

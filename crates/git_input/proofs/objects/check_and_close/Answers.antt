@@ -14,7 +14,7 @@ pub returns-in-Err-clause-gives : goal.returns-in-Err-clause-gives
 returns-in-Err-clause-gives g c =
     faulty_gives (g.C.ObjectCheck.object_rule c.args.check) (as_object c.args.object) (g.R.Read.remaining c.args.input.now)
     (g.R.Read.remaining c.check_object.new.input) None (g.W.Write.contents c.args.output.now) (g.W.Write.contents c.check_object.new.output)
-    c.in-Err.fault (rw c.in-Err.is at c.in_ok-refused.ensures.gives)
+    c.in-Err.malformation (rw c.in-Err.is at c.in_ok-refused.ensures.gives)
 
 pub returns-in-Ok-clause-within : goal.returns-in-Ok-clause-within
 returns-in-Ok-clause-within g c = up_to_next c.args.object.size 1 _ _ _ c.close.result c.in_ok-refused.ensures.within c.close.ensures.within

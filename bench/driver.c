@@ -86,7 +86,7 @@ static void read_names(const char *path) {
         if (line[len - 1] == '\n')
             len--;
         names = realloc(names, (count + 1) * sizeof *names);
-        names[count++] = (struct name){(uint8_t *)strndup(line, (size_t)len), (size_t)len};
+        names[count++] = (struct name){memcpy(malloc((size_t)len + 1), line, (size_t)len), (size_t)len};
         longest = (size_t)len > longest ? (size_t)len : longest;
     }
     fclose(file);

@@ -50,6 +50,7 @@ pub(crate) fn converted(fault: tag::NameError) -> reference::NameError
 fn options_and_modes(
     options: &ComponentOptions,
     mode: &ComponentMode,
+    other: &ComponentMode,
 ) -> (ComponentOptions, ComponentOptions, ComponentMode, bool)
     ensures default { result.0 ≡ all_protections }
     ensures options { result.1 ≡ options.now }
@@ -57,7 +58,7 @@ fn options_and_modes(
     ensures same { IsTrue result.3 }
 {
     let (options, twin) = (options.clone().unwrap(), mode.clone().unwrap());
-    (ComponentOptions::default(), options, twin, twin == *mode)
+    (ComponentOptions::default(), options, twin, *mode == *other)
 }
 
 /// The name as a full name, a partial name and a tag name, by the contracts of `From`.

@@ -2,13 +2,12 @@
 use Rattle.gix_validate.proofs.Common.{◌≡◌, ◌≢◌, ℕ, List, [], ◌∷◌, ◌++◌, false, Option, Some, None, IfSome, Result, MatchResult, codes, refl, sym, ap, ◌∙◌}
 use Rattle.gix_validate.proofs.Common.{append_assoc, append-nil, arith, AllByRecursion, byte, bytes_eq, cond-false, false_from_ne_true, bytes_eq-Decides}
 use Rattle.gix_validate.proofs.Common.{nat_tests, common_steps, take_rest}
-use Rattle.bstr.specs.declared.bstr.BStr.{BStr}
-use Rattle.bstr.specs.BStr.{bstr_bytes}
+use Rattle.gix_validate.proofs.Texts.NamesIn.{names_in-cut, names_in-last}
+use Rattle.bstr.specs.{declared.bstr.BStr.BStr, BStr.bstr_bytes}
 use Rattle.typed_names.specs.Names.{NewChecks}
 use Rattle.gix_validate.specs.Pieces.{names_in}
 use Rattle.check_names.specs.Lines.{line_end, lines, request_of}
 use Rattle.check_names.specs.Answers.{answer_by, answer_of, answer_to, answers, kinds, unknown_kind, verdict}
-use Rattle.gix_validate.proofs.Texts.NamesIn.{names_in-cut, names_in-last}
 
 -- ---- one line
 

@@ -1,14 +1,11 @@
 -- What the program answers: one line for each line of its input.
-use Rattle.std.specs.Prelude.{ℕ, if◌then◌else◌, List, [], ◌∷◌, ◌++◌, codes, flat_map, Option, Some, None}
-use Rattle.std.specs.Str.{bytes_eq}
+use Rattle.std.specs.{Prelude.{ℕ, if◌then◌else◌, List, [], ◌∷◌, ◌++◌, codes, flat_map, Option, Some, None}, Str.bytes_eq}
 use Rattle.gix_validate.specs.Tag
 use Rattle.gix_validate.specs.Reference
 use Rattle.gix_validate.specs.Submodule
 use Rattle.gix_validate.specs.declared.path.ComponentMode.TheVariants.{Symlink}
 use Rattle.gix_validate.specs.Component
-use Rattle.gix_validate.specs.Component.{all_protections}
-use Rattle.gix_validate.specs.Windows.{is_device}
-use Rattle.gix_validate.specs.Sanitized.{sanitized}
+use Rattle.gix_validate.specs.{Component.all_protections, Windows.is_device, Sanitized.sanitized}
 use Rattle.check_names.specs.Lines.{line_end, lines, request_of}
 
 -- the answer where a rule of faults is asked: `ok` where it finds no fault, and otherwise the text of the fault

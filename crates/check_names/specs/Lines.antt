@@ -1,6 +1,5 @@
 -- The lines of a text, and what a line asks for. A text and a line are lists of bytes.
-use Rattle.std.specs.Prelude.{ℕ, List, Option}
-use Rattle.std.specs.Str.{byte}
+use Rattle.std.specs.{Prelude.{ℕ, List, Option}, Str.byte}
 use Rattle.gix_validate.specs.Pieces.{names_in}
 pub use Rattle.cli.specs.Lines.{line_end, split_once}
 

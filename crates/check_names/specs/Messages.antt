@@ -1,14 +1,10 @@
 -- What a run does, and how the program ends after it.
-use Rattle.std.specs.Prelude.{◌≡◌, ◌≢◌, ℕ, List, [], Option, Some, Result, Ok, Err, IfSome, OnOk, IsOkUnless}
-use Rattle.std.specs.Io.KnownBytes.{Appends, IsAtEnd}
-use Rattle.std.specs.Process.{exit_status}
 use Rattle.std.specs.declared.process.ExitCode.{ExitCode}
-use Rattle.cli.specs.declared.messages.Messages.{Messages}
-use Rattle.cli.specs.declared.outcome.RunError.{RunError}
-use Rattle.cli.specs.declared.outcome.RunError.TheVariants.{Read, Memory}
+use Rattle.std.specs.Prelude.{◌≡◌, ◌≢◌, ℕ, List, [], Option, Some, Result, Ok, Err, IfSome, OnOk, IsOkUnless}
+use Rattle.std.specs.{Io.KnownBytes.{Appends, IsAtEnd}, Process.exit_status}
+use Rattle.cli.specs.declared.{messages.Messages.Messages, outcome.RunError.{RunError, TheVariants.{Read, Memory}}}
 use Rattle.cli.specs.Messages.{Says, message, stop_text_of}
-use Rattle.check_names.specs.declared.TheConstants.{NAME}
-use Rattle.check_names.specs.Answers.{answers}
+use Rattle.check_names.specs.{declared.TheConstants.NAME, Answers.answers}
 
 -- how a run ends: it may fail
 abbrev pub Ran : Type 0

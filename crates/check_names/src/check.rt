@@ -6,8 +6,7 @@ ghost use Rattle.bstr.specs.BStr.{bstr_bytes};
 ghost use Rattle.gix_validate.specs.Component.{all_protections, fault_of, text_of as component_text};
 ghost use Rattle.gix_validate.specs.Sanitized.{sanitized};
 ghost use Rattle.check_names.specs.Answers.{answer_of, answers, device_answer, unknown_kind, verdict};
-ghost use Rattle.check_names.specs.Lines.{lines, request_of};
-ghost use Rattle.check_names.specs.Messages.{Runs};
+ghost use Rattle.check_names.specs.{Lines.{lines, request_of}, Messages.Runs};
 
 use crate::options::NoOptions;
 use crate::runs::Check;

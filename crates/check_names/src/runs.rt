@@ -1,10 +1,8 @@
 //! What the program does around a run: its arguments, and the exit status.
 
-ghost use Rattle.std.specs.Prelude.{Option, List, ℕ, map};
-ghost use Rattle.std.specs.String.{string_bytes};
+ghost use Rattle.std.specs.{Prelude.{Option, List, ℕ, map}, String.string_bytes};
 ghost use Rattle.cli.specs.Messages.{Does};
-ghost use Rattle.check_names.specs.Arguments.{request_of};
-ghost use Rattle.check_names.specs.Messages.{Checks, Ran};
+ghost use Rattle.check_names.specs.{Arguments.request_of, Messages.{Checks, Ran}};
 
 use crate::NAME;
 use crate::check::RunError;

@@ -1,23 +1,15 @@
 -- The verdict is clean if and only if the input is accepted.
 use Rattle.gix_validate.proofs.Common.{◌≡◌, ◌≢◌, ◌↔◌, ℕ, Bool, true, false, not, ◌&&◌, ◌||◌, IsTrue, List, [], ◌∷◌, ◌⊎◌, Option, None, cond, length, codes}
 use Rattle.gix_validate.proofs.Common.{refl, arith, ap, ◌∙◌, sym, append-nil, flat_map, is_some, is_none, option_map, bytes_eq, bytes_eq-Decides, ◌<◌, subst}
-use Rattle.gix_validate.specs.declared.reference.NameError.{NameError}
-use Rattle.gix_validate.specs.Bytes.{begins}
-use Rattle.gix_validate.specs.Faults.{when, ◌orelse◌}
-use Rattle.gix_validate.specs.Reference.{is_partial_name, is_full_name, is_branch_name, partial_fault_of, full_fault_of, branch_fault_of}
 use Rattle.gix_validate.proofs.TagNames.Grammar.{tag_grammar_law}
-use Rattle.git_input.specs.declared.outcome.Verdict.{Verdict}
-use Rattle.git_input.specs.Reports.{verdict_of}
+use Rattle.gix_validate.specs.Reference.{is_partial_name, is_full_name, is_branch_name, partial_fault_of, full_fault_of, branch_fault_of}
+use Rattle.gix_validate.specs.{declared.reference.NameError.NameError, Bytes.begins, Faults.{when, ◌orelse◌}}
+use Rattle.git_input.specs.{declared.outcome.Verdict.Verdict, Reports.{verdict_of, IsCleanIff}}
 use Rattle.git_input.proofs.WrittenLines.{clean_by, all_good, if_clean}
-use Rattle.git_input.specs.Reports.{IsCleanIff}
-use Rattle.check_refs.specs.declared.options.Options.{Options}
-use Rattle.check_refs.specs.Refs.{ParsedUpdate, is_deletion, name_fault_of, refusal_of, update_refusal_of}
-use Rattle.check_refs.specs.declared.refusal.Refusal.TheVariants.{Name, Replacement}
-use Rattle.check_refs.specs.Report.{said_of, refs_report}
-use Rattle.check_refs.specs.Spelled.{IsSpelled, spelling}
-use Rattle.check_refs.specs.Accepted.{IsAccepted, IsAcceptedInput}
-use Rattle.check_refs.proofs.LinearReports.{linear_report}
-use Rattle.check_refs.proofs.SpelledInputs.{reported_in_order, updates_are_read, well_formed_only_if_spelled}
+use Rattle.check_refs.specs.declared.{options.Options.Options, refusal.Refusal.TheVariants.{Name, Replacement}}
+use Rattle.check_refs.specs.{Refs.{ParsedUpdate, is_deletion, name_fault_of, refusal_of, update_refusal_of}, Report.{said_of, refs_report}}
+use Rattle.check_refs.specs.{Spelled.{IsSpelled, spelling}, Accepted.{IsAccepted, IsAcceptedInput}}
+use Rattle.check_refs.proofs.{LinearReports.linear_report, SpelledInputs.{reported_in_order, updates_are_read, well_formed_only_if_spelled}}
 
 -- ---- a name
 

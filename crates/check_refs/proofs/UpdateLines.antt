@@ -2,8 +2,7 @@
 use Rattle.gix_validate.proofs.Common.{◌≡◌, ◌≢◌, ℕ, ◌<◌, true, List, [], ◌∷◌, ◌++◌, All, Some, arith, append_assoc, byte, list_all, AllByRecursion}
 use Rattle.gix_validate.proofs.Common.{All-from_recursion}
 use Rattle.git_input.specs.Texts.{is_hex_digit, is_id, split_once}
-use Rattle.check_refs.specs.Refs.{ParsedUpdate, is_update, parsed_update}
-use Rattle.check_refs.specs.Spelled.{IsUpdate, update_line, IsReadAsSpelled}
+use Rattle.check_refs.specs.{Refs.{ParsedUpdate, is_update, parsed_update}, Spelled.{IsUpdate, update_line, IsReadAsSpelled}}
 use Rattle.git_input.proofs.SplitTexts.{split_found, split_cuts}
 
 module _ (separator : ℕ) (low : separator < byte "0") where

@@ -1,11 +1,7 @@
 -- The pushes of which nothing is refused, by the grammar of names and without the report.
-use Rattle.std.specs.Prelude.{◌≡◌, ◌≢◌, ◌⊎◌, ℕ, IsTrue, List, [], codes, flat_map}
-use Rattle.std.specs.List.{AllByRecursion}
-use Rattle.gix_validate.specs.Bytes.{begins}
-use Rattle.gix_validate.specs.Reference.{is_branch_name}
-use Rattle.check_refs.specs.declared.options.Options.{Options}
-use Rattle.check_refs.specs.Refs.{ParsedUpdate, is_deletion}
-use Rattle.check_refs.specs.Spelled.{IsSpelled, spelling}
+use Rattle.std.specs.{Prelude.{◌≡◌, ◌≢◌, ◌⊎◌, ℕ, IsTrue, List, [], codes, flat_map}, List.AllByRecursion}
+use Rattle.gix_validate.specs.{Bytes.begins, Reference.is_branch_name}
+use Rattle.check_refs.specs.{declared.options.Options.Options, Refs.{ParsedUpdate, is_deletion}, Spelled.{IsSpelled, spelling}}
 
 -- An update is accepted if it deletes the reference, or if the name is a full name other than `refs/heads/HEAD`, and under
 -- `refs/replace/` only where replacements are allowed.

@@ -1,19 +1,12 @@
 -- The updates of references that Git tells a pre-receive hook of, a line each: what a line says, which names are refused,
 -- and what is printed. Texts are lists of bytes.
 use Rattle.std.specs.Prelude.{ℕ, Bool, ◌==◌, ◌&&◌, not, if◌then◌else◌, List, [], ◌++◌, length, codes, Option, Some, None}
-use Rattle.std.specs.Option.{option_map, option_and_then}
-use Rattle.std.specs.List.{list_all}
-use Rattle.std.specs.Str.{byte}
-use Rattle.gix_validate.specs.declared.reference.NameError.{NameError}
-use Rattle.gix_validate.specs.Bytes.{is_empty, begins}
-use Rattle.gix_validate.specs.Faults.{when, ◌orelse◌}
-use Rattle.gix_validate.specs.Quoted.{quoted}
+use Rattle.std.specs.{Option.{option_map, option_and_then}, List.list_all, Str.byte}
+use Rattle.gix_validate.specs.{declared.reference.NameError.NameError, Bytes.{is_empty, begins}, Faults.{when, ◌orelse◌}, Quoted.quoted}
 use Rattle.gix_validate.specs.Reference.{full_fault_of, branch_fault_of, text_of}
 use Rattle.git_input.specs.Texts.{split_once, is_id}
+use Rattle.check_refs.specs.declared.{options.Options.Options, refusal.Refusal.{Refusal, TheVariants.{Name, Replacement}}}
 use Rattle.check_refs.specs.declared.update.Update.{Update}
-use Rattle.check_refs.specs.declared.refusal.Refusal.{Refusal}
-use Rattle.check_refs.specs.declared.refusal.Refusal.TheVariants.{Name, Replacement}
-use Rattle.check_refs.specs.declared.options.Options.{Options}
 
 -- ---- a line
 

@@ -1,11 +1,8 @@
 -- What is reported of an input: what is said of its lines, in order, up to the first that says no update.
-use Rattle.std.specs.Prelude.{ℕ, List, Option, Some, None, Ok, Err}
-use Rattle.std.specs.Option.{is_some}
-use Rattle.git_input.specs.declared.lines.Ending.TheVariants.{AfterALine}
-use Rattle.git_input.specs.declared.outcome.Malformation.TheVariants.{Line}
+use Rattle.std.specs.{Prelude.{ℕ, List, Option, Some, None, Ok, Err}, Option.is_some}
+use Rattle.git_input.specs.declared.{lines.Ending.TheVariants.AfterALine, outcome.Malformation.TheVariants.Line}
 use Rattle.git_input.specs.Reports.{Said, nothing, Step, LineRule, Report, report}
-use Rattle.check_refs.specs.declared.options.Options.{Options}
-use Rattle.check_refs.specs.Refs.{ParsedUpdate, parsed_update, update_refusal_of, line_of}
+use Rattle.check_refs.specs.{declared.options.Options.Options, Refs.{ParsedUpdate, parsed_update, update_refusal_of, line_of}}
 
 -- what is said of an update: its line, and whether it is refused
 abbrev pub said_of : Options → ParsedUpdate → Said

@@ -1,12 +1,9 @@
 -- What is reported of updates that are written out, and that no other input is well-formed.
 use Rattle.std.specs.Prelude.{◌≡◌, ◌≢◌, ◌↔◌, ◌+◌, ◌<◌, true, List, [], ◌∷◌, ◌++◌, All, length, map, flat_map, ℕ, None, Some}
-use Rattle.std.specs.List.{AllByRecursion}
-use Rattle.std.specs.Str.{byte}
-use Rattle.git_input.specs.declared.lines.Ending.TheVariants.{AfterALine}
-use Rattle.git_input.specs.Texts.{line_end, is_id}
+use Rattle.std.specs.{List.AllByRecursion, Str.byte}
+use Rattle.git_input.specs.{declared.lines.Ending.TheVariants.AfterALine, Texts.{line_end, is_id}}
 use Rattle.git_input.specs.Reports.{Said, all_said, longest, before_report, lines_from}
-use Rattle.check_refs.specs.declared.options.Options.{Options}
-use Rattle.check_refs.specs.Refs.{ParsedUpdate, parsed_update}
+use Rattle.check_refs.specs.{declared.options.Options.Options, Refs.{ParsedUpdate, parsed_update}}
 use Rattle.check_refs.specs.Report.{said_of, update_rule, refs_report}
 
 -- ---- an update

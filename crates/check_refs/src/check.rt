@@ -1,12 +1,8 @@
 //! The report of an input, line by line.
 
 ghost use Rattle.std.specs.Prelude.{◌≡◌, Some, IfOk, IfSome};
-ghost use Rattle.git_input.specs.Ends.{Gives};
-ghost use Rattle.git_input.specs.Promises.{Runs};
-ghost use Rattle.git_input.specs.Reports.{IsCleanIff, PrintsAtMost};
-ghost use Rattle.check_refs.specs.Accepted.{IsAcceptedInput};
-ghost use Rattle.check_refs.specs.Private.{update_leaves};
-ghost use Rattle.check_refs.specs.Report.{refs_report, update_rule};
+ghost use Rattle.git_input.specs.{Ends.Gives, Promises.Runs, Reports.{IsCleanIff, PrintsAtMost}};
+ghost use Rattle.check_refs.specs.{Accepted.IsAcceptedInput, Private.update_leaves, Report.{refs_report, update_rule}};
 ghost use Rattle.check_refs.specs.Spelled.{IsReportedInOrder, IsWellFormedOnlyIfSpelled};
 
 use crate::options::Options;

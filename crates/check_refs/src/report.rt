@@ -5,8 +5,7 @@
 //! line on standard error says why.
 
 ghost use Rattle.std.specs.Prelude.{◌≡◌, ◌++◌, OnOk, IfOk};
-ghost use Rattle.check_refs.specs.Refs.{as_parsed, id_line, refused_line};
-ghost use Rattle.check_refs.specs.Report.{said_of};
+ghost use Rattle.check_refs.specs.{Refs.{as_parsed, id_line, refused_line}, Report.said_of};
 
 use crate::options::Options;
 use crate::refusal::{Refusal, refusal_of};

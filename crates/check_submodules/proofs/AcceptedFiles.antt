@@ -2,11 +2,8 @@
 use Rattle.gix_validate.proofs.Common.{◌≡◌, ℕ, Bool, true, false, not, ◌++◌, codes, List, [], ◌∷◌, Option, refl, arith, nat_lt, AllByRecursion, ◌↔◌}
 use Rattle.gix_validate.specs.Bytes.{is_empty}
 use Rattle.gitmodules.specs.Sections.{sections}
-use Rattle.git_input.specs.declared.header.Kind.{Kind}
-use Rattle.git_input.specs.declared.header.Kind.TheVariants.{Blob}
-use Rattle.git_input.specs.Spelled.{Spelled, IsSpelled, spelled_said}
-use Rattle.check_submodules.specs.Lines.{largest, line_of, lines_of, too_large_line}
-use Rattle.check_submodules.specs.Report.{file_lines, object_lines, submodules_rule}
+use Rattle.git_input.specs.{declared.header.Kind.{Kind, TheVariants.Blob}, Spelled.{Spelled, IsSpelled, spelled_said}}
+use Rattle.check_submodules.specs.{Lines.{largest, line_of, lines_of, too_large_line}, Report.{file_lines, object_lines, submodules_rule}}
 use Rattle.check_submodules.specs.Spelled.{IsAccepted, IsAcceptedFile, IsAcceptedObject}
 
 -- ---- lines

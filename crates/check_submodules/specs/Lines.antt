@@ -1,9 +1,6 @@
 -- The lines that are printed of a `.gitmodules` file.
-use Rattle.std.specs.Prelude.{ℕ, List, [], ◌++◌, codes, flat_map, Option, Some, None}
-use Rattle.std.specs.Fmt.{decimal}
-use Rattle.gix_validate.specs.declared.submodule.NameError.{NameError}
-use Rattle.gix_validate.specs.Submodule.{fault_of, text_of}
-use Rattle.gix_validate.specs.Quoted.{quoted}
+use Rattle.std.specs.{Prelude.{ℕ, List, [], ◌++◌, codes, flat_map, Option, Some, None}, Fmt.decimal}
+use Rattle.gix_validate.specs.{declared.submodule.NameError.NameError, Submodule.{fault_of, text_of}, Quoted.quoted}
 
 -- how a line begins: the file's id, and the offset of the section's `[` in decimal digits
 abbrev pub line_start : List ℕ → ℕ → List ℕ

@@ -1,7 +1,6 @@
 -- What the private functions promise of one object, where the reader's bytes are known.
 use Rattle.std.specs.Prelude.{◌≡◌, ℕ, Bool, true, List, Option}
-use Rattle.git_input.specs.Promises.{ReadsExactly}
-use Rattle.git_input.specs.Headers.{ParsedObject}
+use Rattle.git_input.specs.{Promises.ReadsExactly, Headers.ParsedObject}
 use Rattle.check_submodules.specs.Report.{object_lines}
 
 -- the object's bytes were read or skipped, and these are its lines, or the input ended within it

@@ -1,9 +1,7 @@
 -- What is reported of a stream of `.gitmodules` files: the lines of each, in order.
 use Rattle.std.specs.Prelude.{ℕ, Bool, not, nat_lt, if◌then◌else◌, List, [], None}
 use Rattle.gix_validate.specs.Bytes.{is_empty}
-use Rattle.git_input.specs.declared.header.Kind.{Kind}
-use Rattle.git_input.specs.declared.header.Kind.TheVariants.{Blob}
-use Rattle.git_input.specs.Reports.{Said, nothing, Report}
+use Rattle.git_input.specs.{declared.header.Kind.{Kind, TheVariants.Blob}, Reports.{Said, nothing, Report}}
 use Rattle.git_input.specs.Objects.{ObjectRule, object_report}
 use Rattle.gitmodules.specs.Sections.{sections}
 use Rattle.check_submodules.specs.Lines.{largest, lines_of, too_large_line}

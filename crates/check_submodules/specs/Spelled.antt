@@ -1,15 +1,10 @@
 -- The lines of a file, by how its sections are spelled, and the streams of which nothing is refused.
 use Rattle.std.specs.Prelude.{◌≡◌, ◌↔◌, ◌⊎◌, ℕ, ◌<◌, Bool, false, nat_lt, List, ◌++◌, codes, flat_map, Contains, Option, Some, None, ⊤}
 use Rattle.std.specs.List.{AllByRecursion, AllPairs}
-use Rattle.gix_validate.specs.declared.submodule.NameError.{NameError}
-use Rattle.gix_validate.specs.Submodule.{fault_of, text_of}
-use Rattle.gix_validate.specs.Quoted.{quoted}
-use Rattle.gitmodules.specs.Sections.{sections}
-use Rattle.gitmodules.specs.Spelled.{SectionAt, HeaderAt}
-use Rattle.git_input.specs.declared.header.Kind.TheVariants.{Blob}
-use Rattle.git_input.specs.Spelled.{Spelled, Present, Absent, IsStreamOf}
-use Rattle.check_submodules.specs.Lines.{largest, line_start, lines_of}
-use Rattle.check_submodules.specs.Report.{submodules_rule}
+use Rattle.gix_validate.specs.{declared.submodule.NameError.NameError, Submodule.{fault_of, text_of}, Quoted.quoted}
+use Rattle.gitmodules.specs.{Sections.sections, Spelled.{SectionAt, HeaderAt}}
+use Rattle.git_input.specs.{declared.header.Kind.TheVariants.Blob, Spelled.{Spelled, Present, Absent, IsStreamOf}}
+use Rattle.check_submodules.specs.{Lines.{largest, line_start, lines_of}, Report.submodules_rule}
 
 -- the line of what is at an offset of a file: of a section whose name has a fault, or of a header that isn't a section
 abbrev pub IsLineOf : (id file : List ℕ) → ℕ × List ℕ → Type 0

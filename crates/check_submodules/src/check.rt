@@ -5,13 +5,10 @@
 
 ghost use Rattle.std.specs.Prelude.{false, true, IfOk, IfSome};
 ghost use Rattle.std.proofs.Common.{ap, subst};
-ghost use Rattle.git_input.specs.Ends.{Gives};
-ghost use Rattle.git_input.specs.Objects.{IsWholeStream, object_reach};
-ghost use Rattle.git_input.specs.Promises.{Runs, as_object};
+ghost use Rattle.git_input.specs.{Ends.Gives, Objects.{IsWholeStream, object_reach}, Promises.{Runs, as_object}};
 ghost use Rattle.git_input.specs.Reports.{IsCleanIff, PrintsAtMost};
 ghost use Rattle.git_input.specs.Spelled.{IsReportedInOrder, IsWellFormedOnlyIfSpelled};
-ghost use Rattle.check_submodules.specs.Private.{Reads};
-ghost use Rattle.check_submodules.specs.Report.{report, submodules_rule};
+ghost use Rattle.check_submodules.specs.{Private.Reads, Report.{report, submodules_rule}};
 ghost use Rattle.check_submodules.specs.Spelled.{IsAcceptedStream, IsEachSectionReported};
 
 use crate::options::Options;

@@ -1,8 +1,7 @@
 //! What is printed for a `.gitmodules` file.
 
 ghost use Rattle.std.specs.Prelude.{◌≡◌, ◌++◌, OnOk};
-ghost use Rattle.gitmodules.specs.Sections.{sections};
-ghost use Rattle.gitmodules.specs.Headers.{section_pair};
+ghost use Rattle.gitmodules.specs.{Sections.sections, Headers.section_pair};
 ghost use Rattle.check_submodules.specs.Lines.{line_of, lines_of, line_start, too_large_line};
 
 use crate::check::LARGEST;

@@ -1,11 +1,8 @@
 -- No more of the input is read than an entry, or than what is left of its tree.
 use Rattle.gix_validate.proofs.Common.{ℕ, ◌+◌, ◌≤◌, Bool, List, ◌∷◌, [], ◌++◌, Option, length, arith, length-append}
-use Rattle.git_input.specs.declared.input.Found.TheVariants.{Byte}
-use Rattle.git_input.specs.Promises.{ReadsBefore, ReadsUpTo}
+use Rattle.git_input.specs.{declared.input.Found.TheVariants.Byte, Promises.{ReadsBefore, ReadsUpTo}}
 use Rattle.git_input.proofs.LinesStop.{up_to_more}
-use Rattle.check_trees.specs.declared.check.Finding.{Finding}
-use Rattle.check_trees.specs.Entries.{nul}
-use Rattle.check_trees.specs.Private.{PassesId}
+use Rattle.check_trees.specs.{declared.check.Finding.Finding, Entries.nul, Private.PassesId}
 
 module _ (a b : Option (List ℕ)) where
   id_within : (count : ℕ) (finding : Finding) (id : List ℕ) (whole : Bool) → PassesId finding count a b id whole → ReadsUpTo count a b

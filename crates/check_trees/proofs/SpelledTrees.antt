@@ -4,25 +4,16 @@ use Rattle.gix_validate.proofs.Common.{Some, Result, Ok, Err, length, take, drop
 use Rattle.gix_validate.proofs.Common.{take-append-drop, drop-drop, ◌%◌, ◌==◌, ◌↔◌, IsTrue, Contains, IfSome, IfOk, map, flat_map, AllByRecursion, list_any}
 use Rattle.gix_validate.proofs.Common.{All-from_recursion, All-append, All-cons, common_steps, byte, bytes_eq, bytes_eq-Decides}
 use Rattle.std.proofs.lemmas.Map.Views.{Contains-from_any}
-use Rattle.gix_validate.specs.declared.path.ComponentMode.{ComponentMode}
-use Rattle.gix_validate.specs.declared.path.ComponentMode.TheVariants.{Symlink}
-use Rattle.gix_validate.specs.declared.path.ComponentOptions.{ComponentOptions}
-use Rattle.git_input.specs.declared.outcome.Malformation.{Malformation}
-use Rattle.git_input.specs.declared.outcome.Malformation.TheVariants.{Entry}
-use Rattle.git_input.specs.declared.header.Kind.TheVariants.{Tree}
-use Rattle.git_input.specs.Texts.{split_once, number_of}
-use Rattle.git_input.specs.Headers.{ParsedObject}
-use Rattle.git_input.specs.Reports.{longest, then_said, all_said}
-use Rattle.git_input.specs.Objects.{Judged}
-use Rattle.git_input.proofs.SplitTexts.{split_found, drop_both, IsCut, split_cuts, whole}
-use Rattle.git_input.proofs.SpelledHeaders.{without, number_high}
+use Rattle.gix_validate.specs.declared.path.{ComponentMode.{ComponentMode, TheVariants.Symlink}, ComponentOptions.ComponentOptions}
+use Rattle.git_input.specs.declared.{header.Kind.TheVariants.Tree, outcome.Malformation.{Malformation, TheVariants.Entry}}
+use Rattle.git_input.specs.{Texts.{split_once, number_of}, Headers.ParsedObject, Reports.{longest, then_said, all_said}, Objects.Judged}
+use Rattle.git_input.proofs.{SplitTexts.{split_found, drop_both, IsCut, split_cuts, whole}, SpelledHeaders.{without, number_high}}
 use Rattle.git_input.proofs.WellFormedStreams.{each_after}
 use Rattle.check_trees.specs.Options.{Options, protections_for}
 use Rattle.check_trees.specs.Entries.{nul, named, mode_of, is_file, ParsedModeAndName, ParsedEntry, parsed_front, entry_at, entry_with, entry_of}
 use Rattle.check_trees.specs.Report.{entry_said, entries_then, entries_within, entries, judged_by_kind, tree_rule}
 use Rattle.check_trees.specs.Spelled.{Item, IsItem, HasType, IsCheckedBy, item_bytes, item_said, IsTree, IsReadAsItems}
-use Rattle.check_trees.proofs.FirstEntry.{entry_found, id_after}
-use Rattle.check_trees.proofs.TreeEntries.{entries_first, entries_none}
+use Rattle.check_trees.proofs.{FirstEntry.{entry_found, id_after}, TreeEntries.{entries_first, entries_none}}
 
 -- ---- by which rules a name is checked
 

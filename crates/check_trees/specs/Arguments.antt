@@ -1,11 +1,9 @@
 -- What the options of the command do.
 use Rattle.std.specs.Prelude.{ℕ, true, false, ◌==◌, if◌then◌else◌, List, [], ◌∷◌, codes, Option, Some, None, option_and_then}
 use Rattle.std.specs.Str.{byte, bytes_eq}
-use Rattle.gix_validate.specs.declared.path.ComponentOptions.{ComponentOptions}
-use Rattle.gix_validate.specs.Component.{all_protections}
-use Rattle.gix_validate.specs.ComponentLaws.{no_protections}
-use Rattle.check_trees.specs.Options.{Options}
+use Rattle.gix_validate.specs.{declared.path.ComponentOptions.ComponentOptions, Component.all_protections, ComponentLaws.no_protections}
 use Rattle.gix_validate.specs.Pieces.{pieces}
+use Rattle.check_trees.specs.Options.{Options}
 use Rattle.cli.specs.Arguments.{OptionRule, Effect, Unknown, Sets, NeedsValue, Invalid}
 
 -- a byte before the first of these texts

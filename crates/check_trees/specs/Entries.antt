@@ -2,12 +2,8 @@
 use Rattle.std.specs.Prelude.{ℕ, ◌+◌, ◌/◌, ◌%◌, Bool, ◌==◌, nat_lt, if◌then◌else◌, List, length, take, drop}
 use Rattle.std.specs.Prelude.{Option, Some, None, Result, Ok, Err, option_map, option_and_then}
 use Rattle.std.specs.Str.{byte}
-use Rattle.gix_validate.specs.declared.path.ComponentMode.{ComponentMode}
-use Rattle.gix_validate.specs.declared.path.ComponentMode.TheVariants.{Symlink}
-use Rattle.gix_validate.specs.Faults.{when}
-use Rattle.git_input.specs.declared.outcome.Malformation.{Malformation}
-use Rattle.git_input.specs.declared.outcome.Malformation.TheVariants.{TooLong, Entry}
-use Rattle.git_input.specs.Texts.{split_once, number_of}
+use Rattle.gix_validate.specs.{declared.path.ComponentMode.{ComponentMode, TheVariants.Symlink}, Faults.when}
+use Rattle.git_input.specs.{declared.outcome.Malformation.{Malformation, TheVariants.{TooLong, Entry}}, Texts.{split_once, number_of}}
 use Rattle.git_input.specs.Reports.{longest}
 
 -- the byte that ends an entry's name

@@ -1,9 +1,6 @@
 -- How the input is checked, and which rules hold for a name.
-use Rattle.std.specs.Prelude.{ℕ, Bool, false, if◌then◌else◌, List}
-use Rattle.std.specs.List.{list_any}
-use Rattle.std.specs.Str.{bytes_eq}
-use Rattle.gix_validate.specs.declared.path.ComponentOptions.{ComponentOptions}
-use Rattle.gix_validate.specs.Pieces.{pieces}
+use Rattle.std.specs.{Prelude.{ℕ, Bool, false, if◌then◌else◌, List}, List.list_any, Str.bytes_eq}
+use Rattle.gix_validate.specs.{declared.path.ComponentOptions.ComponentOptions, Pieces.pieces}
 use Rattle.check_trees.specs.declared.options.CheckOptions.{CheckOptions}
 
 -- the options, with the names to which the rules of Windows do not apply

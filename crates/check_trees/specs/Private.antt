@@ -2,20 +2,11 @@
 use Rattle.std.specs.Prelude.{◌≡◌, ◌≢◌, ℕ, ◌-◌, ◌/◌, ◌≤◌, nat_lt, Bool, List, [], length, take, drop, Option}
 use Rattle.std.specs.Prelude.{Some, Result, Ok, Err}
 use Rattle.std.specs.Io.KnownBytes.{Appends}
-use Rattle.git_input.specs.declared.outcome.Malformation.{Malformation}
-use Rattle.cli.specs.declared.outcome.RunError.{RunError}
-use Rattle.cli.specs.declared.outcome.RunError.TheVariants.{Write}
-use Rattle.git_input.specs.Headers.{ParsedObject}
-use Rattle.git_input.specs.Reports.{Said, nothing, Step}
-use Rattle.cli.specs.Writes.{AppendsPrefixOf}
+use Rattle.git_input.specs.{declared.outcome.Malformation.Malformation, Headers.ParsedObject, Reports.{Said, nothing, Step}}
 use Rattle.git_input.specs.Promises.{ReadsUpTo, ReadsExactly, or_cut, judged_with_rest}
-use Rattle.check_trees.specs.Options.{Options}
-use Rattle.check_trees.specs.declared.check.Checked.{Checked}
-use Rattle.check_trees.specs.declared.check.Finding.{Finding}
-use Rattle.check_trees.specs.declared.check.Finding.TheVariants.{Modules}
-use Rattle.check_trees.specs.declared.entry.ModeAndName.{ModeAndName}
-use Rattle.check_trees.specs.Entries.{ParsedModeAndName, ParsedEntry, entry_of}
-use Rattle.check_trees.specs.Report.{entry_said, entries, short_of}
+use Rattle.cli.specs.{declared.outcome.RunError.{RunError, TheVariants.Write}, Writes.AppendsPrefixOf}
+use Rattle.check_trees.specs.declared.{check.{Checked.Checked, Finding.{Finding, TheVariants.Modules}}, entry.ModeAndName.ModeAndName}
+use Rattle.check_trees.specs.{Options.Options, Entries.{ParsedModeAndName, ParsedEntry, entry_of}, Report.{entry_said, entries, short_of}}
 
 -- what is before an entry's NUL, as the code has it
 abbrev pub as_front : ModeAndName → ParsedModeAndName

@@ -2,25 +2,15 @@
 -- that a checkout reads as `.gitmodules`.
 use Rattle.std.specs.Prelude.{ℕ, suc, ◌/◌, Bool, true, false, ◌&&◌, nat_lt, flat_map, if◌then◌else◌, List, [], ◌∷◌, ◌++◌, length, take, codes}
 use Rattle.std.specs.Prelude.{Option, Some, None, Result, Ok, Err}
-use Rattle.gix_validate.specs.declared.path.ComponentOptions.{ComponentOptions}
-use Rattle.gix_validate.specs.declared.path.ComponentError.{ComponentError}
-use Rattle.gix_validate.specs.declared.path.ComponentError.TheVariants.{SymlinkedGitModules}
-use Rattle.gix_validate.specs.declared.path.ComponentMode.TheVariants.{Symlink}
-use Rattle.gix_validate.specs.Component.{fault_of, text_of}
-use Rattle.gix_validate.specs.Quoted.{quoted}
-use Rattle.git_input.specs.declared.header.Kind.{Kind}
-use Rattle.git_input.specs.declared.header.Kind.TheVariants.{Tree}
-use Rattle.git_input.specs.declared.outcome.Malformation.{Malformation}
-use Rattle.git_input.specs.declared.outcome.Malformation.TheVariants.{Ended, Entry}
-use Rattle.git_input.specs.Texts.{line_end, hex_pair}
-use Rattle.git_input.specs.Headers.{ParsedObject}
+use Rattle.gix_validate.specs.declared.path.ComponentError.{ComponentError, TheVariants.SymlinkedGitModules}
+use Rattle.gix_validate.specs.declared.path.{ComponentMode.TheVariants.Symlink, ComponentOptions.ComponentOptions}
+use Rattle.gix_validate.specs.{Component.{fault_of, text_of}, Quoted.quoted}
+use Rattle.git_input.specs.declared.{header.Kind.{Kind, TheVariants.Tree}, outcome.Malformation.{Malformation, TheVariants.{Ended, Entry}}}
+use Rattle.git_input.specs.{Texts.{line_end, hex_pair}, Headers.ParsedObject}
 use Rattle.git_input.specs.Reports as stream
-use Rattle.git_input.specs.Reports.{Said, nothing, then_said}
-use Rattle.git_input.specs.Objects.{Judged, ObjectRule, object_report}
-use Rattle.check_trees.specs.Options.{Options, protections_for}
-use Rattle.check_trees.specs.declared.check.Finding.{Finding}
-use Rattle.check_trees.specs.declared.check.Finding.TheVariants.{Accepted, Modules, Refused}
-use Rattle.check_trees.specs.Entries.{ParsedModeAndName, ParsedEntry, entry_of}
+use Rattle.git_input.specs.{Reports.{Said, nothing, then_said}, Objects.{Judged, ObjectRule, object_report}}
+use Rattle.check_trees.specs.declared.check.Finding.{Finding, TheVariants.{Accepted, Modules, Refused}}
+use Rattle.check_trees.specs.{Options.{Options, protections_for}, Entries.{ParsedModeAndName, ParsedEntry, entry_of}}
 
 -- ---- one entry
 

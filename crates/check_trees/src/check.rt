@@ -1,20 +1,15 @@
 //! The report of a stream of objects.
 
-ghost use Rattle.std.specs.Prelude.{◌≡◌, ◌<◌, ◌≤◌, Some, false, true, IfOk, IfSome};
+ghost use Rattle.std.specs.{Prelude.{◌≡◌, ◌<◌, ◌≤◌, Some, false, true, IfOk, IfSome}, List.list_any, Str.bytes_eq};
 ghost use Rattle.std.proofs.Common.{ap, subst};
-ghost use Rattle.std.specs.List.{list_any};
-ghost use Rattle.std.specs.Str.{bytes_eq};
-ghost use Rattle.git_input.specs.Ends.{Gives};
-ghost use Rattle.git_input.specs.Reports.{IsCleanIff, PrintsAtMost};
+ghost use Rattle.git_input.specs.{Ends.Gives, Reports.{IsCleanIff, PrintsAtMost}};
 ghost use Rattle.git_input.specs.Objects.{IsWholeStream, object_reach};
 ghost use Rattle.git_input.specs.Promises.{Runs, FollowsRule, ReadsUpTo, as_object};
 ghost use Rattle.git_input.specs.Spelled.{IsReportedInOrder, IsWellFormedOnlyIfSpelled};
-ghost use Rattle.gix_validate.specs.Component.{fault_of};
-ghost use Rattle.gix_validate.specs.Pieces.{pieces};
-ghost use Rattle.check_trees.specs.Options.{as_options, protections_for};
+ghost use Rattle.gix_validate.specs.{Component.fault_of, Pieces.pieces};
 ghost use Rattle.check_trees.specs.Report.{finding_by, finding_of, finding_said, is_gitmodules_fault, report, tree_rule};
-ghost use Rattle.check_trees.specs.Spelled.{IsAcceptedStream, IsReadAsItems};
 ghost use Rattle.check_trees.specs.Private.{EntryGives, EntryReads, PassesId, Says, as_front, tree_report};
+ghost use Rattle.check_trees.specs.{Options.{as_options, protections_for}, Spelled.{IsAcceptedStream, IsReadAsItems}};
 
 use crate::entry::{ModeAndName, front_of};
 use crate::options::CheckOptions;

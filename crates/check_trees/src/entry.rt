@@ -1,10 +1,7 @@
 //! The part of a tree's entry that is before the NUL.
 
-ghost use Rattle.std.specs.Prelude.{◌≡◌};
-ghost use Rattle.std.specs.Option.{option_map};
-ghost use Rattle.std.specs.Str.{bytes_eq};
-ghost use Rattle.check_trees.specs.Entries.{is_file, mode_of, parsed_front};
-ghost use Rattle.check_trees.specs.Private.{as_front};
+ghost use Rattle.std.specs.{Prelude.◌≡◌, Option.option_map, Str.bytes_eq};
+ghost use Rattle.check_trees.specs.{Entries.{is_file, mode_of, parsed_front}, Private.as_front};
 
 use git_input::text::{number_of, split_once};
 use gix_validate::path::ComponentMode;

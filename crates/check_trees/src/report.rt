@@ -10,8 +10,7 @@
 //! contents. So the status alone says whether a name is refused. No other line begins with that
 //! word, since the others begin with an id.
 
-ghost use Rattle.std.specs.Prelude.{◌≡◌, ◌++◌, OnOk};
-ghost use Rattle.std.specs.Option.{option_map};
+ghost use Rattle.std.specs.{Prelude.{◌≡◌, ◌++◌, OnOk}, Option.option_map};
 ghost use Rattle.git_input.specs.Promises.{as_object};
 ghost use Rattle.check_trees.specs.Report.{in_path, modules_line, place, refused_line, shown_path};
 ghost use Rattle.check_trees.specs.Private.{as_front};

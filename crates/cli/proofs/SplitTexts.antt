@@ -1,10 +1,7 @@
 -- A text cut at its first byte of a kind, in std's words.
 use Rattle.std.proofs.Common.{◌≡◌, ℕ, ◌<◌, ◌==◌, List, [], ◌∷◌, Option, Some, None, Bor, length, arith, sym}
-use Rattle.std.specs.List.{position_or_len, before_first, after_first}
-use Rattle.std.specs.Option.{option_map}
-use Rattle.std.proofs.lemmas.Bool.Decides.{nat_tests}
-use Rattle.std.proofs.lemmas.Grind.{common_steps}
-use Rattle.std.proofs.lemmas.Str.Pattern.{IsSplitOnceResult, split_once_first}
+use Rattle.std.proofs.lemmas.{Bool.Decides.nat_tests, Grind.common_steps, Str.Pattern.{IsSplitOnceResult, split_once_first}}
+use Rattle.std.specs.{List.{position_or_len, before_first, after_first}, Option.option_map}
 use Rattle.cli.specs.Lines.{split_once}
 
 split_nowhere : (c : ℕ) (text : List ℕ) → position_or_len (λ b. b == c) text ≡ length text → split_once c text ≡ None

@@ -1,7 +1,6 @@
 -- What the arguments of a program ask for.
 use Rattle.std.specs.Prelude.{ℕ, ◌||◌, Bool, if◌then◌else◌, List, [], ◌∷◌, codes, Option, Some, None, Result, Ok, Err}
-use Rattle.std.specs.Borrow.{Bor}
-use Rattle.std.specs.Str.{byte, bytes_eq}
+use Rattle.std.specs.{Borrow.Bor, Str.{byte, bytes_eq}}
 use Rattle.cli.specs.declared.arguments.Request.{Request}
 use Rattle.cli.specs.declared.arguments.Request.TheVariants as request
 use Rattle.cli.specs.declared.arguments.Setting.{Setting}

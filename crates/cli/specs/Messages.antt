@@ -1,15 +1,9 @@
 -- What a program says on standard error, what it prints, and how it ends.
 use Rattle.std.specs.Prelude.{◌≡◌, ◌⊎◌, ℕ, Bool, false, List, [], ◌∷◌, ◌++◌, codes, Option, Some, Result, Ok, Err, IfSome}
-use Rattle.std.specs.Fmt.{debug_str, ◌++?◌}
-use Rattle.std.specs.Io.KnownBytes.{Appends}
-use Rattle.std.specs.Process.{exit_status}
-use Rattle.std.specs.declared.process.ExitCode.{ExitCode}
-use Rattle.cli.specs.declared.messages.Messages.{Messages}
-use Rattle.cli.specs.declared.outcome.RunError.{RunError}
-use Rattle.cli.specs.declared.outcome.RunError.TheVariants.{Read, Memory, Write}
-use Rattle.cli.specs.Lines.{line_end}
+use Rattle.std.specs.{declared.process.ExitCode.ExitCode, Fmt.{debug_str, ◌++?◌}, Io.KnownBytes.Appends, Process.exit_status}
+use Rattle.cli.specs.declared.{TheConstants.VERSION, messages.Messages.Messages, outcome.RunError.RunError}
+use Rattle.cli.specs.{declared.outcome.RunError.TheVariants.{Read, Memory, Write}, Lines.line_end}
 use Rattle.cli.specs.Arguments.{Task, Check, Help, Version, WrongArgument, UnknownWord, NoValue, WrongValue}
-use Rattle.cli.specs.declared.TheConstants.{VERSION}
 
 -- what is said of a run that failed
 abbrev pub stop_text_of : RunError → List ℕ

@@ -1,7 +1,5 @@
 -- What is written, where the writer's bytes are known.
-use Rattle.std.specs.Prelude.{ℕ, List, Option}
-use Rattle.std.specs.Io.{StartsWith}
-use Rattle.std.specs.Io.KnownBytes.{Appends}
+use Rattle.std.specs.{Prelude.{ℕ, List, Option}, Io.{StartsWith, KnownBytes.Appends}}
 
 -- a front of these bytes was appended
 abbrev pub AppendsPrefixOf : Option (List ℕ) → Option (List ℕ) → List ℕ → Type 0

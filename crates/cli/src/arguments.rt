@@ -1,15 +1,10 @@
 //! The arguments of a program.
 
 ghost use Rattle.std.specs.Prelude.{◌≡◌, ◌⊎◌, ℕ, List, codes, IfErr, IfOk, IfSome, IsErr, IsOk, OnErr, OnOk, drop, map};
-ghost use Rattle.std.specs.Option.{option_map};
-ghost use Rattle.std.specs.Process.{exit_status};
-ghost use Rattle.std.specs.Result.{result_map_both};
-ghost use Rattle.std.specs.Str.{byte};
-ghost use Rattle.std.specs.String.{string_bytes};
-ghost use Rattle.std.specs.Vec.Iter.{into_iter_items};
+ghost use Rattle.std.specs.{Option.option_map, Process.exit_status, Result.result_map_both, Str.byte};
+ghost use Rattle.std.specs.{String.string_bytes, Vec.Iter.into_iter_items};
 ghost use Rattle.cli.specs.Arguments.{OptionRule, effect_of, is_help, request_of, set_by, task_of, text_of, wrong_argument};
-ghost use Rattle.cli.specs.Lines.{split_once};
-ghost use Rattle.cli.specs.Messages.{Says, message, stop_text_of, wrong_text_of};
+ghost use Rattle.cli.specs.{Lines.split_once, Messages.{Says, message, stop_text_of, wrong_text_of}};
 
 use crate::fail;
 use crate::messages::Messages;

@@ -1,9 +1,7 @@
 //! What a program is: its arguments, the text and the message that it prints, and why a run fails.
 #![tactic(auto)]
 
-ghost use Rattle.std.specs.Prelude.{◌≡◌, ◌++◌, codes, IfSome, OnOk};
-ghost use Rattle.std.specs.Io.KnownBytes.{Appends};
-ghost use Rattle.std.specs.Process.{exit_status};
+ghost use Rattle.std.specs.{Prelude.{◌≡◌, ◌++◌, codes, IfSome, OnOk}, Io.KnownBytes.Appends, Process.exit_status};
 ghost use Rattle.cli.specs.Messages.{Prints, Says, message};
 
 use crate::messages::Messages;

@@ -1,7 +1,6 @@
 -- The names that were read are those of the sections so far.
 use Rattle.gix_validate.proofs.Common.{◌≡◌, ℕ, List, [], ◌∷◌, ◌++◌, map, Option, None, Some, All, append_assoc, arith, map-append, All-push}
-use Rattle.bstr.specs.declared.bstring.BString.{BString}
-use Rattle.bstr.specs.Owned.{bstring_bytes}
+use Rattle.bstr.specs.{declared.bstring.BString.BString, Owned.bstring_bytes}
 use Rattle.gix_validate.specs.Submodule.{fault_of}
 use Rattle.examples.specs.Settings.{IsAccepted}
 

@@ -3,8 +3,7 @@ use Rattle.gix_validate.proofs.Common.{◌≡◌, ◌≢◌, ℕ, ◌<◌, lengt
 use Rattle.gix_validate.proofs.Common.{get_or-set_other, length-map, length-set, map-set, map-append, find_at, find-set, find_past, find-append}
 use Rattle.gix_validate.proofs.Common.{fails_before_first, slice_get-map, slice_get_past, slice_get_read, bytes_eq-Decides}
 use Rattle.std.proofs.lemmas.List.Quantifiers.{all_pairs_push, position-Some}
-use Rattle.examples.specs.declared.ref_store.ObjectId.{ObjectId}
-use Rattle.examples.specs.declared.ref_store.Reference.{Reference}
+use Rattle.examples.specs.declared.ref_store.{ObjectId.ObjectId, Reference.Reference}
 use Rattle.examples.specs.Targets.{Entries, HasDistinctNames, entry_of, is_named, target_of}
 
 -- The references are searched as their entries are.

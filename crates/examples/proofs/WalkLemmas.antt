@@ -1,13 +1,8 @@
 -- The names of a path are accepted under the options of the place that it was taken from.
 use Rattle.gix_validate.proofs.Common.{◌≡◌, List, map, None, Result, Ok, Err, All, IfOk, All-map}
-use Rattle.bstr.specs.declared.bstr.BStr.{BStr}
-use Rattle.bstr.specs.declared.bstring.BString.{BString}
-use Rattle.bstr.specs.BStr.{bstr_bytes}
-use Rattle.bstr.specs.Owned.{bstring_bytes}
-use Rattle.gix_validate.specs.declared.path.ComponentOptions.{ComponentOptions}
-use Rattle.gix_validate.specs.Component.{fault_of}
-use Rattle.gix_validate.specs.ComponentLaws.{HasOnlySwitchesOf, IsValidUnderFewerSwitches}
-use Rattle.gix_validate.specs.Pieces.{pieces}
+use Rattle.bstr.specs.{declared.{bstr.BStr.BStr, bstring.BString.BString}, BStr.bstr_bytes, Owned.bstring_bytes}
+use Rattle.gix_validate.specs.{declared.path.ComponentOptions.ComponentOptions, Component.fault_of}
+use Rattle.gix_validate.specs.{ComponentLaws.{HasOnlySwitchesOf, IsValidUnderFewerSwitches}, Pieces.pieces}
 
 all_own : (options : ComponentOptions) → HasOnlySwitchesOf options options
 all_own options = record { windows = λ on. on; hfs = λ on. on; ntfs = λ on. on }

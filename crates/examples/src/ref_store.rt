@@ -1,7 +1,6 @@
 //! References and their targets, by full name.
 
-ghost use Rattle.std.specs.Prelude.{◌≡◌, ◌≢◌, ℕ, List, [], None, Some, OnOk, OnErr, map};
-ghost use Rattle.std.specs.List.{position};
+ghost use Rattle.std.specs.{Prelude.{◌≡◌, ◌≢◌, ℕ, List, [], None, Some, OnOk, OnErr, map}, List.position};
 ghost use Rattle.typed_names.specs.Names.{name_bytes};
 ghost use Rattle.examples.specs.Targets.{HasDistinctNames, entry_of, is_named, target_of};
 

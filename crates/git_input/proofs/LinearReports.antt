@@ -2,16 +2,12 @@
 use Rattle.gix_validate.proofs.Common.{◌≡◌, ℕ, ◌+◌, ◌*◌, ◌/◌, ◌≤◌, Bool, true, false, if◌then◌else◌, nat_lt, List, [], ◌∷◌, Option, None, Some, Ok, Err, length}
 use Rattle.gix_validate.proofs.Common.{take, drop, arith, length-append, length-take, length-drop, mul-le-mul_left, mul-add, IfSome, ⊤, flat_map}
 use Rattle.gix_validate.specs.Quoted.{escape_of, quoted}
-use Rattle.git_input.specs.declared.outcome.Malformation.TheVariants.{Absent}
-use Rattle.git_input.specs.declared.lines.Ending.{Ending}
-use Rattle.git_input.specs.Texts.{line_end, split_once, is_id}
-use Rattle.git_input.specs.Headers.{ParsedObject, ParsedHeader, Missing, Object, parsed_header}
 use Rattle.git_input.specs.Reports.{LeavesTheEnd, longest, Said, nothing, Step, LineRule, line_with, line_of}
 use Rattle.git_input.specs.Reports.{report, PrintsAtMost}
 use Rattle.git_input.specs.Objects.{Judged, ObjectRule, after_end, closed, header_rule, object_rule, ending_of, object_report}
-use Rattle.git_input.specs.Private.{object_rule_leaves}
-use Rattle.git_input.proofs.WrittenLines.{by_lines}
-use Rattle.git_input.proofs.SplitTexts.{IsCut, split_cuts, whole}
+use Rattle.git_input.specs.{declared.{lines.Ending.Ending, outcome.Malformation.TheVariants.Absent}, Texts.{line_end, split_once, is_id}}
+use Rattle.git_input.specs.{Headers.{ParsedObject, ParsedHeader, Missing, Object, parsed_header}, Private.object_rule_leaves}
+use Rattle.git_input.proofs.{WrittenLines.by_lines, SplitTexts.{IsCut, split_cuts, whole}}
 
 -- ---- quoted names
 

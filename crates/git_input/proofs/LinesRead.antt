@@ -4,20 +4,14 @@ use Rattle.gix_validate.proofs.Common.{Result, Ok, Err, length, take, refl, ap, 
 use Rattle.gix_validate.proofs.Common.{take-append-le, IfSome_then, nat_tests, IfSome, IfOk, bytes_eq, bytes_eq-Decides, Appends, Consumes, Appends-nil}
 use Rattle.gix_validate.proofs.Common.{Appends-trans, AllByRecursion, IfOk-weaker}
 use Rattle.gix_validate.specs.Bytes.{is_empty}
-use Rattle.git_input.specs.declared.outcome.Malformation.{Malformation}
-use Rattle.git_input.specs.declared.outcome.Malformation.TheVariants.{TooLong, Ended}
-use Rattle.cli.specs.declared.outcome.RunError.{RunError}
-use Rattle.cli.specs.declared.outcome.RunError.TheVariants.{Write}
-use Rattle.git_input.specs.declared.outcome.Verdict.TheVariants.{Clean, Refused, Malformed}
-use Rattle.git_input.specs.declared.lines.Ending.{Ending}
-use Rattle.git_input.specs.declared.lines.Ending.TheVariants.{Anywhere, EndLine, AfterALine}
-use Rattle.git_input.specs.declared.input.Found.TheVariants.{Byte, Limit, End}
-use Rattle.git_input.specs.Texts.{line_end, split_once}
 use Rattle.git_input.specs.Reports.{longest, Said, nothing, Step, LineRule, LeavesTheEnd, line_with, line_of, Report, lines_then, end_word, end_line}
 use Rattle.git_input.specs.Reports.{is_end, malformation_at_end, at_end, at_end_line, lines_within, lines_from, report, verdict_of}
-use Rattle.cli.specs.Writes.{AppendsPrefixOf}
-use Rattle.git_input.specs.Promises.{FollowsRule, ReadsBefore, is_end_word}
 use Rattle.git_input.specs.Reports.{EndsIn}
+use Rattle.git_input.specs.declared.{input.Found.TheVariants.{Byte, Limit, End}, lines.Ending.Ending}
+use Rattle.git_input.specs.declared.{lines.Ending.TheVariants.{Anywhere, EndLine, AfterALine}, outcome.Malformation.Malformation}
+use Rattle.git_input.specs.declared.outcome.{Malformation.TheVariants.{TooLong, Ended}, Verdict.TheVariants.{Clean, Refused, Malformed}}
+use Rattle.git_input.specs.{Texts.{line_end, split_once}, Promises.{FollowsRule, ReadsBefore, is_end_word}}
+use Rattle.cli.specs.{declared.outcome.RunError.{RunError, TheVariants.Write}, Writes.AppendsPrefixOf}
 use Rattle.git_input.proofs.SplitTexts.{IsCut, split_cuts, whole, drop_both, split_found, split_within, split_short, split_long}
 use Rattle.git_input.proofs.ReportSoFar.{SoFar, when_known, goes, stops, said_nothing}
 

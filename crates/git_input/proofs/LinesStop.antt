@@ -1,14 +1,10 @@
 -- A run reads no further than the first malformed line and what can belong to it.
 use Rattle.gix_validate.proofs.Common.{◌≡◌, ◌≢◌, ℕ, ◌+◌, ◌<◌, ◌≤◌, Bool, List, [], ◌∷◌, ◌++◌, All, Option, None, Some, Result, Ok, Err, length, arith}
 use Rattle.gix_validate.proofs.Common.{append-nil, append_assoc, length-append, IfOk, IfSome, Consumes, Consumes-nil, Consumes-trans}
-use Rattle.git_input.specs.declared.outcome.Malformation.{Malformation}
-use Rattle.git_input.specs.declared.lines.Ending.{Ending}
-use Rattle.git_input.specs.declared.input.Found.TheVariants.{Byte, Limit, End}
-use Rattle.git_input.specs.Texts.{line_end}
-use Rattle.git_input.specs.Reports.{longest, LineRule, LeavesTheEnd, Reach, report, extent}
+use Rattle.git_input.specs.declared.{input.Found.TheVariants.{Byte, Limit, End}, lines.Ending.Ending, outcome.Malformation.Malformation}
+use Rattle.git_input.specs.{Texts.line_end, Reports.{longest, LineRule, LeavesTheEnd, Reach, report, extent}}
 use Rattle.git_input.specs.Promises.{ReadsBefore, ReadsNext, ReadsUpTo, StopsWithin}
-use Rattle.git_input.proofs.SplitTexts.{split_within, split_short, split_long}
-use Rattle.git_input.proofs.ReportSoFar.{SoFar}
+use Rattle.git_input.proofs.{SplitTexts.{split_within, split_short, split_long}, ReportSoFar.SoFar}
 use Rattle.git_input.proofs.LinesRead.{LineGives, lines_report, lines_first, lines_none}
 
 -- ---- reads

@@ -1,12 +1,8 @@
 -- An object's bytes, and then the LF after them.
 use Rattle.gix_validate.proofs.Common.{◌≡◌, ℕ, Bool, List, Option, Result, Ok, Err, arith, drop_of_length-le, take_all, IfSome_then, IfSome, Appends}
-use Rattle.cli.specs.declared.outcome.RunError.{RunError}
-use Rattle.git_input.specs.declared.outcome.Malformation.{Malformation}
-use Rattle.git_input.specs.Headers.{ParsedObject}
-use Rattle.git_input.specs.Reports.{Said, Step}
-use Rattle.git_input.specs.Objects.{ObjectRule, after_end, object_step}
-use Rattle.cli.specs.Writes.{AppendsPrefixOf}
-use Rattle.git_input.specs.Promises.{FollowsRule, Closes, body_step}
+use Rattle.cli.specs.{declared.outcome.RunError.RunError, Writes.AppendsPrefixOf}
+use Rattle.git_input.specs.{declared.outcome.Malformation.Malformation, Headers.ParsedObject, Reports.{Said, Step}}
+use Rattle.git_input.specs.{Objects.{ObjectRule, after_end, object_step}, Promises.{FollowsRule, Closes, body_step}}
 
 abbrev pub then_closed : Step → Step
 then_closed (said, Err malformation) = (said, Err malformation)

@@ -1,6 +1,5 @@
 -- The definitions of numbers and ids, computed on literals.
-use Rattle.gix_validate.proofs.Common.{refl, ℕ, List, [], ◌∷◌, ◌++◌, true, false, Some, None, codes}
-use Rattle.gix_validate.proofs.Rows.Tables.{Gives}
+use Rattle.gix_validate.proofs.{Common.{refl, ℕ, List, [], ◌∷◌, ◌++◌, true, false, Some, None, codes}, Rows.Tables.Gives}
 use Rattle.git_input.specs.Texts.{number_of, is_id}
 
 abbrev forty : List ℕ

@@ -1,9 +1,8 @@
 -- A header line that is written out is read as it is written.
 use Rattle.gix_validate.proofs.Common.{◌≡◌, ◌≢◌, ℕ, ◌<◌, ◌≤◌, true, false, nat_le, List, [], ◌∷◌, ◌++◌, All, Option, None, Some, length, codes, refl, arith}
 use Rattle.gix_validate.proofs.Common.{append-nil, IfSome, list_all, AllByRecursion, byte, bytes_eq, All-from_recursion, All-append, All-cons}
-use Rattle.git_input.specs.declared.header.Kind.{Kind}
-use Rattle.git_input.specs.Texts.{line_end, split_once, is_digit, number_of, is_hex_digit, is_id}
 use Rattle.git_input.specs.Headers.{ParsedObject, Missing, Object, kind_word, kind_of_word, sized_parts, parsed_header}
+use Rattle.git_input.specs.{declared.header.Kind.Kind, Texts.{line_end, split_once, is_digit, number_of, is_hex_digit, is_id}}
 use Rattle.git_input.specs.Spelled.{rest_bytes, header_line}
 use Rattle.git_input.proofs.SplitTexts.{split_found, split_nowhere}
 

@@ -1,14 +1,10 @@
 -- A stream that is written out, object by object, is read as it is written.
 use Rattle.gix_validate.proofs.Common.{◌≡◌, ℕ, ◌<◌, Bool, true, false, List, [], ◌∷◌, ◌++◌, None, Some, Ok, length, codes, arith, append_assoc, length-append}
 use Rattle.gix_validate.proofs.Common.{take_at, drop_at, byte, common_steps}
-use Rattle.git_input.specs.declared.lines.Ending.{Ending}
-use Rattle.git_input.specs.Texts.{is_id}
-use Rattle.git_input.specs.Reports.{line_of, is_end}
-use Rattle.git_input.specs.Objects.{ObjectRule, header_rule, object_rule}
-use Rattle.git_input.specs.Headers.{ParsedObject, Object, kind_word}
+use Rattle.git_input.specs.{declared.lines.Ending.Ending, Texts.is_id, Reports.{line_of, is_end}}
+use Rattle.git_input.specs.{Objects.{ObjectRule, header_rule, object_rule}, Headers.{ParsedObject, Object, kind_word}}
 use Rattle.git_input.specs.Spelled.{Spelled, Present, Absent, rest_bytes, IsSpelled, spelling, spelled_said}
-use Rattle.git_input.proofs.SpelledHeaders.{id_high, header_spelled, header_none, missing_spelled, missing_none}
-use Rattle.git_input.proofs.LinesRead.{line_found}
+use Rattle.git_input.proofs.{SpelledHeaders.{id_high, header_spelled, header_none, missing_spelled, missing_none}, LinesRead.line_found}
 
 module _ (rule : ObjectRule) (whole : Bool) where
   body_spelled : (object : ParsedObject) (content rest : List ℕ) → length content ≡ object.size → (rule false object content).1 ≡ None

@@ -2,26 +2,18 @@
 use Rattle.gix_validate.proofs.Common.{◌↔◌, Result, Ok, Err, ◌≡◌, ◌≢◌, ℕ, ◌<◌, Bool, true, false, nat_lt, List, [], ◌∷◌, ◌++◌, Option, None, Some, All, length}
 use Rattle.gix_validate.proofs.Common.{take, drop, codes, refl, ap, sym, ◌∙◌, arith, append_assoc, append-nil, length-take, length-drop, take-append-drop}
 use Rattle.gix_validate.proofs.Common.{IfSome, IfOk, AllByRecursion, option_and_then, byte, bytes_eq-Decides, All-from_recursion, IfSome_then}
-use Rattle.git_input.specs.declared.outcome.Verdict.{Verdict}
-use Rattle.git_input.specs.Objects.{ending_of, object_report}
-use Rattle.cli.specs.declared.outcome.RunError.{RunError}
-use Rattle.git_input.specs.Promises.{Runs}
-use Rattle.git_input.specs.Reports.{Reach, verdict_of, IsCleanIff}
 use Rattle.git_input.specs.Spelled.{IsReportedInOrder, IsStreamOf, IsCleanStream}
-use Rattle.git_input.specs.Private.{object_rule_leaves}
-use Rattle.git_input.proofs.SpelledStreams.{line_spelled, some_bytes, not_end}
-use Rattle.git_input.proofs.WrittenLines.{AreRead, in_order, well_formed, only_clean, if_clean}
-use Rattle.git_input.proofs.WholeStreams.{whole_stream}
-use Rattle.git_input.specs.declared.header.Kind.{Kind}
-use Rattle.git_input.specs.Texts.{line_end, split_once, number_of, is_id}
 use Rattle.git_input.specs.Headers.{ParsedObject, ParsedHeader, Missing, Object, kind_word, kind_of_word, sized_parts, sized, parsed_header}
-use Rattle.git_input.specs.Reports.{longest, Said}
-use Rattle.git_input.specs.Objects.{ObjectRule, closed, header_rule, object_rule}
 use Rattle.git_input.specs.Spelled.{Spelled, Present, Absent, header_line, IsSpelled, spelling, spelled_said}
 use Rattle.git_input.specs.Spelled.{IsWellFormedOnlyIfSpelled}
-use Rattle.git_input.proofs.LinesRead.{by_line}
-use Rattle.git_input.proofs.SplitTexts.{split_cuts, whole}
-use Rattle.git_input.specs.Private.{ok_then, closed_is}
+use Rattle.git_input.specs.declared.{header.Kind.Kind, outcome.Verdict.Verdict}
+use Rattle.git_input.specs.{Objects.{ending_of, object_report, ObjectRule, closed, header_rule, object_rule}, Promises.Runs}
+use Rattle.git_input.specs.{Reports.{Reach, verdict_of, IsCleanIff, longest, Said}, Private.{object_rule_leaves, ok_then, closed_is}}
+use Rattle.git_input.specs.Texts.{line_end, split_once, number_of, is_id}
+use Rattle.cli.specs.declared.outcome.RunError.{RunError}
+use Rattle.git_input.proofs.SpelledStreams.{line_spelled, some_bytes, not_end}
+use Rattle.git_input.proofs.{WrittenLines.{AreRead, in_order, well_formed, only_clean, if_clean}, WholeStreams.whole_stream}
+use Rattle.git_input.proofs.{LinesRead.by_line, SplitTexts.{split_cuts, whole}}
 
 -- ---- a header line
 

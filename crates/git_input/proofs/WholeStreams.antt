@@ -1,11 +1,8 @@
 -- A text that has to end in a line is well-formed only if it does.
 use Rattle.gix_validate.proofs.Common.{◌≡◌, ℕ, Bool, List, [], ◌++◌, None, arith, append_assoc, bytes_eq-Decides}
-use Rattle.git_input.specs.declared.lines.Ending.TheVariants.{EndLine}
-use Rattle.git_input.specs.Objects.{ObjectRule, IsWholeStream}
-use Rattle.git_input.specs.Private.{object_rule_leaves}
+use Rattle.git_input.specs.{declared.lines.Ending.TheVariants.EndLine, Objects.{ObjectRule, IsWholeStream}, Private.object_rule_leaves}
 use Rattle.git_input.specs.Reports.{EndsIn, LineRule, LeavesTheEnd, end_line, report, IsWhole}
-use Rattle.git_input.proofs.WrittenLines.{by_lines}
-use Rattle.git_input.proofs.LinesRead.{line_ends}
+use Rattle.git_input.proofs.{WrittenLines.by_lines, LinesRead.line_ends}
 
 ends_then : (a b c : List ℕ) → EndsIn a b → EndsIn b c → EndsIn a c
 ends_then a b c (front, cut) (more, is) = (front ++ more, grind (arith, append_assoc))

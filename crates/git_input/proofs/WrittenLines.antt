@@ -1,13 +1,11 @@
 -- Texts that are written out, part by part: each is read as it is written, and no other text is well-formed.
 use Rattle.gix_validate.proofs.Common.{◌≡◌, ◌↔◌, ℕ, zero, suc, ◌+◌, ◌<◌, ◌≤◌, true, false, List, [], ◌∷◌, ◌++◌, None, Some, Ok, Err, length, map, refl, ap, sym}
 use Rattle.gix_validate.proofs.Common.{◌∙◌, arith, append_assoc, IfOk, flat_map, AllByRecursion, cond_both, IfOk-weaker, bytes_eq-Decides}
-use Rattle.git_input.specs.declared.outcome.Malformation.{Malformation}
-use Rattle.git_input.specs.declared.outcome.Verdict.TheVariants.{Clean}
-use Rattle.git_input.specs.declared.lines.Ending.{Ending}
-use Rattle.git_input.specs.declared.lines.Ending.TheVariants.{AfterALine}
 use Rattle.git_input.specs.Reports.{Said, all_said, Step, LineRule, LeavesTheEnd, line_of, Report, before_report, lines_then, end_of, is_end, at_end}
 use Rattle.git_input.specs.Reports.{at_end_line}
 use Rattle.git_input.specs.Reports.{lines_within, lines_from, report, verdict_of}
+use Rattle.git_input.specs.declared.{lines.Ending.{Ending, TheVariants.AfterALine}, outcome.Malformation.Malformation}
+use Rattle.git_input.specs.declared.outcome.Verdict.TheVariants.{Clean}
 use Rattle.git_input.proofs.LinesRead.{line_shorter, lines_first, lines_none, lines_end}
 
 -- ---- what holds of each line holds of a text

@@ -1,21 +1,11 @@
 -- How a program ends after a run.
 use Rattle.std.specs.Prelude.{◌≡◌, ◌⊎◌, ℕ, ◌==◌, if◌then◌else◌, List, [], ◌++◌, codes, Option, Result, Ok, Err, IfOk, IfSome}
-use Rattle.std.specs.Fmt.{decimal}
-use Rattle.std.specs.Io.KnownBytes.{Keeps}
-use Rattle.std.specs.Process.{exit_status}
-use Rattle.std.specs.declared.process.ExitCode.{ExitCode}
-use Rattle.cli.specs.declared.messages.Messages.{Messages}
-use Rattle.cli.specs.declared.outcome.RunError.{RunError}
-use Rattle.cli.specs.declared.outcome.RunError.TheVariants.{Write}
+use Rattle.std.specs.{declared.process.ExitCode.ExitCode, Fmt.decimal, Io.KnownBytes.Keeps, Process.exit_status}
+use Rattle.cli.specs.declared.{messages.Messages.Messages, outcome.RunError.{RunError, TheVariants.Write}}
 use Rattle.cli.specs.Messages.{Says, message, stop_text_of}
-use Rattle.git_input.specs.declared.outcome.Malformation.{Malformation}
-use Rattle.git_input.specs.declared.outcome.Malformation.TheVariants.{Header}
-use Rattle.git_input.specs.declared.outcome.Verdict.{Verdict}
-use Rattle.git_input.specs.declared.outcome.Verdict.TheVariants.{Clean, Refused, Malformed}
-use Rattle.git_input.specs.declared.runs.Program.{Program}
-use Rattle.git_input.specs.Messages.{malformation_text_of}
-use Rattle.git_input.specs.Reports.{Reach, Report, IsCleanIff}
-use Rattle.git_input.specs.Promises.{Runs}
+use Rattle.git_input.specs.declared.outcome.{Malformation.{Malformation, TheVariants.Header}, Verdict.Verdict}
+use Rattle.git_input.specs.declared.{outcome.Verdict.TheVariants.{Clean, Refused, Malformed}, runs.Program.Program}
+use Rattle.git_input.specs.{Messages.malformation_text_of, Reports.{Reach, Report, IsCleanIff}, Promises.Runs}
 
 -- how a run ends: it may fail
 abbrev pub Ran : Type 0

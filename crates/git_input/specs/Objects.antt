@@ -1,11 +1,8 @@
 -- A stream of objects as `git cat-file --batch` prints them: a header line, as many bytes as it says, and LF.
 use Rattle.std.specs.Prelude.{◌≡◌, ℕ, ◌+◌, Bool, true, false, ◌==◌, nat_lt, if◌then◌else◌, List, [], ◌∷◌, length, take, drop}
 use Rattle.std.specs.Prelude.{Option, Some, None, Result, Ok, Err}
-use Rattle.git_input.specs.declared.outcome.Malformation.{Malformation}
-use Rattle.git_input.specs.declared.outcome.Malformation.TheVariants.{Header, Ended, LineEnd, Absent}
-use Rattle.git_input.specs.declared.lines.Ending.{Ending}
-use Rattle.git_input.specs.declared.lines.Ending.TheVariants.{Anywhere, EndLine}
-use Rattle.git_input.specs.Texts.{line_end}
+use Rattle.git_input.specs.declared.{lines.Ending.{Ending, TheVariants.{Anywhere, EndLine}}, outcome.Malformation.Malformation}
+use Rattle.git_input.specs.{declared.outcome.Malformation.TheVariants.{Header, Ended, LineEnd, Absent}, Texts.line_end}
 use Rattle.git_input.specs.Headers.{ParsedObject, ParsedHeader, Missing, Object, parsed_header}
 use Rattle.git_input.specs.Reports.{Said, nothing, Step, LineRule, EndsIn, Reach, end_line, Report, report}
 

@@ -3,9 +3,7 @@ use Rattle.std.proofs.Common.{◌≡◌, ℕ, Bool, true, false, nat_lt, List, [
 use Rattle.std.proofs.Common.{refl, arith, append_assoc, take-append-drop}
 use Rattle.std.proofs.lemmas.Bool.Decides.{nat_tests}
 use Rattle.std.specs.Prelude.{IfOk}
-use Rattle.git_input.specs.Texts.{line_end}
-use Rattle.git_input.specs.Headers.{ParsedHeader, Missing, Object, parsed_header}
-use Rattle.git_input.specs.Reports.{EndsIn, LeavesTheEnd}
+use Rattle.git_input.specs.{Texts.line_end, Headers.{ParsedHeader, Missing, Object, parsed_header}, Reports.{EndsIn, LeavesTheEnd}}
 use Rattle.git_input.specs.Objects.{ObjectRule, Judged, closed, header_rule, object_rule}
 
 pub ok_then : {T E : Type 0} (r : Result T E) (P Q : T → Type 0) → IfOk r P → ((x : T) → P x → Q x) → IfOk r Q

@@ -1,23 +1,14 @@
 -- What the functions promise of one step, where the reader's and the writer's bytes are known.
 use Rattle.std.specs.Prelude.{◌≡◌, ◌≢◌, ℕ, ◌<◌, ◌≤◌, nat_lt, Bool, true, false, List, [], ◌∷◌, ◌++◌, All, length, take, drop, Option}
 use Rattle.std.specs.Prelude.{Some, None, Result, Ok, Err, IfOk, IfSome, OnErr, OnSome, ⊤, option_map}
-use Rattle.std.specs.Str.{bytes_eq}
-use Rattle.git_input.specs.declared.lines.Ending.{Ending}
-use Rattle.git_input.specs.declared.lines.Ending.TheVariants.{EndLine}
-use Rattle.std.specs.Io.KnownBytes.{Appends, Consumes, IsAtEnd}
-use Rattle.cli.specs.declared.outcome.RunError.{RunError}
-use Rattle.cli.specs.declared.outcome.RunError.TheVariants.{Write}
-use Rattle.cli.specs.Writes.{AppendsPrefixOf}
-use Rattle.gix_validate.specs.Faults.{when}
-use Rattle.git_input.specs.declared.outcome.Malformation.{Malformation}
-use Rattle.git_input.specs.declared.outcome.Malformation.TheVariants.{Ended}
+use Rattle.std.specs.{Str.bytes_eq, Io.KnownBytes.{Appends, Consumes, IsAtEnd}}
+use Rattle.git_input.specs.declared.{header.Header.Header, input.Found.{Found, TheVariants.{Byte, Limit, End}}, lines.Ending.Ending}
+use Rattle.git_input.specs.declared.{lines.Ending.TheVariants.EndLine, outcome.Malformation.{Malformation, TheVariants.Ended}}
 use Rattle.git_input.specs.declared.outcome.Verdict.{Verdict}
-use Rattle.git_input.specs.declared.input.Found.{Found}
-use Rattle.git_input.specs.declared.input.Found.TheVariants.{Byte, Limit, End}
-use Rattle.git_input.specs.declared.header.Header.{Header}
+use Rattle.cli.specs.{declared.outcome.RunError.{RunError, TheVariants.Write}, Writes.AppendsPrefixOf}
+use Rattle.gix_validate.specs.Faults.{when}
 use Rattle.git_input.specs.declared.header.Header.TheVariants as header
-use Rattle.git_input.specs.declared.header.Object.{Object}
-use Rattle.git_input.specs.Headers.{ParsedObject, ParsedHeader}
+use Rattle.git_input.specs.{declared.header.Object.Object, Headers.{ParsedObject, ParsedHeader}}
 use Rattle.git_input.specs.Headers as parsed
 use Rattle.git_input.specs.Reports.{Step, Reach, Report, extent, end_word, is_malformed, verdict_of}
 use Rattle.git_input.specs.Objects.{Judged, ObjectRule, after_end}

@@ -6,13 +6,9 @@ use Rattle.std.specs.Prelude.{drop, codes}
 use Rattle.std.specs.Prelude.{Option, Some, None, Result, Ok, Err, IfOk, option_map}
 use Rattle.std.specs.Str.{bytes_eq}
 use Rattle.gix_validate.specs.Faults.{when}
-use Rattle.git_input.specs.declared.outcome.Malformation.{Malformation}
-use Rattle.git_input.specs.declared.outcome.Malformation.TheVariants.{TooLong, Ended, NoEnd, Empty}
-use Rattle.git_input.specs.declared.outcome.Verdict.{Verdict}
-use Rattle.git_input.specs.declared.outcome.Verdict.TheVariants.{Clean, Refused, Malformed}
-use Rattle.git_input.specs.declared.lines.Ending.{Ending}
-use Rattle.git_input.specs.declared.lines.Ending.TheVariants.{Anywhere, EndLine, AfterALine}
-use Rattle.git_input.specs.Texts.{line_end, split_once}
+use Rattle.git_input.specs.declared.{lines.Ending.{Ending, TheVariants.{Anywhere, EndLine, AfterALine}}, outcome.Malformation.Malformation}
+use Rattle.git_input.specs.declared.outcome.{Malformation.TheVariants.{TooLong, Ended, NoEnd, Empty}, Verdict.Verdict}
+use Rattle.git_input.specs.{declared.outcome.Verdict.TheVariants.{Clean, Refused, Malformed}, Texts.{line_end, split_once}}
 
 -- the most bytes of a line with its end
 abbrev pub longest : ℕ

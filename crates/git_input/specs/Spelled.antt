@@ -1,10 +1,8 @@
 -- The report of a stream that is written out, object by object, and that no other text is well-formed.
 use Rattle.std.specs.Prelude.{◌≡◌, ◌≢◌, ℕ, ◌+◌, ◌<◌, Bool, true, false, List, [], ◌∷◌, ◌++◌, All, length, map, flat_map, codes, Option}
 use Rattle.std.specs.Prelude.{None, Some, IfSome}
-use Rattle.std.specs.List.{AllByRecursion}
-use Rattle.std.specs.Str.{byte}
-use Rattle.git_input.specs.Texts.{line_end, number_of, is_id}
-use Rattle.git_input.specs.Headers.{ParsedObject, kind_word}
+use Rattle.std.specs.{List.AllByRecursion, Str.byte}
+use Rattle.git_input.specs.{Texts.{line_end, number_of, is_id}, Headers.{ParsedObject, kind_word}}
 use Rattle.git_input.specs.Reports.{Said, nothing, all_said, longest, end_of, before_report, lines_from}
 use Rattle.git_input.specs.Objects.{ObjectRule, object_rule, ending_of, object_report}
 

@@ -1,11 +1,8 @@
 //! The header line of an object in the output of `git cat-file --batch`.
 
-ghost use Rattle.std.specs.Prelude.{◌≡◌};
-ghost use Rattle.std.specs.Option.{option_map};
-ghost use Rattle.git_input.specs.Headers.{kind_of_word, parsed_header, sized_parts};
-ghost use Rattle.git_input.specs.Promises.{as_parsed};
+ghost use Rattle.std.specs.{Prelude.◌≡◌, Option.option_map, Str.byte};
+ghost use Rattle.git_input.specs.{Headers.{kind_of_word, parsed_header, sized_parts}, Promises.as_parsed};
 ghost use Rattle.git_input.specs.Texts.{split_once};
-ghost use Rattle.std.specs.Str.{byte};
 
 use crate::text::{is_id, number_of, split_once};
 

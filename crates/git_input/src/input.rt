@@ -1,8 +1,7 @@
 //! Bounded reads that say where the input ends.
 
 ghost use Rattle.std.specs.Prelude.{◌≡◌, ◌≢◌, ◌↔◌, ◌<◌, ℕ, true, List, [], vec_capacity, Err, IsOk, IfOk, IfSome, OnErr, OnSome, Some};
-ghost use Rattle.std.specs.IoError.{error_kind};
-ghost use Rattle.std.specs.Io.KnownBytes.{Consumes, IsAtEnd};
+ghost use Rattle.std.specs.{IoError.error_kind, Io.KnownBytes.{Consumes, IsAtEnd}};
 ghost use Rattle.gix_validate.specs.Bytes.{is_empty};
 ghost use Rattle.git_input.specs.Promises.{IsCutAt, ReadsBefore, ReadsNext, ReadsExactly};
 

@@ -3,9 +3,8 @@
 ghost use Rattle.std.specs.Prelude.{◌≡◌, ◌+◌, Some, false, IfOk, IfSome};
 ghost use Rattle.git_input.specs.Objects.{IsWholeStream, ObjectRule, ending_of, object_reach, object_report, object_rule, object_step};
 ghost use Rattle.git_input.specs.Promises.{Runs, Closes, FollowsRule, ReadsUpTo, as_object, body_step};
-ghost use Rattle.git_input.specs.Reports.{IsCleanIff};
 ghost use Rattle.git_input.specs.Spelled.{IsCleanStream, IsReportedInOrder, IsWellFormedOnlyIfSpelled};
-ghost use Rattle.git_input.specs.Private.{object_rule_leaves};
+ghost use Rattle.git_input.specs.{Reports.IsCleanIff, Private.object_rule_leaves};
 
 use crate::header::{Header, Object, header_of};
 use crate::input::read_byte;

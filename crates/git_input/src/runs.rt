@@ -2,11 +2,9 @@
 //! exit status.
 
 ghost use Rattle.std.specs.Prelude.{◌≡◌, ℕ, List, Option, Result, Err, IfOk, OnErr, map};
-ghost use Rattle.std.specs.Io.Buffered.{reader_remaining, writer_buffer, writer_contents};
-ghost use Rattle.std.specs.Process.{exit_status};
+ghost use Rattle.std.specs.{Io.Buffered.{reader_remaining, writer_buffer, writer_contents}, Process.exit_status};
 ghost use Rattle.std.specs.String.{string_bytes};
-ghost use Rattle.cli.specs.Arguments.{request_of};
-ghost use Rattle.cli.specs.Messages.{Does, Says, message};
+ghost use Rattle.cli.specs.{Arguments.request_of, Messages.{Does, Says, message}};
 ghost use Rattle.git_input.specs.Ends.{Checks, EndsBy, Finishes, Ran, hint_of, malformed_text};
 
 use crate::outcome::{Malformation, Verdict};

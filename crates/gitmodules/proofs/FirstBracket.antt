@@ -1,9 +1,7 @@
 -- The first `[` of bytes, as a search finds it, and the sections from there on.
 use Rattle.std.proofs.Common.{◌≡◌, ◌≢◌, ℕ, ◌+◌, List, [], ◌∷◌, ◌++◌, All, Option, Some, None, length, refl, take, drop, arith}
 use Rattle.std.proofs.Common.{length-take, get_or-take, eq-eqb}
-use Rattle.std.proofs.lemmas.List.Elements.{All-from_get_or, All-head, All-tail}
-use Rattle.std.proofs.lemmas.Bool.Decides.{nat_tests}
-use Rattle.std.proofs.lemmas.Grind.{common_steps}
+use Rattle.std.proofs.lemmas.{List.Elements.{All-from_get_or, All-head, All-tail}, Bool.Decides.nat_tests, Grind.common_steps}
 use Rattle.std.specs.Str.{byte}
 use Rattle.memchr.specs.Find.{is_byte, IsFirstByte}
 use Rattle.gitmodules.specs.Sections.{begun, header_after_bracket, sections}

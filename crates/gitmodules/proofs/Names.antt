@@ -1,11 +1,9 @@
 -- A name that is read byte by byte.
 use Rattle.std.proofs.Common.{◌≡◌, ℕ, ◌+◌, ◌<◌, Bool, false, ◌==◌, ◌&&◌, not, List, [], ◌∷◌, ◌++◌, Option, length, take, drop, get_or, true}
 use Rattle.std.proofs.Common.{Result, ◌∙◌, arith, append_assoc}
-use Rattle.std.specs.Prelude.{option_map, OnErr}
-use Rattle.std.proofs.lemmas.Grind.{common_steps}
-use Rattle.std.specs.Str.{byte}
+use Rattle.std.proofs.lemmas.{Grind.common_steps, Bool.Decides.nat_tests}
+use Rattle.std.specs.{Prelude.{option_map, OnErr}, Str.byte}
 use Rattle.gitmodules.specs.Sections.{is_never_in_name, escaped_name, unescaped}
-use Rattle.std.proofs.lemmas.Bool.Decides.{nat_tests}
 
 goes : (name : List ℕ) (b : ℕ) (rest : Option (List ℕ))
     → option_map (λ more. name ++ more) (option_map (λ more. b ∷ more) rest) ≡ option_map (λ more. (name ++ b ∷ []) ++ more) rest

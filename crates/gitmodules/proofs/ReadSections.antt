@@ -1,15 +1,9 @@
 -- A section that is found, in the bytes of its file: how its header is spelled.
 use Rattle.std.proofs.Common.{◌≡◌, ◌≢◌, ℕ, ◌+◌, ◌<◌, ◌≤◌, ◌==◌, ◌&&◌, ◌||◌, not, if◌then◌else◌, Bool, true, false, inl, inr, List, [], ◌∷◌, ◌++◌, All, Some}
 use Rattle.std.proofs.Common.{None, Option, unwrap_or, codes, map, length, take, drop, refl, ap, sym, ◌∙◌, arith, append_assoc}
-use Rattle.std.specs.Prelude.{nat_lt, Contains, option_map}
-use Rattle.std.proofs.lemmas.List.{take-append-drop}
-use Rattle.std.proofs.lemmas.Bool.{cases_Bool, cases_lt, agree_below_at, eqb-true}
-use Rattle.std.proofs.lemmas.Bool.Decides.{nat_tests}
-use Rattle.std.proofs.lemmas.Grind.{common_steps}
-use Rattle.std.proofs.lemmas.List.Elements.{Contains-append_cases}
-use Rattle.std.proofs.lemmas.Slice.Eq.{bytes_eq-Decides}
-use Rattle.std.specs.Char.{to_ascii_lowercase}
-use Rattle.std.specs.List.{AllByRecursion, AllPairs, list_all, list_any}
+use Rattle.std.proofs.lemmas.{List.take-append-drop, Bool.{cases_Bool, cases_lt, agree_below_at, eqb-true, Decides.nat_tests}}
+use Rattle.std.proofs.lemmas.{Grind.common_steps, List.Elements.Contains-append_cases, Slice.Eq.bytes_eq-Decides}
+use Rattle.std.specs.{Prelude.{nat_lt, Contains, option_map}, Char.to_ascii_lowercase, List.{AllByRecursion, AllPairs, list_all, list_any}}
 use Rattle.std.specs.Str.{byte}
 use Rattle.gitmodules.specs.Sections.{Header, Named, Unreadable, Other, is_never_in_name, is_blank, is_word_byte, closed, without_blanks, escaped_name}
 use Rattle.gitmodules.specs.Sections.{unescaped, named, quoted_header, header_after_word, header_after_bracket, begun, sections}

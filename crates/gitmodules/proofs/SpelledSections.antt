@@ -1,14 +1,8 @@
 -- A section that is spelled out, in a file.
 use Rattle.std.proofs.Common.{if◌then◌else◌, Bool, add-zero, ◌≡◌, ◌≢◌, ℕ, ◌+◌, true, false, List, [], ◌∷◌, ◌++◌, Some, Option, codes, map, length}
 use Rattle.std.proofs.Common.{refl, ap, sym, ◌∙◌, arith, append_assoc, take_at, drop_at}
-use Rattle.std.specs.Prelude.{Contains}
-use Rattle.std.proofs.lemmas.List.{length-map}
-use Rattle.std.proofs.lemmas.List.Elements.{Contains-append_right}
-use Rattle.std.proofs.lemmas.Bool.Decides.{nat_tests}
-use Rattle.std.proofs.lemmas.Slice.Eq.{bytes_eq-Decides}
-use Rattle.std.specs.Char.{to_ascii_lowercase}
-use Rattle.std.specs.List.{AllByRecursion}
-use Rattle.std.specs.Str.{byte}
+use Rattle.std.proofs.lemmas.{List.{length-map, Elements.Contains-append_right}, Bool.Decides.nat_tests, Slice.Eq.bytes_eq-Decides}
+use Rattle.std.specs.{Prelude.Contains, Char.to_ascii_lowercase, List.AllByRecursion, Str.byte}
 use Rattle.gitmodules.specs.Sections.{Named, without_blanks, escaped_name, unescaped, header_after_word, header_after_bracket, begun, sections}
 use Rattle.gitmodules.specs.Spelled.{SpelledByte, IsSpelled, IsBlank, spelled_name, name_of, section_bytes, IsEachSectionFound}
 

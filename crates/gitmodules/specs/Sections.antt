@@ -3,8 +3,7 @@
 -- from a `[` on depends on the bytes after it alone. So nothing else of the file has to be understood, and no section that Git sees is missed.
 use Rattle.std.specs.Prelude.{ℕ, ◌+◌, Bool, true, false, ◌==◌, ◌&&◌, ◌||◌, not, nat_le, if◌then◌else◌, List, [], ◌∷◌, ◌++◌, take, drop, codes, Option, Some}
 use Rattle.std.specs.Prelude.{None, option_map, map}
-use Rattle.std.specs.Str.{byte, bytes_eq}
-use Rattle.std.specs.Char.{to_ascii_lowercase}
+use Rattle.std.specs.{Str.{byte, bytes_eq}, Char.to_ascii_lowercase}
 
 -- ---- names
 

@@ -1,9 +1,7 @@
 -- How a section of a submodule is spelled in a file, and that the sections found are those that are spelled, whatever is before and after them.
 -- What may be in a name, a blank and a word is said here again, so that a slip in one of the two shows.
 use Rattle.std.specs.Prelude.{◌≡◌, ◌≢◌, ◌↔◌, ◌⊎◌, ℕ, ◌<◌, Bool, true, false, ◌==◌, List, [], ◌∷◌, ◌++◌, codes, map, length, Option, Some, Contains}
-use Rattle.std.specs.Char.{to_ascii_lowercase}
-use Rattle.std.specs.List.{AllByRecursion, AllPairs, list_any}
-use Rattle.std.specs.Str.{byte}
+use Rattle.std.specs.{Char.to_ascii_lowercase, List.{AllByRecursion, AllPairs, list_any}, Str.byte}
 use Rattle.gitmodules.specs.Sections.{sections}
 
 -- a byte of a name, and whether a backslash is before it

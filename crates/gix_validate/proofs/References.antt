@@ -2,13 +2,9 @@
 use Rattle.gix_validate.proofs.Common.{◌≡◌, ℕ, true, false, IsTrue, List, [], ◌∷◌, ◌⊎◌, arith, ◌++◌, length, All, Contains, ◌==◌, Option, is_some, list_any}
 use Rattle.gix_validate.proofs.Common.{byte, bytes_eq-Decides, list_any_at, list_all-append, list_any-append, Any-from_list_any, AllPass-from_list_all}
 use Rattle.gix_validate.proofs.Common.{list_all-from_AllPass, common_steps, nat_tests}
-use Rattle.gix_validate.specs.Pieces.{pieces, joined}
+use Rattle.gix_validate.proofs.{Blocks.Parts.none_at, Texts.{Pieces.pieces_some, Endings.ends_read}}
 use Rattle.gix_validate.specs.Reference.{is_standalone_byte, has_slash_or_stands_alone, is_full_name, is_partial_name}
-use Rattle.gix_validate.specs.Tag.{is_good_piece, is_tag_name}
-use Rattle.gix_validate.specs.Private.Scan.{Finds, at_both}
-use Rattle.gix_validate.proofs.Blocks.Parts.{none_at}
-use Rattle.gix_validate.proofs.Texts.Pieces.{pieces_some}
-use Rattle.gix_validate.proofs.Texts.Endings.{ends_read}
+use Rattle.gix_validate.specs.{Pieces.{pieces, joined}, Tag.{is_good_piece, is_tag_name}, Private.Scan.{Finds, at_both}}
 
 -- The first slash, or none, says whether a text has one.
 pub slash_found : (x : List ℕ) (found : Option ℕ) → Finds (at_both (λ a b. a == byte "/") x x) (length x) (length x) found

@@ -1,9 +1,7 @@
 -- A part that is `..` is between two offsets, each the text's end or a separator's.
 use Rattle.gix_validate.proofs.Common.{cond, ◌≡◌, ℕ, zero, suc, ◌+◌, ◌-◌, ◌<◌, Bool, true, false, ◌&&◌, ◌||◌, eqb, List, [], ◌∷◌, length, get_or, drop, refl}
 use Rattle.gix_validate.proofs.Common.{sym, ◌∙◌, inl, inr, arith, cases_lt, codes, ◌==◌, list_any, byte, bytes_eq, nat_tests, common_steps}
-use Rattle.gix_validate.specs.Submodule.{is_separator, parts, has_parent_part}
-use Rattle.gix_validate.specs.Private.Parents.{is_parent_at}
-use Rattle.gix_validate.specs.Private.Scan.{NoneBelow, at_pair}
+use Rattle.gix_validate.specs.{Submodule.{is_separator, parts, has_parent_part}, Private.{Parents.is_parent_at, Scan.{NoneBelow, at_pair}}}
 
 -- two dots are at this offset, and the end or a separator after them
 unfoldable parent_from : List ℕ → ℕ → Bool

@@ -1,7 +1,6 @@
 -- Single bytes, and how a text begins, ends and what it holds. A text is a list of bytes.
 use Rattle.std.specs.Prelude.{ℕ, ◌+◌, Bool, true, false, ◌==◌, ◌&&◌, ◌||◌, nat_lt, nat_le, nat_eq, if◌then◌else◌, List, [], ◌∷◌, map, codes}
-use Rattle.std.specs.List.{list_any, starts_with, ends_with}
-use Rattle.std.specs.Str.{byte}
+use Rattle.std.specs.{List.{list_any, starts_with, ends_with}, Str.byte}
 
 -- the byte is one of the set
 abbrev pub is_among : List ℕ → ℕ → Bool

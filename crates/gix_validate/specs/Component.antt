@@ -1,18 +1,11 @@
 -- Path components: the twelve conditions under which a name is refused, in their order.
 use Rattle.std.specs.Prelude.{ℕ, Bool, true, ◌==◌, ◌&&◌, ◌||◌, not, is_none, is_some, List, [], ◌∷◌, slice_index, codes, Option}
-use Rattle.std.specs.List.{list_all}
-use Rattle.std.specs.Str.{byte, bytes_eq}
-use Rattle.gix_validate.specs.declared.path.ComponentError.{ComponentError}
+use Rattle.std.specs.{List.list_all, Str.{byte, bytes_eq}}
 use Rattle.gix_validate.specs.declared.path.ComponentError.TheVariants.{Empty, PathSeparator, WindowsPathPrefix, WindowsReservedName}
 use Rattle.gix_validate.specs.declared.path.ComponentError.TheVariants.{WindowsIllegalCharacter, DotGitDir, SymlinkedGitModules, Relative}
-use Rattle.gix_validate.specs.declared.path.ComponentOptions.{ComponentOptions}
-use Rattle.gix_validate.specs.declared.path.ComponentMode.{ComponentMode}
-use Rattle.gix_validate.specs.Bytes.{is_empty, is_among, lower}
-use Rattle.gix_validate.specs.Faults.{when, first_of}
-use Rattle.gix_validate.specs.Units.{first_unit_len}
-use Rattle.gix_validate.specs.Hfs.{hfs_form}
-use Rattle.gix_validate.specs.Ntfs.{ntfs_form, is_git_form, is_modules_form}
-use Rattle.gix_validate.specs.Windows.{is_device, is_illegal}
+use Rattle.gix_validate.specs.declared.path.{ComponentError.ComponentError, ComponentMode.ComponentMode, ComponentOptions.ComponentOptions}
+use Rattle.gix_validate.specs.{Bytes.{is_empty, is_among, lower}, Faults.{when, first_of}, Units.first_unit_len, Hfs.hfs_form}
+use Rattle.gix_validate.specs.{Ntfs.{ntfs_form, is_git_form, is_modules_form}, Windows.{is_device, is_illegal}}
 
 -- every switch on, which is the default
 abbrev pub all_protections : ComponentOptions

@@ -1,15 +1,7 @@
 -- The laws of path components: what else holds of an accepted name, and what never changes an answer.
-use Rattle.std.specs.Prelude.{◌≡◌, ◌≢◌, ℕ, false, not, IsTrue, List, [], ◌∷◌, ◌++◌, codes, Option, None}
-use Rattle.std.specs.List.{concat, filter}
-use Rattle.std.specs.Str.{byte}
-use Rattle.gix_validate.specs.declared.path.ComponentOptions.{ComponentOptions}
-use Rattle.gix_validate.specs.declared.path.ComponentMode.{ComponentMode}
-use Rattle.gix_validate.specs.Bytes.{lower}
-use Rattle.gix_validate.specs.Pieces.{has_no_slash}
-use Rattle.gix_validate.specs.Units.{units}
-use Rattle.gix_validate.specs.Hfs.{hfs_form, is_ignored_unit}
-use Rattle.gix_validate.specs.Windows.{is_device}
-use Rattle.gix_validate.specs.Component.{fault_of}
+use Rattle.std.specs.{Prelude.{◌≡◌, ◌≢◌, ℕ, false, not, IsTrue, List, [], ◌∷◌, ◌++◌, codes, Option, None}, List.{concat, filter}, Str.byte}
+use Rattle.gix_validate.specs.{declared.path.{ComponentMode.ComponentMode, ComponentOptions.ComponentOptions}, Bytes.lower}
+use Rattle.gix_validate.specs.{Pieces.has_no_slash, Units.units, Hfs.{hfs_form, is_ignored_unit}, Windows.is_device, Component.fault_of}
 
 -- every switch off
 abbrev pub no_protections : ComponentOptions

@@ -1,16 +1,12 @@
 -- Reference names: which texts are a partial, a full or a branch name, and the fault of those that aren't.
 use Rattle.std.specs.Prelude.{ℕ, Bool, ◌==◌, ◌&&◌, ◌||◌, not, nat_le, List, [], ◌∷◌, ◌++◌, codes, Option, option_map}
-use Rattle.std.specs.List.{list_all, list_any}
-use Rattle.std.specs.Str.{byte, bytes_eq}
+use Rattle.std.specs.{List.{list_all, list_any}, Str.{byte, bytes_eq}}
 use Rattle.gix_validate.specs.declared.tag.NameError.{NameError as TagError}
 use Rattle.gix_validate.specs.declared.tag.NameError.TheVariants as tag
-use Rattle.gix_validate.specs.declared.reference.NameError.{NameError}
 use Rattle.gix_validate.specs.declared.reference.NameError.TheVariants.{InvalidByte, StartsWithSlash, RepeatedSlash, RepeatedDot, LockFileSuffix}
 use Rattle.gix_validate.specs.declared.reference.NameError.TheVariants.{ReflogPortion, Asterisk, StartsWithDot, EndsWithDot, EndsWithSlash, Empty}
 use Rattle.gix_validate.specs.declared.reference.NameError.TheVariants.{SomeLowercase, Reserved}
-use Rattle.gix_validate.specs.Faults.{when, ◌orelse◌}
-use Rattle.gix_validate.specs.Pieces.{is_slash}
-use Rattle.gix_validate.specs.Quoted.{quoted}
+use Rattle.gix_validate.specs.{declared.reference.NameError.NameError, Faults.{when, ◌orelse◌}, Pieces.is_slash, Quoted.quoted}
 use Rattle.gix_validate.specs.Tag.{fault_of, is_tag_name}
 
 -- a byte of a name that stands alone, as `HEAD` or `FETCH_HEAD` does

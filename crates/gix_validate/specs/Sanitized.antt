@@ -1,11 +1,8 @@
 -- The sanitised text: what a text is repaired to, piece by piece, so that it is a partial name.
 use Rattle.std.specs.Prelude.{◌≡◌, ◌≢◌, ◌⊎◌, ℕ, ◌-◌, Bool, true, false, ◌==◌, ◌&&◌, ◌||◌, not, IsTrue, if◌then◌else◌, List, [], ◌∷◌, ◌++◌, length}
 use Rattle.std.specs.Prelude.{take, map, filter, codes, Option, Some, None, ⊤}
-use Rattle.std.specs.List.{list_all}
-use Rattle.std.specs.Str.{byte, bytes_eq}
-use Rattle.gix_validate.specs.Bytes.{is_bad, is_empty, ends}
-use Rattle.gix_validate.specs.Pieces.{pieces, joined}
-use Rattle.gix_validate.specs.Tag.{is_good_piece}
+use Rattle.std.specs.{List.list_all, Str.{byte, bytes_eq}}
+use Rattle.gix_validate.specs.{Bytes.{is_bad, is_empty, ends}, Pieces.{pieces, joined}, Tag.is_good_piece}
 
 -- A run of a piece: all the dots in a row at one offset, or one other byte.
 pub data Run : Type 0 where

@@ -1,14 +1,10 @@
 -- Tag names: which texts are one, and the fault of those that aren't.
 use Rattle.std.specs.Prelude.{ℕ, ◌+◌, ◌-◌, is_some, Bool, ◌==◌, ◌&&◌, ◌||◌, not, List, [], ◌∷◌, ◌++◌, length, take, drop, slice_index, codes, Option}
-use Rattle.std.specs.List.{list_all, list_any}
-use Rattle.std.specs.Str.{byte, bytes_eq}
-use Rattle.gix_validate.specs.declared.tag.NameError.{NameError}
+use Rattle.std.specs.{List.{list_all, list_any}, Str.{byte, bytes_eq}}
 use Rattle.gix_validate.specs.declared.tag.NameError.TheVariants.{InvalidByte, StartsWithSlash, RepeatedSlash, RepeatedDot, LockFileSuffix}
 use Rattle.gix_validate.specs.declared.tag.NameError.TheVariants.{ReflogPortion, Asterisk, StartsWithDot, EndsWithDot, EndsWithSlash, Empty}
-use Rattle.gix_validate.specs.Bytes.{is_bad, is_empty, begins, ends, holds}
-use Rattle.gix_validate.specs.Pieces.{pieces}
-use Rattle.gix_validate.specs.Faults.{when, first_of, at_first_offset}
-use Rattle.gix_validate.specs.Quoted.{quoted}
+use Rattle.gix_validate.specs.{declared.tag.NameError.NameError, Bytes.{is_bad, is_empty, begins, ends, holds}, Pieces.pieces}
+use Rattle.gix_validate.specs.{Faults.{when, first_of, at_first_offset}, Quoted.quoted}
 
 -- The piece may be in a tag name.
 unfoldable pub is_good_piece : List ℕ → Bool

@@ -12,10 +12,8 @@
 //! ones need not trust it.
 
 ghost use Rattle.std.specs.Prelude.{◌≡◌, ◌↔◌, ◌<◌, ◌≤◌, ◌+◌, ◌-◌, ◌^◌, ◌==◌, ◌||◌, ◌&&◌, ℕ, false, if◌then◌else◌, IsTrue, map, length, slice_index, codes};
-ghost use Rattle.std.specs.Int.{bit_at};
-ghost use Rattle.std.specs.Str.{byte};
-ghost use Rattle.gix_validate.specs.Bytes.{is_among, ends};
-ghost use Rattle.gix_validate.specs.Private.Adjacent.{is_suspect, suspect_at, IsClear};
+ghost use Rattle.std.specs.{Int.bit_at, Str.byte};
+ghost use Rattle.gix_validate.specs.{Bytes.{is_among, ends}, Private.Adjacent.{is_suspect, suspect_at, IsClear}};
 ghost use Rattle.gix_validate.specs.Private.Scan.{Finds, NoneBelow, at_pair};
 
 use crate::bytes::may_be_faulty;

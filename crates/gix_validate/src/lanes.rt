@@ -2,9 +2,7 @@
 //! its block is its lane.
 
 ghost use Rattle.std.specs.Prelude.{◌≡◌, ◌≢◌, ◌↔◌, IsTrue, true, ℕ, ◌<◌, ◌≤◌, ◌+◌, ◌/◌, ◌%◌, ◌^◌, ◌==◌, ◌||◌, map, length, slice_index, bit_and, if◌then◌else◌};
-ghost use Rattle.std.specs.Int.{bit_at};
-ghost use Rattle.std.specs.List.{list_any};
-ghost use Rattle.std.specs.Simd.Lanes.{chunk};
+ghost use Rattle.std.specs.{Int.bit_at, List.list_any, Simd.Lanes.chunk};
 ghost use Rattle.gix_validate.specs.Private.Lanes.{HasParts, is_nonzero};
 
 use std::simd::prelude::*;

@@ -9,15 +9,10 @@
 //! was passed.
 
 ghost use Rattle.std.specs.Prelude.{◌≡◌, ◌==◌, ◌≢◌, ◌↔◌, ◌⊎◌, ◌+◌, ◌≤◌, [], ◌∷◌, ◌++◌, length, codes, All, Contains, IsOk, IfOk, IsTrue, MatchResult, vec_len, vec_capacity, Some};
-ghost use Rattle.std.specs.List.{list_all};
-ghost use Rattle.std.specs.Str.{byte};
-ghost use Rattle.bstr.specs.BStr.{bstr_bytes};
-ghost use Rattle.bstr.specs.Owned.{bstring_bytes};
-ghost use Rattle.gix_validate.specs.Faults.{Validates};
-ghost use Rattle.gix_validate.specs.Printed.{printed};
-ghost use Rattle.gix_validate.specs.Pieces.{joined};
+ghost use Rattle.std.specs.{List.list_all, Str.byte};
+ghost use Rattle.bstr.specs.{BStr.bstr_bytes, Owned.bstring_bytes};
 ghost use Rattle.gix_validate.specs.Reference.{is_standalone_byte, has_slash_or_stands_alone, is_partial_name, is_full_name, is_branch_name, reserved as reserved_fault, partial_fault_of, full_fault_of, branch_fault_of, text_of};
-ghost use Rattle.gix_validate.specs.Tag.{is_tag_name};
+ghost use Rattle.gix_validate.specs.{Faults.Validates, Printed.printed, Pieces.joined, Tag.is_tag_name};
 
 use crate::pieces::{Slash, joined};
 use crate::text::Text;

@@ -3,11 +3,8 @@
 //! of a short name are one block.
 
 ghost use Rattle.std.specs.Prelude.{◌≡◌, ◌<◌, ◌≤◌, ◌+◌, ◌-◌, ◌^◌, ℕ, Bool, if◌then◌else◌, length, slice_index};
-ghost use Rattle.std.specs.Int.{bit_at};
-ghost use Rattle.std.specs.List.{list_any};
-ghost use Rattle.std.specs.Simd.Lanes.{chunk};
-ghost use Rattle.gix_validate.specs.Private.Lanes.{HasParts};
-ghost use Rattle.gix_validate.specs.Private.Scan.{Finds, NoneBelow, at_both, at_pair};
+ghost use Rattle.std.specs.{Int.bit_at, List.list_any, Simd.Lanes.chunk};
+ghost use Rattle.gix_validate.specs.Private.{Lanes.HasParts, Scan.{Finds, NoneBelow, at_both, at_pair}};
 
 use crate::lanes::{LANES, first_lane, halves, pairs, quarters};
 use std::simd::prelude::*;

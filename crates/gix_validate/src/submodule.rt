@@ -7,10 +7,8 @@
 ghost use Rattle.std.specs.Prelude.{◌≡◌, ◌↔◌, ◌||◌, ◌&&◌, ◌==◌, ℕ, ◌+◌, ◌-◌, ◌≤◌, ◌<◌, false, length, slice_index, IsOk, IfOk, IsTrue, Some};
 ghost use Rattle.std.specs.Str.{byte};
 ghost use Rattle.bstr.specs.BStr.{bstr_bytes};
-ghost use Rattle.gix_validate.specs.Private.Parents.{is_parent_at};
-ghost use Rattle.gix_validate.specs.Faults.{Validates};
-ghost use Rattle.gix_validate.specs.Printed.{printed};
 ghost use Rattle.gix_validate.specs.Submodule.{fault_of, has_parent_part, is_separator, is_submodule_name, text_of};
+ghost use Rattle.gix_validate.specs.{Private.Parents.is_parent_at, Faults.Validates, Printed.printed};
 
 use crate::scan::{self, Pattern};
 use crate::text::Text;

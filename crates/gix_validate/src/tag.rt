@@ -2,11 +2,9 @@
 
 ghost use Rattle.std.specs.Prelude.{◌≡◌, ◌↔◌, ◌<◌, ◌≤◌, ◌+◌, ◌-◌, length, slice_index, codes, Some, IsNone, IfSome, IsOk, IfOk, IsTrue, MatchOption};
 ghost use Rattle.bstr.specs.BStr.{bstr_bytes};
-ghost use Rattle.gix_validate.specs.Bytes.{ends};
-ghost use Rattle.gix_validate.specs.Faults.{Validates, first_of, at_first_offset};
-ghost use Rattle.gix_validate.specs.Printed.{printed};
-ghost use Rattle.gix_validate.specs.Private.TagWalk.{fault_of_byte, may_be_faulty};
 ghost use Rattle.gix_validate.specs.Tag.{fault_of, fault_offset_of, faults_at, is_tag_name, offset_at, text_of};
+ghost use Rattle.gix_validate.specs.{Bytes.ends, Faults.{Validates, first_of, at_first_offset}, Printed.printed};
+ghost use Rattle.gix_validate.specs.Private.TagWalk.{fault_of_byte, may_be_faulty};
 
 use crate::adjacent::{clear_front, is_clear};
 use crate::bytes::may_be_faulty;

@@ -1,8 +1,6 @@
 -- The flags of the calls on path components. Bits other than these four are ignored.
 use Rattle.std.specs.Prelude.{ℕ, Bool, ◌==◌, not, if◌then◌else◌, Option, Some, None, bit_and}
-use Rattle.gix_validate.specs.declared.path.ComponentOptions.{ComponentOptions}
-use Rattle.gix_validate.specs.declared.path.ComponentMode.{ComponentMode}
-use Rattle.gix_validate.specs.declared.path.ComponentMode.TheVariants.{Symlink}
+use Rattle.gix_validate.specs.declared.path.{ComponentMode.{ComponentMode, TheVariants.Symlink}, ComponentOptions.ComponentOptions}
 
 -- the flag, which is one bit, is among the flags
 abbrev pub has_flag : ℕ → ℕ → Bool

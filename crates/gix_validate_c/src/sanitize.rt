@@ -7,8 +7,7 @@
 //! offsets are in bytes. The functions don't allocate.
 
 ghost use Rattle.std.specs.Prelude.{◌≡◌, ◌↔◌, ◌≤◌, max, length, take, drop, IsTrue};
-ghost use Rattle.gix_validate.specs.Reference.{is_partial_name};
-ghost use Rattle.gix_validate.specs.Sanitized.{sanitized};
+ghost use Rattle.gix_validate.specs.{Reference.is_partial_name, Sanitized.sanitized};
 
 use gix_validate::reference;
 

@@ -13,8 +13,7 @@ ghost use Rattle.gix_validate.specs.Reference.{text_of, partial_fault_of, full_f
 ghost use Rattle.gix_validate.specs.Printed.{printed};
 ghost use Rattle.gix_validate.specs.Submodule as submodule;
 ghost use Rattle.gix_validate.specs.Component as component;
-ghost use Rattle.gix_validate_c.specs.Flags.{options_of, mode_of};
-ghost use Rattle.gix_validate_c.specs.Texts.{text_by, with_text};
+ghost use Rattle.gix_validate_c.specs.{Flags.{options_of, mode_of}, Texts.{text_by, with_text}};
 
 use crate::fault::Fault;
 use crate::flags;

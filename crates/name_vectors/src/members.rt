@@ -3,13 +3,10 @@
 //! here has an `ensures` that then couldn't be proved.
 
 ghost use Rattle.std.specs.Prelude.{◌≡◌, ◌↔◌, [], ◌∷◌, ◌++◌, map, IfOk, IsTrue, MatchOption, string_bytes, encode_utf8_all};
-ghost use Rattle.bstr.specs.BStr.{bstr_bytes};
-ghost use Rattle.bstr.specs.Utf8.{lossy_chars};
+ghost use Rattle.bstr.specs.{BStr.bstr_bytes, Utf8.lossy_chars};
 ghost use Rattle.gix_validate.specs.Component.{all_protections, text_of as component_text_of};
-ghost use Rattle.gix_validate.specs.Pieces.{pieces as pieces_of};
-ghost use Rattle.gix_validate.specs.Reference.{carried, text_of as reference_text_of};
-ghost use Rattle.gix_validate.specs.Submodule.{text_of as submodule_text_of};
-ghost use Rattle.gix_validate.specs.Tag.{text_of as tag_text_of};
+ghost use Rattle.gix_validate.specs.{Pieces.pieces as pieces_of, Reference.{carried, text_of as reference_text_of}};
+ghost use Rattle.gix_validate.specs.{Submodule.text_of as submodule_text_of, Tag.text_of as tag_text_of};
 ghost use Rattle.typed_names.specs.Names.{name_bytes, name_text, component_bytes};
 
 use crate::agree::{expect, expect_told, options};

@@ -1,10 +1,7 @@
 -- The laws of the rule of tag names.
 use Rattle.gix_validate.proofs.Common.{◌≡◌, ℕ, List, [], ◌∷◌, ◌++◌, eqb, sym, ap, ◌∙◌, arith, join_with_byte-slice_split, nat_tests, byte, common_steps}
-use Rattle.gix_validate.specs.Bytes.{is_bad, ends}
-use Rattle.gix_validate.specs.Pieces.{pieces}
-use Rattle.gix_validate.specs.Tag.{fault_table, faults_at}
-use Rattle.gix_validate.proofs.Texts.Pieces.{pieces_some, pieces_apart, pieces-joined}
-use Rattle.gix_validate.proofs.TagNames.FaultTable.{lock_ends_in_k}
+use Rattle.gix_validate.proofs.{Texts.Pieces.{pieces_some, pieces_apart, pieces-joined}, TagNames.FaultTable.lock_ends_in_k}
+use Rattle.gix_validate.specs.{Bytes.{is_bad, ends}, Pieces.pieces, Tag.{fault_table, faults_at}}
 use Rattle.rule_laws.specs.TagNames.{HasAtMostOneFaultPerOffset, PiecesAreTheOnlySplit}
 
 ends_push_one : (y : List ℕ) (b c : ℕ) → ends (y ++ b ∷ []) (c ∷ []) ≡ eqb b c

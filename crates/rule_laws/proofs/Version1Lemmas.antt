@@ -1,16 +1,10 @@
 -- Version 1 and the library read all but the NTFS form in the same way, so their conditions are the same but for two.
 use Rattle.gix_validate.proofs.Common.{◌≡◌, ℕ, Option, is_some, List, [], ◌∷◌, ◌++◌, take, drop, refl, ◌&&◌, ⊤}
-use Rattle.gix_validate.specs.declared.path.ComponentError.{ComponentError}
-use Rattle.gix_validate.specs.declared.path.ComponentError.TheVariants.{DotGitDir, SymlinkedGitModules}
-use Rattle.gix_validate.specs.declared.path.ComponentOptions.{ComponentOptions}
-use Rattle.gix_validate.specs.declared.path.ComponentMode.{ComponentMode}
-use Rattle.gix_validate.specs.Bytes.{is_empty, lower_byte}
-use Rattle.gix_validate.specs.Faults.{when}
-use Rattle.gix_validate.specs.Units.{fitting_len, whole_len, begun_len, whole_sequences, first_unit_len}
-use Rattle.gix_validate.specs.Hfs.{hfs_form, is_ignored}
-use Rattle.gix_validate.specs.Ntfs.{ntfs_form, is_git_form, is_modules_form}
 use Rattle.gix_validate.specs.Windows.{device_form, devices, is_device_form, is_device, is_illegal_byte, is_illegal}
-use Rattle.gix_validate.specs.Component.{conditions}
+use Rattle.gix_validate.specs.declared.path.ComponentError.{ComponentError, TheVariants.{DotGitDir, SymlinkedGitModules}}
+use Rattle.gix_validate.specs.{declared.path.{ComponentMode.ComponentMode, ComponentOptions.ComponentOptions}, Bytes.{is_empty, lower_byte}}
+use Rattle.gix_validate.specs.{Faults.when, Units.{fitting_len, whole_len, begun_len, whole_sequences, first_unit_len}}
+use Rattle.gix_validate.specs.{Hfs.{hfs_form, is_ignored}, Ntfs.{ntfs_form, is_git_form, is_modules_form}, Component.conditions}
 use Rattle.rule_laws.specs.Version1.{lower, is_empty as old_is_empty, fitting_len as old_fitting_len, whole_len as old_whole_len, begun_len as old_begun_len}
 use Rattle.rule_laws.specs.Version1.{first_unit_len as old_first_unit_len, hfs_form as old_hfs_form, is_ignored as old_is_ignored}
 use Rattle.rule_laws.specs.Version1.{ntfs_form as old_ntfs_form, is_git_form as old_is_git_form, is_modules_form as old_is_modules_form}

@@ -1,11 +1,8 @@
 -- The rule of version 1, and what version 2 adds, computed on literal names.
-use Rattle.gix_validate.proofs.Common.{◌≡◌, refl, [], ◌∷◌, true, false, Some, None, codes}
-use Rattle.gix_validate.proofs.Rows.Tables.{Gives}
+use Rattle.gix_validate.proofs.{Common.{◌≡◌, refl, [], ◌∷◌, true, false, Some, None, codes}, Rows.Tables.Gives}
 use Rattle.gix_validate.specs.declared.path.ComponentError.TheVariants.{PathSeparator, DotGitDir, SymlinkedGitModules}
-use Rattle.gix_validate.specs.declared.path.ComponentMode.TheVariants.{Symlink}
-use Rattle.gix_validate.specs.Component.{all_protections}
-use Rattle.rule_laws.specs.Version1.{ntfs_form, fault_of}
-use Rattle.rule_laws.specs.Version2.{added_fault_of, ntfs_alone}
+use Rattle.gix_validate.specs.{declared.path.ComponentMode.TheVariants.Symlink, Component.all_protections}
+use Rattle.rule_laws.specs.{Version1.{ntfs_form, fault_of}, Version2.{added_fault_of, ntfs_alone}}
 use Rattle.rule_laws.proofs.Version1Lemmas.{version_1_on_literals}
 
 -- the NTFS form of version 1: a backslash stays, a stream and the spaces and dots before it go

@@ -4,13 +4,9 @@ use Rattle.gix_validate.proofs.Common.{take, drop, get_or, refl, sym, ◌∙◌,
 use Rattle.gix_validate.proofs.Common.{bytes_eq-Decides, length-reverse, take-append-drop, get_or_past, prefix_len-append, list_any-append}
 use Rattle.gix_validate.proofs.Common.{suffix_len-le-length, false≢true, or_cases, common_steps, reverse_onto, nat_tests}
 use Rattle.gix_validate.proofs.OnLiterals.{components_on_literals}
-use Rattle.gix_validate.specs.declared.path.ComponentError.{ComponentError}
-use Rattle.gix_validate.specs.declared.path.ComponentError.TheVariants.{DotGitDir, SymlinkedGitModules}
-use Rattle.gix_validate.specs.declared.path.ComponentOptions.{ComponentOptions}
-use Rattle.gix_validate.specs.declared.path.ComponentMode.{ComponentMode}
-use Rattle.gix_validate.specs.Faults.{when, first_of, ◌orelse◌}
-use Rattle.gix_validate.specs.Ntfs.{ntfs_form}
-use Rattle.gix_validate.specs.Component.{conditions, fault_of}
+use Rattle.gix_validate.specs.declared.path.ComponentError.{ComponentError, TheVariants.{DotGitDir, SymlinkedGitModules}}
+use Rattle.gix_validate.specs.declared.path.{ComponentMode.ComponentMode, ComponentOptions.ComponentOptions}
+use Rattle.gix_validate.specs.{Faults.{when, first_of, ◌orelse◌}, Ntfs.ntfs_form, Component.{conditions, fault_of}}
 use Rattle.rule_laws.specs.Version1.{is_among, is_empty, lower, without_end, is_git_form, is_modules_form, is_digit, is_short_name}
 use Rattle.rule_laws.specs.Version1.{ntfs_form as old_ntfs_form, fault_of as old_fault_of}
 use Rattle.rule_laws.specs.Version2.{front, added_fault_of, ReadsTheFront, OldFaultsComeFirst, StaysElsewhere, ShowsTheChange}

@@ -1,8 +1,6 @@
 -- What makes the rule of tag names the same in every order: no two faults at one place, and one way to split a name.
-use Rattle.std.specs.Prelude.{◌≡◌, ◌≢◌, ℕ, ◌≤◌, ◌<◌, IsTrue, is_some, count_by, List, [], length}
-use Rattle.std.specs.List.{list_all}
-use Rattle.gix_validate.specs.Pieces.{pieces, joined, has_no_slash}
-use Rattle.gix_validate.specs.Tag.{faults_at}
+use Rattle.std.specs.{Prelude.{◌≡◌, ◌≢◌, ℕ, ◌≤◌, ◌<◌, IsTrue, is_some, count_by, List, [], length}, List.list_all}
+use Rattle.gix_validate.specs.{Pieces.{pieces, joined, has_no_slash}, Tag.faults_at}
 
 -- At each offset of the text at most one line of the table applies, so their order doesn't matter. (Of a table without lines this holds,
 -- too. That the lines are those that are needed is said by the clauses `grammar` and `answer` of `tag::name` together.)

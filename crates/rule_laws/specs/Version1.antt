@@ -2,13 +2,10 @@
 -- faults, the options and the mode, and from `Faults` how a table of faults is read, but no rule.
 use Rattle.std.specs.Prelude.{ℕ, ◌+◌, ◌-◌, max, Bool, true, false, ◌==◌, ◌&&◌, ◌||◌, not, nat_lt, nat_le, nat_eq, if◌then◌else◌}
 use Rattle.std.specs.Prelude.{List, [], ◌∷◌, ◌++◌, length, take, drop, map, slice_index, codes, Option, Some, None, is_some, unwrap_or}
-use Rattle.std.specs.List.{before_first, suffix_len, list_any, list_all, ends_with}
-use Rattle.std.specs.Str.{byte, bytes_eq}
-use Rattle.gix_validate.specs.declared.path.ComponentError.{ComponentError}
+use Rattle.std.specs.{List.{before_first, suffix_len, list_any, list_all, ends_with}, Str.{byte, bytes_eq}}
 use Rattle.gix_validate.specs.declared.path.ComponentError.TheVariants.{Empty, PathSeparator, WindowsPathPrefix, WindowsReservedName}
 use Rattle.gix_validate.specs.declared.path.ComponentError.TheVariants.{WindowsIllegalCharacter, DotGitDir, SymlinkedGitModules, Relative}
-use Rattle.gix_validate.specs.declared.path.ComponentOptions.{ComponentOptions}
-use Rattle.gix_validate.specs.declared.path.ComponentMode.{ComponentMode}
+use Rattle.gix_validate.specs.declared.path.{ComponentError.ComponentError, ComponentMode.ComponentMode, ComponentOptions.ComponentOptions}
 use Rattle.gix_validate.specs.Faults.{when, first_of}
 
 -- Bytes and texts.

@@ -1,15 +1,10 @@
 -- What version 2 changed in the rule of version 1 for path components: a backslash ends an NTFS name too. The rule of
 -- version 2 is the library's own.
 use Rattle.std.specs.Prelude.{◌≡◌, ℕ, Bool, true, false, ◌==◌, ◌&&◌, not, is_some, List, codes, Option, Some, None}
-use Rattle.std.specs.List.{before_first}
-use Rattle.std.specs.Str.{byte}
-use Rattle.gix_validate.specs.declared.path.ComponentError.{ComponentError}
-use Rattle.gix_validate.specs.declared.path.ComponentError.TheVariants.{DotGitDir, SymlinkedGitModules}
-use Rattle.gix_validate.specs.declared.path.ComponentOptions.{ComponentOptions}
-use Rattle.gix_validate.specs.declared.path.ComponentMode.{ComponentMode}
-use Rattle.gix_validate.specs.Faults.{when, ◌orelse◌}
-use Rattle.gix_validate.specs.Ntfs.{ntfs_form}
-use Rattle.gix_validate.specs.Component.{fault_of}
+use Rattle.std.specs.{List.before_first, Str.byte}
+use Rattle.gix_validate.specs.declared.path.ComponentError.{ComponentError, TheVariants.{DotGitDir, SymlinkedGitModules}}
+use Rattle.gix_validate.specs.{declared.path.{ComponentMode.ComponentMode, ComponentOptions.ComponentOptions}, Faults.{when, ◌orelse◌}}
+use Rattle.gix_validate.specs.{Ntfs.ntfs_form, Component.fault_of}
 use Rattle.rule_laws.specs.Version1.{is_among, lower, is_git_form, is_modules_form, ntfs_form as old_ntfs_form, fault_of as old_fault_of}
 
 -- the front of the name before its first backslash, or the whole name where there is none

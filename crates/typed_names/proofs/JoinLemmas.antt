@@ -2,14 +2,10 @@
 use Rattle.gix_validate.proofs.Common.{◌≡◌, ◌∙◌, sym, ℕ, List, [], ◌∷◌, ◌++◌, get_or, map, refl, ap, Bor, YieldsList-from_slice, items_from_drains, append-nil}
 use Rattle.gix_validate.proofs.Common.{map-map, None, All, byte}
 use Rattle.std.proofs.iter.Yields.{fronts}
-use Rattle.std.specs.Iterator.{Drains}
-use Rattle.std.specs.Slice.Iter.{iter_rest}
+use Rattle.std.specs.{Iterator.Drains, Slice.Iter.iter_rest}
 use Rattle.bstr.specs.Owned.{joined as joined_by}
-use Rattle.gix_validate.specs.Component.{fault_of}
-use Rattle.gix_validate.specs.ComponentLaws.{no_protections}
-use Rattle.gix_validate.specs.Pieces.{joined}
-use Rattle.typed_names.specs.Names.{component_bytes}
-use Rattle.typed_names.specs.declared.component.Component.{Component}
+use Rattle.gix_validate.specs.{Component.fault_of, ComponentLaws.no_protections, Pieces.joined}
+use Rattle.typed_names.specs.{declared.component.Component.Component, Names.component_bytes}
 
 -- what the library joins by a slash
 joined_by_slash : (texts : List (List ℕ)) → joined_by (byte "/" ∷ []) texts ≡ joined texts

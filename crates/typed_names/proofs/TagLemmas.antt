@@ -1,9 +1,7 @@
 -- The pieces of a tag name, and that what follows its first slash is a tag name.
 use Rattle.gix_validate.proofs.Common.{◌≡◌, ◌≢◌, ℕ, suc, true, not, IsTrue, List, [], ◌∷◌, ◌++◌, length, length-append, arith, codes}
 use Rattle.gix_validate.proofs.Common.{join_with_byte-slice_split, AllPass-from_list_all, drop-append-add, All, byte}
-use Rattle.gix_validate.specs.Bytes.{ends}
-use Rattle.gix_validate.specs.Pieces.{pieces, joined, has_no_slash}
-use Rattle.gix_validate.specs.Tag.{is_good_piece, is_tag_name}
+use Rattle.gix_validate.specs.{Bytes.ends, Pieces.{pieces, joined, has_no_slash}, Tag.{is_good_piece, is_tag_name}}
 use Rattle.typed_names.proofs.SlashLemmas.{pieces_apart, whole_from_pieces}
 
 -- no piece of a tag name is empty

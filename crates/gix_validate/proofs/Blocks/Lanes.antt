@@ -5,12 +5,9 @@ use Rattle.gix_validate.proofs.Common.{bit_xor, ltb, agree_below, agree_below_at
 use Rattle.gix_validate.proofs.Common.{get_or_past, length-map, and_mask, le_or_l, le_or_r, get_or-zip2, zip2_splat, zip2-map, length-zip2, mask_l-lt}
 use Rattle.gix_validate.proofs.Common.{mask_l-mod, bit_mask_l, bitmask_splat, swz_l, SwzOk, bit_at, list_any, codes, ◌==◌, if◌then◌else◌, byte}
 use lib.Lanes.{zip2, mask_l, fold_l, top, Each1, sel_l}
-use Rattle.gix_validate.specs.Private.Lanes.{is_nonzero}
 use Rattle.gix_validate.specs.declared.adjacent.TheConstants.{CLASSES_BY_LOW_NIBBLE, CLASSES_BY_HIGH_NIBBLE, SUSPECT_AFTER, AFTER_DOT, AFTER_SLASH, ANYWHERE}
-use Rattle.gix_validate.specs.Bytes.{is_bad, is_among, ends}
-use Rattle.gix_validate.specs.Private.TagWalk.{may_be_faulty}
-use Rattle.gix_validate.specs.Private.Adjacent.{is_suspect, suspect_at, IsClear}
-use Rattle.gix_validate.specs.Private.Scan.{NoneBelow, at_pair}
+use Rattle.gix_validate.specs.{Private.{Lanes.is_nonzero, TagWalk.may_be_faulty}, Bytes.{is_bad, is_among, ends}}
+use Rattle.gix_validate.specs.Private.{Adjacent.{is_suspect, suspect_at, IsClear}, Scan.{NoneBelow, at_pair}}
 
 -- sixteen lanes of bytes
 abbrev pub IsBlock : List ℕ → Type 0

@@ -2,12 +2,9 @@
 use Rattle.gix_validate.proofs.Common.{◌≡◌, ℕ, suc, ◌+◌, ◌-◌, ◌<◌, ◌≤◌, Bool, true, false, ◌&&◌, not, nat_le, eqb, List, [], ◌∷◌, ◌++◌, length, take, drop}
 use Rattle.gix_validate.proofs.Common.{get_or, ◌⊎◌, refl, inl, inr, arith, list_all, list_any, filter, concat, bytes_eq, cases_Bool, nat_tests, common_steps}
 use Rattle.gix_validate.proofs.Common.{length-drop}
-use Rattle.gix_validate.specs.Bytes.{lower, lower_byte}
-use Rattle.gix_validate.specs.Hfs.{is_ignored, hfs_form, is_ignored_unit}
-use Rattle.gix_validate.specs.Private.Ordinary.{is_lead}
+use Rattle.gix_validate.proofs.{Texts.LetterCase.lower_byte-is, Components.FirstUnit.{row_for, unit_by_row}}
+use Rattle.gix_validate.specs.{Bytes.{lower, lower_byte}, Hfs.{is_ignored, hfs_form, is_ignored_unit}, Private.Ordinary.is_lead}
 use Rattle.gix_validate.specs.Units.{is_within, fitting_len, whole_sequences, first_unit_len, units_within}
-use Rattle.gix_validate.proofs.Texts.LetterCase.{lower_byte-is}
-use Rattle.gix_validate.proofs.Components.FirstUnit.{row_for, unit_by_row}
 
 -- a byte that is second or later in a whole sequence
 abbrev pub is_next : ℕ → Bool

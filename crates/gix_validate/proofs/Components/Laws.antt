@@ -1,24 +1,17 @@
 -- The laws of path components, proved of their definitions.
 use Rattle.gix_validate.proofs.Common.{◌≡◌, ℕ, ◌+◌, Bool, true, false, is_none, is_some, Option, None, List, [], ◌∷◌, length, refl, sym, arith, codes}
 use Rattle.gix_validate.proofs.Common.{slice_index, IsTrue, ◌==◌, list_all, byte, bytes_eq, false≢true, and_parts, agree_below, bytes_eq-Decides, nat_tests}
-use Rattle.gix_validate.specs.declared.path.ComponentError.{ComponentError}
-use Rattle.gix_validate.specs.declared.path.ComponentOptions.{ComponentOptions}
-use Rattle.gix_validate.specs.declared.path.ComponentMode.{ComponentMode}
-use Rattle.gix_validate.specs.Bytes.{lower, lower_byte, is_among}
-use Rattle.gix_validate.specs.Faults.{first_of}
-use Rattle.gix_validate.specs.Pieces.{has_no_slash}
+use Rattle.gix_validate.proofs.Texts.LetterCase.{test-lower_byte, lower-lower, list_any-lower, bytes_eq-lower}
+use Rattle.gix_validate.proofs.Texts.LetterCase.{before_first-lower, without_end-lower, ends-lower}
+use Rattle.gix_validate.proofs.{OnLiterals.components_on_literals, Components.{Forms.{form_cut, form_trimmed}, HfsForm.hfs_form-units}}
 use Rattle.gix_validate.specs.Units.{is_within, fitting_len, whole_len, begun_len, whole_sequences, first_unit_len}
-use Rattle.gix_validate.specs.Hfs.{is_ignored, hfs_form}
+use Rattle.gix_validate.specs.ComponentLaws.{HasOnlySwitchesOf, IsValidUnderFewerSwitches, FaultIgnoresCase, FormIsKeptUnits}
+use Rattle.gix_validate.specs.ComponentLaws.{IsBasicName, DeviceIgnoresCase, DeviceGoesByForm}
+use Rattle.gix_validate.specs.declared.path.{ComponentError.ComponentError, ComponentMode.ComponentMode, ComponentOptions.ComponentOptions}
+use Rattle.gix_validate.specs.{Bytes.{lower, lower_byte, is_among}, Faults.first_of, Pieces.has_no_slash, Hfs.{is_ignored, hfs_form}}
 use Rattle.gix_validate.specs.Ntfs.{ntfs_form, is_git_form, is_modules_form}
 use Rattle.gix_validate.specs.Windows.{device_form, is_device_form, is_device, is_illegal_byte, is_illegal}
 use Rattle.gix_validate.specs.Component.{conditions, fault_of, is_component}
-use Rattle.gix_validate.specs.ComponentLaws.{HasOnlySwitchesOf, IsValidUnderFewerSwitches, FaultIgnoresCase, FormIsKeptUnits}
-use Rattle.gix_validate.specs.ComponentLaws.{IsBasicName, DeviceIgnoresCase, DeviceGoesByForm}
-use Rattle.gix_validate.proofs.OnLiterals.{components_on_literals}
-use Rattle.gix_validate.proofs.Components.Forms.{form_cut, form_trimmed}
-use Rattle.gix_validate.proofs.Components.HfsForm.{hfs_form-units}
-use Rattle.gix_validate.proofs.Texts.LetterCase.{test-lower_byte, lower-lower, list_any-lower, bytes_eq-lower}
-use Rattle.gix_validate.proofs.Texts.LetterCase.{before_first-lower, without_end-lower, ends-lower}
 use Rattle.std.proofs.Math.ListN.{get_or-map}
 
 -- The first unit is as long in lower case: no range of the table parts a letter from its small letter.

@@ -1,12 +1,8 @@
 -- The definitions of reference names, computed on literals.
-use Rattle.gix_validate.proofs.Common.{refl, [], ◌∷◌, Some, None, codes}
-use Rattle.gix_validate.proofs.OnLiterals.{names_on_literals}
-use Rattle.gix_validate.proofs.Rows.Tables.{Gives, Judges}
+use Rattle.gix_validate.proofs.{Common.{refl, [], ◌∷◌, Some, None, codes}, OnLiterals.names_on_literals, Rows.Tables.{Gives, Judges}}
 use Rattle.gix_validate.specs.Reference.{is_partial_name, is_full_name, is_branch_name, reserved, partial_fault_of}
 use Rattle.gix_validate.specs.Reference.{full_fault_of, branch_fault_of, text_of}
-use Rattle.gix_validate.specs.declared.reference.NameError.TheVariants.{InvalidByte}
-use Rattle.gix_validate.specs.declared.reference.NameError.TheVariants.{Empty}
-use Rattle.gix_validate.specs.declared.reference.NameError.TheVariants.{SomeLowercase}
+use Rattle.gix_validate.specs.declared.reference.NameError.TheVariants.{InvalidByte, Empty, SomeLowercase}
 
 -- partial names, `@` in them, and no names
 partial_names : Judges partial_fault_of is_partial_name

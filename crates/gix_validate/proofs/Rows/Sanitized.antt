@@ -1,6 +1,5 @@
 -- The definitions of the sanitised text, computed on literals.
-use Rattle.gix_validate.proofs.Common.{◌≡◌, refl, [], ◌∷◌, inl, inr, arith, false≢true, codes, byte}
-use Rattle.gix_validate.proofs.OnLiterals.{names_on_literals}
+use Rattle.gix_validate.proofs.{Common.{◌≡◌, refl, [], ◌∷◌, inl, inr, arith, false≢true, codes, byte}, OnLiterals.names_on_literals}
 use Rattle.gix_validate.proofs.Rows.Tables.{Gives}
 use Rattle.gix_validate.specs.Sanitized.{Dots, Other, runs, cleaned, cut, dash_last_of, mended_pieces, sanitized, KeepsGood, KeepsPieces}
 

@@ -1,11 +1,8 @@
 -- The definitions of tag names, computed on literals.
-use Rattle.gix_validate.proofs.Common.{refl, [], ◌∷◌, Some, None, codes}
-use Rattle.gix_validate.proofs.OnLiterals.{names_on_literals}
-use Rattle.gix_validate.proofs.Rows.Tables.{Gives, Judges}
+use Rattle.gix_validate.proofs.{Common.{refl, [], ◌∷◌, Some, None, codes}, OnLiterals.names_on_literals, Rows.Tables.{Gives, Judges}}
 use Rattle.gix_validate.specs.declared.tag.NameError.TheVariants.{InvalidByte, StartsWithSlash, RepeatedSlash, RepeatedDot, LockFileSuffix}
 use Rattle.gix_validate.specs.declared.tag.NameError.TheVariants.{ReflogPortion, Asterisk, StartsWithDot, EndsWithDot, EndsWithSlash, Empty}
-use Rattle.gix_validate.specs.Quoted.{quoted}
-use Rattle.gix_validate.specs.Tag.{fault_of, is_tag_name}
+use Rattle.gix_validate.specs.{Quoted.quoted, Tag.{fault_of, is_tag_name}}
 
 -- an accepted text, and one for each fault: where several rules are broken, which comes first
 faults : Judges fault_of is_tag_name

@@ -2,13 +2,10 @@
 use Rattle.gix_validate.proofs.Common.{◌≡◌, ℕ, Bool, true, false, List, [], ◌∷◌, ◌++◌, arith, ◌≢◌, ◌≤◌, length, refl, ◌-◌, take, drop, append_assoc, codes}
 use Rattle.gix_validate.proofs.Common.{◌&&◌, ◌||◌, not, ◌==◌, Option, Some, None, if◌then◌else◌, list_any, byte, and_parts, cond_both, common_steps, nat_tests}
 use Rattle.gix_validate.proofs.Common.{take-append-drop, same_from_push, list_all-append}
-use Rattle.gix_validate.specs.Bytes.{is_bad, is_empty, ends, holds, begins}
-use Rattle.gix_validate.specs.Tag.{is_good_piece}
-use Rattle.gix_validate.specs.Pieces.{is_slash, has_no_slash}
-use Rattle.gix_validate.specs.Sanitized.{Run, Dots, Other, dot_before, runs, byte_of, bytes_of, allowed, cleaned, cut, dash_last}
-use Rattle.gix_validate.proofs.Texts.Endings.{ends-false, ends-no}
-use Rattle.gix_validate.proofs.TagNames.Grammar.{is_refused}
+use Rattle.gix_validate.proofs.{Texts.Endings.{ends-false, ends-no}, TagNames.Grammar.is_refused}
 use Rattle.gix_validate.proofs.Sanitizing.LockSuffixes.{cut_front, cut_open, cut-own, length-cut}
+use Rattle.gix_validate.specs.Sanitized.{Run, Dots, Other, dot_before, runs, byte_of, bytes_of, allowed, cleaned, cut, dash_last}
+use Rattle.gix_validate.specs.{Bytes.{is_bad, is_empty, ends, holds, begins}, Tag.is_good_piece, Pieces.{is_slash, has_no_slash}}
 
 -- the byte may follow this one, or first in a piece
 abbrev pub may_follow : Option ℕ → ℕ → Bool

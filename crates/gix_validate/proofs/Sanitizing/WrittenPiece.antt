@@ -1,13 +1,9 @@
 -- What was written, and the rest that is not yet read, decide the mended pieces of the whole text.
 use Rattle.gix_validate.proofs.Common.{◌≡◌, ℕ, ◌-◌, true, false, cond, List, [], ◌∷◌, ◌++◌, length, take, refl, sym, arith, length-append, append_assoc}
 use Rattle.gix_validate.proofs.Common.{append-nil, codes, if◌then◌else◌, Option, Some, None, byte, take_at, nat_tests}
-use Rattle.gix_validate.specs.Bytes.{is_empty}
-use Rattle.gix_validate.specs.Pieces.{is_slash, pieces, joined}
-use Rattle.gix_validate.specs.Sanitized.{cut, mended_pieces}
-use Rattle.gix_validate.proofs.Sanitizing.MendedPieces.{added, added_by, cleaned_some, cleaned-added}
-use Rattle.gix_validate.proofs.Sanitizing.LockSuffixes.{is_locks-slash}
-use Rattle.gix_validate.proofs.Sanitizing.Laws.{mended_of}
-use Rattle.gix_validate.proofs.Texts.Pieces.{joined-push}
+use Rattle.gix_validate.proofs.Sanitizing.{MendedPieces.{added, added_by, cleaned_some, cleaned-added}, LockSuffixes.is_locks-slash}
+use Rattle.gix_validate.proofs.{Sanitizing.Laws.mended_of, Texts.Pieces.joined-push}
+use Rattle.gix_validate.specs.{Bytes.is_empty, Pieces.{is_slash, pieces, joined}, Sanitized.{cut, mended_pieces}}
 
 -- the byte before in the piece, if it isn't the slash before the piece
 abbrev pub in_piece : ℕ → Option ℕ

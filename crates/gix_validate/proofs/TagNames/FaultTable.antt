@@ -2,14 +2,10 @@
 use Rattle.gix_validate.proofs.Common.{◌≡◌, ℕ, ◌<◌, Bool, false, not, ◌&&◌, eqb, List, take, get_or, true, refl, Option, None, zero, suc, ◌+◌, ◌-◌, ◌≤◌, []}
 use Rattle.gix_validate.proofs.Common.{◌∷◌, ◌++◌, length, arith, Some, agree_below_at, cases_lt, byte, bytes_eq, codes, is_none, is_some, append-nil}
 use Rattle.gix_validate.proofs.Common.{append_assoc, take_all, take_more, drop_all, length-drop, nat_tests}
-use Rattle.gix_validate.specs.declared.bytes.TheConstants.{MAY_BE_FAULTY}
-use Rattle.gix_validate.specs.Private.TagWalk.{may_be_faulty, fault_of_byte, fault_of_byte_at}
-use Rattle.gix_validate.specs.Bytes.{is_bad, ends, is_empty}
-use Rattle.gix_validate.specs.Faults.{when, ◌orelse◌, first_of, at_first_offset}
-use Rattle.gix_validate.specs.Tag.{fault_table, faults_at, offset_at}
 use Rattle.gix_validate.proofs.Texts.Endings.{ends_read, lock_read}
-use Rattle.gix_validate.specs.declared.tag.NameError.{NameError}
-use Rattle.gix_validate.specs.declared.tag.NameError.TheVariants.{LockFileSuffix}
+use Rattle.gix_validate.specs.declared.{bytes.TheConstants.MAY_BE_FAULTY, tag.NameError.{NameError, TheVariants.LockFileSuffix}}
+use Rattle.gix_validate.specs.{Private.TagWalk.{may_be_faulty, fault_of_byte, fault_of_byte_at}, Bytes.{is_bad, ends, is_empty}}
+use Rattle.gix_validate.specs.{Faults.{when, ◌orelse◌, first_of, at_first_offset}, Tag.{fault_table, faults_at, offset_at}}
 
 -- ---- the least offset at which a function gives something
 

@@ -1,14 +1,13 @@
 -- A text is a tag name if and only if it has no fault.
 use Rattle.gix_validate.proofs.Common.{◌≡◌, ℕ, zero, suc, length, Bool, true, false, not, ◌&&◌, ◌||◌, cond, eqb, List, [], ◌∷◌, ◌++◌, refl, append-nil}
 use Rattle.gix_validate.proofs.Common.{append_assoc, list_any-append, codes, is_none, ◌==◌, list_all, list_any, byte, nat_tests}
-use Rattle.gix_validate.specs.Bytes.{is_bad, is_empty, begins, ends, holds}
-use Rattle.gix_validate.specs.Pieces.{is_slash, pieces, has_no_slash}
-use Rattle.gix_validate.specs.Private.TagWalk.{fault_of_byte}
-use Rattle.gix_validate.specs.Tag.{is_good_piece, is_tag_name, fault_of, fault_offset_of, faults_at, offset_at}
-use Rattle.gix_validate.specs.Faults.{first_of, at_first_offset}
 use Rattle.gix_validate.proofs.Texts.Pieces.{pieces_front, pieces_alone}
 use Rattle.gix_validate.proofs.Texts.Endings.{last_piece, last_piece_push, ends_last_piece, slash_last, last_piece_apart, ends_cons}
 use Rattle.gix_validate.proofs.TagNames.FaultTable.{is_none-when, is_none-fault_of_byte, walked, has_lock_suffix, at_first_offset_split, at_first_offset_walked}
+use Rattle.gix_validate.specs.{Bytes.{is_bad, is_empty, begins, ends, holds}, Pieces.{is_slash, pieces, has_no_slash}}
+use Rattle.gix_validate.specs.Private.TagWalk.{fault_of_byte}
+use Rattle.gix_validate.specs.Tag.{is_good_piece, is_tag_name, fault_of, fault_offset_of, faults_at, offset_at}
+use Rattle.gix_validate.specs.Faults.{first_of, at_first_offset}
 use native.Mathlib.Omega.{arith}
 
 -- a byte that no good piece has

@@ -1,11 +1,8 @@
 -- Pieces and joined texts: each gives the other back.
 use Rattle.gix_validate.proofs.Common.{◌≡◌, ℕ, ◌-◌, ◌<◌, true, false, List, [], ◌∷◌, ◌++◌, length, refl, arith, length-append, append_assoc, take-append-add}
 use Rattle.gix_validate.proofs.Common.{list_all, byte, nat_tests}
-use Rattle.gix_validate.specs.Bytes.{is_empty}
-use Rattle.gix_validate.specs.Pieces.{joined, has_no_slash}
-use Rattle.gix_validate.specs.Tag.{is_good_piece}
-use Rattle.gix_validate.specs.Sanitized.{dash_last, dash_last_of}
 use Rattle.gix_validate.proofs.Sanitizing.MendedPieces.{dash_last-good, dash_last-apart, is_good_piece-empty}
+use Rattle.gix_validate.specs.{Bytes.is_empty, Pieces.{joined, has_no_slash}, Tag.is_good_piece, Sanitized.{dash_last, dash_last_of}}
 
 -- Good pieces stay good with a dash for the last byte of the last of them.
 pub dash_last_of-good : (ps : List (List ℕ)) → list_all is_good_piece ps ≡ true → list_all is_good_piece (dash_last_of ps) ≡ true

@@ -3,8 +3,7 @@ use Rattle.gix_validate.proofs.Common.{true, false, eqb, ◌≡◌, ℕ, ◌+◌
 use Rattle.gix_validate.proofs.Common.{list_any, list_all, prefix_len, before_first, byte, bytes_eq, cases_lt, agree_below, agree_below_at, and_parts}
 use Rattle.gix_validate.proofs.Common.{length-map, take-map, drop-map, bytes_eq-Decides, and-false, to_ascii_lowercase}
 use mathlib.Core.List.{reverse_aux}
-use Rattle.gix_validate.specs.Bytes.{lower_byte, lower, ends, begins}
-use Rattle.gix_validate.specs.Ntfs.{without_end}
+use Rattle.gix_validate.specs.{Bytes.{lower_byte, lower, ends, begins}, Ntfs.without_end}
 
 pub lower_byte-is : (b : ℕ) → to_ascii_lowercase b ≡ lower_byte b
 unfolding lower_byte

@@ -1,10 +1,8 @@
 -- A form against a word, without ASCII case: byte by byte from the front, and what then is left of the form.
 use Rattle.gix_validate.proofs.Common.{◌≡◌, ℕ, ◌+◌, ◌<◌, ◌≤◌, Bool, true, false, ◌&&◌, cond, eqb, List, [], ◌∷◌, ◌++◌, get_or, length, drop, refl, arith, codes}
 use Rattle.gix_validate.proofs.Common.{append-nil, ◌==◌, list_all, byte, bytes_eq, nat_tests, common_steps}
-use Rattle.gix_validate.specs.Bytes.{is_empty, is_among, lower, lower_byte, begins}
-use Rattle.gix_validate.specs.Private.Forms.{stays_in_form}
-use Rattle.gix_validate.proofs.Components.Forms.{form, form_at}
-use Rattle.gix_validate.proofs.Texts.LetterCase.{test-lower_byte, eqb_turned}
+use Rattle.gix_validate.proofs.{Components.Forms.{form, form_at}, Texts.LetterCase.{test-lower_byte, eqb_turned}}
+use Rattle.gix_validate.specs.{Bytes.{is_empty, is_among, lower, lower_byte, begins}, Private.Forms.stays_in_form}
 
 -- plain bytes are neither a cut nor trimmed
 abbrev pub KeepsPlain : (ℕ → Bool) → (ℕ → Bool) → Type 0

@@ -1,9 +1,7 @@
 -- Clear texts, recognised by each two adjacent bytes and by the end: each is a tag name, and most tag names are
 -- clear.
-use Rattle.std.specs.Prelude.{◌≡◌, ℕ, ◌<◌, Bool, false, ◌==◌, ◌&&◌, ◌||◌, List, ◌∷◌, length, codes}
-use Rattle.std.specs.Str.{byte}
-use Rattle.gix_validate.specs.Private.Scan.{NoneBelow, at_both}
-use Rattle.gix_validate.specs.Bytes.{is_bad, is_among, ends}
+use Rattle.std.specs.{Prelude.{◌≡◌, ℕ, ◌<◌, Bool, false, ◌==◌, ◌&&◌, ◌||◌, List, ◌∷◌, length, codes}, Str.byte}
+use Rattle.gix_validate.specs.{Private.Scan.{NoneBelow, at_both}, Bytes.{is_bad, is_among, ends}}
 
 -- After the byte before it, the byte may be the offset of a fault, or lead to one: it is one that no reference name
 -- has, a `*`, or a `{`, which may follow a `@`; or it is a dot or a slash after a dot or a slash; or it is an

@@ -1,10 +1,7 @@
 -- The classes of the bytes of a name, a bit for each, and what they say about the name.
-use Rattle.std.specs.Prelude.{◌≡◌, ℕ, Bool, ◌==◌, not, nat_lt, if◌then◌else◌, List, codes, map, bit_and}
-use Rattle.std.specs.List.{list_any}
-use Rattle.std.specs.Str.{byte}
+use Rattle.std.specs.{Prelude.{◌≡◌, ℕ, Bool, ◌==◌, not, nat_lt, if◌then◌else◌, List, codes, map, bit_and}, List.list_any, Str.byte}
 use Rattle.gix_validate.specs.declared.path.classes.TheConstants.{CONTROL, QUOTE_OR_STAR, COLON_ANGLE_OR_MARK, BACKSLASH, PIPE, LEAD, SLASH, TILDE}
-use Rattle.gix_validate.specs.Bytes.{is_among}
-use Rattle.gix_validate.specs.Private.Ordinary.{is_lead}
+use Rattle.gix_validate.specs.{Bytes.is_among, Private.Ordinary.is_lead}
 
 -- The class of a byte. A byte for which no condition asks has none.
 unfoldable pub class_of : ℕ → ℕ

@@ -1,9 +1,6 @@
 -- Ordinary bytes: those of names that are refused by no condition, but for devices, `.git` and `.gitmodules`.
-use Rattle.std.specs.Prelude.{ℕ, Bool, ◌==◌, ◌&&◌, ◌||◌, not, List, codes}
-use Rattle.std.specs.List.{list_any}
-use Rattle.gix_validate.specs.Bytes.{is_among, is_empty, ends}
-use Rattle.gix_validate.specs.Windows.{is_illegal_byte}
-use Rattle.gix_validate.specs.declared.path.ComponentOptions.{ComponentOptions}
+use Rattle.std.specs.{Prelude.{ℕ, Bool, ◌==◌, ◌&&◌, ◌||◌, not, List, codes}, List.list_any}
+use Rattle.gix_validate.specs.{declared.path.ComponentOptions.ComponentOptions, Bytes.{is_among, is_empty, ends}, Windows.is_illegal_byte}
 
 -- the options with these three switches
 abbrev pub switches : Bool → Bool → Bool → ComponentOptions

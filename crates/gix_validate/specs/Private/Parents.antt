@@ -1,6 +1,5 @@
 -- Parts `..` of a submodule name, by the offsets where they begin.
-use Rattle.std.specs.Prelude.{ℕ, ◌+◌, ◌-◌, Bool, ◌==◌, ◌&&◌, ◌||◌, List, length, slice_index}
-use Rattle.std.specs.Str.{byte}
+use Rattle.std.specs.{Prelude.{ℕ, ◌+◌, ◌-◌, Bool, ◌==◌, ◌&&◌, ◌||◌, List, length, slice_index}, Str.byte}
 use Rattle.gix_validate.specs.Submodule.{is_separator}
 
 -- a part that is `..` begins at this offset: two dots, the start or a separator before them, and the end or one after them

@@ -1,9 +1,6 @@
 -- The walk over a text that may be a tag name: the fault of each byte by what is before it.
 use Rattle.std.specs.Prelude.{◌≡◌, ℕ, ◌<◌, Bool, ◌||◌, List, [], ◌∷◌, codes, take, slice_index, Option, None}
-use Rattle.gix_validate.specs.declared.tag.NameError.{NameError}
-use Rattle.gix_validate.specs.Bytes.{is_bad, is_among}
-use Rattle.gix_validate.specs.Faults.{first_of}
-use Rattle.gix_validate.specs.Tag.{fault_table}
+use Rattle.gix_validate.specs.{declared.tag.NameError.NameError, Bytes.{is_bad, is_among}, Faults.first_of, Tag.fault_table}
 
 -- the byte may have a fault by what is before it; no other byte ever has one
 abbrev pub may_be_faulty : ℕ → Bool

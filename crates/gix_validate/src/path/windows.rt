@@ -5,13 +5,9 @@
 //! is hard to predict. The one branch on what they say is hardly ever taken.
 
 ghost use Rattle.std.specs.Prelude.{◌≡◌, ◌≤◌, false, length, ◌==◌, ◌||◌, ◌∷◌, [], ◌++◌, ◌%◌, slice_index, bit_and, codes, IsTrue};
-ghost use Rattle.std.specs.List.{list_all, list_any};
-ghost use Rattle.std.specs.Str.{byte, bytes_eq};
-ghost use Rattle.gix_validate.specs.Bytes.{lower, is_empty, ends};
-ghost use Rattle.gix_validate.specs.Units.{first_unit_len};
-ghost use Rattle.gix_validate.specs.Ntfs.{is_digit};
-ghost use Rattle.gix_validate.specs.Windows.{device_form, is_device, is_illegal_byte};
-ghost use Rattle.gix_validate.specs.Private.Forms.{stays_in_form};
+ghost use Rattle.std.specs.{List.{list_all, list_any}, Str.{byte, bytes_eq}};
+ghost use Rattle.gix_validate.specs.{Bytes.{lower, is_empty, ends}, Units.first_unit_len, Ntfs.is_digit};
+ghost use Rattle.gix_validate.specs.{Windows.{device_form, is_device, is_illegal_byte}, Private.Forms.stays_in_form};
 
 use crate::path::ascii_case::strip_prefix_ignore_ascii_case;
 use crate::path::units::first_unit_len;

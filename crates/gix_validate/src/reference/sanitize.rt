@@ -4,15 +4,11 @@
 //! and from there on a walk reads and writes in one buffer.
 
 ghost use Rattle.std.specs.Prelude.{◌≡◌, ◌≢◌, ℕ, false, ◌↔◌, ◌+◌, ◌-◌, ◌≤◌, ◌<◌, ◌==◌, ◌||◌, ◌&&◌, ◌++◌, [], ◌∷◌, max, if◌then◌else◌, length, take, drop, get_or, set, codes, IsTrue, IsOk, IfOk, Some, None, slice_range, vec_capacity};
-ghost use Rattle.bstr.specs.BStr.{bstr_bytes};
-ghost use Rattle.bstr.specs.Owned.{bstring_bytes};
 ghost use Rattle.std.specs.Str.{byte};
-ghost use Rattle.gix_validate.specs.Pieces.{is_slash, joined};
-ghost use Rattle.gix_validate.specs.Reference.{is_partial_name};
-ghost use Rattle.gix_validate.specs.Private.Adjacent.{suspect_at};
-ghost use Rattle.gix_validate.specs.Private.Scan.{NoneBelow};
-ghost use Rattle.gix_validate.specs.Private.TagWalk.{may_be_faulty};
+ghost use Rattle.bstr.specs.{BStr.bstr_bytes, Owned.bstring_bytes};
 ghost use Rattle.gix_validate.specs.Sanitized.{Dots, Other, byte_of, cut, mended_pieces, repaired_dot, repaired_at, repaired_nothing, sanitized, IsPiecewise};
+ghost use Rattle.gix_validate.specs.{Pieces.{is_slash, joined}, Reference.is_partial_name, Private.Adjacent.suspect_at};
+ghost use Rattle.gix_validate.specs.Private.{Scan.NoneBelow, TagWalk.may_be_faulty};
 
 use crate::adjacent::clear_front;
 use crate::bytes::may_be_faulty;

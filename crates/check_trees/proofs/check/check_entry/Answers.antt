@@ -1,7 +1,6 @@
-use Rattle.check_trees.specs.Options.{as_options}
+use Rattle.check_trees.specs.{Options.as_options, Entries.parsed_front}
 use Rattle.gix_validate.proofs.Common.{◌∙◌, ap, arith, common_steps}
 use Rattle.git_input.specs.Promises.{as_object}
-use Rattle.check_trees.specs.Entries.{parsed_front}
 use Rattle.check_trees.proofs.FirstEntry.{gives_past, gives_long, gives_cut, gives_malformed, gives_id_cut, gives_id_past, gives_stop, gives_entry}
 use Rattle.check_trees.proofs.EntryReads.{entry_within}
 use Rattle.check_trees.proofs.check.check_entry.Goals as goal

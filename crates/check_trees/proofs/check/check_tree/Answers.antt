@@ -1,6 +1,5 @@
 use Rattle.gix_validate.proofs.Common.{◌-◌, arith}
-use Rattle.git_input.proofs.ReportSoFar.{starts}
-use Rattle.git_input.proofs.LinesStop.{up_to_none, up_to_more}
+use Rattle.git_input.proofs.{ReportSoFar.starts, LinesStop.{up_to_none, up_to_more}}
 use Rattle.check_trees.proofs.TreeEntries.{tree_goes, tree_faults, tree_ends, tree_stops}
 use Rattle.check_trees.proofs.check.check_tree.Goals as goal
 

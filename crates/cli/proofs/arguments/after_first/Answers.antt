@@ -1,8 +1,6 @@
-use Rattle.std.proofs.Common.{refl}
-use Rattle.std.specs.Vec.Iter.{into_iter_items}
-use Rattle.std.proofs.lemmas.Iterator.{items_from_collect}
-use Rattle.std.proofs.lemmas.Iterator.Consumers.{YieldsList-at}
+use Rattle.std.proofs.{Common.refl, lemmas.Iterator.{items_from_collect, Consumers.YieldsList-at}}
 use Rattle.std.proofs.lemmas.Iterator.Adapters.{YieldsList-from_vec, YieldsList-from_skip}
+use Rattle.std.specs.Vec.Iter.{into_iter_items}
 use Rattle.cli.proofs.arguments.after_first.Goals as goal
 
 pub returns : goal.returns

@@ -1,7 +1,6 @@
 -- what is left of the words asks under the options so far for what all words ask for
 use Rattle.std.proofs.Common.{◌≡◌, length, map}
-use Rattle.std.specs.Option.{option_map}
-use Rattle.std.specs.String.{string_bytes}
+use Rattle.std.specs.{Option.option_map, String.string_bytes}
 use Rattle.cli.specs.Arguments.{request_from, request_of, text_of}
 use Rattle.cli.proofs.arguments.request_of.Given as goal
 

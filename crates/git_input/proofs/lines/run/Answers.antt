@@ -1,9 +1,8 @@
 use Rattle.gix_validate.proofs.Common.{arith, common_steps}
-use Rattle.git_input.proofs.ReportSoFar.{starts, on_err}
 use Rattle.git_input.proofs.LinesRead.{line_gives, long_gives, cut_gives}
 use Rattle.git_input.proofs.LinesRead.{stream_goes, stream_faults, stream_ends, stream_breaks, stream_marked, stream_spent, stream_stops, stream_pauses}
-use Rattle.git_input.proofs.LinesStop.{line_within, long_within, cut_within, faults_within, ends_within}
 use Rattle.git_input.proofs.lines.run.Goals.{in-Byte+in_ok-is_last-in-Byte+else-branch+in_ok-more-in-Byte+in-Err, in-Limit, in-End, in-End-2+in-Some}
+use Rattle.git_input.proofs.{ReportSoFar.{starts, on_err}, LinesStop.{line_within, long_within, cut_within, faults_within, ends_within}}
 use Rattle.git_input.proofs.WholeStreams.{ended_whole}
 use Rattle.git_input.proofs.lines.run.Goals as goal
 

@@ -1,7 +1,6 @@
 -- what was said of the lines so far is appended, and what is said of those that are left follows
 use Rattle.gix_validate.proofs.Common.{◌+◌}
-use Rattle.git_input.proofs.ReportSoFar.{SoFar}
-use Rattle.git_input.proofs.LinesRead.{lines_report}
+use Rattle.git_input.proofs.{ReportSoFar.SoFar, LinesRead.lines_report}
 use Rattle.git_input.proofs.lines.run.Given as goal
 
 abbrev pub invariant-loop-before : goal.invariant-loop-before

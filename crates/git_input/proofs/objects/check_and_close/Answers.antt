@@ -1,7 +1,6 @@
 use Rattle.gix_validate.proofs.Common.{None}
 use Rattle.git_input.specs.Promises.{as_object}
-use Rattle.git_input.proofs.ObjectsRead.{closed_gives, faulty_gives}
-use Rattle.git_input.proofs.LinesStop.{up_to_next}
+use Rattle.git_input.proofs.{ObjectsRead.{closed_gives, faulty_gives}, LinesStop.up_to_next}
 use Rattle.git_input.proofs.objects.check_and_close.Goals as goal
 
 pub returns-in-Ok-clause-gives : goal.returns-in-Ok-clause-gives

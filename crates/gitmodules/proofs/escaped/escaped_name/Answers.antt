@@ -1,5 +1,4 @@
-use Rattle.std.proofs.Common.{◌≡◌, ◌==◌, ◌&&◌, ◌∙◌, not, false, get_or, arith}
-use Rattle.std.proofs.lemmas.Bool.Decides.{nat_tests}
+use Rattle.std.proofs.{Common.{◌≡◌, ◌==◌, ◌&&◌, ◌∙◌, not, false, get_or, arith}, lemmas.Bool.Decides.nat_tests}
 use Rattle.std.specs.Str.{byte}
 use Rattle.gitmodules.specs.Sections.{is_never_in_name}
 use Rattle.gitmodules.proofs.Names.{byte_passed}

@@ -1,6 +1,4 @@
-use Rattle.std.proofs.Common.{arith}
-use Rattle.std.proofs.lemmas.Grind.{common_steps}
-use Rattle.std.proofs.lemmas.List.{take_rest}
+use Rattle.std.proofs.{Common.arith, lemmas.{Grind.common_steps, List.take_rest}}
 use Rattle.gitmodules.proofs.FirstBracket.{bracket_searched}
 use Rattle.gitmodules.proofs.reader.bracket_from.Goals as goal
 

@@ -1,5 +1,4 @@
-use Rattle.gix_validate.proofs.Common.{arith, sym, ◌∙◌, nat_tests}
-use Rattle.gix_validate.proofs.Blocks.Lanes.{first_look, quiet_by_looks, clear_by_looks}
+use Rattle.gix_validate.proofs.{Common.{arith, sym, ◌∙◌, nat_tests}, Blocks.Lanes.{first_look, quiet_by_looks, clear_by_looks}}
 use Rattle.gix_validate.proofs.adjacent.clear_front.Goals as goal
 
 pub returns-then-may_be_faulty-clause-all : goal.returns-then-may_be_faulty-clause-all

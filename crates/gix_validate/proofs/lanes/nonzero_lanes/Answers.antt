@@ -1,5 +1,4 @@
-use Rattle.gix_validate.proofs.Common.{eqb, not}
-use Rattle.gix_validate.proofs.Blocks.Lanes.{lane_mask}
+use Rattle.gix_validate.proofs.{Common.{eqb, not}, Blocks.Lanes.lane_mask}
 use Rattle.gix_validate.proofs.lanes.nonzero_lanes.Goals as goal
 
 pub returns : goal.returns

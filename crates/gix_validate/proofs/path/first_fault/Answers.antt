@@ -1,6 +1,5 @@
 -- What the classes of a short name say of it.
-use Rattle.gix_validate.proofs.Common.{arith}
-use Rattle.gix_validate.proofs.Blocks.ByteClasses.{classes_tell}
+use Rattle.gix_validate.proofs.{Common.arith, Blocks.ByteClasses.classes_tell}
 use Rattle.gix_validate.proofs.path.first_fault.Goals as goal
 use Rattle.gix_validate.proofs.path.first_fault.Goals.{then-windows, else-windows, else-not-is_empty+else-has_separator}
 use Rattle.gix_validate.proofs.path.first_fault.Goals.{then-not-is_empty+then-name-le-SHORT+else-is_relative+else-not-has_class+else-has_class}

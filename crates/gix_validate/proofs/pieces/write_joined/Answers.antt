@@ -1,8 +1,6 @@
 -- The capacity that was asked for all the parts is enough for each, and each part goes after those before it.
-use Rattle.gix_validate.proofs.Common.{[], arith, common_steps}
-use Rattle.bstr.specs.declared.bstr.BStr.{BStr}
-use Rattle.bstr.specs.BStr.{bstr_bytes}
-use Rattle.gix_validate.proofs.Components.JoinedParts.{written, fits}
+use Rattle.gix_validate.proofs.{Common.{[], arith, common_steps}, Components.JoinedParts.{written, fits}}
+use Rattle.bstr.specs.{declared.bstr.BStr.BStr, BStr.bstr_bytes}
 use Rattle.gix_validate.proofs.pieces.write_joined.Goals as goal
 
 -- what a read past the end gives

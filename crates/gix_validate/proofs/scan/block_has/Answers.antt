@@ -1,5 +1,4 @@
-use Rattle.gix_validate.proofs.Common.{arith, length-chunk}
-use Rattle.gix_validate.proofs.Blocks.Lanes.{any_marked}
+use Rattle.gix_validate.proofs.{Common.{arith, length-chunk}, Blocks.Lanes.any_marked}
 use Rattle.gix_validate.proofs.scan.block_has.Goals as goal
 
 pub returns : goal.returns

@@ -1,6 +1,5 @@
-use Rattle.gix_validate.proofs.Common.{◌-◌, length, arith, subst}
+use Rattle.gix_validate.proofs.{Common.{◌-◌, length, arith, subst}, Blocks.Parts.{parts_found, in_front, in_back}}
 use Rattle.gix_validate.specs.Private.Scan.{IsFirst, at_both}
-use Rattle.gix_validate.proofs.Blocks.Parts.{parts_found, in_front, in_back}
 use Rattle.gix_validate.proofs.scan.first_of_parts.Goals as goal
 
 pub returns-then-hits-eq0 : goal.returns-then-hits-eq0

@@ -1,5 +1,4 @@
-use Rattle.gix_validate.proofs.Common.{◌-◌, ◌||◌, length, sym, ap₂, ◌∙◌, arith}
-use Rattle.gix_validate.proofs.Blocks.Parts.{any_in_chunk, any_with_chunk, any_to_end}
+use Rattle.gix_validate.proofs.{Common.{◌-◌, ◌||◌, length, sym, ap₂, ◌∙◌, arith}, Blocks.Parts.{any_in_chunk, any_with_chunk, any_to_end}}
 use Rattle.gix_validate.proofs.scan.has.Goals as goal
 
 pub returns-then-four_have : goal.returns-then-four_have

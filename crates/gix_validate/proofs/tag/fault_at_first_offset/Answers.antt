@@ -1,5 +1,4 @@
-use Rattle.gix_validate.proofs.Common.{arith, nat_tests}
-use Rattle.gix_validate.proofs.TagNames.ClearTexts.{fault_found, fault_none, none_to_suspect}
+use Rattle.gix_validate.proofs.{Common.{arith, nat_tests}, TagNames.ClearTexts.{fault_found, fault_none, none_to_suspect}}
 use Rattle.gix_validate.proofs.tag.fault_at_first_offset.Goals as goal
 
 pub loop-offset-init : goal.loop-offset-init

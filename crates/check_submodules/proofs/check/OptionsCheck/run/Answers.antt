@@ -1,9 +1,6 @@
 use Rattle.git_input.proofs.WellFormedStreams.{clean_run}
-use Rattle.check_submodules.proofs.AcceptedFiles.{object_same}
-use Rattle.check_submodules.specs.Report.{submodules_rule}
-use Rattle.check_submodules.specs.Spelled.{IsAcceptedObject}
-use Rattle.check_submodules.proofs.LinearReports.{linear_report}
-use Rattle.check_submodules.proofs.ReportedSections.{each_section_reported}
+use Rattle.check_submodules.proofs.{AcceptedFiles.object_same, LinearReports.linear_report, ReportedSections.each_section_reported}
+use Rattle.check_submodules.specs.{Report.submodules_rule, Spelled.IsAcceptedObject}
 use Rattle.check_submodules.proofs.check.OptionsCheck.run.Goals as goal
 
 pub returns-clause-clean : goal.returns-clause-clean

@@ -1,10 +1,6 @@
 use Rattle.git_input.proofs.WellFormedStreams.{clean_run}
-use Rattle.check_trees.specs.Options.{as_options}
-use Rattle.check_trees.proofs.AcceptedTrees.{object_same}
-use Rattle.check_trees.specs.Report.{tree_rule}
-use Rattle.check_trees.specs.Spelled.{IsAcceptedObject}
-use Rattle.check_trees.proofs.LinearReports.{linear_report}
-use Rattle.check_trees.proofs.SpelledTrees.{read_as_items}
+use Rattle.check_trees.specs.{Options.as_options, Report.tree_rule, Spelled.IsAcceptedObject}
+use Rattle.check_trees.proofs.{AcceptedTrees.object_same, LinearReports.linear_report, SpelledTrees.read_as_items}
 use Rattle.check_trees.proofs.check.CheckOptionsCheck.run.Goals as goal
 
 pub returns-clause-clean : goal.returns-clause-clean

@@ -1,6 +1,5 @@
 -- A short name is its front and its back.
-use Rattle.gix_validate.proofs.Common.{◌-◌, length, replicate, get_or, arith}
-use Rattle.gix_validate.proofs.Blocks.Parts.{one_covers}
+use Rattle.gix_validate.proofs.{Common.{◌-◌, length, replicate, get_or, arith}, Blocks.Parts.one_covers}
 use Rattle.gix_validate.proofs.Blocks.ByteClasses.{classes_of_parts, classes_of_both, classes_of_four}
 use Rattle.gix_validate.proofs.path.classes.classes_of.Goals as goal
 

@@ -1,6 +1,5 @@
 use Rattle.gix_validate.proofs.Common.{◌≡◌, drop, bytes_eq}
-use Rattle.gix_validate.specs.Bytes.{lower}
-use Rattle.gix_validate.specs.Hfs.{hfs_form}
+use Rattle.gix_validate.specs.{Bytes.lower, Hfs.hfs_form}
 use Rattle.gix_validate.proofs.path.hfs.reads_as.Given as goal
 
 abbrev pub invariant-loop-wanted : goal.invariant-loop-wanted

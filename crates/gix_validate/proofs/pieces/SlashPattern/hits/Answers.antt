@@ -1,5 +1,4 @@
-use Rattle.gix_validate.proofs.Common.{eqb, byte}
-use Rattle.gix_validate.proofs.Blocks.Lanes.{lane_mask}
+use Rattle.gix_validate.proofs.{Common.{eqb, byte}, Blocks.Lanes.lane_mask}
 use Rattle.gix_validate.proofs.pieces.SlashPattern.hits.Goals as goal
 
 pub returns : goal.returns

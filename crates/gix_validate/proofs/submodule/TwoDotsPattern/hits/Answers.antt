@@ -1,5 +1,4 @@
-use Rattle.gix_validate.proofs.Common.{bit_and, eqb, byte}
-use Rattle.gix_validate.proofs.Blocks.Lanes.{both_mask, of_both}
+use Rattle.gix_validate.proofs.{Common.{bit_and, eqb, byte}, Blocks.Lanes.{both_mask, of_both}}
 use Rattle.gix_validate.proofs.submodule.TwoDotsPattern.hits.Goals as goal
 
 pub returns : goal.returns

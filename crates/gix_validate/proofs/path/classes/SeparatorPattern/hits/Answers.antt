@@ -1,5 +1,4 @@
-use Rattle.gix_validate.proofs.Common.{bit_or, eqb, byte}
-use Rattle.gix_validate.proofs.Blocks.Lanes.{both_mask, of_either}
+use Rattle.gix_validate.proofs.{Common.{bit_or, eqb, byte}, Blocks.Lanes.{both_mask, of_either}}
 use Rattle.gix_validate.proofs.path.classes.SeparatorPattern.hits.Goals as goal
 
 pub returns : goal.returns

@@ -1,5 +1,4 @@
-use Rattle.gix_validate.proofs.Common.{ℕ, bit_and, eqb, not, byte}
-use Rattle.gix_validate.proofs.Blocks.Lanes.{both_mask, of_both}
+use Rattle.gix_validate.proofs.{Common.{ℕ, bit_and, eqb, not, byte}, Blocks.Lanes.{both_mask, of_both}}
 use Rattle.gix_validate.proofs.path.ntfs.KeptPattern.hits.Goals as goal
 
 pub returns : goal.returns

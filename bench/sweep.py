@@ -1,9 +1,9 @@
 """Times nine calls over a sweep of names, each by itself, and compares time and acceptance with the Rust crate, for bench/run.
 
-A time is the best of several batches of calls, those of both libraries in turn. The same code can take a third longer at another
-address, or at another distance from code that it calls. So names that are slower than the crate are measured again in twelve
-layouts, again and again, and the best time of each library counts. A long name that is over counts only if it is over next to
-the crate without AVX2, too."""
+A time is the best of several batches of calls, those of both libraries in turn. The same code can take a third longer at
+another address, or at another distance from code that it calls. So names that are slower than the crate are measured again in
+twelve layouts, again and again, and the best time of each library counts. A long name that is over counts only if it is over
+next to the crate without AVX2, too."""
 import ctypes
 import itertools
 import math
@@ -19,16 +19,18 @@ FRONTS = b"", b"refs/heads/", b".git"
 TELLING = b"/\\:.~^?*[ @{<>|\"$_-9Z\1\x7f\x80\xe2\xff"
 # Short parts of names that some rule speaks of, to be repeated, and single ones; at last ill-formed UTF-8.
 UNITS = [
-    b"./", b"/.", b"k./", b"../", b"..x/", b"x../", b"@{", b".lock", b".lo", b".lock/", b"a/", b"a.", b"..\\", b"a\\", b" ", b". ",
-    b" .", b"k/", b"A_", b"//a", b"a:", b"a\1", b"\xc3\xa9", b"\xe4\xb8\xad", b"\xed\x95\x9c", b"\xef\xbc\xa1", b"\xe2\x80\x93",
-    b"\xe2\x80\x8c", b"\xef\xbb\xbf", b"\xf0\x9f\x98\x80", b"\x80", b"\xc3", b"\xe4\xb8", b"\xf0\x9f\x98", b"\xed\xa0\x80",
-    b"\xc0\xaf", b"\xe2\x80", b"\xe2\x80\x8c\xe2\x80", b"a\xe2", b"\xffa", b"\xf5\x80\x80\x80"]
+    b"./", b"/.", b"k./", b"../", b"..x/", b"x../", b"@{", b".lock", b".lo", b".lock/", b"a/", b"a.", b"..\\", b"a\\", b" ",
+    b". ", b" .", b"k/", b"A_", b"//a", b"a:", b"a\1", b"\xc3\xa9", b"\xe4\xb8\xad", b"\xed\x95\x9c", b"\xef\xbc\xa1",
+    b"\xe2\x80\x93", b"\xe2\x80\x8c", b"\xef\xbb\xbf", b"\xf0\x9f\x98\x80", b"\x80", b"\xc3", b"\xe4\xb8", b"\xf0\x9f\x98",
+    b"\xed\xa0\x80", b"\xc0\xaf", b"\xe2\x80", b"\xe2\x80\x8c\xe2\x80", b"a\xe2", b"\xffa", b"\xf5\x80\x80\x80"]
 # Special names, and what is before and after them.
-SPECIAL = [b".g\xe2\x80\x8cit", *b".git .gitmodules git~1 gitmod~4 gi7eba~1 gi7e~123 CON CONIN$ CONOUT$ NUL AUX PRN COM1 LPT0 C: HEAD "
-           b"refs/heads/HEAD @{1} a.lock ../.. ..\\.. - README.md".split()]
+SPECIAL = [
+    b".g\xe2\x80\x8cit", *b".git .gitmodules git~1 gitmod~4 gi7eba~1 gi7e~123 CON CONIN$ CONOUT$ NUL AUX PRN COM1 LPT0 C: HEAD "
+    b"refs/heads/HEAD @{1} a.lock ../.. ..\\.. - README.md".split()]
 BEFORE = b"", b"a/", b"refs/heads/", b"\xe2\x80\x8c"
-AFTER = [b"", b" ", b".", b":", b"\\", b"/", b"x", b".txt", b" . :", b"\1", b"*", b"\xff", b"\xc3\xa9", b"/x", b".lock", b"\xe2\x80\x8c",
-         b" " * 20, b" " + b"." * 35, b"\xe2\x80\x8d\xef\xbb\xbf"]
+AFTER = [
+    b"", b" ", b".", b":", b"\\", b"/", b"x", b".txt", b" . :", b"\1", b"*", b"\xff", b"\xc3\xa9", b"/x", b".lock",
+    b"\xe2\x80\x8c", b" " * 20, b" " + b"." * 35, b"\xe2\x80\x8d\xef\xbb\xbf"]
 
 
 def filled(part, length, front=b""):
@@ -70,6 +72,7 @@ def growing():
 
 
 def called(function, call, name, *rest):
+    """A function of the driver, on a call and a name."""
     return function(call.encode(), name, ctypes.c_size_t(len(name)), *rest)
 
 
@@ -153,6 +156,7 @@ def worst(slow):
 
 
 def passes(libraries):
+    """Yields them, and says how many are done."""
     for at, library in enumerate(libraries):
         note(f"sweep: {at} of {len(libraries)} passes done")
         yield library

@@ -1,7 +1,12 @@
 /* Makes one call on each name of a file, one name a line, so that callgrind can count the instructions: the call of
    libgix_validate_c.a, and the same of the Rust crate and of libgit2, as far as they are linked in and have one. With a
    number of milliseconds it makes passes over all names for that long with each library, and prints the nanoseconds a
-   name of the best pass of each, or a dash. */
+   name of the best pass of each, or a dash.
+
+       driver CALL NAMES [MILLISECONDS]
+
+   As a shared object it has `measure` and `agree`, for bench/sweep.py. */
+#include <math.h>
 #include <stdio.h>
 #include <stdlib.h>
 #include <string.h>
@@ -12,18 +17,19 @@
 #include <git2.h>
 #endif
 
+enum { LIBRARIES = 3, ROOM = 1 << 21, MOST_CALLS = 201 };
+static const double BATCH = 1000;
+static uint8_t our_buffer[ROOM], crate_buffer[ROOM];
+
 struct name {
-    uint8_t *bytes;
+    const uint8_t *bytes;
     size_t len;
 };
+typedef size_t pass(const struct name *names, size_t count);
 
-static struct name *names;
-static size_t count;
-static uint8_t *buffer;
-
-/* So many calls, and the sum of their results, so that no call can be left out. */
+/* A call on each name, and the sum of the results, so that no call can be left out. */
 #define EACH(pass, result)                                                                                             \
-    static size_t pass(void) {                                                                                         \
+    static size_t pass(const struct name *names, size_t count) {                                                       \
         size_t sum = 0;                                                                                                \
         for (size_t i = 0; i < count; i++) {                                                                           \
             const uint8_t *bytes = names[i].bytes;                                                                     \
@@ -32,19 +38,22 @@ static uint8_t *buffer;
         }                                                                                                              \
         return sum;                                                                                                    \
     }
-EACH(tag, gix_validate_tag(bytes, len))
-EACH(full, gix_validate_full(bytes, len))
-EACH(submodule, gix_validate_submodule(bytes, len))
-EACH(component, gix_validate_component(bytes, len, 7))
-EACH(sanitize, gix_validate_sanitize(bytes, len, buffer, len + 1))
-EACH(in_place, (memcpy(buffer, bytes, len), gix_validate_sanitize_in_place(buffer, len + 1, len)))
+#define BOTH(call, function, ...)                                                                                      \
+    EACH(our_##call, gix_validate_##function(bytes, len, ##__VA_ARGS__))                                               \
+    EACH(crates_##call, crate_##function(bytes, len, ##__VA_ARGS__))
+BOTH(tag, tag)
+BOTH(partial, partial)
+BOTH(full, full)
+BOTH(branch, branch)
+BOTH(submodule, submodule)
+BOTH(component, component, 7)
+BOTH(component_bare, component, 0)
+BOTH(symlink, component, 15)
+EACH(our_sanitize, gix_validate_sanitize(bytes, len, our_buffer, len + 1))
+EACH(crates_sanitize, crate_sanitize(bytes, len, crate_buffer))
+EACH(in_place, (memcpy(our_buffer, bytes, len), gix_validate_sanitize_in_place(our_buffer, len + 1, len)))
 #ifdef CRATE
 #define OF_CRATE(pass) pass
-EACH(c_tag, crate_tag(bytes, len))
-EACH(c_full, crate_full(bytes, len))
-EACH(c_submodule, crate_submodule(bytes, len))
-EACH(c_component, crate_component(bytes, len, 7))
-EACH(c_sanitize, crate_sanitize(bytes, len, buffer))
 #else
 #define OF_CRATE(pass) NULL
 #endif
@@ -54,55 +63,63 @@ static bool is_valid(int (*valid)(int *, const char *), const uint8_t *bytes) {
     int result = 0;
     return valid(&result, (const char *)bytes) == 0 && result;
 }
-EACH(l_tag, ((void)len, is_valid(git_tag_name_is_valid, bytes)))
-EACH(l_full, ((void)len, is_valid(git_reference_name_is_valid, bytes)))
+EACH(libgit2_tag, ((void)len, is_valid(git_tag_name_is_valid, bytes)))
+EACH(libgit2_full, ((void)len, is_valid(git_reference_name_is_valid, bytes)))
 #else
 #define OF_LIBGIT2(pass) NULL
 #endif
 
-enum { LIBRARIES = 3 };
 static const struct call {
     const char *name;
-    size_t (*passes[LIBRARIES])(void);
+    pass *passes[LIBRARIES];
 } calls[] = {
-    {"tag", {tag, OF_CRATE(c_tag), OF_LIBGIT2(l_tag)}},
-    {"full", {full, OF_CRATE(c_full), OF_LIBGIT2(l_full)}},
-    {"submodule", {submodule, OF_CRATE(c_submodule), NULL}},
-    {"component", {component, OF_CRATE(c_component), NULL}},
-    {"sanitize", {sanitize, OF_CRATE(c_sanitize), NULL}},
-    {"sanitize_in_place", {in_place, OF_CRATE(c_sanitize), NULL}},
+    {"tag", {our_tag, OF_CRATE(crates_tag), OF_LIBGIT2(libgit2_tag)}},
+    {"partial", {our_partial, OF_CRATE(crates_partial)}},
+    {"full", {our_full, OF_CRATE(crates_full), OF_LIBGIT2(libgit2_full)}},
+    {"branch", {our_branch, OF_CRATE(crates_branch)}},
+    {"submodule", {our_submodule, OF_CRATE(crates_submodule)}},
+    {"component", {our_component, OF_CRATE(crates_component)}},
+    {"component_bare", {our_component_bare, OF_CRATE(crates_component_bare)}},
+    {"symlink", {our_symlink, OF_CRATE(crates_symlink)}},
+    {"sanitize", {our_sanitize, OF_CRATE(crates_sanitize)}},
+    {"sanitize_in_place", {in_place, OF_CRATE(crates_sanitize)}},
 };
 
-static void read_names(const char *path) {
-    FILE *file = fopen(path, "rb");
-    char *line = NULL;
-    size_t room = 0, longest = 0;
-    ssize_t len;
-    if (!file) {
-        perror(path);
-        exit(2);
-    }
-    while ((len = getline(&line, &room, file)) > 0) {
-        if (line[len - 1] == '\n')
-            len--;
-        names = realloc(names, (count + 1) * sizeof *names);
-        names[count++] = (struct name){memcpy(malloc((size_t)len + 1), line, (size_t)len), (size_t)len};
-        longest = (size_t)len > longest ? (size_t)len : longest;
-    }
-    fclose(file);
-    buffer = malloc(longest + 1);
+static const struct call *find(const char *name) {
+    for (const struct call *call = calls; call < calls + sizeof calls / sizeof *calls; call++)
+        if (!strcmp(call->name, name))
+            return call;
+    fprintf(stderr, "no such call: %s\n", name);
+    exit(2);
 }
 
-/* The nanoseconds a name of the best of the passes in so many milliseconds. */
-static double best_of(size_t (*pass)(void), double milliseconds) {
+/* The nanoseconds a name of a pass. */
+static double nanoseconds(pass *pass, const struct name *names, size_t count) {
     static volatile size_t sum;
-    double best = 1e300;
-    for (double start = now(), last = start, next; last < start + 1e6 * milliseconds; last = next) {
-        sum += pass();
-        next = now();
-        best = next - last < best ? next - last : best;
-    }
-    return best / (double)count;
+    double start = now();
+    sum += pass(names, count);
+    return (now() - start) / (double)count;
+}
+
+/* Lowers the best times of a call on a name: of several batches of calls, those of both libraries in turn. */
+void measure(const char *name, const uint8_t *bytes, size_t len, int rounds, double best[2]) {
+    pass *const *passes = find(name)->passes;
+    struct name names[MOST_CALLS];
+    for (int i = 0; i < MOST_CALLS; i++)
+        names[i] = (struct name){bytes, len};
+    double guess = fmin(nanoseconds(passes[0], names, 2), nanoseconds(passes[1], names, 2));
+    size_t count = guess > BATCH ? 1 : 1 + (size_t)(BATCH / fmax(guess, 5));
+    for (int round = 0; round < rounds; round++)
+        for (int i = 0; i < 2; i++)
+            best[i] = fmin(best[i], nanoseconds(passes[i], names, count));
+}
+
+/* Whether both libraries accept a name, or both refuse it; of repaired names, whether they are the same. */
+int agree(const char *name, const uint8_t *bytes, size_t len) {
+    pass *const *passes = find(name)->passes;
+    const struct name names[] = {{bytes, len}};
+    size_t ours = passes[0](names, 1), crates = passes[1](names, 1);
+    return passes[0] == our_sanitize ? ours == crates && !memcmp(our_buffer, crate_buffer, ours) : !ours == !crates;
 }
 
 int main(int argc, char **argv) {
@@ -110,24 +127,33 @@ int main(int argc, char **argv) {
         fprintf(stderr, "usage: driver CALL NAMES [MILLISECONDS]\n");
         return 2;
     }
-    const struct call *call = calls, *end = calls + sizeof calls / sizeof *calls;
-    while (call < end && strcmp(call->name, argv[1]))
-        call++;
-    if (call == end) {
-        fprintf(stderr, "no such call: %s\n", argv[1]);
+    const struct call *call = find(argv[1]);
+    struct name *names = NULL;
+    char *line = NULL;
+    size_t count = 0, room = 0;
+    FILE *file = fopen(argv[2], "rb");
+    if (!file) {
+        perror(argv[2]);
         return 2;
     }
-    read_names(argv[2]);
+    for (ssize_t len; (len = getline(&line, &room, file)) > 0;) {
+        names = realloc(names, (count + 1) * sizeof *names);
+        len -= line[len - 1] == '\n';
+        names[count++] = (struct name){(uint8_t *)strndup(line, (size_t)len), (size_t)len};
+    }
 #ifdef LIBGIT2
     git_libgit2_init();
 #endif
     for (int i = 0; i < LIBRARIES; i++) {
-        if (argc == 3 && call->passes[i])
-            printf("%zu\n", call->passes[i]());
-        else if (call->passes[i])
-            printf("%.2f\n", best_of(call->passes[i], atof(argv[3])));
-        else if (argc > 3)
-            printf("-\n");
+        pass *pass = call->passes[i];
+        double best = INFINITY;
+        if (pass && argc == 3)
+            printf("%zu\n", pass(names, count));
+        else if (argc > 3) {
+            for (double end = now() + 1e6 * atof(argv[3]); pass && now() < end;)
+                best = fmin(best, nanoseconds(pass, names, count));
+            printf(pass ? "%.2f\n" : "-\n", best);
+        }
     }
     return 0;
 }

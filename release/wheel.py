@@ -9,6 +9,7 @@ import base64
 import hashlib
 import os
 import platform
+import re
 import shutil
 import subprocess
 import sys
@@ -24,14 +25,12 @@ BLOCKS = {"x86_64": "x86_64.s", "aarch64": "aarch64.s", "arm64": "aarch64.s"}
 def packed(folder, out):
     """Packs a folder, and returns the name of the wheel."""
     info = next(folder.glob("*.dist-info"))
-    tags = [line.split("-")[-1] for line in (info / "WHEEL").read_text().splitlines() if line.startswith("Tag: ")]
+    tags = re.findall("(?m)^Tag: .*-(.*)$", (info / "WHEEL").read_text())
     files = {str(path.relative_to(folder)): path.read_bytes() for path in sorted(folder.rglob("*")) if path.is_file()}
     record = f"{info.name}/RECORD"
-    lines = ""
-    for name, data in files.items():
-        digest = base64.urlsafe_b64encode(hashlib.sha256(data).digest()).rstrip(b"=").decode()
-        lines += f"{name},sha256={digest},{len(data)}\n"
-    files[record] = f"{lines}{record},,\n".encode()
+    digests = (base64.urlsafe_b64encode(hashlib.sha256(data).digest()).rstrip(b"=").decode() for data in files.values())
+    lines = [f"{name},sha256={digest},{len(files[name])}\n" for name, digest in zip(files, digests)]
+    files[record] = f"{''.join(lines)}{record},,\n".encode()
     name = f"{info.stem}-py3-none-{'.'.join(tags)}.whl"
     with zipfile.ZipFile(out / name, "w") as wheel:
         for path, data in files.items():
@@ -53,9 +52,8 @@ def build_wheel(wheel_directory, config_settings=None, metadata_directory=None):
         library = folder / "gix_validate" / "libgix_validate_c.so"
         subprocess.run([os.environ.get("CC", "cc"), "-shared", "-nostdlib", *flags, "-o", library, block], check=True)
         tags = next(folder.glob("*.dist-info")) / "WHEEL"
-        kept = [line for line in tags.read_text().splitlines() if not line.startswith("Tag: ")]
-        system = sysconfig.get_platform().replace("-", "_").replace(".", "_")
-        tags.write_text("\n".join([*kept, f"Tag: py3-none-{system}", ""]))
+        system = re.sub("[-.]", "_", sysconfig.get_platform())
+        tags.write_text(re.sub("(?m)^Tag: .*\n", "", tags.read_text()) + f"Tag: py3-none-{system}\n")
         return packed(folder, Path(wheel_directory))
 
 

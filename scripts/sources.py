@@ -27,22 +27,25 @@ def read(path):
 
 
 def write_or_check(doc, derive, then=()):
-    """Runs a script that gives places of files: what is before each and after it, and the text between. It writes them, or
-    with --check fails if a file has another. The text has as many lines as the old one, or ends with a line. If it writes, the
-    scripts `then` run. It writes nothing if the script gives strings, too, which say what is wrong."""
+    """Runs a script that gives places of files: what is before each and after it, and the text between; or a file and all its
+    text. It writes them, or with --check fails if a file has another. The text has as many lines as the old one, or ends with
+    a line. If it writes, the scripts `then` run. It writes nothing if the script gives strings, too, which say what is wrong."""
     parser = argparse.ArgumentParser(description=doc)
     parser.add_argument("--check", action="store_true")
     is_check = parser.parse_args().check
     places, texts = [*derive()], {}
     if faults := [it for it in places if isinstance(it, str)]:
         raise SystemExit("\n".join(faults))
-    for path, before, after, new in places:
+    for path, *around, new in places:
         text = texts.get(path) or read(path)
-        head, _, rest = text.partition(before)
-        old, end, tail = rest.partition(after)
-        if text.count(before) != 1 or not end or old.count("\n") != new.count("\n") and after[0] != "\n":
-            raise SystemExit(f"{path} does not have this once, in as many lines as are written: {before!r} .. {after!r}")
-        texts[path] = head + before + new + end + tail
+        if around:
+            before, after = around
+            head, _, rest = text.partition(before)
+            old, end, tail = rest.partition(after)
+            if text.count(before) != 1 or not end or old.count("\n") != new.count("\n") and after[0] != "\n":
+                raise SystemExit(f"{path} does not have this once, in as many lines as are written: {before!r} .. {after!r}")
+            new = head + before + new + end + tail
+        texts[path] = new
     differ = [path for path in texts if texts[path] != read(path)]
     for path in [] if is_check else differ:
         Path(path).write_text(texts[path], "utf-8")

@@ -14,9 +14,10 @@ EDIT = re.compile(r"file: (.*)\nold: (.*)\nnew: ?(.*)\nrefused: ([\w:]+)((?: \w+
 BEGIN = re.compile(r"""(?mx)^(?P<margin>[ ]{4})? (?P<pub>pub[ ])? (?:pub\([\w ]+\)[ ])? (?:const[ ]|extern[ ]"C"[ ])* (?:
     (?P<kind>fn|struct|enum|trait|type|const|static|impl)\b (?:<[^>]*>)?[ ] (?:.*[ ]for[ ])? (?P<name>[\w:]*\w)
     |[ ]*(?P<member>ghost|ensures)(?:[ ](?P<clause>\w+))?(?::|[ ]=)?[ ]\{)""")
-# The pages that tests/pages runs. A block: the line before it, a comment between them, its language, and its code.
+# The pages that tests/pages runs, all but the last with a release.
 PAGES = ["README.md", "docs/BINDINGS.md", "docs/RELEASES.md", "docs/RECIPES.md", "docs/RULES.md", "hook/README.md",
          "bench/README.md", *(f"bindings/{it}/README.md" for it in ("c", "rust", "python", "js")), "docs/TUTORIAL.md"]
+# A block: the line before it, a comment between them, its language, and its code.
 BLOCK = re.compile(r"(?:^([^\n]*)\n\n?)?(?:^<!-- ([^\n]*) -->\n)?^```(\w*)\n(.*?)^```$", re.M | re.S)
 Item = namedtuple("Item", "file offset path clause is_public")
 Edit = namedtuple("Edit", "file crate source old new function clauses is_limit")
@@ -27,9 +28,9 @@ def read(path):
 
 
 def write_or_check(doc, derive, then=()):
-    """Runs a script that gives places of files: what is before each and after it, and the text between; or a file and all its
-    text. It writes them, or with --check fails if a file has another. The text has as many lines as the old one, or ends with
-    a line. If it writes, the scripts `then` run. It writes nothing if the script gives strings, too, which say what is wrong."""
+    """Runs a script that gives places of files: what is before each and after it, and the text between; or a file, and all of
+    it. It writes them, or with --check fails if a file has another. A text has as many lines as the old one, or ends with a
+    line. If it writes, the scripts `then` run. It writes nothing if the script gives strings, too, which say what is wrong."""
     parser = argparse.ArgumentParser(description=doc)
     parser.add_argument("--check", action="store_true")
     is_check = parser.parse_args().check

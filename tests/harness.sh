@@ -1,8 +1,7 @@
 # shellcheck shell=bash disable=SC2154
 # What the test scripts share: cases that have names, checks that are counted, and an end that can't be missed.
 #
-# A script sets `suite`, its name in messages, and sources this. That reads these words from the script's arguments, and
-# leaves the others:
+# A script sets `suite`, its name in messages, and sources this. That reads these words from the script's arguments:
 #
 #     --help         prints the comment at the head of the script
 #     --list         prints the names of the cases
@@ -15,14 +14,14 @@
 [[ ${1-} != --help ]] || exec sed -n '1d; /^#/!q; /^# shellcheck/q; s/^# \{0,1\}//p' "$0"
 mapfile -t cases < <(sed -n 's/^\(test_[a-z0-9_]*\)() [{(].*/\1/p' "$0")
 [[ ${1-} != --list ]] || { printf '%s\n' "${cases[@]}"; exit; }
-chosen=()
+chosen=("${cases[@]}")
+[[ ${1-} != --case ]] || chosen=()
 while [[ ${1-} == --case ]]; do
     [[ " ${cases[*]} " == *" ${2:-no name} "* ]] ||
         { echo "$suite: there is no case '${2-}'; --list prints their names" >&2; exit 2; }
     chosen+=("$2")
     shift 2
 done
-((${#chosen[@]} > 0)) || chosen=("${cases[@]}")
 
 # A folder for the script, which goes when it ends, and the file of checks. The script ends by `leave`, or it fails.
 room=$(mktemp -d) && tally=$(mktemp) || exit

@@ -81,12 +81,11 @@ script() { rm -f -- "$1"; printf '%s\n' '#!/bin/sh' "${@:2}" > "$1"; chmod +x "$
 
 # Prints the last line. The status is 0 if each check passed.
 finish() {
-    local name passed count
+    local name passed failed
     for name in "${chosen[@]}"; do
         grep -q -x -e "[a-z]* $name" -- "$tally" || no "$name: it made no check"
     done
-    passed=$(grep -c '^pass' -- "$tally") || true
-    count=$(grep -c '^fail' -- "$tally") || true
-    echo "$suite: $passed passed, $count failed" && [[ $count == 0 && $passed -gt 0 ]] || leave 1
+    read -r passed failed < <(awk '{ count[$1]++ } END { print count["pass"] + 0, count["fail"] + 0 }' "$tally")
+    echo "$suite: $passed passed, $failed failed" && [[ $failed == 0 && $passed -gt 0 ]] || leave 1
     leave 0
 }

@@ -11,7 +11,6 @@
 # - Each `$( )` that checks names prints `ended` last. Its status doesn't count: bash sets it to 0 if it could not even
 #   start a subshell.
 # - No file is written, and no here-document is used, so the hook needs no TMPDIR.
-# - What Git says on standard error can have names of the pusher's choice, as they are, so it isn't shown.
 {
     export LC_ALL=C GIT_NO_LAZY_FETCH=1
     export GIT_NO_REPLACE_OBJECTS=1 # the objects as they are, not what refs/replace/ shows in their place
@@ -89,17 +88,7 @@
         done
     }
 
-    # Lists the trees that `git rev-list` selects by `ids`, one on each line, and by these arguments; then ..end, if it has
-    # read all ids and ended well. If `names` is empty each tree has its folder. (With long paths the list is quadratic then.)
-    list() {
-        { printf '%s\n' $ids && printf '\n%99999s\n..end\n' ''; } | {
-            git -c core.warnAmbiguousRefs=false rev-list --stdin --objects "--${names}object-names" \
-                --filter=object:type=tree --filter-provided-objects "$@" 2> /dev/null && sed -n '$p' ||
-                echo "git rev-list failed (status $?)" >&2
-        }
-    }
-
-    # With `only`, the trees of the list whose ids are words of it, as far as the list has 60 MB.
+    # With `only`, the trees of a list whose ids are words of it, as far as the list has 60 MB.
     some() {
         [ -n "$only" ] || exec cat
         only=$only awk 'BEGIN { for (n = split(ENVIRON["only"], word); n; n--) wanted[word[n]] }
@@ -111,9 +100,14 @@
     # What `git cat-file` prints for a line with an id, and then other words, which it passes on.
     batch='%(objectname) %(objecttype) %(objectsize) %(rest)'
 
-    # Checks the names in the trees that are listed for these arguments.
+    # Checks the names in the trees that `git rev-list` selects by `ids`, one on each line, and by these arguments. ..end follows
+    # if it has read all ids and ended well. If `names` is empty each tree has its folder. (With long paths that is quadratic.)
     trees() {
-        list "$@" | some | git cat-file --batch="$batch" --buffer 2> /dev/null |
+        { printf '%s\n' $ids && printf '\n%99999s\n..end\n' ''; } | {
+            git -c core.warnAmbiguousRefs=false rev-list --stdin --objects "--${names}object-names" \
+                --filter=object:type=tree --filter-provided-objects "$@" 2> /dev/null && sed -n '$p' ||
+                echo "git rev-list failed (status $?)" >&2
+        } | some | git cat-file --batch="$batch" --buffer 2> /dev/null |
             "$here/check_trees" --end --modules --protect "$protect" --accept "$accept"
         echo "ended $?"
     }
@@ -163,7 +157,7 @@
         esac
     }
 
-    # The names in the trees that are listed for these arguments, and in the .gitmodules files in those trees.
+    # The names in the trees that are selected by these arguments, and in the .gitmodules files in those trees.
     objects() {
         take check_trees trees "$@"
         in_trees=$refused

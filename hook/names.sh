@@ -50,15 +50,13 @@
     check_list() {
         wrong=$("$here/check_trees" --protect "$protect" 2>&1 < /dev/null; echo "ended $?")
         case $wrong in
-        'ended 0') ;;
-        'check_trees: '*"${nl}ended 2")
-            wrong=${wrong#*: }
-            wrong=${wrong%"$nl"*}
-            return 1
-            ;;
+        'ended 0') return ;;
+        'check_trees: '*"${nl}ended 2") wrong=${wrong#*: } ;;
         *'ended '*) fail "check_trees failed (status ${wrong##*ended })" ;;
         *) fail 'check_trees did not finish' ;;
         esac
+        wrong=${wrong%"$nl"*}
+        return 1
     }
 
     # Sets `protect`, `accept` and `replace` to the settings of the repository and the system; those of the account that

@@ -98,8 +98,8 @@
     # What `git cat-file` prints for a line with an id, and then other words, which it passes on.
     batch='%(objectname) %(objecttype) %(objectsize) %(rest)'
 
-    # Checks the names in the trees that `git rev-list` selects by `ids`, one on each line, and by these arguments. ..end follows
-    # if it has read all ids and ended well. If `names` is empty each tree has its folder. (With long paths that is quadratic.)
+    # Checks the names in the trees that `git rev-list` selects by `ids`, one on each line, and by these arguments. ..end
+    # follows if it has read all ids and ended well. If `names` is empty, trees have their folders: quadratic with long paths.
     trees() {
         { printf '%s\n' $ids && printf '\n%99999s\n..end\n' ''; } | {
             git -c core.warnAmbiguousRefs=false rev-list --stdin --objects "--${names}object-names" \

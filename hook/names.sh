@@ -2,21 +2,19 @@
 # What pre-receive and scan share. Both set `here`, the folder of the programs; `outcome`, the words with which a
 # failure begins; and how many lines of names are shown at most, and how much of each: `most` and `longest`.
 #
-# Nothing here decides about a name. Three proved programs do. The shell looks at their statuses and at the words with
-# which their lines begin, and counts. It fails closed:
+# Three proved programs decide about names. The shell looks at their statuses and at how their lines begin. It fails closed:
 #
 # - check_trees and check_submodules accept a stream only if its last line is `..end missing`. Git prints that line for
-#   the word `..end`, and gets that word only after `git rev-list` has ended with status 0. So if Git or a subshell dies
-#   on the way, that line is missing, and the program's status is 2.
+#   the word `..end`, and gets that word only after `git rev-list` has ended with status 0.
 # - `git rev-list` reads ids up to an empty line. `..end` follows the ids in the same pipe, after more than it can have
 #   read ahead. So a list of ids that was cut has no `..end`.
-# - Each `$( )` that checks names prints `ended` last. If that line doesn't arrive, nothing was checked. The status of
-#   `$( )` doesn't count: bash sets it to 0 if it could not even start a subshell.
-# - The shell writes no file and uses no here-document, so the hook needs no TMPDIR.
-# - What Git says on standard error can have names of the pusher's choice, as they are, so it isn't shown.
+# - Each `$( )` that checks names prints `ended` last. Its status doesn't count: bash sets it to 0 if it could not even
+#   start a subshell.
+# - No file is written, and no here-document is used, so the hook needs no TMPDIR.
 {
     export LC_ALL=C GIT_NO_LAZY_FETCH=1
     export GIT_NO_REPLACE_OBJECTS=1 # the objects as they are, not what refs/replace/ shows in their place
+    unset GIT_GRAFT_FILE
     nl='
 '
     IFS=$nl
@@ -52,15 +50,13 @@
     check_list() {
         wrong=$("$here/check_trees" --protect "$protect" 2>&1 < /dev/null; echo "ended $?")
         case $wrong in
-        'ended 0') ;;
-        'check_trees: '*"${nl}ended 2")
-            wrong=${wrong#*: }
-            wrong=${wrong%"$nl"*}
-            return 1
-            ;;
+        'ended 0') return ;;
+        'check_trees: '*"${nl}ended 2") wrong=${wrong#*: } ;;
         *'ended '*) fail "check_trees failed (status ${wrong##*ended })" ;;
         *) fail 'check_trees did not finish' ;;
         esac
+        wrong=${wrong%"$nl"*}
+        return 1
     }
 
     # Sets `protect`, `accept` and `replace` to the settings of the repository and the system; those of the account that
@@ -90,17 +86,7 @@
         done
     }
 
-    # Lists the trees that `git rev-list` selects by `ids`, one on each line, and by these arguments; then ..end, if it has
-    # read all ids and ended well. If `names` is empty each tree has its folder. (With long paths the list is quadratic then.)
-    list() {
-        { printf '%s\n' $ids && printf '\n%99999s\n..end\n' ''; } | {
-            git -c core.warnAmbiguousRefs=false rev-list --stdin --objects "--${names}object-names" \
-                --filter=object:type=tree --filter-provided-objects "$@" 2> /dev/null && sed -n '$p' ||
-                echo "git rev-list failed (status $?)" >&2
-        }
-    }
-
-    # With `only`, the trees of the list whose ids are words of it, as far as the list has 60 MB.
+    # With `only`, the trees of a list whose ids are words of it, as far as the list has 60 MB.
     some() {
         [ -n "$only" ] || exec cat
         only=$only awk 'BEGIN { for (n = split(ENVIRON["only"], word); n; n--) wanted[word[n]] }
@@ -112,9 +98,14 @@
     # What `git cat-file` prints for a line with an id, and then other words, which it passes on.
     batch='%(objectname) %(objecttype) %(objectsize) %(rest)'
 
-    # Checks the names in the trees that are listed for these arguments.
+    # Checks the names in the trees that `git rev-list` selects by `ids`, one on each line, and by these arguments. ..end
+    # follows if it has read all ids and ended well. If `names` is empty, trees have their folders: quadratic with long paths.
     trees() {
-        list "$@" | some | git cat-file --batch="$batch" --buffer 2> /dev/null |
+        { printf '%s\n' $ids && printf '\n%99999s\n..end\n' ''; } | {
+            git -c core.warnAmbiguousRefs=false rev-list --stdin --objects "--${names}object-names" \
+                --filter=object:type=tree --filter-provided-objects "$@" 2> /dev/null && sed -n '$p' ||
+                echo "git rev-list failed (status $?)" >&2
+        } | some | git cat-file --batch="$batch" --buffer 2> /dev/null |
             "$here/check_trees" --end --modules --protect "$protect" --accept "$accept"
         echo "ended $?"
     }
@@ -164,7 +155,7 @@
         esac
     }
 
-    # The names in the trees that are listed for these arguments, and in the .gitmodules files in those trees.
+    # The names in the trees that are selected by these arguments, and in the .gitmodules files in those trees.
     objects() {
         take check_trees trees "$@"
         in_trees=$refused

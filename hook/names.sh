@@ -5,12 +5,14 @@
 # Three proved programs decide about names. The shell looks at their statuses and at how their lines begin. It fails closed:
 #
 # - check_trees and check_submodules accept a stream only if its last line is `..end missing`. Git prints that line for
-#   the word `..end`, and gets that word only after `git rev-list` has ended with status 0.
+#   the word `..end`, and gets that word only after `git rev-list` has ended with status 0. So if Git or a subshell dies
+#   on the way, that line is missing, and the program's status is 2.
 # - `git rev-list` reads ids up to an empty line. `..end` follows the ids in the same pipe, after more than it can have
 #   read ahead. So a list of ids that was cut has no `..end`.
 # - Each `$( )` that checks names prints `ended` last. Its status doesn't count: bash sets it to 0 if it could not even
 #   start a subshell.
 # - No file is written, and no here-document is used, so the hook needs no TMPDIR.
+# - What Git says on standard error can have names of the pusher's choice, as they are, so it isn't shown.
 {
     export LC_ALL=C GIT_NO_LAZY_FETCH=1
     export GIT_NO_REPLACE_OBJECTS=1 # the objects as they are, not what refs/replace/ shows in their place

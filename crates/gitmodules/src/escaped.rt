@@ -1,7 +1,7 @@
 //! The name in a section's header.
 
 ghost use Rattle.std.specs.Prelude.{◌≡◌, ◌++◌, ℕ, List, OnErr, OnOk, false, option_map};
-ghost use Rattle.gitmodules.specs.Sections.{escaped_name, is_never_in_name, unescaped};
+ghost use Rattle.gitmodules.specs.Sections.{escaped_name, unescaped};
 
 use std::alloc::AllocError;
 use std::marker::Model;
@@ -74,23 +74,15 @@ fn escaped_name(bytes: &[u8]) -> Option<&[u8]>
 {
     let mut escaped = false;
     for (offset, byte) in bytes.iter().enumerate() {
-        if is_never_in_name(*byte) {
+        if matches!(*byte, b'\0' | b'\n' | 0xff) {
             return None;
         }
         if !escaped && *byte == b'"' {
-            return match &bytes[offset + 1..] {
-                [b']', ..] => Some(&bytes[..offset]),
-                _ => None,
-            };
+            return bytes[offset + 1..]
+                .starts_with(b"]")
+                .then_some(&bytes[..offset]);
         }
         escaped = !escaped && *byte == b'\\';
     }
     None
-}
-
-/// Whether the byte is in no name that can be read.
-fn is_never_in_name(byte: u8) -> bool
-    ensures { result ≡ is_never_in_name byte }
-{
-    matches!(byte, b'\0' | b'\n' | 0xff)
 }

@@ -2,6 +2,9 @@
 
 ghost use Rattle.std.specs.Prelude.{◌≡◌, ◌↔◌, ◌≤◌, ℕ, List, length, IsOk, MatchResult};
 ghost use Rattle.gix_validate.specs.Printed.{printed};
+ghost use Rattle.gix_validate.specs.{Tag.{text_of as tag_text}, Reference.{text_of as reference_text}};
+ghost use Rattle.gix_validate.specs.{Submodule.{text_of as submodule_text}, Component.{text_of as component_text}};
+ghost use Rattle.gix_validate_c.specs.Numbers.{tag_number, reference_number, submodule_number, component_number};
 
 use bstr::BStr;
 use gix_validate::path::ComponentError;
@@ -27,12 +30,9 @@ pub(crate) trait Fault {
 }
 
 impl Fault for tag::NameError {
-    ghost use Rattle.gix_validate.specs.Tag.{text_of};
-    ghost use Rattle.gix_validate_c.specs.Numbers.{tag_number};
-
     ghost number = { tag_number };
 
-    ghost text = { text_of };
+    ghost text = { tag_text };
 
     fn number(&self) -> u8 {
         match self {
@@ -56,12 +56,9 @@ impl Fault for tag::NameError {
 }
 
 impl Fault for reference::NameError {
-    ghost use Rattle.gix_validate.specs.Reference.{text_of};
-    ghost use Rattle.gix_validate_c.specs.Numbers.{reference_number};
-
     ghost number = { reference_number };
 
-    ghost text = { text_of };
+    ghost text = { reference_text };
 
     fn number(&self) -> u8 {
         match self {
@@ -87,12 +84,9 @@ impl Fault for reference::NameError {
 }
 
 impl Fault for submodule::NameError {
-    ghost use Rattle.gix_validate.specs.Submodule.{text_of};
-    ghost use Rattle.gix_validate_c.specs.Numbers.{submodule_number};
-
     ghost number = { submodule_number };
 
-    ghost text = { text_of };
+    ghost text = { submodule_text };
 
     fn number(&self) -> u8 {
         match self {
@@ -107,12 +101,9 @@ impl Fault for submodule::NameError {
 }
 
 impl Fault for ComponentError {
-    ghost use Rattle.gix_validate.specs.Component.{text_of};
-    ghost use Rattle.gix_validate_c.specs.Numbers.{component_number};
-
     ghost number = { component_number };
 
-    ghost text = { text_of };
+    ghost text = { component_text };
 
     fn number(&self) -> u8 {
         match self {

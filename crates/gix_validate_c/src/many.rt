@@ -103,7 +103,8 @@ pub extern "C" fn gix_validate_submodule_many(names: &[u8], end: u8, faults: &mu
     write_numbers::<Submodule>(names, end, faults)
 }
 
-/// Writes the numbers of the names, as many as fit, and returns how many names there are.
+/// Writes the numbers of the names, as many as fit, and returns how many names there are. (It doesn't
+/// call the function for one name: a second caller would keep the compiler from inlining that.)
 fn write_numbers<R: Rule>(names: &[u8], end: u8, numbers: &mut [u8]) -> usize
 where
     R::Fault: Fault + Drop,
@@ -117,22 +118,12 @@ where
     let mut rest = names;
     while let Some((name, after)) = first_name(rest, end) {
         if count < numbers.len() {
-            numbers[count] = number::<R>(name);
+            numbers[count] = code(R::check(BStr::new(name)));
         }
         count += 1;
         rest = after;
     }
     count
-}
-
-/// Returns 0 if the rule accepts the name, and otherwise the number of its fault. (It doesn't call the
-/// function that C calls for one name: a second caller would keep the compiler from inlining that.)
-fn number<R: Rule>(name: &[u8]) -> u8
-where
-    R::Fault: Fault + Drop,
-    ensures { result ≡ code_by R.Fault.number (R.fault_of name.now) }
-{
-    code(R::check(BStr::new(name)))
 }
 
 /// The first name in the buffer, without the byte that ends it, and what follows that byte.

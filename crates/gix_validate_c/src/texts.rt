@@ -16,7 +16,7 @@ ghost use Rattle.gix_validate.specs.Component as component;
 ghost use Rattle.gix_validate_c.specs.{Flags.{options_of, mode_of}, Texts.{text_by, with_text}};
 
 use crate::fault::Fault;
-use crate::flags;
+use crate::flags::{mode_of, options_of};
 use arrayvec::ArrayString;
 use bstr::BStr;
 pub use gix_validate::text::MAX_TEXT;
@@ -112,11 +112,7 @@ pub extern "C" fn gix_validate_component_text(name: &[u8], flags: u32, text: &mu
     ensures none { (result ≡ 0) ↔ IsTrue (component.is_component (options_of flags) (mode_of flags) name.now) }
     ensures longest { result ≤ MAX_TEXT }
 {
-    let answer = path::component(
-        BStr::new(name),
-        flags::mode_of(flags),
-        flags::options_of(flags),
-    );
+    let answer = path::component(BStr::new(name), mode_of(flags), options_of(flags));
     write_text(answer, text)
 }
 
@@ -131,15 +127,17 @@ fn write_text<E: Fault + Drop>(answer: Result<BStr<'_>, E>, buffer: &mut [u8]) -
 {
     match answer {
         Ok(_) => 0,
-        Err(fault) => write_all(rendered(fault.printed()).as_str().as_bytes(), buffer),
+        Err(fault) => write_whole(fault.printed(), buffer),
     }
 }
 
-/// The text in a buffer that holds the longest of them.
-fn rendered(text: Text<'_>) -> ArrayString<MAX_TEXT>
-    ensures { result.bytes ≡ printed text.entry }
+/// Writes the text to the start of the buffer if all of it fits, and returns its length.
+fn write_whole(text: Text<'_>, buffer: &mut [u8]) -> usize
+    ensures length { result ≡ length (printed text.entry) }
+    ensures bytes { buffer.new ≡ with_text (printed text.entry) buffer.old }
+    ensures longest { result ≤ MAX_TEXT }
 {
-    let mut shown = ArrayString::new();
+    let mut shown: ArrayString<MAX_TEXT> = ArrayString::new();
     shown.push_str(text.words);
     if let Some(bytes) = text.quoted {
         shown.push_str("\"");
@@ -148,16 +146,8 @@ fn rendered(text: Text<'_>) -> ArrayString<MAX_TEXT>
         }
         shown.push_str("\"");
     }
-    shown
-}
-
-/// Writes the text to the start of the buffer if all of it fits, and returns its length.
-fn write_all(text: &[u8], buffer: &mut [u8]) -> usize
-    ensures length { result ≡ length text.now }
-    ensures bytes { buffer.new ≡ with_text text.now buffer.old }
-{
-    if text.len() <= buffer.len() {
-        buffer[..text.len()].copy_from_slice(text);
+    if shown.len() <= buffer.len() {
+        buffer[..shown.len()].copy_from_slice(shown.as_str().as_bytes());
     }
-    text.len()
+    shown.len()
 }

@@ -1,38 +1,25 @@
-//! The number and the printed text of a fault.
+//! The number of a fault.
 
-ghost use Rattle.std.specs.Prelude.{◌≡◌, ◌↔◌, ◌≤◌, ℕ, List, length, IsOk, MatchResult};
-ghost use Rattle.gix_validate.specs.Printed.{printed};
-ghost use Rattle.gix_validate.specs.{Tag.{text_of as tag_text}, Reference.{text_of as reference_text}};
-ghost use Rattle.gix_validate.specs.{Submodule.{text_of as submodule_text}, Component.{text_of as component_text}};
+ghost use Rattle.std.specs.Prelude.{◌≡◌, ◌↔◌, ◌≤◌, ℕ, IsOk, MatchResult};
 ghost use Rattle.gix_validate_c.specs.Numbers.{tag_number, reference_number, submodule_number, component_number};
 
 use bstr::BStr;
 use gix_validate::path::ComponentError;
-use gix_validate::text::Text;
 use gix_validate::{reference, submodule, tag};
 
-/// A fault that has a number and a text.
+/// A fault that has a number.
 pub(crate) trait Fault {
     ghost number: { Self → ℕ };
-
-    ghost text: { Self → List ℕ };
 
     /// The number of the fault. A fault that several types share has one number. The numbers never
     /// change, and a new fault takes the next one.
     fn number(&self) -> u8
         ensures number { result ≡ number self.now }
         ensures some { 1 ≤ result };
-
-    /// Its text (docs/RULES.md, "Printed texts").
-    fn printed(&self) -> Text<'_>
-        ensures text { printed result ≡ text self.now }
-        ensures some { 1 ≤ length (text self.now) };
 }
 
 impl Fault for tag::NameError {
     ghost number = { tag_number };
-
-    ghost text = { tag_text };
 
     fn number(&self) -> u8 {
         match self {
@@ -49,16 +36,10 @@ impl Fault for tag::NameError {
             Self::Empty => 11,
         }
     }
-
-    fn printed(&self) -> Text<'_> {
-        self.text()
-    }
 }
 
 impl Fault for reference::NameError {
     ghost number = { reference_number };
-
-    ghost text = { reference_text };
 
     fn number(&self) -> u8 {
         match self {
@@ -77,16 +58,10 @@ impl Fault for reference::NameError {
             Self::Reserved { .. } => 13,
         }
     }
-
-    fn printed(&self) -> Text<'_> {
-        self.text()
-    }
 }
 
 impl Fault for submodule::NameError {
     ghost number = { submodule_number };
-
-    ghost text = { submodule_text };
 
     fn number(&self) -> u8 {
         match self {
@@ -94,16 +69,10 @@ impl Fault for submodule::NameError {
             Self::ParentComponent => 14,
         }
     }
-
-    fn printed(&self) -> Text<'_> {
-        self.text()
-    }
 }
 
 impl Fault for ComponentError {
     ghost number = { component_number };
-
-    ghost text = { component_text };
 
     fn number(&self) -> u8 {
         match self {
@@ -116,10 +85,6 @@ impl Fault for ComponentError {
             Self::SymlinkedGitModules => 20,
             Self::Relative => 21,
         }
-    }
-
-    fn printed(&self) -> Text<'_> {
-        self.text()
     }
 }
 

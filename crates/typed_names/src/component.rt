@@ -89,8 +89,7 @@ impl<'a> AsSlice<u8> for Component<'a> {
     }
 }
 
-/// Prints the name, with U+FFFD for each maximal subpart of ill-formed UTF-8 (docs/RULES.md,
-/// "Typed names").
+/// Prints the name, with U+FFFD for ill-formed UTF-8 (docs/RULES.md, "Typed names").
 impl<'a> fmt::Display for Component<'a> {
     ghost use Rattle.typed_names.specs.Names.{component_bytes};
 

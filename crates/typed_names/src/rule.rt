@@ -49,7 +49,6 @@ pub trait Rule {
 /// The rule of tag names, [`tag::name`] (docs/RULES.md, "Tag names").
 ///
 /// ```
-/// Tag::check(BStr::from("v1.2.3"))?; // returns `v1.2.3`
 /// Tag::check(BStr::from("v1..2")); // RepeatedDot
 /// ```
 pub enum Tag {}
@@ -71,7 +70,6 @@ impl Rule for Tag {
 /// The rule of partial names, [`reference::name_partial`] (docs/RULES.md, "Reference names").
 ///
 /// ```
-/// Partial::check(BStr::from("main"))?; // returns `main`
 /// Partial::check(BStr::from("@")); // Reserved, with the name `@`
 /// ```
 pub enum Partial {}
@@ -93,7 +91,6 @@ impl Rule for Partial {
 /// The rule of full names, [`reference::name`] (docs/RULES.md, "Reference names").
 ///
 /// ```
-/// Full::check(BStr::from("HEAD"))?; // returns `HEAD`
 /// Full::check(BStr::from("main")); // SomeLowercase
 /// ```
 pub enum Full {}
@@ -115,7 +112,6 @@ impl Rule for Full {
 /// The rule of names of branches, [`reference::branch_name`] (docs/RULES.md, "Reference names").
 ///
 /// ```
-/// Branch::check(BStr::from("refs/heads/main"))?; // returns `refs/heads/main`
 /// Branch::check(BStr::from("refs/heads/HEAD")); // Reserved, with the name `refs/heads/HEAD`
 /// ```
 pub enum Branch {}
@@ -137,7 +133,6 @@ impl Rule for Branch {
 /// The rule of submodule names, [`submodule::name`] (docs/RULES.md, "Submodule names").
 ///
 /// ```
-/// Submodule::check(BStr::from("vendor/package"))?; // returns `vendor/package`
 /// Submodule::check(BStr::from("a/../b")); // ParentComponent
 /// ```
 pub enum Submodule {}

@@ -7,8 +7,6 @@ ghost use Rattle.rule_laws.specs.TagNames.{HasAtMostOneFaultPerOffset, PiecesAre
 
 /// The first unit of a name (docs/RULES.md, "Path components") is as long as what the crate `bstr`
 /// decodes first: a whole UTF-8 sequence, or else what it reads as one replacement character.
-///
-/// The function does nothing. Its contract compares the two definitions, for all byte strings.
 #[tactic(auto, using(crate::proofs::DecodedLemmas::unit_is_decoded))]
 pub fn first_units_are_decoded()
     ensures { FirstUnitIsDecoded }
@@ -16,8 +14,6 @@ pub fn first_units_are_decoded()
 
 /// At each offset of a name at most one line of the table of faults applies, so their order says
 /// nothing, and slashes split a name into pieces in one way (docs/RULES.md, "Tag names").
-///
-/// The function does nothing. Its contract holds for all byte strings.
 #[tactic(auto, using(crate::proofs::TagNameLemmas::one_fault_a_place, crate::proofs::TagNameLemmas::pieces_are_the_only_split))]
 pub fn tag_names_leave_nothing_open()
     ensures one_fault { (x : List ℕ) → HasAtMostOneFaultPerOffset x }

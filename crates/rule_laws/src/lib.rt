@@ -3,7 +3,8 @@
 //! rule of tag names leaves nothing open, and [`versions`] what changed from one version of the
 //! rules to the next.
 //!
-//! The functions that carry the laws do nothing: the contract of each is the law.
+//! The functions that carry the laws do nothing: the contract of each is the law, for all byte
+//! strings.
 #![tactic(auto)]
 
 pub mod laws;

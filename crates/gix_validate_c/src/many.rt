@@ -1,15 +1,13 @@
 //! Many names in one call.
 //!
 //! The names are in one buffer, in which a byte that the caller chooses ends each name, as LF or
-//! NUL. The last name may be without it: what follows the last such byte is a name too, unless it is
-//! empty. So an empty buffer has no name, and two such bytes in a row have an empty name between
-//! them.
+//! NUL. What follows the last such byte is a name too, unless it is empty. So an empty buffer has no
+//! name, and two such bytes in a row have an empty name between them.
 //!
 //! Each function writes one byte for each name, in order, to the start of the caller's array: what
-//! the function for one name returns, 0 or the number of its fault (docs/RULES.md, "Calls for C").
-//! It writes as many as fit, and the rest of the array stays as it was. It returns how many names
-//! there are, even if more than fit. A name whose number doesn't fit is counted and not checked, so
-//! with an empty array it only counts the names.
+//! the function for one name returns (docs/RULES.md, "Calls for C"). It writes as many as fit, and
+//! the rest of the array stays as it was. It returns how many names there are, even if more than
+//! fit. A name whose number doesn't fit isn't checked, so an empty array only counts the names.
 
 ghost use Rattle.std.specs.Prelude.{◌≡◌, ◌<◌, ◌≤◌, [], ◌∷◌, length, map, take, drop, MatchOption, IfSome};
 ghost use Rattle.gix_validate.specs.Tag as tag;

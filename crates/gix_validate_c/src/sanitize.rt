@@ -3,8 +3,7 @@
 //!
 //! Each function returns the length of the repaired name, a valid partial name, which is at the
 //! start of the buffer. It has at least one byte, and at most as many as the given name, or one if
-//! that is empty. So 0 says that the buffer was too small; then nothing was written. Lengths and
-//! offsets are in bytes. The functions don't allocate.
+//! that is empty. So 0 says that the buffer was too small; then nothing was written.
 
 ghost use Rattle.std.specs.Prelude.{◌≡◌, ◌↔◌, ◌≤◌, max, length, take, drop, IsTrue};
 ghost use Rattle.gix_validate.specs.{Reference.is_partial_name, Sanitized.sanitized};

@@ -16,9 +16,6 @@ use std::marker::PhantomData;
 
 /// A name that the rule `R` accepts: a borrowed byte string, which [`new`](Name::new) checked.
 ///
-/// It has an alias for each rule: [`TagName`], [`PartialName`], [`FullName`], [`BranchName`] and
-/// [`SubmoduleName`].
-///
 /// ```
 /// fn is_short<R: Rule>(name: Name<'_, R>) -> bool {
 ///     name.as_bstr().as_bytes().len() < 20

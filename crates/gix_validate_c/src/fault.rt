@@ -13,35 +13,23 @@ pub(crate) trait Fault {
 
     /// The number of the fault. A fault that several types share has one number. The numbers never
     /// change, and a new fault takes the next one.
-    fn number(&self) -> u8
-        ensures number { result ≡ number self.now }
+    fn number(self) -> u8
+        ensures number { result ≡ number self }
         ensures some { 1 ≤ result };
 }
 
 impl Fault for tag::NameError {
     ghost number = { tag_number };
 
-    fn number(&self) -> u8 {
-        match self {
-            Self::InvalidByte { .. } => 1,
-            Self::StartsWithSlash => 2,
-            Self::RepeatedSlash => 3,
-            Self::RepeatedDot => 4,
-            Self::LockFileSuffix => 5,
-            Self::ReflogPortion => 6,
-            Self::Asterisk => 7,
-            Self::StartsWithDot => 8,
-            Self::EndsWithDot => 9,
-            Self::EndsWithSlash => 10,
-            Self::Empty => 11,
-        }
+    fn number(self) -> u8 {
+        reference::NameError::from(self).number()
     }
 }
 
 impl Fault for reference::NameError {
     ghost number = { reference_number };
 
-    fn number(&self) -> u8 {
+    fn number(self) -> u8 {
         match self {
             Self::InvalidByte { .. } => 1,
             Self::StartsWithSlash => 2,
@@ -63,7 +51,7 @@ impl Fault for reference::NameError {
 impl Fault for submodule::NameError {
     ghost number = { submodule_number };
 
-    fn number(&self) -> u8 {
+    fn number(self) -> u8 {
         match self {
             Self::Empty => 11,
             Self::ParentComponent => 14,
@@ -74,7 +62,7 @@ impl Fault for submodule::NameError {
 impl Fault for ComponentError {
     ghost number = { component_number };
 
-    fn number(&self) -> u8 {
+    fn number(self) -> u8 {
         match self {
             Self::Empty => 11,
             Self::PathSeparator => 15,

@@ -163,8 +163,7 @@ pub extern "C" fn gix_validate_fault_offset(name: &[u8]) -> usize
     tag::fault_offset(BStr::new(name)).unwrap_or(name.len())
 }
 
-/// Whether Windows takes the name for a device, in any letter case (docs/RULES.md, "Path
-/// components").
+/// Whether Windows takes the name for a device (docs/RULES.md, "Path components").
 ///
 /// ```c
 /// gix_validate_is_windows_device((const uint8_t *)"nul.txt", 7); // true

@@ -2,8 +2,7 @@
 //! them: that these agree with what the crate `bstr` decodes, that the rule of tag names leaves
 //! nothing open, and what changed from one version of the rules to the next (CHANGELOG.md).
 //!
-//! The functions that carry the laws do nothing: the contract of each is the law, for all byte
-//! strings.
+//! Their functions do nothing: the contract of each is the law, for all byte strings.
 #![tactic(auto)]
 
 ghost use Rattle.std.specs.Prelude.{ℕ, List};

@@ -49,8 +49,7 @@ impl<'a> Component<'a> {
         })
     }
 
-    /// The byte string that was passed to [`new`](Component::new), which is valid with no switch
-    /// and without a mode.
+    /// What was passed to [`new`](Component::new), which is valid with no switch and without a mode.
     pub fn as_bstr(&self) -> BStr<'a>
         ensures same { result ≡ component_text self.now }
         ensures valid { fault_of no_protections None (bstr_bytes result) ≡ None }

@@ -73,8 +73,7 @@ pub fn remote_tracking_name(
 {
     let remote = tag::name(remote).map_err(TrackingError::Remote)?;
     let short = tag::name(short).map_err(TrackingError::Branch)?;
-    let folder = reference::join(alloc, BStr::from("refs/remotes"), remote).map_err(
-        TrackingError::Memory,
-    )?;
+    let remotes = BStr::from("refs/remotes");
+    let folder = reference::join(alloc, remotes, remote).map_err(TrackingError::Memory)?;
     reference::join(alloc, folder.as_bstr(), short).map_err(TrackingError::Memory)
 }

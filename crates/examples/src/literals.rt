@@ -22,14 +22,9 @@ pub fn release_tag(alloc: Global) -> Result<BString, AllocError>
 pub fn workflow(alloc: Global) -> Result<BString, AllocError>
     ensures { IfOk result (λ path. bstring_bytes path ≡ codes ".github/workflows/ci.yml") }
 {
-    path::join(
-        alloc,
-        &[
-            BStr::from(".github"),
-            BStr::from("workflows"),
-            BStr::from("ci.yml"),
-        ],
-    )
+    let github = BStr::from(".github");
+    let workflows = BStr::from("workflows");
+    path::join(alloc, &[github, workflows, BStr::from("ci.yml")])
 }
 
 /// The branch of a repository that names no other.

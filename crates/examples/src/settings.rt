@@ -60,8 +60,6 @@ fn submodule_name(alloc: Global, section: &Section<'_>) -> Result<BString, Setti
     };
     let mut name = Vec::new(alloc);
     escaped.push_to(&mut name).map_err(SettingsError::Memory)?;
-    match submodule::name(BStr::new(&name)) {
-        Ok(_) => Ok(BString::new(name)),
-        Err(fault) => Err(SettingsError::Name { offset, fault }),
-    }
+    submodule::name(BStr::new(&name)).map_err(|fault| SettingsError::Name { offset, fault })?;
+    Ok(BString::new(name))
 }

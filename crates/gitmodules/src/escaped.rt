@@ -1,7 +1,7 @@
 //! The name in a section's header.
 
 ghost use Rattle.std.specs.Prelude.{◌≡◌, ◌++◌, ℕ, List, OnErr, OnOk, false, option_map};
-ghost use Rattle.gitmodules.specs.Sections.{escaped_name, is_never_in_name, unescaped};
+ghost use Rattle.gitmodules.specs.Sections.{escaped_name, unescaped};
 
 use std::alloc::AllocError;
 use std::marker::Model;
@@ -32,9 +32,19 @@ impl<'a> EscapedName<'a> {
     pub(crate) fn after_quote(bytes: &'a [u8]) -> Option<EscapedName<'a>>
         ensures { result ≡ option_map (unescaped false) (escaped_name false bytes.now) }
     {
-        Some(EscapedName {
-            bytes: escaped_name(bytes)?,
-        })
+        let mut escaped = false;
+        for (offset, byte) in bytes.iter().enumerate() {
+            if matches!(*byte, b'\0' | b'\n' | 0xff) {
+                return None;
+            }
+            if !escaped && *byte == b'"' {
+                let is_closed = bytes[offset + 1..].starts_with(b"]");
+                let bytes = &bytes[..offset];
+                return is_closed.then_some(EscapedName { bytes });
+            }
+            escaped = !escaped && *byte == b'\\';
+        }
+        None
     }
 
     /// Appends the bytes of the name to `name`, without the backslashes that escape.
@@ -66,31 +76,4 @@ impl<'a> EscapedName<'a> {
         }
         Ok(())
     }
-}
-
-/// The bytes before the `"]` that closes a name, if these bytes begin with a name that can be read.
-fn escaped_name(bytes: &[u8]) -> Option<&[u8]>
-    ensures { option_map (λ name. name.now) result ≡ escaped_name false bytes.now }
-{
-    let mut escaped = false;
-    for (offset, byte) in bytes.iter().enumerate() {
-        if is_never_in_name(*byte) {
-            return None;
-        }
-        if !escaped && *byte == b'"' {
-            return match &bytes[offset + 1..] {
-                [b']', ..] => Some(&bytes[..offset]),
-                _ => None,
-            };
-        }
-        escaped = !escaped && *byte == b'\\';
-    }
-    None
-}
-
-/// Whether the byte is in no name that can be read.
-fn is_never_in_name(byte: u8) -> bool
-    ensures { result ≡ is_never_in_name byte }
-{
-    matches!(byte, b'\0' | b'\n' | 0xff)
 }

@@ -1,4 +1,5 @@
-//! A reader for `.gitmodules` files: it finds each section of a submodule and the section's name.
+//! A reader for `.gitmodules` files: it finds each section of a submodule and the section's name
+//! (docs/RULES.md, "The names in a .gitmodules file").
 //!
 //! [`Sections::new`] takes the bytes of the file. The iterator yields each `[` that begins a
 //! submodule's section, in order, with the section's name, or without one if the section can't be
@@ -13,30 +14,16 @@
 //! **Why the values need not be read.** Git reads a section's header from a `[` on, and what it
 //! finds depends only on the bytes after that `[`. Whether Git looks for a header at a `[` depends
 //! on what is before it: a comment, a value with quotes, or a line that continues. This reader
-//! ignores what is before it. It looks at every `[`, so it needs no rule for values, quotes and
-//! continuations, and it finds every section that Git sees. A reader that followed Git through
-//! these, and disagreed with it once, would miss a name; `git config --blob` itself stops at a byte
-//! 0xFF that a checkout reads past. In exchange, this reader also yields sections that Git doesn't
-//! see, such as one in a comment. A caller that has the file in memory needs no stream, so the
-//! reader is a crate of its own.
+//! needs no rule for these: it finds every section that Git sees, and others, such as one in a
+//! comment. A reader that followed Git through these, and disagreed with it once, would miss a name;
+//! `git config --blob` itself stops at a byte 0xFF that a checkout reads past. A caller that has the
+//! file in memory needs no stream, so the reader is a crate of its own.
 //!
-//! **A header**: after the `[` comes the word `submodule` in any ASCII case. Then:
+//! A section in the old form, `[submodule.name]`, can't be read: Git still reads it, but writes the
+//! other one. Nor can one with a NUL, a newline (LF) or the byte 0xFF in its name, where Git ends
+//! the name, in one way of its reading or another.
 //!
-//! | Next bytes | What the `[` begins |
-//! |---|---|
-//! | `]`, or a letter, a digit or `-` | another section, which isn't yielded |
-//! | spaces, tabs or carriage returns (at least one), and a name between double quotes, closed by `"]` | a submodule's section |
-//! | anything else, as in the old form `[submodule.name]` | a section that can't be read |
-//!
-//! Git still reads the old form, but writes the other one.
-//!
-//! In a name, a backslash makes the next byte part of the name. A NUL, a newline (LF) or the byte
-//! 0xFF ends the name for Git, in one way of its reading or another, so a section with one of them
-//! in its name can't be read.
-//!
-//! Offsets and lengths are in bytes. Only [`EscapedName::push_to`] allocates. The rule is in
-//! docs/RULES.md, "The names in a .gitmodules file", and the definitions that the contracts cite
-//! are in `specs/`.
+//! Offsets and lengths are in bytes. Only [`EscapedName::push_to`] allocates.
 #![tactic(auto)]
 
 pub use crate::escaped::EscapedName;

@@ -94,11 +94,10 @@ impl<'a> Iterator for Sections<'a> {
 impl<'a> FusedIterator for Sections<'a> {}
 
 /// What a `[` begins.
+#[derive(Drop)]
 enum Header<'a> {
-    /// A submodule's section of this name.
-    Named(EscapedName<'a>),
-    /// A submodule's section that can't be read.
-    Unreadable,
+    /// A submodule's section: its name, or `None` if it can't be read.
+    Submodule(Option<EscapedName<'a>>),
     /// Another section, or none.
     Other,
 }
@@ -113,15 +112,8 @@ fn section_from(file: &[u8], start: usize) -> Option<Section<'_>>
     let mut from = start;
     while let Some(offset) = bracket_from(file, from) {
         from = offset + 1;
-        match header_after_bracket(&file[from..]) {
-            Header::Named(name) => {
-                return Some(Section {
-                    offset,
-                    name: Some(name),
-                });
-            }
-            Header::Unreadable => return Some(Section { offset, name: None }),
-            Header::Other => {}
+        if let Header::Submodule(name) = header_after_bracket(&file[from..]) {
+            return Some(Section { offset, name });
         }
     }
     None
@@ -155,14 +147,11 @@ fn header_after_word(bytes: &[u8]) -> Header<'_>
 {
     match bytes {
         [b' ' | b'\t' | b'\r', after @ ..] => match without_blanks(after) {
-            [b'"', quoted @ ..] => match EscapedName::after_quote(quoted) {
-                Some(name) => Header::Named(name),
-                None => Header::Unreadable,
-            },
-            _ => Header::Unreadable,
+            [b'"', quoted @ ..] => Header::Submodule(EscapedName::after_quote(quoted)),
+            _ => Header::Submodule(None),
         },
         [b']' | b'a'..=b'z' | b'A'..=b'Z' | b'0'..=b'9' | b'-', ..] => Header::Other,
-        _ => Header::Unreadable,
+        _ => Header::Submodule(None),
     }
 }
 

@@ -1,69 +1,35 @@
-//! The number and the printed text of a fault.
+//! The number of a fault.
 
-ghost use Rattle.std.specs.Prelude.{◌≡◌, ◌↔◌, ◌≤◌, ℕ, List, length, IsOk, MatchResult};
-ghost use Rattle.gix_validate.specs.Printed.{printed};
+ghost use Rattle.std.specs.Prelude.{◌≡◌, ◌↔◌, ◌≤◌, ℕ, IsOk, MatchResult};
+ghost use Rattle.gix_validate_c.specs.Numbers.{tag_number, reference_number, submodule_number, component_number};
 
 use bstr::BStr;
 use gix_validate::path::ComponentError;
-use gix_validate::text::Text;
 use gix_validate::{reference, submodule, tag};
 
-/// A fault that has a number and a text.
+/// A fault that has a number.
 pub(crate) trait Fault {
     ghost number: { Self → ℕ };
 
-    ghost text: { Self → List ℕ };
-
     /// The number of the fault. A fault that several types share has one number. The numbers never
     /// change, and a new fault takes the next one.
-    fn number(&self) -> u8
-        ensures number { result ≡ number self.now }
+    fn number(self) -> u8
+        ensures number { result ≡ number self }
         ensures some { 1 ≤ result };
-
-    /// Its text (docs/RULES.md, "Printed texts").
-    fn printed(&self) -> Text<'_>
-        ensures text { printed result ≡ text self.now }
-        ensures some { 1 ≤ length (text self.now) };
 }
 
 impl Fault for tag::NameError {
-    ghost use Rattle.gix_validate.specs.Tag.{text_of};
-    ghost use Rattle.gix_validate_c.specs.Numbers.{tag_number};
-
     ghost number = { tag_number };
 
-    ghost text = { text_of };
-
-    fn number(&self) -> u8 {
-        match self {
-            Self::InvalidByte { .. } => 1,
-            Self::StartsWithSlash => 2,
-            Self::RepeatedSlash => 3,
-            Self::RepeatedDot => 4,
-            Self::LockFileSuffix => 5,
-            Self::ReflogPortion => 6,
-            Self::Asterisk => 7,
-            Self::StartsWithDot => 8,
-            Self::EndsWithDot => 9,
-            Self::EndsWithSlash => 10,
-            Self::Empty => 11,
-        }
-    }
-
-    fn printed(&self) -> Text<'_> {
-        self.text()
+    fn number(self) -> u8 {
+        reference::NameError::from(self).number()
     }
 }
 
 impl Fault for reference::NameError {
-    ghost use Rattle.gix_validate.specs.Reference.{text_of};
-    ghost use Rattle.gix_validate_c.specs.Numbers.{reference_number};
-
     ghost number = { reference_number };
 
-    ghost text = { text_of };
-
-    fn number(&self) -> u8 {
+    fn number(self) -> u8 {
         match self {
             Self::InvalidByte { .. } => 1,
             Self::StartsWithSlash => 2,
@@ -80,41 +46,23 @@ impl Fault for reference::NameError {
             Self::Reserved { .. } => 13,
         }
     }
-
-    fn printed(&self) -> Text<'_> {
-        self.text()
-    }
 }
 
 impl Fault for submodule::NameError {
-    ghost use Rattle.gix_validate.specs.Submodule.{text_of};
-    ghost use Rattle.gix_validate_c.specs.Numbers.{submodule_number};
-
     ghost number = { submodule_number };
 
-    ghost text = { text_of };
-
-    fn number(&self) -> u8 {
+    fn number(self) -> u8 {
         match self {
             Self::Empty => 11,
             Self::ParentComponent => 14,
         }
     }
-
-    fn printed(&self) -> Text<'_> {
-        self.text()
-    }
 }
 
 impl Fault for ComponentError {
-    ghost use Rattle.gix_validate.specs.Component.{text_of};
-    ghost use Rattle.gix_validate_c.specs.Numbers.{component_number};
-
     ghost number = { component_number };
 
-    ghost text = { text_of };
-
-    fn number(&self) -> u8 {
+    fn number(self) -> u8 {
         match self {
             Self::Empty => 11,
             Self::PathSeparator => 15,
@@ -125,10 +73,6 @@ impl Fault for ComponentError {
             Self::SymlinkedGitModules => 20,
             Self::Relative => 21,
         }
-    }
-
-    fn printed(&self) -> Text<'_> {
-        self.text()
     }
 }
 

@@ -1,15 +1,13 @@
 //! Many names in one call.
 //!
 //! The names are in one buffer, in which a byte that the caller chooses ends each name, as LF or
-//! NUL. The last name may be without it: what follows the last such byte is a name too, unless it is
-//! empty. So an empty buffer has no name, and two such bytes in a row have an empty name between
-//! them.
+//! NUL. What follows the last such byte is a name too, unless it is empty. So an empty buffer has no
+//! name, and two such bytes in a row have an empty name between them.
 //!
 //! Each function writes one byte for each name, in order, to the start of the caller's array: what
-//! the function for one name returns, 0 or the number of its fault (docs/RULES.md, "Calls for C").
-//! It writes as many as fit, and the rest of the array stays as it was. It returns how many names
-//! there are, even if more than fit. A name whose number doesn't fit is counted and not checked, so
-//! with an empty array it only counts the names.
+//! the function for one name returns (docs/RULES.md, "Calls for C"). It writes as many as fit, and
+//! the rest of the array stays as it was. It returns how many names there are, even if more than
+//! fit. A name whose number doesn't fit isn't checked, so an empty array only counts the names.
 
 ghost use Rattle.std.specs.Prelude.{◌≡◌, ◌<◌, ◌≤◌, [], ◌∷◌, length, map, take, drop, MatchOption, IfSome};
 ghost use Rattle.gix_validate.specs.Tag as tag;
@@ -103,7 +101,8 @@ pub extern "C" fn gix_validate_submodule_many(names: &[u8], end: u8, faults: &mu
     write_numbers::<Submodule>(names, end, faults)
 }
 
-/// Writes the numbers of the names, as many as fit, and returns how many names there are.
+/// Writes the numbers of the names, as many as fit, and returns how many names there are. (It doesn't
+/// call the function for one name: a second caller would keep the compiler from inlining that.)
 fn write_numbers<R: Rule>(names: &[u8], end: u8, numbers: &mut [u8]) -> usize
 where
     R::Fault: Fault + Drop,
@@ -117,22 +116,12 @@ where
     let mut rest = names;
     while let Some((name, after)) = first_name(rest, end) {
         if count < numbers.len() {
-            numbers[count] = number::<R>(name);
+            numbers[count] = code(R::check(BStr::new(name)));
         }
         count += 1;
         rest = after;
     }
     count
-}
-
-/// Returns 0 if the rule accepts the name, and otherwise the number of its fault. (It doesn't call the
-/// function that C calls for one name: a second caller would keep the compiler from inlining that.)
-fn number<R: Rule>(name: &[u8]) -> u8
-where
-    R::Fault: Fault + Drop,
-    ensures { result ≡ code_by R.Fault.number (R.fault_of name.now) }
-{
-    code(R::check(BStr::new(name)))
 }
 
 /// The first name in the buffer, without the byte that ends it, and what follows that byte.

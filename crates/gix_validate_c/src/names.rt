@@ -3,6 +3,7 @@
 //! The function of a kind returns 0 if the name is valid, and otherwise the number of its fault
 //! (docs/RULES.md, "Calls for C"). If a reference name isn't a valid tag name, its fault is that of
 //! the tag name.
+#![tactic(auto, unfolding(crate::proofs::ReferenceFaults::reference_faults))]
 
 ghost use Rattle.std.specs.Prelude.{◌≡◌, ◌⊎◌, ◌↔◌, ◌≤◌, ◌%◌, IsTrue, length};
 ghost use Rattle.gix_validate.specs.Tag as tag;
@@ -15,15 +16,11 @@ ghost use Rattle.gix_validate_c.specs.Numbers.{code_by, tag_number, reference_nu
 ghost use Rattle.gix_validate_c.specs.Numbers.{reference_invalid_byte_of};
 
 use crate::fault::code;
-use crate::flags;
+use crate::flags::{mode_of, options_of};
 use bstr::BStr;
 use gix_validate::{path, reference, submodule, tag};
 
-/// What [`gix_validate_invalid_byte`] returns if there is no such byte.
-const NO_BYTE: u32 = 256;
-
-/// Returns 0 if this is a valid tag name, and otherwise the number of its fault (docs/RULES.md,
-/// "Tag names").
+/// Returns 0 for a valid tag name, or its fault's number (docs/RULES.md, "Tag names").
 ///
 /// ```c
 /// gix_validate_tag((const uint8_t *)"v1.2.3", 6); // 0
@@ -40,14 +37,12 @@ pub extern "C" fn gix_validate_tag(name: &[u8]) -> u32
     code(tag::name(BStr::new(name))).into()
 }
 
-/// Returns 0 if this is a valid partial reference name, and otherwise the number of its fault
-/// (docs/RULES.md, "Reference names").
+/// Returns 0 for a valid partial name, or its fault's number (docs/RULES.md, "Reference names").
 ///
 /// ```c
 /// gix_validate_partial((const uint8_t *)"main", 4); // 0
 /// gix_validate_partial((const uint8_t *)"@", 1);    // 13, Reserved
 /// ```
-#[tactic(auto, unfolding(crate::proofs::ReferenceFaults::reference_faults))]
 #[unsafe(no_mangle)]
 pub extern "C" fn gix_validate_partial(name: &[u8]) -> u32
     ensures answer { result ≡ code_by reference_number (partial_fault_of name.now) }
@@ -58,14 +53,12 @@ pub extern "C" fn gix_validate_partial(name: &[u8]) -> u32
     code(reference::name_partial(BStr::new(name))).into()
 }
 
-/// Returns 0 if this is a valid full reference name, and otherwise the number of its fault
-/// (docs/RULES.md, "Reference names").
+/// Returns 0 for a valid full name, or its fault's number (docs/RULES.md, "Reference names").
 ///
 /// ```c
 /// gix_validate_full((const uint8_t *)"refs/heads/main", 15); // 0
 /// gix_validate_full((const uint8_t *)"main", 4);             // 12, SomeLowercase
 /// ```
-#[tactic(auto, unfolding(crate::proofs::ReferenceFaults::reference_faults))]
 #[unsafe(no_mangle)]
 pub extern "C" fn gix_validate_full(name: &[u8]) -> u32
     ensures answer { result ≡ code_by reference_number (full_fault_of name.now) }
@@ -76,14 +69,12 @@ pub extern "C" fn gix_validate_full(name: &[u8]) -> u32
     code(reference::name(BStr::new(name))).into()
 }
 
-/// Returns 0 if this is a valid full name of a branch, and otherwise the number of its fault
-/// (docs/RULES.md, "Reference names").
+/// Returns 0 for a valid name of a branch, or its fault's number (docs/RULES.md, "Reference names").
 ///
 /// ```c
 /// gix_validate_branch((const uint8_t *)"refs/heads/main", 15); // 0
 /// gix_validate_branch((const uint8_t *)"refs/heads/HEAD", 15); // 13, Reserved
 /// ```
-#[tactic(auto, unfolding(crate::proofs::ReferenceFaults::reference_faults))]
 #[unsafe(no_mangle)]
 pub extern "C" fn gix_validate_branch(name: &[u8]) -> u32
     ensures answer { result ≡ code_by reference_number (branch_fault_of name.now) }
@@ -94,8 +85,7 @@ pub extern "C" fn gix_validate_branch(name: &[u8]) -> u32
     code(reference::branch_name(BStr::new(name))).into()
 }
 
-/// Returns 0 if this is a valid submodule name, and otherwise the number of its fault
-/// (docs/RULES.md, "Submodule names").
+/// Returns 0 for a valid submodule name, or its fault's number (docs/RULES.md, "Submodule names").
 ///
 /// ```c
 /// gix_validate_submodule((const uint8_t *)"vendor/package", 14); // 0
@@ -112,8 +102,7 @@ pub extern "C" fn gix_validate_submodule(name: &[u8]) -> u32
     code(submodule::name(BStr::new(name))).into()
 }
 
-/// Returns 0 if this is a valid path component, and otherwise the number of its fault
-/// (docs/RULES.md, "Path components").
+/// Returns 0 for a valid path component, or its fault's number (docs/RULES.md, "Path components").
 ///
 /// The flags are 1 for the rules of Windows, 2 for those of HFS+, 4 for those of NTFS, and 8 for the
 /// name of a symlink. Other bits are ignored. The default in Rust is 7.
@@ -131,11 +120,7 @@ pub extern "C" fn gix_validate_component(name: &[u8], flags: u32) -> u32
     ensures low_bits { let low = flags % 16 in
         result ≡ code_by component_number (component.fault_of (options_of low) (mode_of low) name.now) }
 {
-    let answer = path::component(
-        BStr::new(name),
-        flags::mode_of(flags),
-        flags::options_of(flags),
-    );
+    let answer = path::component(BStr::new(name), mode_of(flags), options_of(flags));
     code(answer).into()
 }
 
@@ -148,7 +133,6 @@ pub extern "C" fn gix_validate_component(name: &[u8], flags: u32) -> u32
 /// gix_validate_invalid_byte((const uint8_t *)"a b", 3); // 32, the space
 /// gix_validate_invalid_byte((const uint8_t *)"a*b", 3); // 256
 /// ```
-#[tactic(auto, unfolding(crate::proofs::ReferenceFaults::reference_faults))]
 #[unsafe(no_mangle)]
 pub extern "C" fn gix_validate_invalid_byte(name: &[u8]) -> u32
     ensures as_tag { result ≡ invalid_byte_of (tag.fault_of name.now) }
@@ -158,7 +142,7 @@ pub extern "C" fn gix_validate_invalid_byte(name: &[u8]) -> u32
 {
     match tag::name(BStr::new(name)) {
         Err(tag::NameError::InvalidByte { byte }) => u32::from(byte),
-        _ => NO_BYTE,
+        _ => 256,
     }
 }
 
@@ -176,14 +160,10 @@ pub extern "C" fn gix_validate_fault_offset(name: &[u8]) -> usize
     ensures offset { result ≡ offset_or (length name.now) (tag.fault_offset_of name.now) }
     ensures bounds { result ≤ length name.now }
 {
-    match tag::fault_offset(BStr::new(name)) {
-        Some(offset) => offset,
-        None => name.len(),
-    }
+    tag::fault_offset(BStr::new(name)).unwrap_or(name.len())
 }
 
-/// Whether Windows takes the name for a device, in any letter case (docs/RULES.md, "Path
-/// components").
+/// Whether Windows takes the name for a device (docs/RULES.md, "Path components").
 ///
 /// ```c
 /// gix_validate_is_windows_device((const uint8_t *)"nul.txt", 7); // true

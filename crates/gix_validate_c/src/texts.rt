@@ -1,13 +1,11 @@
-//! The printed texts of faults.
+//! The printed texts of faults (docs/RULES.md, "Printed texts").
 //!
 //! Each function returns the length in bytes of the text of the name's fault, or 0 if it has none.
 //! No text has more than [`MAX_TEXT`] bytes. If the whole text fits, it is written to the start
 //! of the caller's buffer, and the rest of the buffer stays as it was. Otherwise nothing is written.
 //! No NUL byte ends it.
-//!
-//! The texts are those of docs/RULES.md, "Printed texts".
 
-ghost use Rattle.std.specs.Prelude.{◌≡◌, ◌↔◌, ◌≤◌, length, IsOk, IsTrue, MatchResult};
+ghost use Rattle.std.specs.Prelude.{◌≡◌, ◌↔◌, ◌≤◌, length, IsTrue};
 ghost use Rattle.gix_validate.specs.Tag as tag;
 ghost use Rattle.gix_validate.specs.Reference.{text_of, partial_fault_of, full_fault_of, branch_fault_of, is_partial_name, is_full_name, is_branch_name};
 ghost use Rattle.gix_validate.specs.Printed.{printed};
@@ -15,8 +13,7 @@ ghost use Rattle.gix_validate.specs.Submodule as submodule;
 ghost use Rattle.gix_validate.specs.Component as component;
 ghost use Rattle.gix_validate_c.specs.{Flags.{options_of, mode_of}, Texts.{text_by, with_text}};
 
-use crate::fault::Fault;
-use crate::flags;
+use crate::flags::{mode_of, options_of};
 use arrayvec::ArrayString;
 use bstr::BStr;
 pub use gix_validate::text::MAX_TEXT;
@@ -35,7 +32,10 @@ pub extern "C" fn gix_validate_tag_text(name: &[u8], text: &mut [u8]) -> usize
     ensures none { (result ≡ 0) ↔ IsTrue (tag.is_tag_name name.now) }
     ensures longest { result ≤ MAX_TEXT }
 {
-    write_text(tag::name(BStr::new(name)), text)
+    match tag::name(BStr::new(name)) {
+        Ok(_) => 0,
+        Err(fault) => write_text(fault.text(), text),
+    }
 }
 
 /// Writes the text of the fault of a partial reference name.
@@ -50,7 +50,10 @@ pub extern "C" fn gix_validate_partial_text(name: &[u8], text: &mut [u8]) -> usi
     ensures none { (result ≡ 0) ↔ IsTrue (is_partial_name name.now) }
     ensures longest { result ≤ MAX_TEXT }
 {
-    write_text(reference::name_partial(BStr::new(name)), text)
+    match reference::name_partial(BStr::new(name)) {
+        Ok(_) => 0,
+        Err(fault) => write_text(fault.text(), text),
+    }
 }
 
 /// Writes the text of the fault of a full reference name.
@@ -65,7 +68,10 @@ pub extern "C" fn gix_validate_full_text(name: &[u8], text: &mut [u8]) -> usize
     ensures none { (result ≡ 0) ↔ IsTrue (is_full_name name.now) }
     ensures longest { result ≤ MAX_TEXT }
 {
-    write_text(reference::name(BStr::new(name)), text)
+    match reference::name(BStr::new(name)) {
+        Ok(_) => 0,
+        Err(fault) => write_text(fault.text(), text),
+    }
 }
 
 /// Writes the text of the fault of the full name of a branch.
@@ -80,7 +86,10 @@ pub extern "C" fn gix_validate_branch_text(name: &[u8], text: &mut [u8]) -> usiz
     ensures none { (result ≡ 0) ↔ IsTrue (is_branch_name name.now) }
     ensures longest { result ≤ MAX_TEXT }
 {
-    write_text(reference::branch_name(BStr::new(name)), text)
+    match reference::branch_name(BStr::new(name)) {
+        Ok(_) => 0,
+        Err(fault) => write_text(fault.text(), text),
+    }
 }
 
 /// Writes the text of the fault of a submodule name.
@@ -95,7 +104,10 @@ pub extern "C" fn gix_validate_submodule_text(name: &[u8], text: &mut [u8]) -> u
     ensures none { (result ≡ 0) ↔ IsTrue (submodule.is_submodule_name name.now) }
     ensures longest { result ≤ MAX_TEXT }
 {
-    write_text(submodule::name(BStr::new(name)), text)
+    match submodule::name(BStr::new(name)) {
+        Ok(_) => 0,
+        Err(fault) => write_text(fault.text(), text),
+    }
 }
 
 /// Writes the text of the fault of a path component under these flags.
@@ -112,34 +124,19 @@ pub extern "C" fn gix_validate_component_text(name: &[u8], flags: u32, text: &mu
     ensures none { (result ≡ 0) ↔ IsTrue (component.is_component (options_of flags) (mode_of flags) name.now) }
     ensures longest { result ≤ MAX_TEXT }
 {
-    let answer = path::component(
-        BStr::new(name),
-        flags::mode_of(flags),
-        flags::options_of(flags),
-    );
-    write_text(answer, text)
-}
-
-/// Writes the text of the fault, if there is one, and returns its length.
-fn write_text<E: Fault + Drop>(answer: Result<BStr<'_>, E>, buffer: &mut [u8]) -> usize
-    ensures length { MatchResult answer.entry (λ _. result ≡ 0) (λ fault. result ≡ length (E.text fault)) }
-    ensures bytes { MatchResult answer.entry
-        (λ _. buffer.new ≡ buffer.old)
-        (λ fault. buffer.new ≡ with_text (E.text fault) buffer.old) }
-    ensures none { (result ≡ 0) ↔ IsOk answer.entry }
-    ensures longest { result ≤ MAX_TEXT }
-{
-    match answer {
+    match path::component(BStr::new(name), mode_of(flags), options_of(flags)) {
         Ok(_) => 0,
-        Err(fault) => write_all(rendered(fault.printed()).as_str().as_bytes(), buffer),
+        Err(fault) => write_text(fault.text(), text),
     }
 }
 
-/// The text in a buffer that holds the longest of them.
-fn rendered(text: Text<'_>) -> ArrayString<MAX_TEXT>
-    ensures { result.bytes ≡ printed text.entry }
+/// Writes the text to the start of the buffer if all of it fits, and returns its length.
+fn write_text(text: Text<'_>, buffer: &mut [u8]) -> usize
+    ensures length { result ≡ length (printed text.entry) }
+    ensures bytes { buffer.new ≡ with_text (printed text.entry) buffer.old }
+    ensures longest { result ≤ MAX_TEXT }
 {
-    let mut shown = ArrayString::new();
+    let mut shown: ArrayString<MAX_TEXT> = ArrayString::new();
     shown.push_str(text.words);
     if let Some(bytes) = text.quoted {
         shown.push_str("\"");
@@ -148,16 +145,8 @@ fn rendered(text: Text<'_>) -> ArrayString<MAX_TEXT>
         }
         shown.push_str("\"");
     }
-    shown
-}
-
-/// Writes the text to the start of the buffer if all of it fits, and returns its length.
-fn write_all(text: &[u8], buffer: &mut [u8]) -> usize
-    ensures length { result ≡ length text.now }
-    ensures bytes { buffer.new ≡ with_text text.now buffer.old }
-{
-    if text.len() <= buffer.len() {
-        buffer[..text.len()].copy_from_slice(text);
+    if shown.len() <= buffer.len() {
+        buffer[..shown.len()].copy_from_slice(shown.as_str().as_bytes());
     }
-    text.len()
+    shown.len()
 }

@@ -49,8 +49,7 @@ impl<'a> Component<'a> {
         })
     }
 
-    /// The byte string that was passed to [`new`](Component::new), which is valid with no switch
-    /// and without a mode.
+    /// What was passed to [`new`](Component::new), which is valid with no switch and without a mode.
     pub fn as_bstr(&self) -> BStr<'a>
         ensures same { result ≡ component_text self.now }
         ensures valid { fault_of no_protections None (bstr_bytes result) ≡ None }
@@ -89,8 +88,7 @@ impl<'a> AsSlice<u8> for Component<'a> {
     }
 }
 
-/// Prints the name, with U+FFFD for each maximal subpart of ill-formed UTF-8 (docs/RULES.md,
-/// "Typed names").
+/// Prints the name, with U+FFFD for ill-formed UTF-8 (docs/RULES.md, "Typed names").
 impl<'a> fmt::Display for Component<'a> {
     ghost use Rattle.typed_names.specs.Names.{component_bytes};
 

@@ -4,18 +4,9 @@
 //! bytes live. The rule accepts it, so code that is passed a value need not check it again. The
 //! values are `Copy`, and nothing but [`join`] allocates (docs/RULES.md, "Typed names").
 //!
-//! | Type | What it keeps | The rule |
-//! |---|---|---|
-//! | [`TagName`] | a tag name, as `v1.2.3` | docs/RULES.md, "Tag names" |
-//! | [`PartialName`] | a partial reference name, as `main` | docs/RULES.md, "Reference names" |
-//! | [`FullName`] | a full reference name, as `HEAD` or `refs/heads/main` | docs/RULES.md, "Reference names" |
-//! | [`BranchName`] | the full name of a branch, as `refs/heads/main` | docs/RULES.md, "Reference names" |
-//! | [`SubmoduleName`] | a submodule name, as `vendor/package` | docs/RULES.md, "Submodule names" |
-//! | [`Component`] | one name in a directory, as `src` | docs/RULES.md, "Path components" |
-//!
-//! The first five are one type, [`Name<'a, R>`](Name), whose [`Rule`] is [`Tag`], [`Partial`],
-//! [`Full`], [`Branch`] or [`Submodule`]. As five types they had the same contracts, proofs and
-//! tests five times. A component is checked under a mode and options, and its type keeps less than
+//! [`TagName`], [`PartialName`], [`FullName`], [`BranchName`] and [`SubmoduleName`] are one type,
+//! [`Name<'a, R>`](Name), whose [`Rule`] is [`Tag`], [`Partial`], [`Full`], [`Branch`] or
+//! [`Submodule`]. A [`Component`] is checked under a mode and options, and its type keeps less than
 //! `new` checked, so it has a type of its own. A rule has no values, so it is an enum without
 //! variants. `Debug` prints its constant `TYPE_NAME`; derived, it would print `Name` for all five.
 //!

@@ -16,9 +16,6 @@ use std::marker::PhantomData;
 
 /// A name that the rule `R` accepts: a borrowed byte string, which [`new`](Name::new) checked.
 ///
-/// It has an alias for each rule: [`TagName`], [`PartialName`], [`FullName`], [`BranchName`] and
-/// [`SubmoduleName`].
-///
 /// ```
 /// fn is_short<R: Rule>(name: Name<'_, R>) -> bool {
 ///     name.as_bstr().as_bytes().len() < 20
@@ -109,9 +106,8 @@ impl<'a> TagName<'a> {
 
     /// The pieces of the name, in order: what its slashes separate (docs/RULES.md, "Pieces").
     ///
-    /// They are parts of the byte string that was passed to [`new`](Name::new), and live as long as
-    /// its bytes. A piece need not be a tag name itself: the first one of `a./b` is `a.`, which is
-    /// not.
+    /// They live as long as the bytes that were passed to [`new`](Name::new). A piece need not be a
+    /// tag name itself: the first one of `a./b` is `a.`, which is not.
     ///
     /// ```
     /// TagName::new(BStr::from("refs/heads/main"))?.pieces(); // `refs`, then `heads`, then `main`
@@ -126,11 +122,8 @@ impl<'a> TagName<'a> {
         Pieces::new(self.name)
     }
 
-    /// What follows the first slash, which is a tag name too; `None` if and only if there is no
-    /// slash.
-    ///
-    /// It is a part of the byte string that was passed to [`new`](Name::new), and lives as long as
-    /// its bytes.
+    /// What follows the first slash, which is a tag name too, and lives as long as the bytes that
+    /// were passed to [`new`](Name::new); `None` if and only if there is no slash.
     ///
     /// ```
     /// TagName::new(BStr::from("refs/heads/main"))?.after_first_slash(); // `heads/main`
@@ -237,8 +230,7 @@ impl<'a, R: Rule> AsSlice<u8> for Name<'a, R> {
     }
 }
 
-/// Prints the name, with U+FFFD for each maximal subpart of ill-formed UTF-8 (docs/RULES.md,
-/// "Typed names").
+/// Prints the name, with U+FFFD for ill-formed UTF-8 (docs/RULES.md, "Typed names").
 impl<'a, R: Rule> fmt::Display for Name<'a, R> {
     ghost use Rattle.typed_names.specs.Names.{name_bytes};
 

@@ -2,8 +2,7 @@
 
 ghost use Rattle.std.specs.Prelude.{◌≡◌, ◌↔◌, ℕ, List, Bool, Option, IsOk, IfOk, IsTrue};
 ghost use Rattle.bstr.specs.BStr.{bstr_bytes};
-ghost use Rattle.gix_validate.specs.Reference.{is_partial_name, partial_fault_of};
-ghost use Rattle.gix_validate.specs.Reference.{is_full_name, full_fault_of};
+ghost use Rattle.gix_validate.specs.Reference.{is_partial_name, partial_fault_of, is_full_name, full_fault_of};
 ghost use Rattle.gix_validate.specs.Reference.{is_branch_name, branch_fault_of};
 ghost use Rattle.gix_validate.specs.Submodule.{is_submodule_name, fault_of as submodule_fault_of};
 ghost use Rattle.gix_validate.specs.{Faults.Validates, Tag.{is_tag_name, fault_of as tag_fault_of}};
@@ -49,7 +48,6 @@ pub trait Rule {
 /// The rule of tag names, [`tag::name`] (docs/RULES.md, "Tag names").
 ///
 /// ```
-/// Tag::check(BStr::from("v1.2.3"))?; // returns `v1.2.3`
 /// Tag::check(BStr::from("v1..2")); // RepeatedDot
 /// ```
 pub enum Tag {}
@@ -71,7 +69,6 @@ impl Rule for Tag {
 /// The rule of partial names, [`reference::name_partial`] (docs/RULES.md, "Reference names").
 ///
 /// ```
-/// Partial::check(BStr::from("main"))?; // returns `main`
 /// Partial::check(BStr::from("@")); // Reserved, with the name `@`
 /// ```
 pub enum Partial {}
@@ -93,7 +90,6 @@ impl Rule for Partial {
 /// The rule of full names, [`reference::name`] (docs/RULES.md, "Reference names").
 ///
 /// ```
-/// Full::check(BStr::from("HEAD"))?; // returns `HEAD`
 /// Full::check(BStr::from("main")); // SomeLowercase
 /// ```
 pub enum Full {}
@@ -115,7 +111,6 @@ impl Rule for Full {
 /// The rule of names of branches, [`reference::branch_name`] (docs/RULES.md, "Reference names").
 ///
 /// ```
-/// Branch::check(BStr::from("refs/heads/main"))?; // returns `refs/heads/main`
 /// Branch::check(BStr::from("refs/heads/HEAD")); // Reserved, with the name `refs/heads/HEAD`
 /// ```
 pub enum Branch {}
@@ -137,7 +132,6 @@ impl Rule for Branch {
 /// The rule of submodule names, [`submodule::name`] (docs/RULES.md, "Submodule names").
 ///
 /// ```
-/// Submodule::check(BStr::from("vendor/package"))?; // returns `vendor/package`
 /// Submodule::check(BStr::from("a/../b")); // ParentComponent
 /// ```
 pub enum Submodule {}

@@ -2,7 +2,7 @@
 use Rattle.std.proofs.Common.{◌≡◌, ◌++◌, false, take, drop}
 use Rattle.std.specs.Prelude.{option_map}
 use Rattle.gitmodules.specs.Sections.{escaped_name}
-use Rattle.gitmodules.proofs.escaped.escaped_name.Given as goal
+use Rattle.gitmodules.proofs.escaped.EscapedName.after_quote.Given as goal
 
 abbrev pub invariant-loop-offset : goal.invariant-loop-offset
 invariant-loop-offset l =

@@ -2,7 +2,7 @@
 use Rattle.gix_validate.proofs.Common.{◌≡◌, ◌+◌, ◌*◌, ◌≤◌, ◌++◌, length, take, codes, flat_map}
 use Rattle.arrayvec.specs.ArrayString.{array_string_len}
 use Rattle.gix_validate.specs.Quoted.{escape_of}
-use Rattle.gix_validate_c.proofs.texts.rendered.Given as goal
+use Rattle.gix_validate_c.proofs.texts.write_text.Given as goal
 
 abbrev pub invariant-loop-byte : goal.invariant-loop-byte
 invariant-loop-byte l = record {

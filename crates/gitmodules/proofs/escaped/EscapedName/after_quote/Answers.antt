@@ -2,7 +2,7 @@ use Rattle.std.proofs.{Common.{◌≡◌, ◌==◌, ◌&&◌, ◌∙◌, not, fa
 use Rattle.std.specs.Str.{byte}
 use Rattle.gitmodules.specs.Sections.{is_never_in_name}
 use Rattle.gitmodules.proofs.Names.{byte_passed}
-use Rattle.gitmodules.proofs.escaped.escaped_name.Goals as goal
+use Rattle.gitmodules.proofs.escaped.EscapedName.after_quote.Goals as goal
 
 pub loop-offset-preserved : goal.loop-offset-preserved
 loop-offset-preserved c =

@@ -3,7 +3,7 @@ use Rattle.gix_validate.proofs.{Common.{◌≡◌, refl, [], ◌∷◌, true, fa
 use Rattle.gix_validate.specs.declared.path.ComponentError.TheVariants.{PathSeparator, DotGitDir, SymlinkedGitModules}
 use Rattle.gix_validate.specs.{declared.path.ComponentMode.TheVariants.Symlink, Component.all_protections}
 use Rattle.rule_laws.specs.{Version1.{ntfs_form, fault_of}, Version2.{added_fault_of, ntfs_alone}}
-use Rattle.rule_laws.proofs.Version2Lemmas.{version_1_on_literals}
+use Rattle.rule_laws.proofs.Version1Lemmas.{version_1_on_literals}
 
 -- the NTFS form of version 1: a backslash stays, a stream and the spaces and dots before it go
 forms : Gives ntfs_form

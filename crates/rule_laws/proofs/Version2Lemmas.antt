@@ -2,20 +2,15 @@
 use Rattle.gix_validate.proofs.Common.{◌≡◌, ℕ, ◌+◌, ◌≤◌, Bool, true, false, not, ◌&&◌, ◌||◌, cond, Option, Some, None, is_some, List, [], ◌∷◌, ◌++◌, length}
 use Rattle.gix_validate.proofs.Common.{take, drop, get_or, refl, sym, ◌∙◌, arith, codes, ◌==◌, list_any, list_all, range_with_len, byte, bytes_eq}
 use Rattle.gix_validate.proofs.Common.{bytes_eq-Decides, length-reverse, take-append-drop, get_or_past, prefix_len-append, list_any-append}
-use Rattle.gix_validate.proofs.Common.{⊤, suffix_len-le-length, false≢true, or_cases, common_steps, reverse_onto, nat_tests}
+use Rattle.gix_validate.proofs.Common.{suffix_len-le-length, false≢true, or_cases, common_steps, reverse_onto, nat_tests}
 use Rattle.gix_validate.proofs.OnLiterals.{components_on_literals}
 use Rattle.gix_validate.specs.declared.path.ComponentError.{ComponentError, TheVariants.{DotGitDir, SymlinkedGitModules}}
 use Rattle.gix_validate.specs.declared.path.{ComponentMode.ComponentMode, ComponentOptions.ComponentOptions}
 use Rattle.gix_validate.specs.{Faults.{when, first_of, ◌orelse◌}, Ntfs.ntfs_form, Component.{conditions, fault_of}}
-use Rattle.gix_validate.specs.Bytes.{is_among, is_empty, lower_byte, lower}
-use Rattle.gix_validate.specs.Ntfs.{without_end, is_git_form, is_modules_form, is_digit, is_short_name}
-use Rattle.rule_laws.specs.Version1.{ntfs_form as old_ntfs_form, conditions as old_conditions, fault_of as old_fault_of}
+use Rattle.rule_laws.specs.Version1.{is_among, is_empty, lower, without_end, is_git_form, is_modules_form, is_digit, is_short_name}
+use Rattle.rule_laws.specs.Version1.{ntfs_form as old_ntfs_form, fault_of as old_fault_of}
 use Rattle.rule_laws.specs.Version2.{front, added_fault_of, ReadsTheFront, OldFaultsComeFirst, StaysElsewhere, ShowsTheChange}
-
--- what a row unfolds
-unfoldable pub version_1_on_literals : ⊤
-unfolding components_on_literals old_ntfs_form old_conditions old_fault_of
-version_1_on_literals = tt
+use Rattle.rule_laws.proofs.Version1Lemmas.{version_1_on_literals, conditions_by, present_conditions, past_conditions}
 
 -- The forms, with one byte more in front.
 
@@ -60,7 +55,6 @@ none_in_form [] none = refl
 none_in_form (b ∷ x) none = grind (arith, old_at, none_in_form x)
 
 none_by_lower : (x : List ℕ) → has_backslash (lower x) ≡ has_backslash x
-unfolding lower_byte
 none_by_lower [] = refl
 none_by_lower (b ∷ x) = grind (arith, none_by_lower x)
 
@@ -115,29 +109,29 @@ abbrev switches : Bool → Bool → Bool → ComponentOptions
 switches w h n = record { protect_windows = w; protect_hfs = h; protect_ntfs = n }
 
 rest_differs : (w h n : Bool) (mode : Option ComponentMode) (x : List ℕ) → (w && has_backslash x) ≡ false
-    → first_of (drop 6 (conditions (switches w h n) mode x))
-    ≡ (first_of (drop 6 (old_conditions (switches w h n) mode x)) orelse added (switches w h n) mode x)
-unfolding conditions old_conditions
+    → first_of (drop 6 (conditions_by ntfs_form (switches w h n) mode x))
+    ≡ (first_of (drop 6 (conditions_by old_ntfs_form (switches w h n) mode x)) orelse added (switches w h n) mode x)
+unfolding conditions
 rest_differs w h n mode x none = grind (arith, nat_tests, same_form, none_in_form, none_by_lower, none_in_git, none_in_modules)
 
 table_differs : (options : ComponentOptions) (mode : Option ComponentMode) (x : List ℕ)
-    → first_of (conditions options mode x) ≡ (first_of (old_conditions options mode x) orelse added options mode x)
-unfolding conditions old_conditions
+    → first_of (conditions_by ntfs_form options mode x) ≡ (first_of (conditions_by old_ntfs_form options mode x) orelse added options mode x)
+unfolding conditions
 table_differs options mode x =
     let lines = conditions options mode x in
-    after (take 6 lines) (drop 6 lines) (drop 6 (old_conditions options mode x)) _
+    after (take 6 lines) (drop 6 (conditions_by ntfs_form options mode x)) (drop 6 (conditions_by old_ntfs_form options mode x)) _
     (λ none. rest_differs options.protect_windows options.protect_hfs options.protect_ntfs mode x (grind arith))
 
 pub old_faults_first : OldFaultsComeFirst
 unfolding fault_of old_fault_of added_fault_of
-old_faults_first options mode x = grind (arith, nat_tests, form_of_front, table_differs)
+old_faults_first options mode x = grind (arith, nat_tests, form_of_front, present_conditions, past_conditions, table_differs)
 
 pub stays_elsewhere : StaysElsewhere
 unfolding added_fault_of
 stays_elsewhere options mode x off = grind (arith, old_faults_first options mode x)
 
 pub shows_the_change : ShowsTheChange
-unfolding version_1_on_literals
+unfolding version_1_on_literals components_on_literals
 shows_the_change = (refl, refl)
 
 -- what `only_backslashes_changed` takes from here

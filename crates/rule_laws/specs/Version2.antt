@@ -4,8 +4,8 @@ use Rattle.std.specs.Prelude.{◌≡◌, ℕ, Bool, true, false, ◌==◌, ◌&&
 use Rattle.std.specs.{List.before_first, Str.byte}
 use Rattle.gix_validate.specs.declared.path.ComponentError.{ComponentError, TheVariants.{DotGitDir, SymlinkedGitModules}}
 use Rattle.gix_validate.specs.{declared.path.{ComponentMode.ComponentMode, ComponentOptions.ComponentOptions}, Faults.{when, ◌orelse◌}}
-use Rattle.gix_validate.specs.{Bytes.{is_among, lower}, Ntfs.{ntfs_form, is_git_form, is_modules_form}, Component.fault_of}
-use Rattle.rule_laws.specs.Version1.{ntfs_form as old_ntfs_form, fault_of as old_fault_of}
+use Rattle.gix_validate.specs.{Ntfs.ntfs_form, Component.fault_of}
+use Rattle.rule_laws.specs.Version1.{is_among, lower, is_git_form, is_modules_form, ntfs_form as old_ntfs_form, fault_of as old_fault_of}
 
 -- the front of the name before its first backslash, or the whole name where there is none
 abbrev pub front : List ℕ → List ℕ

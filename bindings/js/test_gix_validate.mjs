@@ -135,15 +135,16 @@ function buffers() {
     equal(thrown(gix.tagName, shared).byte, 32, "a shared buffer");
 }
 
+/** By default a component isn't a symbolic link, and all else is on. */
 function settings() {
-    equal(gix.pathComponent(".gitmodules"), ".gitmodules", "by default not a symbolic link");
-    equal(thrown(gix.pathComponent, ".gitmodules", { symlink: true }).fault, "SymlinkedGitModules", "a symbolic link");
-    equal(gix.pathComponent("nul", { windows: false }), "nul", "without Windows");
     for (const options of [undefined, {}, { ntfs: undefined }]) {
-        equal(thrown(gix.pathComponent, "nul", options).fault, "WindowsReservedName", "all by default");
+        validated("component", options, ".gitmodules", "Ok", "by default");
+        validated("component", options, "nul", "WindowsReservedName", "by default");
+        validated("component", options, ".g\u200cit", "DotGitDir", "by default");
+        equal(gix.faults(["src", "aux.c", ".git"], "component", options), [null, "WindowsReservedName", "DotGitDir"], "by default");
     }
-    equal(gix.faults(["src", "aux.c", ".git"], "component"), [null, "WindowsReservedName", "DotGitDir"], "components");
-    equal(gix.faults(["aux.c", ".git"], "component", { windows: false }), [null, "DotGitDir"], "components");
+    validated("component", { symlink: true }, ".gitmodules", "SymlinkedGitModules", "a symbolic link");
+    equal(gix.faults(["aux.c", ".git"], "component", { windows: false }), [null, "DotGitDir"], "without Windows");
 }
 
 function lists() {
@@ -161,9 +162,8 @@ function lists() {
 }
 
 function strings() {
-    for (const [name, wanted] of [["Grüße", true], ["🎉", true], ["\ufeffa", true], ["a\u2028b", true], ["é ", false], ["\u0085", true]]) {
-        equal(gix.isValidTagName(name), wanted, name);
-    }
+    ["Grüße", "🎉", "\ufeffa", "a\u2028b", "\u0085"].forEach((name) => validated("tag", undefined, name, "Ok", name));
+    validated("tag", undefined, "é ", "InvalidByte:20", "é ");
     equal(gix.sanitize("é..🎉.lock"), "é.🎉", "a repair");
     equal(gix.sanitize("\ufeff.. "), "\ufeff.-", "a repair keeps a mark of byte order");
     equal(thrown(gix.tagName, "a\x1b[1m\x9b ").message.includes("\\u001b[1m\\u009b "), true, "a message is ASCII");

@@ -1,9 +1,8 @@
-r"""Validation of the names that Git uses, and the repair of a bad reference name.
-
-Each function calls a proved function of the Rattle crate gix_validate_c, in its shared object. The rules are those
-of docs/RULES.md; docs/ASSURANCE.md says what is proved and what is not.
+r"""Validation of the names that Git uses, and the repair of a bad reference name, by proved functions in a shared object. The
+rules are those of docs/RULES.md; docs/ASSURANCE.md says what is proved and what is not.
 
 >>> import gix_validate
+>>> from gix_validate import Kind
 >>> gix_validate.tag_name(b"v1.2.3")
 b'v1.2.3'
 >>> gix_validate.sanitize(b"refs//heads/../x.lock")
@@ -18,7 +17,6 @@ False
 
 Many names are checked by one call, which is much faster than a call for each:
 
->>> Kind = gix_validate.Kind
 >>> gix_validate.faults([b"refs/heads/main", b"main"], Kind.FULL)
 [None, <Fault.SOME_LOWERCASE: 12>]
 >>> gix_validate.first_invalid([b"refs/heads/main", b"main"], Kind.FULL)
@@ -27,13 +25,10 @@ Many names are checked by one call, which is much faster than a call for each:
 b'\x00\x0c'
 
 A name is bytes of any values, or a bytearray or memoryview, which is copied; a str or None is a TypeError, and
-os.fsencode makes bytes of the str that Python has for a file's name. The functions have no state and may be called from
-any thread.
+os.fsencode makes bytes of the str that Python has for a file's name. The functions may be called from any thread.
 
-The shared object is the one beside this module, as the wheel has it, or that of bindings/out. The environment variable
-GIX_VALIDATE_LIBRARY may name another path.
-Its major version has to be that of this module, and it may not be older; otherwise the import is an ImportError, as it
-is for a library that isn't this one.
+The shared object is the one beside this module, as the wheel has it, that of bindings/out, or the one that the environment
+variable GIX_VALIDATE_LIBRARY names. The import is an ImportError if it has another major version, is older, or isn't this one.
 """
 
 import ctypes
@@ -122,10 +117,7 @@ class InvalidName(ValueError):
 
     def __init__(self, name: bytes, fault: Fault, text: str, byte: Optional[int] = None) -> None:
         super().__init__(name, fault, text, byte)
-        self.name = name
-        self.fault = fault
-        self.text = text
-        self.byte = byte
+        self.name, self.fault, self.text, self.byte = name, fault, text, byte
 
     def __str__(self) -> str:
         return f"{self.name[:200]!r}{'..' if len(self.name) > 200 else ''}: {self.text}"
@@ -158,28 +150,26 @@ def _version_of(library: ctypes.CDLL) -> Tuple[int, int, int]:
     return number // 1_000_000, number // 1000 % 1000, number % 1000
 
 
-_loaded = _library()
-_NAME = ctypes.c_char_p, ctypes.c_size_t
-_FLAGS = {"component": [ctypes.c_uint32]}
-_PROTECT_ALL = 7
-
-
 def _function(name: str, result: Any, *more: Any) -> Any:
     """A function of the library that takes the bytes of a name, their number, and `more`."""
     function = _loaded[f"gix_validate_{name}"]
-    function.argtypes, function.restype = [*_NAME, *more], result
+    function.argtypes, function.restype = [*_BYTES, *more], result
     return function
 
 
+_loaded = _library()
+_SIZE, _NUMBER = ctypes.c_size_t, ctypes.c_uint32
+_BYTES = ctypes.c_char_p, _SIZE
+_PROTECT_ALL = 7
 # For each kind of name: the number of a fault, its text, and the numbers of many names.
-_KINDS = [kind.value for kind in Kind]
-_code = {kind: _function(kind, ctypes.c_uint32, *_FLAGS.get(kind, [])) for kind in _KINDS}
-_text = {kind: _function(f"{kind}_text", ctypes.c_size_t, *_FLAGS.get(kind, []), *_NAME) for kind in _KINDS}
-_many = {kind: _function(f"{kind}_many", ctypes.c_size_t, ctypes.c_uint8, *_NAME) for kind in _KINDS if kind not in _FLAGS}
-_invalid_byte = _function("invalid_byte", ctypes.c_uint32)
-_fault_offset = _function("fault_offset", ctypes.c_size_t)
+_KINDS = {kind.value: [_NUMBER] if kind is Kind.COMPONENT else [] for kind in Kind}
+_code = {kind: _function(kind, _NUMBER, *flags) for kind, flags in _KINDS.items()}
+_text = {kind: _function(f"{kind}_text", _SIZE, *flags, *_BYTES) for kind, flags in _KINDS.items()}
+_many = {kind: _function(f"{kind}_many", _SIZE, ctypes.c_uint8, *_BYTES) for kind, flags in _KINDS.items() if not flags}
+_invalid_byte = _function("invalid_byte", _NUMBER)
+_fault_offset = _function("fault_offset", _SIZE)
 _is_windows_device = _function("is_windows_device", ctypes.c_bool)
-_sanitize = _function("sanitize", ctypes.c_size_t, *_NAME)
+_sanitize = _function("sanitize", _SIZE, *_BYTES)
 _fault_of: List[Optional[Fault]] = [None, *Fault]
 
 
@@ -337,7 +327,7 @@ def _numbers(kind: Kind, buffer: bytes, length: int, end: int) -> bytes:
         names = bytes.split(buffer, bytes([end]))
         return _numbers_alone(kind, names if names[-1] else names[:-1])
     numbers = ctypes.create_string_buffer(length)
-    return ctypes.string_at(numbers, _many[kind.value](buffer, length, end, numbers, len(numbers)))
+    return ctypes.string_at(numbers, _many[kind.value](buffer, length, end, numbers, length))
 
 
 def _numbers_alone(kind: Kind, names: List[bytes]) -> bytes:

@@ -157,7 +157,6 @@ fn four_have<P: Pattern>(text: &[u8], at: usize) -> bool
         | block_has::<P>(text, at + 3 * LANES)
 }
 
-/// Whether a byte of the block from this offset on is a hit.
 #[inline(always)]
 fn block_has<P: Pattern>(text: &[u8], at: usize) -> bool
     requires { at + LANES ≤ length text.now }

@@ -166,7 +166,6 @@ fn offset_of_fault(bytes: &[u8]) -> Option<usize>
     }
 }
 
-/// The least offset that has a fault.
 #[tactic(auto, using(crate::proofs::TagNames::ClearTexts::least_offset))]
 fn first_offset(bytes: &[u8]) -> Option<usize>
     requires { 0 < length bytes.now }
@@ -204,11 +203,13 @@ fn first_fault(bytes: &[u8]) -> Option<NameError>
     if let Some(fault) = fault_at_first_offset(bytes) {
         return Some(fault);
     }
-    match (first, last) {
-        (b'.', _) => Some(NameError::StartsWithDot),
-        (_, b'.') => Some(NameError::EndsWithDot),
-        _ => None,
+    if first == b'.' {
+        return Some(NameError::StartsWithDot);
     }
+    if last == b'.' {
+        return Some(NameError::EndsWithDot);
+    }
+    None
 }
 
 /// The fault at the least offset that has one. Most bytes take one look into a table.

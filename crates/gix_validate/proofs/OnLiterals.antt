@@ -1,7 +1,6 @@
 -- What a caller unfolds so that the rules of names are computed on literals.
-use Rattle.gix_validate.proofs.Common.{⊤}
+use Rattle.gix_validate.{proofs.Common.⊤, specs.Windows.{device_form, devices, is_device_form, is_device, is_illegal_byte, is_illegal}}
 use Rattle.gix_validate.specs.Reference.{is_partial_name, is_full_name, is_branch_name, partial_fault_of, full_fault_of, branch_fault_of}
-use Rattle.gix_validate.specs.Windows.{device_form, devices, is_device_form, is_device, is_illegal_byte, is_illegal}
 use Rattle.gix_validate.specs.{Bytes.{is_bad, lower_byte}, Component.{conditions, fault_of as component_fault_of, is_component}}
 use Rattle.gix_validate.specs.{Faults.at_first_offset, Hfs.{hfs_form, is_ignored}, Ntfs.{ntfs_form, is_git_form, is_modules_form}}
 use Rattle.gix_validate.specs.{Sanitized.{cleaned, cut, sanitized}, Submodule.{is_submodule_name, fault_of as submodule_fault_of}}

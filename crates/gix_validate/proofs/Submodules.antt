@@ -1,7 +1,13 @@
 -- A part that is `..` is between two offsets, each the text's end or a separator's.
 use Rattle.gix_validate.proofs.Common.{cond, ◌≡◌, ℕ, zero, suc, ◌+◌, ◌-◌, ◌<◌, Bool, true, false, ◌&&◌, ◌||◌, eqb, List, [], ◌∷◌, length, get_or, drop, refl}
 use Rattle.gix_validate.proofs.Common.{sym, ◌∙◌, inl, inr, arith, cases_lt, codes, ◌==◌, list_any, byte, bytes_eq, nat_tests, common_steps}
-use Rattle.gix_validate.specs.{Submodule.{is_separator, parts, has_parent_part}, Private.{Parents.is_parent_at, Scan.{NoneBelow, at_pair}}}
+use Rattle.gix_validate.{proofs.Blocks.Lanes.at_pair, specs.{Submodule.{is_separator, parts, has_parent_part}, Private.Scan.NoneBelow}}
+
+-- a part that is `..` begins at this offset
+abbrev pub is_parent_at : List ℕ → ℕ → Bool
+is_parent_at x i =
+    get_or x i 0 == byte "." && get_or x (i + 1) 0 == byte "." && (i == 0 || is_separator (get_or x (i - 1) 0))
+    && (i + 2 == length x || is_separator (get_or x (i + 2) 0))
 
 -- two dots are at this offset, and the end or a separator after them
 unfoldable parent_from : List ℕ → ℕ → Bool

@@ -30,8 +30,7 @@ conditions options mode x =
     ∷ when (windows && ntfs && is_device x) WindowsReservedName
     ∷ when (windows && ntfs && is_illegal x) WindowsIllegalCharacter
     ∷ when (not hfs && not ntfs && bytes_eq (lower x) (codes ".git")) DotGitDir
-    ∷ when (not hfs && not ntfs && symlink && bytes_eq (lower x) (codes ".gitmodules")) SymlinkedGitModules
-    ∷ []
+    ∷ when (not hfs && not ntfs && symlink && bytes_eq (lower x) (codes ".gitmodules")) SymlinkedGitModules ∷ []
 
 -- The fault of a component: the first condition that holds.
 unfoldable pub fault_of : ComponentOptions → Option ComponentMode → List ℕ → Option ComponentError

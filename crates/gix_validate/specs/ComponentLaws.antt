@@ -16,8 +16,7 @@ pub record HasOnlySwitchesOf (fewer options : ComponentOptions) : Type 0 where
 -- the name has no fault under any part of the switches, with the mode and without it
 abbrev pub IsValidUnderFewerSwitches : ComponentOptions → Option ComponentMode → List ℕ → Type 0
 IsValidUnderFewerSwitches options mode x =
-    (fewer : ComponentOptions) → HasOnlySwitchesOf fewer options
-    → (fault_of fewer mode x ≡ None) × (fault_of fewer None x ≡ None)
+    (fewer : ComponentOptions) → HasOnlySwitchesOf fewer options → (fault_of fewer mode x ≡ None) × (fault_of fewer None x ≡ None)
 
 -- the name and the same with small ASCII letters have the same fault, or both have none
 abbrev pub FaultIgnoresCase : ComponentOptions → Option ComponentMode → List ℕ → Type 0

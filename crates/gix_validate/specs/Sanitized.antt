@@ -1,7 +1,6 @@
 -- The sanitised text: what a text is repaired to, piece by piece, so that it is a partial name.
 use Rattle.std.specs.Prelude.{◌≡◌, ◌≢◌, ◌⊎◌, ℕ, ◌-◌, Bool, true, false, ◌==◌, ◌&&◌, ◌||◌, not, IsTrue, if◌then◌else◌, List, [], ◌∷◌, ◌++◌, length}
-use Rattle.std.specs.Prelude.{take, map, filter, codes, Option, Some, None, ⊤}
-use Rattle.std.specs.{List.list_all, Str.{byte, bytes_eq}}
+use Rattle.std.specs.{Prelude.{take, map, filter, codes, Option, Some, None, ⊤}, List.list_all, Str.{byte, bytes_eq}}
 use Rattle.gix_validate.specs.{Bytes.{is_bad, is_empty, ends}, Pieces.{pieces, joined}, Tag.is_good_piece}
 
 -- A run of a piece: all the dots in a row at one offset, or one other byte.

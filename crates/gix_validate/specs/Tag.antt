@@ -46,8 +46,7 @@ fault_of x = first_of (
     ∷ when (begins x (codes "/")) StartsWithSlash
     ∷ at_first_offset (λ i. first_of (faults_at x i)) (length x)
     ∷ when (begins x (codes ".")) StartsWithDot
-    ∷ when (ends x (codes ".")) EndsWithDot
-    ∷ [])
+    ∷ when (ends x (codes ".")) EndsWithDot ∷ [])
 
 -- the offset, if a line of the table applies there
 abbrev pub offset_at : List ℕ → ℕ → Option ℕ
@@ -61,8 +60,7 @@ fault_offset_of x = first_of (
     ∷ when (begins x (codes "/")) 0
     ∷ at_first_offset (offset_at x) (length x)
     ∷ when (begins x (codes ".")) 0
-    ∷ when (ends x (codes ".")) (length x - 1)
-    ∷ [])
+    ∷ when (ends x (codes ".")) (length x - 1) ∷ [])
 
 -- What an error prints.
 abbrev pub text_of : NameError → List ℕ

@@ -15,8 +15,7 @@ numbered word digits = map (λ digit. word ++ digit ∷ []) digits
 unfoldable pub devices : List (List ℕ)
 devices =
     codes "AUX" ∷ codes "NUL" ∷ codes "PRN" ∷ codes "CON" ∷ codes "CONIN$" ∷ codes "CONOUT$"
-    ∷ numbered (codes "COM") (codes "123456789")
-    ++ numbered (codes "LPT") (codes "0123456789")
+    ∷ numbered (codes "COM") (codes "123456789") ++ numbered (codes "LPT") (codes "0123456789")
 
 -- The form is the name of a device, without ASCII case.
 unfoldable pub is_device_form : List ℕ → Bool

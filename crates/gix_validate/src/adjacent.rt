@@ -2,19 +2,15 @@
 //!
 //! Most names have nothing that an error could be made of: no bad byte, no `*` or `{`, no dot or
 //! slash at the start, at the end, or after a dot or a slash, and no `l` after a dot, as each
-//! `.lock` has. Such a name is clear. It is a tag name and, if it has two bytes or more, its own
-//! sanitised form; both are proved. Apart from the ends, only neighbours are compared, so a block
-//! is tested at once. A test for a dot or slash after the `k` of `.lock` would also fail on `task/`
-//! and `pack.1`.
-//!
-//! The contract says exactly which names are clear: a test that rejects every name would be right,
-//! but slow. Only contracts of private functions cite that definition, so a reader of the public
-//! ones need not trust it.
+//! `.lock` has. Such a name is clear: a tag name and, if it has two bytes or more, its own sanitised
+//! form; both are proved. (A test for a dot or slash after the `k` of `.lock` would also fail on
+//! `task/` and `pack.1`.) The contract says exactly which names are clear: a test that rejects every
+//! name would be right, but slow.
 
 ghost use Rattle.std.specs.Prelude.{◌≡◌, ◌↔◌, ◌<◌, ◌≤◌, ◌+◌, ◌-◌, ◌^◌, ◌==◌, ◌||◌, ◌&&◌, ℕ, false, if◌then◌else◌, IsTrue, map, length, slice_index, codes};
 ghost use Rattle.std.specs.{Int.bit_at, Str.byte};
 ghost use Rattle.gix_validate.specs.{Bytes.{is_among, ends}, Private.Adjacent.{is_suspect, suspect_at, IsClear}};
-ghost use Rattle.gix_validate.specs.Private.Scan.{Finds, NoneBelow, at_pair};
+ghost use Rattle.gix_validate.specs.Private.Scan.{Finds, NoneBelow};
 
 use crate::bytes::may_be_faulty;
 use crate::lanes::{classify, nonzero_lanes};
@@ -27,53 +23,36 @@ use std::simd::prelude::*;
 
 /// A suspect byte from 0x00 to 0x1F.
 const SUSPECT_0X: u8 = 0x01;
-
 /// A suspect byte from 0x20 to 0x2F.
 const SUSPECT_2X: u8 = 0x02;
-
 /// A suspect byte from 0x30 to 0x3F.
 const SUSPECT_3X: u8 = 0x04;
-
 /// A suspect byte from 0x50 to 0x5F.
 const SUSPECT_5X: u8 = 0x08;
-
 /// A suspect byte from 0x70 to 0x7F.
 const SUSPECT_7X: u8 = 0x10;
-
 /// A dot or a slash, suspect after a dot or a slash.
 const BREAK: u8 = 0x20;
-
 /// `l`, suspect after a dot.
 const LETTER: u8 = 0x40;
-
 /// The classes that are suspect after any byte.
 const ANYWHERE: u8 = SUSPECT_0X | SUSPECT_2X | SUSPECT_3X | SUSPECT_5X | SUSPECT_7X;
-
 /// The classes that are suspect after a slash.
 const AFTER_SLASH: u8 = ANYWHERE | BREAK;
-
 /// The classes that are suspect after a dot.
 const AFTER_DOT: u8 = AFTER_SLASH | LETTER;
 
 /// The classes that a byte with this low nibble may have.
 #[rattlefmt::skip]
 const CLASSES_BY_LOW_NIBBLE: [u8; 16] = [
-    SUSPECT_0X | SUSPECT_2X, // 00
-    SUSPECT_0X, // 01
-    SUSPECT_0X, // 02
-    SUSPECT_0X, // 03
-    SUSPECT_0X, // 04
-    SUSPECT_0X, // 05
-    SUSPECT_0X, // 06
-    SUSPECT_0X, // 07
-    SUSPECT_0X, // 08
-    SUSPECT_0X, // 09
-    SUSPECT_0X | SUSPECT_2X | SUSPECT_3X, // 0A
-    SUSPECT_0X | SUSPECT_5X | SUSPECT_7X, // 0B
-    LETTER | SUSPECT_0X | SUSPECT_5X, // 0C
-    SUSPECT_0X, // 0D
-    BREAK | SUSPECT_0X | SUSPECT_5X | SUSPECT_7X, // 0E
-    BREAK | SUSPECT_0X | SUSPECT_3X | SUSPECT_7X, // 0F
+    SUSPECT_0X | SUSPECT_2X, SUSPECT_0X, // 00
+    SUSPECT_0X, SUSPECT_0X, // 02
+    SUSPECT_0X, SUSPECT_0X, // 04
+    SUSPECT_0X, SUSPECT_0X, // 06
+    SUSPECT_0X, SUSPECT_0X, // 08
+    SUSPECT_0X | SUSPECT_2X | SUSPECT_3X, SUSPECT_0X | SUSPECT_5X | SUSPECT_7X, // 0A
+    LETTER | SUSPECT_0X | SUSPECT_5X, SUSPECT_0X, // 0C
+    BREAK | SUSPECT_0X | SUSPECT_5X | SUSPECT_7X, BREAK | SUSPECT_0X | SUSPECT_3X | SUSPECT_7X, // 0E
 ];
 
 /// The classes that a byte with this high nibble may have. What both tables have for a byte is its
@@ -89,10 +68,8 @@ const CLASSES_BY_HIGH_NIBBLE: [u8; 16] = [
 /// The classes that are suspect after a dot, after a slash, and after any other byte.
 #[rattlefmt::skip]
 const SUSPECT_AFTER: [u8; 16] = [
-    AFTER_DOT, AFTER_SLASH, ANYWHERE, ANYWHERE,
-    ANYWHERE, ANYWHERE, ANYWHERE, ANYWHERE,
-    ANYWHERE, ANYWHERE, ANYWHERE, ANYWHERE,
-    ANYWHERE, ANYWHERE, ANYWHERE, ANYWHERE,
+    AFTER_DOT, AFTER_SLASH, ANYWHERE, ANYWHERE, ANYWHERE, ANYWHERE, ANYWHERE, ANYWHERE,
+    ANYWHERE, ANYWHERE, ANYWHERE, ANYWHERE, ANYWHERE, ANYWHERE, ANYWHERE, ANYWHERE,
 ];
 
 /// Whether a name is clear. A clear name is a tag name. For any other name this says nothing.
@@ -134,7 +111,6 @@ fn ends_in_break(text: &[u8]) -> bool
     matches!(text.last(), Some(b'.' | b'/'))
 }
 
-/// A byte that is suspect after the one before it.
 enum Suspect {}
 
 impl Pattern for Suspect {

@@ -1,10 +1,8 @@
-//! The classes of single bytes in reference names (docs/RULES.md, "Bytes").
-//!
-//! One table says which bytes may be an error, since more than one loop reads it. `scripts/bytes`
-//! writes its 256 entries, which are proved against the rule.
+//! One table says which bytes may be an error in a name (docs/RULES.md, "Bytes"), since more than one
+//! loop reads it. `scripts/bytes` writes its 256 entries, which are proved against the rule.
 
 ghost use Rattle.std.specs.Prelude.{◌≡◌};
-ghost use Rattle.gix_validate.specs.Private.TagWalk.{may_be_faulty};
+ghost use Rattle.gix_validate.specs.Private.Adjacent.{may_be_faulty};
 
 /// Whether a byte can be an error, depending on the bytes before it. No other byte is ever one.
 #[inline]

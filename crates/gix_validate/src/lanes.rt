@@ -1,13 +1,12 @@
 //! Functions on blocks, which are sixteen bytes that are checked together. The index of a byte in
 //! its block is its lane.
 
-ghost use Rattle.std.specs.Prelude.{◌≡◌, ◌≢◌, ◌↔◌, IsTrue, true, ℕ, ◌<◌, ◌≤◌, ◌+◌, ◌/◌, ◌%◌, ◌^◌, ◌==◌, ◌||◌, map, length, slice_index, bit_and, if◌then◌else◌};
-ghost use Rattle.std.specs.{Int.bit_at, List.list_any, Simd.Lanes.chunk};
-ghost use Rattle.gix_validate.specs.Private.Lanes.{HasParts, is_nonzero};
+ghost use Rattle.std.specs.Prelude.{◌≡◌, ◌≢◌, ◌↔◌, IsTrue, true, ℕ, ◌<◌, ◌≤◌, ◌+◌, ◌-◌, ◌/◌, ◌%◌, ◌^◌, ◌==◌, ◌||◌, map, length, slice_index};
+ghost use Rattle.std.specs.{Prelude.{bit_and, if◌then◌else◌}, Int.bit_at, List.list_any, Simd.Lanes.chunk};
+ghost use Rattle.gix_validate.specs.Private.Scan.{HasParts, is_nonzero};
 
 use std::simd::prelude::*;
 
-/// How many bytes are checked together.
 pub(crate) const LANES: usize = 16;
 
 /// Eight bytes from one offset on, and eight from another.
@@ -22,27 +21,25 @@ pub(crate) fn halves(text: &[u8], first: usize, second: usize) -> u8x16
     front.shuffle(back, [0, 1, 2, 3, 4, 5, 6, 7, 8, 9, 10, 11, 12, 13, 14, 15])
 }
 
-/// Four bytes from one offset on, and four from another, and the same again.
+/// The first four bytes and the last four, and the same again.
 #[inline(always)]
-pub(crate) fn quarters(text: &[u8], first: usize, second: usize) -> u8x16
-    requires first { first + 4 ≤ length text.now }
-    requires second { second + 4 ≤ length text.now }
-    ensures { HasParts 4 first second text.now result }
+pub(crate) fn quarters(text: &[u8]) -> u8x16
+    requires { 4 ≤ length text.now }
+    ensures { HasParts 4 0 (length text.now - 4) text.now result }
 {
-    let front = u8x4::from_slice(&text[first..]);
-    let back = u8x4::from_slice(&text[second..]);
+    let front = u8x4::from_slice(text);
+    let back = u8x4::from_slice(&text[text.len() - 4..]);
     front.shuffle(back, [0, 1, 2, 3, 4, 5, 6, 7, 0, 1, 2, 3, 4, 5, 6, 7])
 }
 
-/// Two bytes from one offset on, and two from another, again and again.
+/// The first two bytes and the last two, again and again.
 #[inline(always)]
-pub(crate) fn pairs(text: &[u8], first: usize, second: usize) -> u8x16
-    requires first { first + 2 ≤ length text.now }
-    requires second { second + 2 ≤ length text.now }
-    ensures { HasParts 2 first second text.now result }
+pub(crate) fn pairs(text: &[u8]) -> u8x16
+    requires { 2 ≤ length text.now }
+    ensures { HasParts 2 0 (length text.now - 2) text.now result }
 {
-    let front = u8x2::from_slice(&text[first..]);
-    let back = u8x2::from_slice(&text[second..]);
+    let front = u8x2::from_slice(text);
+    let back = u8x2::from_slice(&text[text.len() - 2..]);
     front.shuffle(back, [0, 1, 2, 3, 0, 1, 2, 3, 0, 1, 2, 3, 0, 1, 2, 3])
 }
 
@@ -57,7 +54,6 @@ pub(crate) fn classify(by_low_nibble: [u8; 16], by_high_nibble: [u8; 16], bytes:
     low & high
 }
 
-/// Whether a byte is not zero.
 #[inline(always)]
 pub(crate) fn has_nonzero(bytes: u8x16) -> bool
     ensures { result ≡ list_any is_nonzero bytes }
@@ -74,7 +70,6 @@ pub(crate) fn nonzero_lanes(bytes: u8x16) -> u64
     bytes.simd_ne(u8x16::splat(0)).to_bitmask()
 }
 
-/// The first of the lanes whose bit is set.
 #[inline(always)]
 pub(crate) fn first_lane(lanes: u64) -> usize
     requires { lanes ≢ 0 }

@@ -9,8 +9,7 @@
 //! | [`text`] | no names: what an error prints, in its parts |
 //!
 //! Only the joins and `reference::name_partial_or_sanitize` allocate. The rules are in
-//! docs/RULES.md, and the definitions that the contracts cite are in `specs/`. Only contracts of
-//! private functions cite those in `specs/Private`.
+//! docs/RULES.md, and the definitions that the contracts cite are in `specs/`.
 #![tactic(auto)]
 
 mod adjacent;

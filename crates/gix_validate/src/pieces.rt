@@ -10,7 +10,6 @@ use bstr::{BStr, BString};
 use std::alloc::{AllocError, Global};
 use std::simd::prelude::*;
 
-/// A slash.
 pub(crate) enum Slash {}
 
 impl Pattern for Slash {
@@ -22,7 +21,6 @@ impl Pattern for Slash {
     }
 }
 
-/// The parts with slashes between them.
 pub(crate) fn joined(alloc: Global, parts: &[BStr<'_>]) -> Result<BString, AllocError>
     requires { 0 < length parts.now }
     ensures { IfOk result (λ path. bstring_bytes path ≡ joined (map bstr_bytes parts.now)) }
@@ -50,8 +48,7 @@ fn joined_len(parts: &[BStr<'_>]) -> Option<usize>
 /// What follows the allocation, which is for the path and no byte more. So it succeeds.
 fn write_joined(mut buffer: Vec<u8>, parts: &[BStr<'_>]) -> Result<Vec<u8>, AllocError>
     requires room { vec_capacity buffer ≡ vec_len buffer + length (joined (map bstr_bytes parts.now)) }
-    ensures bytes { IfOk result
-        (λ path. path.items ≡ buffer.items ++ joined (map bstr_bytes parts.now)) }
+    ensures bytes { IfOk result (λ path. path.items ≡ buffer.items ++ joined (map bstr_bytes parts.now)) }
     ensures succeeds { IsOk result }
 {
     for (i, part) in parts.iter().enumerate() {

@@ -1,12 +1,7 @@
-//! Reference names: partial names, full names and branch names, their repair, and the join of two
-//! names.
+//! Reference names: partial, full and branch names, their repair, and the join of two names.
 //!
-//! Each full name is a partial name, and each branch name a full name.
-//!
-//! # Memory
-//!
-//! `name_partial`, `name` and `branch_name` don't allocate. On `Ok` each returns the value that it
-//! was passed.
+//! Each full name is a partial name, and each branch name a full name. `name_partial`, `name` and
+//! `branch_name` don't allocate. On `Ok` each returns the value that it was passed.
 
 ghost use Rattle.std.specs.Prelude.{◌≡◌, ◌==◌, ◌≢◌, ◌↔◌, ◌⊎◌, ◌+◌, ◌≤◌, [], ◌∷◌, ◌++◌, length, codes, All, Contains, IsOk, IfOk, IsTrue, MatchResult, vec_len, vec_capacity, Some};
 ghost use Rattle.std.specs.{List.list_all, Str.byte};
@@ -132,8 +127,7 @@ pub fn name_partial<'a>(path: BStr<'a>) -> Result<BStr<'a>, NameError>
     ensures grammar { IsOk result ↔ IsTrue (is_partial_name (bstr_bytes path.entry)) }
     ensures same { IfOk result (λ name. name ≡ path.entry) }
     // A tag name, but not `@`.
-    ensures tag_name { let x = bstr_bytes path.entry in IsOk result
-        ↔ (IsTrue (is_tag_name x) × (x ≢ codes "@")) }
+    ensures tag_name { let x = bstr_bytes path.entry in IsOk result ↔ (IsTrue (is_tag_name x) × (x ≢ codes "@")) }
 {
     unless_reserved(tag::name(path)?, b"@")
 }
@@ -157,8 +151,7 @@ pub fn name<'a>(path: BStr<'a>) -> Result<BStr<'a>, NameError>
     ensures same { IfOk result (λ name. name ≡ path.entry) }
     // A partial name that has a slash, or whose bytes may each stand alone.
     ensures partial_name { let x = bstr_bytes path.entry in IsOk result
-        ↔ (IsTrue (is_partial_name x)
-        × (Contains x (byte "/") ⊎ All (λ b. IsTrue (is_standalone_byte b)) x)) }
+        ↔ (IsTrue (is_partial_name x) × (Contains x (byte "/") ⊎ All (λ b. IsTrue (is_standalone_byte b)) x)) }
 {
     let name = name_partial(path)?;
     if has_slash_or_stands_alone(name.as_bytes()) {
@@ -203,18 +196,13 @@ pub fn branch_name<'a>(path: BStr<'a>) -> Result<BStr<'a>, NameError>
 ///
 /// # Errors
 ///
-/// Out of memory, and nothing else.
-///
-/// # Memory
-///
-/// It allocates once, before it writes a byte. A length above `isize::MAX` bytes counts as out of
-/// memory.
+/// Out of memory, and nothing else. It allocates once, before it writes a byte. A length above
+/// `isize::MAX` bytes counts as out of memory.
 #[tactic(auto, using(crate::proofs::References::joined_is_full))]
 pub fn join(alloc: Global, a: BStr<'_>, b: BStr<'_>) -> Result<BString, AllocError>
     requires first { IsTrue (is_tag_name (bstr_bytes a)) }
     requires second { IsTrue (is_tag_name (bstr_bytes b)) }
-    ensures bytes { IfOk result (λ name. bstring_bytes name
-        ≡ joined (bstr_bytes a.entry ∷ bstr_bytes b.entry ∷ [])) }
+    ensures bytes { IfOk result (λ name. bstring_bytes name ≡ joined (bstr_bytes a.entry ∷ bstr_bytes b.entry ∷ [])) }
     ensures valid { IfOk result (λ name. IsTrue (is_full_name (bstring_bytes name))) }
 {
     joined(alloc, &[a, b])
@@ -228,12 +216,11 @@ fn unless_reserved<'a>(name: BStr<'a>, reserved: &[u8]) -> Result<BStr<'a>, Name
         (λ given. (given ≡ name.entry) × (bstr_bytes name.entry ≢ reserved.now))
         (λ fault. (fault ≡ reserved_fault reserved.now) × (bstr_bytes name.entry ≡ reserved.now)) }
 {
-    if name.as_bytes() != reserved {
-        return Ok(name);
+    if name.as_bytes() == reserved {
+        let name = ArrayVec::try_from(reserved).unwrap();
+        return Err(NameError::Reserved { name });
     }
-    Err(NameError::Reserved {
-        name: ArrayVec::try_from(reserved).unwrap(),
-    })
+    Ok(name)
 }
 
 /// Whether the name has a slash, or is valid without one.

@@ -4,15 +4,13 @@
 
 ghost use Rattle.std.specs.Prelude.{◌≡◌, ◌<◌, ◌≤◌, ◌+◌, ◌-◌, ◌^◌, ℕ, Bool, if◌then◌else◌, length, slice_index};
 ghost use Rattle.std.specs.{Int.bit_at, List.list_any, Simd.Lanes.chunk};
-ghost use Rattle.gix_validate.specs.Private.{Lanes.HasParts, Scan.{Finds, NoneBelow, at_both, at_pair}};
+ghost use Rattle.gix_validate.specs.Private.Scan.{Finds, HasParts, NoneBelow, at_both};
 
 use crate::lanes::{LANES, first_lane, halves, pairs, quarters};
 use std::simd::prelude::*;
 
-/// The length of four blocks.
 pub(crate) const FOUR_BLOCKS: usize = 4 * LANES;
 
-/// What is searched for.
 pub(crate) trait Pattern {
     /// Whether a byte and the one beside it are a hit.
     ghost hit: { ℕ → ℕ → Bool };
@@ -28,7 +26,8 @@ pub(crate) trait Pattern {
 #[tactic(auto, using(crate::proofs::Blocks::Parts::pairs_found))]
 pub(crate) fn first_pair<P: Pattern>(text: &[u8]) -> Option<usize>
     requires { 1 ≤ length text.now }
-    ensures { Finds (at_pair P.hit text.now) (length text.now - 1) (length text.now - 1) result }
+    ensures { let pairs = length text.now - 1 in
+        Finds (λ k. P.hit (slice_index text.now k) (slice_index text.now (k + 1))) pairs pairs result }
 {
     first::<P>(&text[..text.len() - 1], &text[1..])
 }
@@ -44,43 +43,23 @@ pub(crate) fn first<P: Pattern>(front: &[u8], back: &[u8]) -> Option<usize>
         return first_by_blocks::<P>(front, back);
     }
     if len >= 8 {
-        let last = len - 8;
-        return first_of_parts::<P>(
-            front,
-            back,
-            8,
-            halves(front, 0, last),
-            halves(back, 0, last),
-        );
+        let at = len - 8;
+        return first_of_parts::<P>(front, back, 8, halves(front, 0, at), halves(back, 0, at));
     }
     if len >= 4 {
-        let last = len - 4;
-        return first_of_parts::<P>(
-            front,
-            back,
-            4,
-            quarters(front, 0, last),
-            quarters(back, 0, last),
-        );
+        return first_of_parts::<P>(front, back, 4, quarters(front), quarters(back));
     }
     if len >= 2 {
-        let last = len - 2;
-        return first_of_parts::<P>(front, back, 2, pairs(front, 0, last), pairs(back, 0, last));
+        return first_of_parts::<P>(front, back, 2, pairs(front), pairs(back));
     }
     if len == 0 {
         return None;
     }
-    first_of_parts::<P>(
-        front,
-        back,
-        1,
-        u8x16::splat(front[0]),
-        u8x16::splat(back[0]),
-    )
+    let first = u8x16::splat(front[0]);
+    first_of_parts::<P>(front, back, 1, first, u8x16::splat(back[0]))
 }
 
-/// The first hit of texts that have a block. The last block overlaps the one before it. Most names
-/// have two blocks at most, which need no loop.
+/// The first hit of texts that have a block. Most names have two blocks at most, which need no loop.
 #[inline(always)]
 fn first_by_blocks<P: Pattern>(front: &[u8], back: &[u8]) -> Option<usize>
     requires same { length back.now ≡ length front.now }
@@ -112,10 +91,8 @@ fn first_of_block<P: Pattern>(front: &[u8], back: &[u8], at: usize) -> Option<us
     requires none { NoneBelow (at_both P.hit front.now back.now) at }
     ensures { Finds (at_both P.hit front.now back.now) (length front.now) (at + LANES) result }
 {
-    let hits = P::hits(
-        u8x16::from_slice(&front[at..]),
-        u8x16::from_slice(&back[at..]),
-    );
+    let block = u8x16::from_slice(&front[at..]);
+    let hits = P::hits(block, u8x16::from_slice(&back[at..]));
     if hits == 0 {
         return None;
     }
@@ -151,8 +128,7 @@ fn first_of_parts<P: Pattern>(
     })
 }
 
-/// Whether a byte of a text of more than four blocks is a hit. Four blocks are checked at a time. The
-/// last four overlap those before them.
+/// Whether a byte of a text of more than four blocks is a hit. Four blocks are checked at a time.
 #[inline(always)]
 pub(crate) fn has<P: Pattern>(text: &[u8]) -> bool
     requires { FOUR_BLOCKS < length text.now }
@@ -181,7 +157,6 @@ fn four_have<P: Pattern>(text: &[u8], at: usize) -> bool
         | block_has::<P>(text, at + 3 * LANES)
 }
 
-/// Whether a byte of the block from this offset on is a hit.
 #[inline(always)]
 fn block_has<P: Pattern>(text: &[u8], at: usize) -> bool
     requires { at + LANES ≤ length text.now }

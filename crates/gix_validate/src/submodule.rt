@@ -1,14 +1,11 @@
 //! Submodule names: any nonempty name without a part `..`. Both `/` and `\` separate parts.
-//!
 //! Nothing else is refused: `/etc` is a submodule name.
-//!
-//! A name is never split: the offsets at which a part may begin are checked.
 
 ghost use Rattle.std.specs.Prelude.{◌≡◌, ◌↔◌, ◌||◌, ◌&&◌, ◌==◌, ℕ, ◌+◌, ◌-◌, ◌≤◌, ◌<◌, false, length, slice_index, IsOk, IfOk, IsTrue, Some};
 ghost use Rattle.std.specs.Str.{byte};
 ghost use Rattle.bstr.specs.BStr.{bstr_bytes};
 ghost use Rattle.gix_validate.specs.Submodule.{fault_of, has_parent_part, is_separator, is_submodule_name, text_of};
-ghost use Rattle.gix_validate.specs.{Private.Parents.is_parent_at, Faults.Validates, Printed.printed};
+ghost use Rattle.gix_validate.specs.{Faults.Validates, Printed.printed};
 
 use crate::scan::{self, Pattern};
 use crate::text::Text;
@@ -50,6 +47,7 @@ impl Error for NameError {}
 
 /// Returns `name` if it is a valid submodule name: it isn't empty, and none of its parts is `..`.
 /// Both `/` and `\` separate parts, and parts may be empty (docs/RULES.md, "Submodule names").
+/// It doesn't allocate. On `Ok` it returns the value that it was passed.
 ///
 /// ```
 /// name(BStr::from("vendor/package"))?; // `vendor/package`
@@ -59,10 +57,6 @@ impl Error for NameError {}
 /// # Errors
 ///
 /// `Empty` for the empty name, and otherwise `ParentComponent`.
-///
-/// # Memory
-///
-/// It doesn't allocate. On `Ok` it returns the value that it was passed.
 #[tactic(auto, unfolding(crate::specs::Submodule::fault_of, crate::specs::Submodule::is_submodule_name))]
 #[inline(always)]
 pub fn name<'a>(name: BStr<'a>) -> Result<BStr<'a>, NameError>
@@ -80,7 +74,6 @@ pub fn name<'a>(name: BStr<'a>) -> Result<BStr<'a>, NameError>
     Ok(name)
 }
 
-/// Two dots in a row.
 enum TwoDots {}
 
 impl Pattern for TwoDots {
@@ -131,7 +124,9 @@ fn has_parent_part(bytes: &[u8]) -> bool
 #[inline(always)]
 fn is_parent_at(bytes: &[u8], at: usize) -> bool
     requires { at + 2 ≤ length bytes.now }
-    ensures { result ≡ is_parent_at bytes.now at }
+    ensures { result ≡ (slice_index bytes.now at == byte "." && slice_index bytes.now (at + 1) == byte "."
+        && (at == 0 || is_separator (slice_index bytes.now (at - 1)))
+        && (at + 2 == length bytes.now || is_separator (slice_index bytes.now (at + 2)))) }
 {
     bytes[at] == b'.'
         && bytes[at + 1] == b'.'
@@ -148,7 +143,6 @@ fn ends_part(bytes: &[u8], at: usize) -> bool
     at == bytes.len() || is_separator(bytes[at])
 }
 
-/// Whether the byte ends a part.
 #[inline(always)]
 fn is_separator(byte: u8) -> bool
     ensures { result ≡ is_separator byte }

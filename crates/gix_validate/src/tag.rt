@@ -4,7 +4,7 @@ ghost use Rattle.std.specs.Prelude.{◌≡◌, ◌↔◌, ◌<◌, ◌≤◌, �
 ghost use Rattle.bstr.specs.BStr.{bstr_bytes};
 ghost use Rattle.gix_validate.specs.Tag.{fault_of, fault_offset_of, faults_at, is_tag_name, offset_at, text_of};
 ghost use Rattle.gix_validate.specs.{Bytes.ends, Faults.{Validates, first_of, at_first_offset}, Printed.printed};
-ghost use Rattle.gix_validate.specs.Private.TagWalk.{fault_of_byte, may_be_faulty};
+ghost use Rattle.gix_validate.specs.Private.Adjacent.{fault_of_byte, may_be_faulty};
 
 use crate::adjacent::{clear_front, is_clear};
 use crate::bytes::may_be_faulty;
@@ -88,7 +88,7 @@ impl Error for NameError {}
 ///
 /// Slashes split a tag name into pieces. No piece is empty, has an invalid byte or a `*`, starts
 /// with a dot, ends in `.lock`, or contains `..` or `@{`. The whole name doesn't end in a dot. The
-/// input needn't be UTF-8.
+/// input needn't be UTF-8. It doesn't allocate. On `Ok` it returns the value that it was passed.
 ///
 /// ```
 /// tag::name(BStr::from("v1.2.3"))?; // `v1.2.3`
@@ -98,10 +98,6 @@ impl Error for NameError {}
 /// # Errors
 ///
 /// The first fault in the order of docs/RULES.md, "Tag names", which is the source of this rule.
-///
-/// # Memory
-///
-/// It doesn't allocate. On `Ok` it returns the value that it was passed.
 #[inline(always)]
 #[tactic(auto, using(crate::proofs::TagNames::ClearTexts::clear_has_no_fault, crate::proofs::TagNames::Grammar::tag_grammar_law))]
 pub fn name<'a>(input: BStr<'a>) -> Result<BStr<'a>, NameError>
@@ -119,10 +115,8 @@ pub fn name<'a>(input: BStr<'a>) -> Result<BStr<'a>, NameError>
 /// The result of `name` for a name that isn't clear. (As a part of `name` it would take four
 /// instructions more of clear names.)
 #[inline(always)]
-#[tactic(auto, using(crate::proofs::TagNames::Grammar::tag_grammar_law))]
 fn name_on_walk<'a>(input: BStr<'a>) -> Result<BStr<'a>, NameError>
     ensures answer { Validates fault_of (bstr_bytes input.entry) result }
-    ensures grammar { IsOk result ↔ IsTrue (is_tag_name (bstr_bytes input.entry)) }
     ensures same { IfOk result (λ name. name ≡ input.entry) }
 {
     match first_fault(input.as_bytes()) {
@@ -132,16 +126,12 @@ fn name_on_walk<'a>(input: BStr<'a>) -> Result<BStr<'a>, NameError>
 }
 
 /// The offset in bytes of the first fault of a tag name, or `None` if it is valid. A fault of the end,
-/// as `EndsWithDot`, is at the last byte; that of an empty name is at 0.
+/// as `EndsWithDot`, is at the last byte; that of an empty name is at 0. It doesn't allocate.
 ///
 /// ```
 /// tag::fault_offset(BStr::from("v1..2")); // Some(3), the second dot
 /// tag::fault_offset(BStr::from("v1.2")); // None
 /// ```
-///
-/// # Memory
-///
-/// It doesn't allocate.
 #[tactic(auto, using(crate::proofs::TagNames::Grammar::offset_grammar_law, crate::proofs::TagNames::ClearTexts::offset_within))]
 pub fn fault_offset(input: BStr<'_>) -> Option<usize>
     ensures offset { result ≡ fault_offset_of (bstr_bytes input.entry) }
@@ -169,16 +159,13 @@ fn offset_of_fault(bytes: &[u8]) -> Option<usize>
     if let Some(offset) = first_offset(bytes) {
         return Some(offset);
     }
-    if bytes[0] == b'.' {
-        return Some(0);
+    match (bytes[0], bytes[last]) {
+        (b'.', _) => Some(0),
+        (_, b'.') => Some(last),
+        _ => None,
     }
-    if bytes[last] == b'.' {
-        return Some(last);
-    }
-    None
 }
 
-/// The least offset that has a fault.
 #[tactic(auto, using(crate::proofs::TagNames::ClearTexts::least_offset))]
 fn first_offset(bytes: &[u8]) -> Option<usize>
     requires { 0 < length bytes.now }
@@ -247,7 +234,7 @@ fn fault_at_first_offset(bytes: &[u8]) -> Option<NameError>
 
 /// The fault of a byte that may be one, after those before it, if another byte follows.
 #[inline]
-#[tactic(auto, unfolding(crate::specs::Private::TagWalk::fault_of_byte, crate::specs::Tag::fault_table, crate::specs::Bytes::is_bad))]
+#[tactic(auto, unfolding(crate::specs::Private::Adjacent::fault_of_byte, crate::specs::Tag::fault_table, crate::specs::Bytes::is_bad))]
 fn fault_of_byte(before: &[u8], byte: u8) -> Option<NameError>
     requires { IsTrue (may_be_faulty byte) }
     ensures { result ≡ fault_of_byte before.now byte }

@@ -26,7 +26,6 @@ pub struct Text<'a> {
 impl Text<'_> {
     ghost use Rattle.gix_validate.specs.Printed.{printed};
 
-    /// The text that is nothing but words.
     pub(crate) fn plain(words: &'static str) -> Text<'static>
         requires { length words.now ≤ MAX_TEXT }
         ensures { printed result ≡ words.now }
@@ -85,7 +84,6 @@ pub fn escape(byte: u8) -> ArrayString<4>
     shown
 }
 
-/// The hexadecimal digit of a number below sixteen, in lower case.
 fn hex_digit(number: u8) -> char
     requires { number < 16 }
     ensures digit { result ≡ hex_digit number }

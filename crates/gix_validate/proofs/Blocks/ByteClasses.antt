@@ -3,12 +3,10 @@ use Rattle.gix_validate.proofs.Common.{◌≡◌, ℕ, suc, ◌+◌, ◌/◌, �
 use Rattle.gix_validate.proofs.Common.{bit_or, refl, sym, ap, ap₂, ◌∙◌, arith, w8, Fits, list_any, byte, agree_below, agree_below_at, bit_at_and, bit_at_or}
 use Rattle.gix_validate.proofs.Common.{same_from_bits, le_or_l, length-chunk, length-zip2, zip2_splat, get_or-map, length-map, nat_tests}
 use Rattle.gix_validate.proofs.Blocks.Parts.{AreAll, parts_cover, AreShort, both_cover, either_among, any_overlap, any_two_chunks, whole_chunk}
-use Rattle.gix_validate.proofs.Blocks.Lanes.{same_bytes}
+use Rattle.gix_validate.{proofs.Blocks.Lanes.same_bytes, specs.Private.Classes.{class_of, any_class, has_class, HaveClassesOf, is_classed}}
 use lib.Lanes.{chunk, zip2, Each1}
-use Rattle.gix_validate.specs.declared.path.classes.TheConstants.{BY_LOW_NIBBLE, BY_HIGH_NIBBLE}
-use Rattle.gix_validate.specs.declared.path.classes.TheConstants.{SLASH, SEPARATORS, ILLEGAL, ANY}
-use Rattle.gix_validate.specs.{Private.{Lanes.{HasParts, is_nonzero}, Ordinary.is_classed}, Windows.is_illegal_byte, Bytes.is_among}
-use Rattle.gix_validate.specs.Private.Classes.{class_of, any_class, has_class, HaveClassesOf}
+use Rattle.gix_validate.specs.declared.path.classes.TheConstants.{BY_LOW_NIBBLE, BY_HIGH_NIBBLE, SLASH, SEPARATORS, ILLEGAL, ANY}
+use Rattle.gix_validate.specs.{Private.Scan.{HasParts, is_nonzero}, Windows.is_illegal_byte, Bytes.is_among}
 
 pub classes_by_tables : (v : List ℕ) → Each1 (Fits w8) v
     → map (λ b. bit_and (get_or BY_LOW_NIBBLE (b % 16) 0) (get_or BY_HIGH_NIBBLE (b / 16) 0)) v ≡ map class_of v

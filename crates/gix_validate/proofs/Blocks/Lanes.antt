@@ -6,8 +6,12 @@ use Rattle.gix_validate.proofs.Common.{get_or_past, length-map, and_mask, le_or_
 use Rattle.gix_validate.proofs.Common.{mask_l-mod, bit_mask_l, bitmask_splat, swz_l, SwzOk, bit_at, list_any, codes, ◌==◌, if◌then◌else◌, byte}
 use lib.Lanes.{zip2, mask_l, fold_l, top, Each1, sel_l}
 use Rattle.gix_validate.specs.declared.adjacent.TheConstants.{CLASSES_BY_LOW_NIBBLE, CLASSES_BY_HIGH_NIBBLE, SUSPECT_AFTER, AFTER_DOT, AFTER_SLASH, ANYWHERE}
-use Rattle.gix_validate.specs.{Private.{Lanes.is_nonzero, TagWalk.may_be_faulty}, Bytes.{is_bad, is_among, ends}}
-use Rattle.gix_validate.specs.Private.{Adjacent.{is_suspect, suspect_at, IsClear}, Scan.{NoneBelow, at_pair}}
+use Rattle.gix_validate.specs.{Private.Scan.is_nonzero, Bytes.{is_bad, is_among, ends}}
+use Rattle.gix_validate.specs.Private.{Adjacent.{is_suspect, may_be_faulty, suspect_at, IsClear}, Scan.NoneBelow}
+
+-- whether the byte at this offset and the next one are a hit
+abbrev pub at_pair : (ℕ → ℕ → Bool) → List ℕ → ℕ → Bool
+at_pair hit x k = hit (get_or x k 0) (get_or x (k + 1) 0)
 
 -- sixteen lanes of bytes
 abbrev pub IsBlock : List ℕ → Type 0

@@ -4,8 +4,12 @@ use Rattle.gix_validate.proofs.Common.{replicate, refl, ap, ap₂, ◌∙◌, ar
 use Rattle.gix_validate.proofs.Common.{agree_below_at, cases_lt, get_or-map, get_or-replicate, get_or_append_left, get_or-append_right, drop-drop}
 use Rattle.gix_validate.proofs.Common.{take-append-drop, get_or-take, length-take-le, list_any, All-from_get_or, list_any-append, list_any_at, list_any_none}
 use Rattle.gix_validate.proofs.Common.{length-chunk, get_or-chunk, common_steps, nat_tests, bit_at, bit_at_above, bit_at-zero}
-use Rattle.gix_validate.specs.{Bytes.is_among, Private.{Lanes.{HasParts, offset_of}, Scan.{NoneBelow, IsFirst, Finds, at_both, at_pair}}}
+use Rattle.gix_validate.{specs.{Bytes.is_among, Private.Scan.{HasParts, NoneBelow, IsFirst, Finds, at_both}}, proofs.Blocks.Lanes.at_pair}
 use lib.Lanes.{chunk, pick_l}
+
+-- the offset of the byte in lane k of a block that has parts
+abbrev pub offset_of : ℕ → ℕ → ℕ → ℕ → ℕ
+offset_of n first second k = cond (ltb (k % (n + n)) n) (first + k % (n + n)) (second + (k % (n + n) - n))
 
 -- no element passes if and only if none does at its offset
 pub none_at : (p : ℕ → Bool) (v : List ℕ) → (list_any p v ≡ false) ↔ ((k : ℕ) → k < length v → p (get_or v k 0) ≡ false)

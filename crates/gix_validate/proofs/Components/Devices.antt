@@ -2,10 +2,10 @@
 use Rattle.gix_validate.proofs.Common.{◌≡◌, ℕ, ◌+◌, ◌-◌, ◌%◌, ◌<◌, ◌≤◌, bit_and, Bool, true, false, ◌&&◌, ◌||◌, cond, eqb, List, [], ◌∷◌, ◌++◌, length, drop}
 use Rattle.gix_validate.proofs.Common.{get_or, refl, sym, ap, ◌∙◌, arith, codes, IsTrue, ◌==◌, map, nat_le, list_all, list_any, byte, bytes_eq, nat_tests}
 use Rattle.gix_validate.proofs.Common.{bytes_eq-Decides, or-false, common_steps, get_or-drop, drop-drop, take_all, length-drop, length-map}
-use Rattle.gix_validate.proofs.Texts.Words.{device_keeps, word_head, none_left, form_left, form_all_left, form_word}
-use Rattle.gix_validate.specs.declared.path.windows.TheConstants.{BY_FIRST, BY_SECOND, BY_THIRD, DEVICES}
+use Rattle.gix_validate.proofs.Texts.Words.{stays_in_form, device_keeps, word_head, none_left, form_left, form_all_left, form_word}
+use Rattle.gix_validate.specs.declared.path.windows.TheConstants.{BY_LETTER, DEVICES}
 use Rattle.gix_validate.specs.{Bytes.{is_empty, is_among, lower, lower_byte, begins}, Ntfs.is_digit}
-use Rattle.gix_validate.specs.{Windows.{device_form, devices, is_device, is_device_form}, Private.Forms.stays_in_form}
+use Rattle.gix_validate.specs.Windows.{device_form, devices, is_device, is_device_form}
 
 abbrev pub is_device_cut : ℕ → Bool
 is_device_cut b = is_among (codes ".:") b
@@ -63,7 +63,8 @@ letters_head x _ ws word = grind arith
 
 -- which of the six words may have letters with these low bits, a bit for each
 unfoldable pub bits : ℕ → ℕ → ℕ → ℕ
-bits first second third = bit_and (bit_and (get_or BY_FIRST first 0) (get_or BY_SECOND second 0)) (get_or BY_THIRD third 0)
+bits first second third =
+    bit_and (bit_and (get_or (get_or BY_LETTER 0 []) first 0) (get_or (get_or BY_LETTER 1 []) second 0)) (get_or (get_or BY_LETTER 2 []) third 0)
 
 abbrev pub bits_of : List ℕ → ℕ
 bits_of x = bits (get_or x 0 0 % 32) (get_or x 1 0 % 32) (get_or x 2 0 % 32)

@@ -1,7 +1,6 @@
 -- The front of a text before a cut, less what is trimmed from its end: what one byte more in front does to it.
 use Rattle.gix_validate.proofs.Common.{◌≡◌, ℕ, Bool, true, false, ◌&&◌, cond, List, [], ◌∷◌, ◌++◌, arith, before_first, length-reverse, prefix_len-append}
-use Rattle.gix_validate.proofs.Common.{suffix_len-le-length, reverse_onto, nat_tests}
-use Rattle.gix_validate.specs.{Bytes.is_empty, Ntfs.without_end}
+use Rattle.gix_validate.{proofs.Common.{suffix_len-le-length, reverse_onto, nat_tests}, specs.{Bytes.is_empty, Ntfs.without_end}}
 
 -- what is before a cut, less what is trimmed from its end
 abbrev pub form : (ℕ → Bool) → (ℕ → Bool) → List ℕ → List ℕ

@@ -1,10 +1,9 @@
 -- The HFS form: what the bytes in front do to it, and that it is the units without the ignored characters.
 use Rattle.gix_validate.proofs.Common.{◌≡◌, ℕ, suc, ◌+◌, ◌-◌, ◌<◌, ◌≤◌, Bool, true, false, ◌&&◌, not, nat_le, eqb, List, [], ◌∷◌, ◌++◌, length, take, drop}
 use Rattle.gix_validate.proofs.Common.{get_or, ◌⊎◌, refl, inl, inr, arith, list_all, list_any, filter, concat, bytes_eq, cases_Bool, nat_tests, common_steps}
-use Rattle.gix_validate.proofs.Common.{length-drop}
+use Rattle.gix_validate.{proofs.Common.{◌||◌, length-drop}, specs.Units.{is_within, fitting_len, whole_sequences, first_unit_len, units_within}}
 use Rattle.gix_validate.proofs.{Texts.LetterCase.lower_byte-is, Components.FirstUnit.{row_for, unit_by_row}}
-use Rattle.gix_validate.specs.{Bytes.{lower, lower_byte}, Hfs.{is_ignored, hfs_form, is_ignored_unit}, Private.Ordinary.is_lead}
-use Rattle.gix_validate.specs.Units.{is_within, fitting_len, whole_sequences, first_unit_len, units_within}
+use Rattle.gix_validate.specs.{Bytes.{lower, lower_byte}, Hfs.{is_ignored, hfs_form, is_ignored_unit}}
 
 -- a byte that is second or later in a whole sequence
 abbrev pub is_next : ℕ → Bool
@@ -92,6 +91,10 @@ hfs_form-units _ _ enough = grind arith
 pub both_begin : (x rest word : List ℕ) (b i : ℕ) → i < length word → hfs_form x ≡ b ∷ hfs_form rest
     → bytes_eq (lower (hfs_form x)) (drop i word) ≡ (eqb (lower_byte b) (get_or word i 0) && bytes_eq (lower (hfs_form rest)) (drop (i + 1) word))
 both_begin x rest word b i h e = grind (arith, common_steps)
+
+-- each of the ignored characters begins with one of these bytes
+abbrev pub is_lead : ℕ → Bool
+is_lead b = eqb b 0xE2 || eqb b 0xEF
 
 -- a name without the first byte of an ignored character is its own form
 pub hfs_form_same : (x : List ℕ) → list_any is_lead x ≡ false → hfs_form x ≡ x

@@ -1,8 +1,7 @@
 -- Joined texts, one text after the other, and how long they are.
 use Rattle.gix_validate.proofs.Common.{◌≡◌, ℕ, zero, suc, ◌+◌, ◌-◌, ◌<◌, ◌≤◌, List, [], ◌∷◌, ◌++◌, length, take, get_or, map, cond, eqb, ap, append_assoc}
 use Rattle.gix_validate.proofs.Common.{length-append, arith, None, All, sum_by, byte, take_more, get_or-map, length-map, All-map, list_all-from_AllPass}
-use Rattle.gix_validate.proofs.Common.{common_steps}
-use Rattle.gix_validate.proofs.{Texts.Pieces.{pieces-joined, joined-push}, Components.Laws.basic_law}
+use Rattle.gix_validate.proofs.{Common.common_steps, Texts.Pieces.{pieces-joined, joined-push}, Components.Laws.basic_law}
 use Rattle.gix_validate.specs.{Pieces.{pieces, joined, has_no_slash}, Component.fault_of, ComponentLaws.{no_protections, IsBasicName}}
 
 -- The first texts joined are no longer than all.

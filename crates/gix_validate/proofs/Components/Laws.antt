@@ -9,9 +9,8 @@ use Rattle.gix_validate.specs.ComponentLaws.{HasOnlySwitchesOf, IsValidUnderFewe
 use Rattle.gix_validate.specs.ComponentLaws.{IsBasicName, DeviceIgnoresCase, DeviceGoesByForm}
 use Rattle.gix_validate.specs.declared.path.{ComponentError.ComponentError, ComponentMode.ComponentMode, ComponentOptions.ComponentOptions}
 use Rattle.gix_validate.specs.{Bytes.{lower, lower_byte, is_among}, Faults.first_of, Pieces.has_no_slash, Hfs.{is_ignored, hfs_form}}
-use Rattle.gix_validate.specs.Ntfs.{ntfs_form, is_git_form, is_modules_form}
+use Rattle.gix_validate.specs.{Ntfs.{ntfs_form, is_git_form, is_modules_form}, Component.{conditions, fault_of, is_component}}
 use Rattle.gix_validate.specs.Windows.{device_form, is_device_form, is_device, is_illegal_byte, is_illegal}
-use Rattle.gix_validate.specs.Component.{conditions, fault_of, is_component}
 use Rattle.std.proofs.Math.ListN.{get_or-map}
 
 -- The first unit is as long in lower case: no range of the table parts a letter from its small letter.
@@ -58,12 +57,11 @@ is_illegal-lower : (x : List ℕ) → is_illegal (lower x) ≡ is_illegal x
 unfolding is_illegal is_illegal_byte
 is_illegal-lower x = rw (list_any-lower is_illegal_byte refl x, ends-lower (codes ".") refl x, ends-lower (codes " ") refl x)
 
-ruleset kept_by_lower = (bytes_eq-lower, list_any-lower, prefix-lower, device_case_law, is_illegal-lower, lower-lower, hfs_form-lower, ntfs_form-lower)
-
 -- A change of letter case changes neither acceptance nor the fault.
 pub case_law : (options : ComponentOptions) (mode : Option ComponentMode) (x : List ℕ) → FaultIgnoresCase options mode x
 unfolding fault_of conditions
-case_law options mode x = grind (arith, kept_by_lower)
+case_law options mode x =
+    grind (arith, bytes_eq-lower, list_any-lower, prefix-lower, device_case_law, is_illegal-lower, lower-lower, hfs_form-lower, ntfs_form-lower)
 
 pub device_form_law : (x : List ℕ) → DeviceGoesByForm x
 unfolding is_device device_form

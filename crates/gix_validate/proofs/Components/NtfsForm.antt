@@ -1,9 +1,8 @@
 -- NTFS forms: which text ends one, and which names have a given form.
 use Rattle.gix_validate.proofs.Common.{◌≡◌, ℕ, zero, suc, Bool, true, false, ◌&&◌, cond, eqb, List, [], ◌∷◌, length, drop, get_or, refl, arith, codes, IsTrue}
-use Rattle.gix_validate.proofs.Common.{not, ◌==◌, nat_tests, list_all, byte, bytes_eq}
-use Rattle.gix_validate.proofs.{Components.Forms.form_at, Texts.Words.{ntfs_keeps, form_word}}
+use Rattle.gix_validate.{proofs.Common.{not, ◌==◌, nat_tests, list_all, byte, bytes_eq}, specs.Private.Scan.{IsFirst, NoneBelow, at_both}}
+use Rattle.gix_validate.proofs.{Components.Forms.form_at, Texts.Words.{stays_in_form, ntfs_keeps, form_word}}
 use Rattle.gix_validate.specs.{Bytes.{is_empty, is_among, lower, lower_byte, begins}, Ntfs.{ntfs_form, is_git_form}}
-use Rattle.gix_validate.specs.Private.{Forms.stays_in_form, Scan.{IsFirst, NoneBelow, at_both}}
 
 abbrev pub is_ntfs_cut : ℕ → Bool
 is_ntfs_cut b = is_among (codes ":\\") b

@@ -3,13 +3,12 @@ use Rattle.gix_validate.proofs.Common.{◌≡◌, ℕ, ◌-◌, ◌<◌, ◌≤�
 use Rattle.gix_validate.proofs.Common.{arith, codes, slice_index, is_some, ◌==◌, list_any, byte, bytes_eq, or_parts, bytes_eq-Decides, length-map, nat_tests}
 use Rattle.gix_validate.proofs.Common.{list_any_none, list_any_at, common_steps}
 use Rattle.gix_validate.proofs.{Components.Laws.case_law, OnLiterals.components_on_literals, Texts.LetterCase.list_any-lower}
-use Rattle.gix_validate.proofs.{Texts.Endings.ends_read, Components.{HfsForm.hfs_form_same, Forms.{form, form_at}}}
+use Rattle.gix_validate.proofs.{Texts.Endings.ends_read, Components.{HfsForm.{is_lead, hfs_form_same}, Forms.{form, form_at}}}
 use Rattle.gix_validate.specs.declared.path.ComponentError.TheVariants.{WindowsReservedName, PathSeparator, DotGitDir, SymlinkedGitModules, Relative}
-use Rattle.gix_validate.specs.declared.path.{ComponentMode.ComponentMode, ComponentOptions.ComponentOptions}
+use Rattle.gix_validate.specs.{declared.path.{ComponentMode.ComponentMode, ComponentOptions.ComponentOptions}, Private.Classes.is_classed}
 use Rattle.gix_validate.specs.{Bytes.{is_among, ends, lower}, Faults.when, Units.first_unit_len}
 use Rattle.gix_validate.specs.Ntfs.{ntfs_form, is_git_form, is_modules_form, is_short_name}
 use Rattle.gix_validate.specs.{Windows.{is_device, is_illegal, is_illegal_byte}, Component.{conditions, fault_of}}
-use Rattle.gix_validate.specs.Private.Ordinary.{is_lead, is_classed}
 
 abbrev is_tilde : ℕ → Bool
 is_tilde b = b == byte "~"

@@ -3,11 +3,10 @@ use Rattle.gix_validate.proofs.Common.{◌≡◌, ℕ, suc, ◌+◌, ◌<◌, �
 use Rattle.gix_validate.proofs.Common.{sym, ap, ◌∙◌, arith, codes, ◌⊎◌, inl, inr, ◌==◌, nat_le, slice_index, list_all, list_any, range_with_len, byte, bytes_eq}
 use Rattle.gix_validate.proofs.Common.{take-map, drop-map, length-map, get_or-drop, drop-drop, take-append-drop, length-take-le, at_drop_more, list_all-append}
 use Rattle.gix_validate.proofs.Common.{bytes_eq-Decides, or_cases, and_parts, false≢true, nat_tests, common_steps}
-use Rattle.gix_validate.proofs.Texts.LetterCase.{SkipsCase, test-lower_byte}
+use Rattle.gix_validate.proofs.Texts.{LetterCase.{SkipsCase, test-lower_byte}, Words.stays_in_form}
 use Rattle.gix_validate.proofs.Components.NtfsForm.{ntfs_form-at, ntfs_form-none, dot_stays, ntfs_other}
 use Rattle.std.proofs.lemmas.List.FromFn.{get_or-range_with_len}
 use Rattle.gix_validate.specs.{Bytes.{is_empty, lower, lower_byte}, Ntfs.{ntfs_form, is_modules_form, is_short_name, is_digit}}
-use Rattle.gix_validate.specs.Private.Forms.{stays_in_form}
 
 bool_same : (s t : Bool) → (s ≡ true → t ≡ true) → (t ≡ true → s ≡ true) → s ≡ t
 bool_same s t forward back = grind arith

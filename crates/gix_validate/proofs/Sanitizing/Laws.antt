@@ -2,14 +2,12 @@
 use Rattle.gix_validate.proofs.Common.{◌≡◌, ◌≢◌, ◌⊎◌, ℕ, ◌≤◌, max, true, false, List, [], ◌∷◌, length, map, refl, sym, ap, ◌∙◌, arith, length-append}
 use Rattle.gix_validate.proofs.Common.{length-take, codes, not, ◌↔◌, IsTrue, filter, list_all, byte, bytes_eq, and_from, not_from_false, cond_both}
 use Rattle.gix_validate.proofs.Common.{false_from_ne_true, same_from_push, length-map, nil_from_length, join_with_byte-slice_split, bytes_eq-Decides}
-use Rattle.gix_validate.proofs.Common.{common_steps, nat_tests}
+use Rattle.gix_validate.proofs.{Common.{common_steps, nat_tests}, Texts.{Endings.ends-false, Pieces.{pieces_apart, pieces-joined}}}
 use Rattle.gix_validate.proofs.Sanitizing.MendedPieces.{mend_good, mend-own, mend_apart, length-mend, is_good_piece-empty}
 use Rattle.gix_validate.proofs.Texts.Joined.{dash_last_of-good, dash_last_of-apart, length-dash_last_of, dash_last_of-cons, joined-dash_last_of, good_nonempty}
-use Rattle.gix_validate.proofs.Texts.{Endings.ends-false, Pieces.{pieces_apart, pieces-joined}}
 use Rattle.gix_validate.specs.Sanitized.{cleaned, cut, nonempty_pieces, mended_pieces, dash_last, dash_last_of, repaired_dot, repaired_at, repaired_nothing}
-use Rattle.gix_validate.specs.Sanitized.{sanitized, KeepsGood, IsPiecewise}
+use Rattle.gix_validate.specs.{Sanitized.{sanitized, KeepsGood, IsPiecewise}, Reference.is_partial_name}
 use Rattle.gix_validate.specs.{Bytes.{is_bad, is_empty, ends}, Pieces.{pieces, joined, has_no_slash}, Tag.{is_good_piece, is_tag_name}}
-use Rattle.gix_validate.specs.Reference.{is_partial_name}
 
 -- what becomes of these pieces
 abbrev pub mended_of : List (List ℕ) → List (List ℕ)

@@ -2,8 +2,7 @@
 use Rattle.gix_validate.proofs.Common.{◌≡◌, ◌≢◌, ℕ, ◌≤◌, ◌-◌, true, false, List, [], ◌∷◌, ◌++◌, length, take, drop, refl, sym, ap, ◌∙◌, arith, length-append}
 use Rattle.gix_validate.proofs.Common.{length-take, append_assoc, append-nil, codes, ◌&&◌, byte, bytes_eq, and_parts, false_from_ne_true, take_all, take-take}
 use Rattle.gix_validate.proofs.Common.{bytes_eq-Decides, nat_tests, list_all-append}
-use Rattle.gix_validate.proofs.Texts.Endings.{ends-true, ends-no}
-use Rattle.gix_validate.specs.{Bytes.ends, Pieces.has_no_slash, Sanitized.{cut, is_locks}}
+use Rattle.gix_validate.{proofs.Texts.Endings.{ends-true, ends-no}, specs.{Bytes.ends, Pieces.has_no_slash, Sanitized.{cut, is_locks}}}
 
 -- More `.lock`s follow `.lock`s.
 is_locks-append : (x r : List ℕ) → is_locks r ≡ true → is_locks (x ++ r) ≡ is_locks x

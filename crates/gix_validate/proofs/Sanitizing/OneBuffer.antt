@@ -2,15 +2,13 @@
 use Rattle.gix_validate.proofs.Common.{◌≡◌, ◌≢◌, ℕ, zero, suc, ◌+◌, ◌-◌, ◌≤◌, ◌<◌, true, false, List, [], ◌∷◌, ◌++◌, length, take, drop, set, get_or, refl, sym}
 use Rattle.gix_validate.proofs.Common.{ap, inl, inr, add-one, arith, length-set, append-nil, max, codes, ◌==◌, if◌then◌else◌, Option, Some, None, byte}
 use Rattle.gix_validate.proofs.Common.{cases_Bool, nat_tests, take_more, take_more_set, drop_all, drop-set-lt, drop-drop, drop_more, take-append-le}
-use Rattle.gix_validate.proofs.Common.{length-take}
+use Rattle.gix_validate.proofs.{Common.length-take, Texts.Endings.ends-no, TagNames.ClearTexts.{no_lock, pair_quiet, clear_is_partial}}
 use Rattle.gix_validate.proofs.Sanitizing.WrittenPiece.{in_piece, closed, finished, GivesWhole, GivesWhole-start, GivesWhole-slash}
 use Rattle.gix_validate.proofs.Sanitizing.WrittenPiece.{GivesWhole-byte, GivesWhole-end}
-use Rattle.gix_validate.proofs.{Texts.Endings.ends-no, TagNames.ClearTexts.{no_lock, pair_quiet, clear_is_partial}}
 use Rattle.gix_validate.proofs.Sanitizing.{Laws.{sanitized-own, sanitized_laws}, LockSuffixes.cut-own, MendedPieces.added}
 use Rattle.std.proofs.lemmas.Slice.{drop-append-drop}
 use Rattle.gix_validate.specs.Sanitized.{Dots, Other, byte_of, mended_pieces, repaired_dot, repaired_at, repaired_nothing, sanitized}
-use Rattle.gix_validate.specs.Private.{Adjacent.{is_suspect, suspect_at}, Scan.NoneBelow, TagWalk.may_be_faulty}
-use Rattle.gix_validate.specs.Pieces.{is_slash, joined}
+use Rattle.gix_validate.specs.{Private.{Adjacent.{is_suspect, may_be_faulty, suspect_at}, Scan.NoneBelow}, Pieces.{is_slash, joined}}
 
 -- The text is mended up to the offset `read`; this byte was before it.
 pub record MendedUpTo (whole text : List ℕ) (end read previous : ℕ) : Type 0 where

@@ -1,12 +1,11 @@
 -- What is not suspect has no fault: offset by offset, and so a clear text. The walk over the other bytes.
 use Rattle.gix_validate.proofs.Common.{◌≡◌, ℕ, zero, suc, ◌+◌, ◌-◌, ◌<◌, ◌≤◌, true, false, eqb, List, [], ◌∷◌, length, take, get_or, refl, arith, None, add-one}
 use Rattle.gix_validate.proofs.Common.{length-take, not, ◌&&◌, Some, inl, inr, false_from_ne_true, cases_lt, take_all, get_or-take, bytes_eq-Decides, codes}
-use Rattle.gix_validate.proofs.Common.{byte, nat_tests}
+use Rattle.gix_validate.{proofs.Common.{byte, nat_tests}, specs.Private.{Adjacent.{is_suspect, suspect_at, IsClear}, Scan.NoneBelow}}
 use Rattle.gix_validate.proofs.TagNames.FaultTable.{at_first_offset_none, is_none-fault_of_byte, at_first_offset_split, at_first_found, quiet, offset_split, offset_of_byte}
-use Rattle.gix_validate.proofs.{Texts.Endings.{ends_read, lock_read}, TagNames.Grammar.tag_grammar_law}
+use Rattle.gix_validate.proofs.{Texts.Endings.{ends_read, lock_read}, TagNames.{FaultTable.{fault_of_byte_at, NoFaultBelow}, Grammar.tag_grammar_law}}
 use Rattle.gix_validate.specs.{declared.tag.NameError.{NameError, TheVariants.LockFileSuffix}, Bytes.{is_among, ends}}
 use Rattle.gix_validate.specs.{Tag.{fault_of, fault_offset_of, faults_at, offset_at}, Reference.is_partial_name}
-use Rattle.gix_validate.specs.Private.{Adjacent.{is_suspect, suspect_at, IsClear}, Scan.NoneBelow, TagWalk.{fault_of_byte_at, NoFaultBelow}}
 use Rattle.gix_validate.specs.Faults.{first_of, at_first_offset, when}
 
 -- a byte that isn't suspect has no fault, where no dot or slash follows what it may not follow

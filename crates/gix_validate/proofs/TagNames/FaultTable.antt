@@ -4,7 +4,7 @@ use Rattle.gix_validate.proofs.Common.{◌∷◌, ◌++◌, length, arith, Some,
 use Rattle.gix_validate.proofs.Common.{append_assoc, take_all, take_more, drop_all, length-drop, nat_tests}
 use Rattle.gix_validate.proofs.Texts.Endings.{ends_read, lock_read}
 use Rattle.gix_validate.specs.declared.{bytes.TheConstants.MAY_BE_FAULTY, tag.NameError.{NameError, TheVariants.LockFileSuffix}}
-use Rattle.gix_validate.specs.{Private.TagWalk.{may_be_faulty, fault_of_byte, fault_of_byte_at}, Bytes.{is_bad, ends, is_empty}}
+use Rattle.gix_validate.specs.{Private.Adjacent.{may_be_faulty, fault_of_byte}, Bytes.{is_bad, ends, is_empty}}
 use Rattle.gix_validate.specs.{Faults.{when, ◌orelse◌, first_of, at_first_offset}, Tag.{fault_table, faults_at, offset_at}}
 
 -- ---- the least offset at which a function gives something
@@ -40,6 +40,14 @@ at_first_found f n zero a within none here = absurd (omega arith)
 at_first_found f n (suc m) a within none here = grind (arith, cases_lt n m, at_first_offset_none f n none, at_first_found f n m a)
 
 -- ---- the faults of bytes
+
+-- the fault of the byte at offset i by what is before it
+abbrev pub fault_of_byte_at : List ℕ → ℕ → Option NameError
+fault_of_byte_at x i = fault_of_byte (take i x) (get_or x i 0)
+
+-- no offset before n has a fault by what is before it
+abbrev pub NoFaultBelow : List ℕ → ℕ → Type 0
+NoFaultBelow x n = (p : ℕ) → p < n → fault_of_byte_at x p ≡ None
 
 -- a text that doesn't end in `k` doesn't end in `.lock`
 pub lock_ends_in_k : (y : List ℕ) → ends y (codes "k") ≡ false → ends y (codes ".lock") ≡ false

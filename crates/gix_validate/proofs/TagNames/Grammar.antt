@@ -5,9 +5,8 @@ use Rattle.gix_validate.proofs.Texts.Pieces.{pieces_front, pieces_alone}
 use Rattle.gix_validate.proofs.Texts.Endings.{last_piece, last_piece_push, ends_last_piece, slash_last, last_piece_apart, ends_cons}
 use Rattle.gix_validate.proofs.TagNames.FaultTable.{is_none-when, is_none-fault_of_byte, walked, has_lock_suffix, at_first_offset_split, at_first_offset_walked}
 use Rattle.gix_validate.specs.{Bytes.{is_bad, is_empty, begins, ends, holds}, Pieces.{is_slash, pieces, has_no_slash}}
-use Rattle.gix_validate.specs.Private.TagWalk.{fault_of_byte}
 use Rattle.gix_validate.specs.Tag.{is_good_piece, is_tag_name, fault_of, fault_offset_of, faults_at, offset_at}
-use Rattle.gix_validate.specs.Faults.{first_of, at_first_offset}
+use Rattle.gix_validate.specs.{Faults.{first_of, at_first_offset}, Private.Adjacent.fault_of_byte}
 use native.Mathlib.Omega.{arith}
 
 -- a byte that no good piece has

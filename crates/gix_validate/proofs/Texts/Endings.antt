@@ -1,8 +1,7 @@
 -- How a text ends: as an equation, by its bytes, and by its last piece.
 use Rattle.gix_validate.proofs.Common.{◌≡◌, ◌≢◌, ℕ, ◌-◌, ◌<◌, ◌≤◌, true, false, cond, eqb, List, [], ◌∷◌, ◌++◌, length, take, get_or, refl, ◌∙◌, arith}
 use Rattle.gix_validate.proofs.Common.{length-append, bytes_eq-Decides, take-append-drop, drop_at, list_all-append, false_from_ne_true, codes, byte}
-use Rattle.gix_validate.proofs.Common.{common_steps, nat_tests}
-use Rattle.gix_validate.specs.{Bytes.{is_empty, ends}, Pieces.{is_slash, has_no_slash}}
+use Rattle.gix_validate.{proofs.Common.{common_steps, nat_tests}, specs.{Bytes.{is_empty, ends}, Pieces.{is_slash, has_no_slash}}}
 
 pub ends-true : (x back : List ℕ) → ends x back ≡ true → x ≡ take (length x - length back) x ++ back
 ends-true x back h = grind (arith, bytes_eq-Decides, take-append-drop)

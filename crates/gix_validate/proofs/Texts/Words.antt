@@ -1,8 +1,12 @@
 -- A form against a word, without ASCII case: byte by byte from the front, and what then is left of the form.
 use Rattle.gix_validate.proofs.Common.{◌≡◌, ℕ, ◌+◌, ◌<◌, ◌≤◌, Bool, true, false, ◌&&◌, cond, eqb, List, [], ◌∷◌, ◌++◌, get_or, length, drop, refl, arith, codes}
-use Rattle.gix_validate.proofs.Common.{append-nil, ◌==◌, list_all, byte, bytes_eq, nat_tests, common_steps}
+use Rattle.gix_validate.proofs.Common.{append-nil, not, ◌==◌, list_all, byte, bytes_eq, nat_tests, common_steps}
 use Rattle.gix_validate.proofs.{Components.Forms.{form, form_at}, Texts.LetterCase.{test-lower_byte, eqb_turned}}
-use Rattle.gix_validate.specs.{Bytes.{is_empty, is_among, lower, lower_byte, begins}, Private.Forms.stays_in_form}
+use Rattle.gix_validate.specs.{Bytes.{is_empty, is_among, lower, lower_byte, begins}}
+
+-- a byte that ends no form and isn't cut from its end
+abbrev pub stays_in_form : ℕ → Bool
+stays_in_form b = not (is_among (codes " .:\\") b)
 
 -- plain bytes are neither a cut nor trimmed
 abbrev pub KeepsPlain : (ℕ → Bool) → (ℕ → Bool) → Type 0
@@ -10,11 +14,6 @@ KeepsPlain cut trim = (b : ℕ) → stays_in_form b ≡ true → (cut b ≡ fals
 
 pub none_left : (x : List ℕ) → bytes_eq (lower x) [] ≡ is_empty x
 none_left x = grind arith
-
--- the form begins with what the text begins with, or is empty
-pub other_head : (cut trim : ℕ → Bool) (b : ℕ) (x : List ℕ) (w : ℕ) (ws : List ℕ) → eqb (lower_byte b) w ≡ false
-    → bytes_eq (lower (form cut trim (b ∷ x))) (w ∷ ws) ≡ false
-other_head cut trim b x w ws other = grind arith
 
 pub plain_head : (cut trim : ℕ → Bool) → KeepsPlain cut trim → (b : ℕ) (x : List ℕ) → stays_in_form b ≡ true → form cut trim (b ∷ x) ≡ b ∷ form cut trim x
 plain_head cut trim keeps b x plain = grind (arith, form_at)

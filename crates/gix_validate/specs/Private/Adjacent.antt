@@ -1,15 +1,21 @@
--- Clear texts, recognised by each two adjacent bytes and by the end: each is a tag name, and most tag names are
--- clear.
-use Rattle.std.specs.{Prelude.{◌≡◌, ℕ, ◌<◌, Bool, false, ◌==◌, ◌&&◌, ◌||◌, List, ◌∷◌, length, codes}, Str.byte}
+-- Clear texts, recognised by each two adjacent bytes and by the end: each is a tag name, and most tag names are clear.
+use Rattle.std.specs.{Prelude.{◌≡◌, ℕ, ◌<◌, Bool, false, ◌==◌, ◌&&◌, ◌||◌, List, [], ◌∷◌, length, codes, Option}, Str.byte}
 use Rattle.gix_validate.specs.{Private.Scan.{NoneBelow, at_both}, Bytes.{is_bad, is_among, ends}}
+use Rattle.gix_validate.specs.{declared.tag.NameError.NameError, Faults.first_of, Tag.fault_table}
 
--- After the byte before it, the byte may be the offset of a fault, or lead to one: it is one that no reference name
--- has, a `*`, or a `{`, which may follow a `@`; or it is a dot or a slash after a dot or a slash; or it is an
--- `l` after a dot, as in `.lock`.
+-- the byte may have a fault by what is before it; no other byte ever has one
+abbrev pub may_be_faulty : ℕ → Bool
+may_be_faulty b = is_bad b || is_among (codes "*./{") b
+
+-- the fault of a byte by what is before it, where something follows
+unfoldable pub fault_of_byte : List ℕ → ℕ → Option NameError
+fault_of_byte before b = first_of (fault_table before b (0 ∷ []))
+
+-- After the byte before it, the byte may have a fault, or lead to one: a dot or slash has none after other bytes, and an `l`
+-- after a dot may be that of `.lock`.
 unfoldable pub is_suspect : ℕ → ℕ → Bool
 is_suspect before b =
-    is_bad b || is_among (codes "*{") b
-    || (is_among (codes "./") before && is_among (codes "./") b)
+    is_bad b || is_among (codes "*{") b || (is_among (codes "./") before && is_among (codes "./") b)
     || (before == byte "." && b == byte "l")
 
 -- whether the byte at this offset is suspect after the one before it, or the first byte after a slash

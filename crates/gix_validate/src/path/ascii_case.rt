@@ -1,7 +1,5 @@
-//! Words in any ASCII case.
-//!
-//! Rust's own `eq_ignore_ascii_case` is right here, too, but isn't unrolled for a constant word: with
-//! it `component` takes up to an eighth more instructions (`bench/run`).
+//! Words in any ASCII case. Rust's own `eq_ignore_ascii_case` isn't unrolled for a constant word:
+//! with it `component` takes up to an eighth more instructions (`bench/run`).
 
 ghost use Rattle.std.specs.{Prelude.{◌≡◌, ◌==◌, true, false, drop, length, MatchOption}, Str.bytes_eq};
 ghost use Rattle.gix_validate.specs.Bytes.{begins, lower, lower_byte};
@@ -20,7 +18,6 @@ pub(super) fn strip_prefix_ignore_ascii_case<'a>(text: &'a [u8], word: &[u8]) ->
     }
 }
 
-/// Whether the bytes are the word in any ASCII case.
 #[inline(always)]
 pub(super) fn eq_ignore_ascii_case(text: &[u8], word: &[u8]) -> bool
     ensures { result ≡ bytes_eq (lower text.now) (lower word.now) }
@@ -36,7 +33,6 @@ pub(super) fn eq_ignore_ascii_case(text: &[u8], word: &[u8]) -> bool
     true
 }
 
-/// Whether the two bytes are equal without ASCII case.
 #[inline(always)]
 #[tactic(auto, unfolding(crate::specs::Bytes::lower_byte))]
 pub(super) fn bytes_eq_ignore_ascii_case(byte: u8, wanted: u8) -> bool

@@ -1,12 +1,10 @@
-//! One look at the bytes of a name.
-//!
-//! This is no `scan`: of a short name it says which of several classes of bytes it has, all at once.
-//! A long name is searched by `scan` for each thing by itself.
+//! One look at the bytes of a name says of a short one which of several classes of bytes it has. A
+//! long name is searched by `scan` for each thing by itself.
 
 ghost use Rattle.std.specs.Prelude.{◌≡◌, ◌==◌, false, IsTrue, ◌≤◌, ◌<◌, ◌+◌, ◌&&◌, ◌||◌, not, length, map};
 ghost use Rattle.std.specs.{Str.byte, List.list_any, Simd.Lanes.chunk};
 ghost use Rattle.gix_validate.specs.Private.Classes.{has_class, any_class, class_of, HaveClassesOf};
-ghost use Rattle.gix_validate.specs.{Bytes.is_among, Windows.is_illegal_byte};
+ghost use Rattle.gix_validate.specs.{declared.path.classes.TheConstants.ILLEGAL, Bytes.is_among, Windows.is_illegal_byte};
 
 use crate::lanes::{LANES, classify, halves, has_nonzero, nonzero_lanes, pairs, quarters};
 use crate::pieces::Slash;
@@ -16,7 +14,6 @@ use std::simd::prelude::*;
 /// The length of four blocks. A name of at most this length is checked in one go.
 pub(super) const SHORT: usize = FOUR_BLOCKS;
 
-/// The length of two blocks.
 const TWO_BLOCKS: usize = 2 * LANES;
 
 // The classes of bytes, a bit for each. The bytes of a class have one high nibble, except the
@@ -41,10 +38,8 @@ const TILDE: u8 = 0x80;
 
 /// The four classes that Windows forbids.
 const ILLEGAL: u8 = CONTROL | QUOTE_OR_STAR | COLON_ANGLE_OR_MARK | PIPE;
-
 /// The two classes that part components.
 pub(super) const SEPARATORS: u8 = SLASH | BACKSLASH;
-
 /// All classes.
 pub(super) const ANY: u8 = 0xFF;
 
@@ -72,12 +67,9 @@ const BY_HIGH_NIBBLE: [u8; 16] = [
     0, 0, LEAD, 0, // C to F
 ];
 
-/// A byte that is illegal on Windows.
 enum Illegal {}
 
 impl Pattern for Illegal {
-    ghost use Rattle.gix_validate.specs.declared.path.classes.TheConstants.{ILLEGAL};
-
     ghost hit = { λ a b. has_class ILLEGAL a };
 
     #[inline(always)]
@@ -86,7 +78,6 @@ impl Pattern for Illegal {
     }
 }
 
-/// Whether the name has a byte that is illegal on Windows.
 #[tactic(auto, using(crate::proofs::Blocks::ByteClasses::any_is, crate::proofs::Blocks::ByteClasses::illegal_is))]
 pub(super) fn has_illegal_byte(name: &[u8]) -> bool
     requires { 1 ≤ length name.now }
@@ -99,7 +90,6 @@ pub(super) fn has_illegal_byte(name: &[u8]) -> bool
     }
 }
 
-/// A slash or a backslash.
 enum Separator {}
 
 impl Pattern for Separator {
@@ -150,15 +140,14 @@ pub(super) fn classes_of(name: &[u8]) -> u8x16
             | classes_at(name, last + LANES);
     }
     if name.len() >= 4 {
-        return classes_in(quarters(name, 0, name.len() - 4));
+        return classes_in(quarters(name));
     }
     if name.len() >= 2 {
-        return classes_in(pairs(name, 0, name.len() - 2));
+        return classes_in(pairs(name));
     }
     classes_in(u8x16::splat(name[0]))
 }
 
-/// The classes of the bytes of the block from this offset on.
 #[inline(always)]
 fn classes_at(name: &[u8], at: usize) -> u8x16
     requires { at + LANES ≤ length name.now }
@@ -167,7 +156,6 @@ fn classes_at(name: &[u8], at: usize) -> u8x16
     classes_in(u8x16::from_slice(&name[at..]))
 }
 
-/// The classes of the bytes of a block.
 #[inline(always)]
 #[tactic(auto, using(crate::proofs::Blocks::ByteClasses::classes_by_tables))]
 fn classes_in(block: u8x16) -> u8x16
@@ -176,7 +164,6 @@ fn classes_in(block: u8x16) -> u8x16
     classify(BY_LOW_NIBBLE, BY_HIGH_NIBBLE, block)
 }
 
-/// Whether one of the classes has a bit of the mask.
 #[inline(always)]
 #[tactic(auto, using(crate::proofs::Blocks::ByteClasses::mask_tested))]
 pub(super) fn has_class(classes: u8x16, mask: u8) -> bool

@@ -6,7 +6,6 @@ ghost use Rattle.gix_validate.specs.{Bytes.lower, Hfs.{hfs_form, is_ignored}};
 
 use crate::path::ascii_case::bytes_eq_ignore_ascii_case;
 
-/// Whether the name is read as `.git`.
 #[tactic(auto, unfolding(crate::specs::Bytes::lower_byte))]
 pub(super) fn is_git(name: &[u8]) -> bool
     ensures { result ≡ bytes_eq (lower (hfs_form name.now)) (codes ".git") }
@@ -14,7 +13,6 @@ pub(super) fn is_git(name: &[u8]) -> bool
     reads_as(name, b".git")
 }
 
-/// Whether the name is read as `.gitmodules`.
 #[tactic(auto, unfolding(crate::specs::Bytes::lower_byte))]
 pub(super) fn is_modules(name: &[u8]) -> bool
     ensures { result ≡ bytes_eq (lower (hfs_form name.now)) (codes ".gitmodules") }
@@ -52,10 +50,8 @@ fn next_kept(bytes: &[u8]) -> Option<(u8, &[u8])>
     while let Some(after) = after_ignored(rest) {
         rest = after;
     }
-    match rest {
-        [byte, after @ ..] => Some((*byte, after)),
-        [] => None,
-    }
+    let (byte, after) = rest.split_first()?;
+    Some((*byte, after))
 }
 
 /// What follows the ignored character that the bytes begin with, if they begin with one.
@@ -66,17 +62,12 @@ fn after_ignored(bytes: &[u8]) -> Option<&[u8]>
         (0 < length bytes.now → hfs_form bytes.now ≡ slice_index bytes.now 0 ∷ hfs_form (drop 1 bytes.now))
         (λ rest. (hfs_form bytes.now ≡ hfs_form rest.now) × (length rest.now < length bytes.now)) }
 {
-    let [a, b, c, rest @ ..] = bytes else {
-        return None;
-    };
-    if is_ignored(*a, *b, *c) {
-        Some(rest)
-    } else {
-        None
+    match bytes {
+        [a, b, c, rest @ ..] if is_ignored(*a, *b, *c) => Some(rest),
+        _ => None,
     }
 }
 
-/// Whether the three bytes are one of the ignored characters.
 #[tactic(auto, unfolding(crate::specs::Hfs::is_ignored))]
 #[inline(always)]
 fn is_ignored(a: u8, b: u8, c: u8) -> bool

@@ -12,18 +12,15 @@ const TAIL: (u8, u8) = (0x80, 0xBF);
 pub(super) fn first_unit_len(text: &[u8]) -> usize
     ensures { result ≡ first_unit_len text.now }
 {
-    let [first, ..] = text else {
-        return 1;
-    };
-    match *first {
-        0xC2..=0xDF => fitting_len(&[(0xC2, 0xDF), TAIL], text),
-        0xE0 => fitting_len(&[(0xE0, 0xE0), (0xA0, 0xBF), TAIL], text),
-        0xE1..=0xEC => fitting_len(&[(0xE1, 0xEC), TAIL, TAIL], text),
-        0xED => fitting_len(&[(0xED, 0xED), (0x80, 0x9F), TAIL], text),
-        0xEE..=0xEF => fitting_len(&[(0xEE, 0xEF), TAIL, TAIL], text),
-        0xF0 => fitting_len(&[(0xF0, 0xF0), (0x90, 0xBF), TAIL, TAIL], text),
-        0xF1..=0xF3 => fitting_len(&[(0xF1, 0xF3), TAIL, TAIL, TAIL], text),
-        0xF4 => fitting_len(&[(0xF4, 0xF4), (0x80, 0x8F), TAIL, TAIL], text),
+    match text {
+        [0xC2..=0xDF, ..] => fitting_len(&[(0xC2, 0xDF), TAIL], text),
+        [0xE0, ..] => fitting_len(&[(0xE0, 0xE0), (0xA0, 0xBF), TAIL], text),
+        [0xE1..=0xEC, ..] => fitting_len(&[(0xE1, 0xEC), TAIL, TAIL], text),
+        [0xED, ..] => fitting_len(&[(0xED, 0xED), (0x80, 0x9F), TAIL], text),
+        [0xEE..=0xEF, ..] => fitting_len(&[(0xEE, 0xEF), TAIL, TAIL], text),
+        [0xF0, ..] => fitting_len(&[(0xF0, 0xF0), (0x90, 0xBF), TAIL, TAIL], text),
+        [0xF1..=0xF3, ..] => fitting_len(&[(0xF1, 0xF3), TAIL, TAIL, TAIL], text),
+        [0xF4, ..] => fitting_len(&[(0xF4, 0xF4), (0x80, 0x8F), TAIL, TAIL], text),
         _ => 1,
     }
 }

@@ -1,25 +1,23 @@
 //! Names that mean something else on Windows, and names that it forbids.
 //!
-//! The names of devices begin with `aux`, `com`, `con`, `lpt`, `nul` or `prn`. Tables say which of
-//! these words may have a letter at each of the first three offsets, since a branch for each letter
-//! is hard to predict. The one branch on what they say is hardly ever taken.
+//! The names of devices begin with one of six words. A table says which of these may have a letter at
+//! each of the first three offsets, since a branch for each letter is hard to predict. The one branch
+//! on what it says is hardly ever taken.
 
 ghost use Rattle.std.specs.Prelude.{◌≡◌, ◌≤◌, false, length, ◌==◌, ◌||◌, ◌∷◌, [], ◌++◌, ◌%◌, slice_index, bit_and, codes, IsTrue};
-ghost use Rattle.std.specs.{List.{list_all, list_any}, Str.{byte, bytes_eq}};
-ghost use Rattle.gix_validate.specs.{Bytes.{lower, is_empty, ends}, Units.first_unit_len, Ntfs.is_digit};
-ghost use Rattle.gix_validate.specs.{Windows.{device_form, is_device, is_illegal_byte}, Private.Forms.stays_in_form};
+ghost use Rattle.std.specs.{Prelude.not, List.{list_all, list_any}, Str.{byte, bytes_eq}};
+ghost use Rattle.gix_validate.specs.{Bytes.{lower, is_among, is_empty, ends}, Units.first_unit_len, Ntfs.is_digit};
+ghost use Rattle.gix_validate.specs.Windows.{device_form, is_device, is_illegal_byte};
 
 use crate::path::ascii_case::strip_prefix_ignore_ascii_case;
 use crate::path::units::first_unit_len;
 
-/// Whether a colon follows the first unit.
 pub(super) fn has_prefix(name: &[u8]) -> bool
     ensures { result ≡ (slice_index name.now (first_unit_len name.now) == byte ":") }
 {
     name.get(first_unit_len(name)) == Some(&b':')
 }
 
-/// Whether the name ends with a dot or a space.
 pub(super) fn ends_illegally(name: &[u8]) -> bool
     ensures { result ≡ (ends name.now (codes ".") || ends name.now (codes " ")) }
 {
@@ -41,39 +39,31 @@ const PRN: u8 = 0x20;
 
 const DOT_GIT: u8 = 0x40;
 
-/// The words that names of devices begin with.
 const DEVICES: u8 = AUX | CON | COM | LPT | NUL | PRN;
 
-/// The words that may have a byte as their first letter, by the low five bits of the byte, which
-/// are the same for an uppercase letter.
+/// The words that may have a byte as their first, second or third letter, by the low five bits of the
+/// byte, which are the same for an uppercase letter.
 #[rattlefmt::skip]
-const BY_FIRST: [u8; 32] = [
-    0, AUX, 0, CON | COM, 0, 0, 0, 0, // a, c
-    0, 0, 0, 0, LPT, 0, NUL | DOT_GIT, 0, // l, n and `.`
-    PRN, 0, 0, 0, 0, 0, 0, 0, // p
-    0, 0, 0, 0, 0, 0, 0, 0,
+const BY_LETTER: [[u8; 32]; 3] = [
+    [
+        0, AUX, 0, CON | COM, 0, 0, 0, 0, // a, c
+        0, 0, 0, 0, LPT, 0, NUL | DOT_GIT, 0, // l, n and `.`
+        PRN, 0, 0, 0, 0, 0, 0, 0, // p
+        0, 0, 0, 0, 0, 0, 0, 0,
+    ],
+    [
+        0, 0, 0, 0, 0, 0, 0, DOT_GIT, // g
+        0, 0, 0, 0, 0, 0, 0, CON | COM, // o
+        LPT, 0, PRN, 0, 0, AUX | NUL, 0, 0, // p, r, u
+        0, 0, 0, 0, 0, 0, 0, 0,
+    ],
+    [
+        0, 0, 0, 0, 0, 0, 0, 0,
+        0, DOT_GIT, 0, 0, NUL, COM, CON | PRN, 0, // i, l, m, n
+        0, 0, 0, 0, LPT, 0, 0, 0, // t
+        AUX, 0, 0, 0, 0, 0, 0, 0, // x
+    ],
 ];
-
-/// The words that may have a byte as their second letter.
-#[rattlefmt::skip]
-const BY_SECOND: [u8; 32] = [
-    0, 0, 0, 0, 0, 0, 0, DOT_GIT, // g
-    0, 0, 0, 0, 0, 0, 0, CON | COM, // o
-    LPT, 0, PRN, 0, 0, AUX | NUL, 0, 0, // p, r, u
-    0, 0, 0, 0, 0, 0, 0, 0,
-];
-
-/// The words that may have a byte as their third letter.
-#[rattlefmt::skip]
-const BY_THIRD: [u8; 32] = [
-    0, 0, 0, 0, 0, 0, 0, 0,
-    0, DOT_GIT, 0, 0, NUL, COM, CON | PRN, 0, // i, l, m, n
-    0, 0, 0, 0, LPT, 0, 0, 0, // t
-    AUX, 0, 0, 0, 0, 0, 0, 0, // x
-];
-
-/// The words by letter, in one table.
-const BY_LETTER: [[u8; 32]; 3] = [BY_FIRST, BY_SECOND, BY_THIRD];
 
 /// Whether a name may be a device, `.git` or `.gitmodules` in any ASCII case, by its first three
 /// letters and its length.
@@ -85,30 +75,20 @@ pub(super) fn may_be_special(name: &[u8]) -> bool
     if name.len() < 3 {
         return false;
     }
-    let words = words_with(name[0], name[1], name[2]);
+    let words = BY_LETTER[0][usize::from(name[0] % 32)]
+        & BY_LETTER[1][usize::from(name[1] % 32)]
+        & BY_LETTER[2][usize::from(name[2] % 32)];
     words != 0
         && (words & DEVICES != 0
             || name.len() == b".git".len()
             || name.len() == b".gitmodules".len())
 }
 
-/// Whether the name is a device.
 #[inline(always)]
 pub(super) fn is_device(name: &[u8]) -> bool
     ensures { result ≡ is_device name.now }
 {
     may_be_special(name) && is_device_by_letters(name)
-}
-
-/// Which of the words may have these three letters, a bit for each.
-#[inline(always)]
-fn words_with(first: u8, second: u8, third: u8) -> u8
-    ensures { result ≡ bit_and (bit_and (slice_index BY_FIRST (first % 32)) (slice_index BY_SECOND (second % 32)))
-        (slice_index BY_THIRD (third % 32)) }
-{
-    BY_LETTER[0][(first % 32) as usize]
-        & BY_LETTER[1][(second % 32) as usize]
-        & BY_LETTER[2][(third % 32) as usize]
 }
 
 /// Whether the name is a device, by its first three letters and what follows them.
@@ -143,37 +123,26 @@ fn ends_console(rest: &[u8]) -> bool
 #[inline(always)]
 #[tactic(auto, using(crate::proofs::Components::Devices::device_word))]
 fn form_is(name: &[u8], word: &[u8]) -> bool
-    requires { IsTrue (list_all stays_in_form word.now) }
+    requires { IsTrue (list_all (λ b. not (is_among (codes " .:\\") b)) word.now) }
     ensures { result ≡ bytes_eq (lower (device_form name.now)) (lower word.now) }
 {
-    match strip_prefix_ignore_ascii_case(name, word) {
-        Some(rest) => ends_form(rest),
-        None => false,
-    }
+    strip_prefix_ignore_ascii_case(name, word).is_some_and(|rest| ends_form(rest))
 }
 
-/// Whether the form is one digit.
 #[inline(always)]
 #[tactic(auto, using(std::proofs::lemmas::Grind::common_steps, crate::proofs::Components::Devices::ends_in_digit))]
 fn ends_in_digit(rest: &[u8]) -> bool
     ensures { result ≡ list_any (λ digit. bytes_eq (lower (device_form rest.now)) (digit ∷ [])) (codes "0123456789") }
 {
-    match rest {
-        [b'0'..=b'9', after @ ..] => ends_form(after),
-        _ => false,
-    }
+    matches!(rest, [b'0'..=b'9', after @ ..] if ends_form(after))
 }
 
-/// Whether the form is one digit other than zero.
 #[inline(always)]
 #[tactic(auto, using(std::proofs::lemmas::Grind::common_steps, crate::proofs::Components::Devices::ends_in_nonzero_digit))]
 fn ends_in_nonzero_digit(rest: &[u8]) -> bool
     ensures { result ≡ list_any (λ digit. bytes_eq (lower (device_form rest.now)) (digit ∷ [])) (codes "123456789") }
 {
-    match rest {
-        [b'1'..=b'9', after @ ..] => ends_form(after),
-        _ => false,
-    }
+    matches!(rest, [b'1'..=b'9', after @ ..] if ends_form(after))
 }
 
 /// Whether what follows a word adds nothing to the form.

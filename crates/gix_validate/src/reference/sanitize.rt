@@ -1,14 +1,12 @@
-//! The repair of names that are not partial names.
-//!
-//! A name is looked at once. A scan stops at the first byte that may have to change (see `adjacent`),
-//! and from there on a walk reads and writes in one buffer.
+//! The repair of names that are not partial names. A scan stops at the first byte that may have to
+//! change (see `adjacent`), and from there on a walk reads and writes in one buffer.
 
 ghost use Rattle.std.specs.Prelude.{◌≡◌, ◌≢◌, ℕ, false, ◌↔◌, ◌+◌, ◌-◌, ◌≤◌, ◌<◌, ◌==◌, ◌||◌, ◌&&◌, ◌++◌, [], ◌∷◌, max, if◌then◌else◌, length, take, drop, get_or, set, codes, IsTrue, IsOk, IfOk, Some, None, slice_range, vec_capacity};
 ghost use Rattle.std.specs.Str.{byte};
 ghost use Rattle.bstr.specs.{BStr.bstr_bytes, Owned.bstring_bytes};
 ghost use Rattle.gix_validate.specs.Sanitized.{Dots, Other, byte_of, cut, mended_pieces, repaired_dot, repaired_at, repaired_nothing, sanitized, IsPiecewise};
-ghost use Rattle.gix_validate.specs.{Pieces.{is_slash, joined}, Reference.is_partial_name, Private.Adjacent.suspect_at};
-ghost use Rattle.gix_validate.specs.Private.{Scan.NoneBelow, TagWalk.may_be_faulty};
+ghost use Rattle.gix_validate.specs.{Pieces.{is_slash, joined}, Reference.is_partial_name};
+ghost use Rattle.gix_validate.specs.Private.{Scan.NoneBelow, Adjacent.{may_be_faulty, suspect_at}};
 
 use crate::adjacent::clear_front;
 use crate::bytes::may_be_faulty;
@@ -29,11 +27,8 @@ use std::alloc::{AllocError, Global};
 ///
 /// # Errors
 ///
-/// Out of memory, and nothing else.
-///
-/// # Memory
-///
-/// It allocates once, before it writes a byte: the length of `path`, or one byte if that is empty.
+/// Out of memory, and nothing else. It allocates once, before it writes a byte: the length of
+/// `path`, or one byte if that is empty.
 #[tactic(auto, using(crate::proofs::Sanitizing::Laws::sanitized_laws))]
 pub fn name_partial_or_sanitize(alloc: Global, path: BStr<'_>) -> Result<BString, AllocError>
     ensures text { IfOk result (λ name. bstring_bytes name ≡ sanitized (bstr_bytes path.entry)) }
@@ -45,20 +40,12 @@ pub fn name_partial_or_sanitize(alloc: Global, path: BStr<'_>) -> Result<BString
     ensures again { IfOk result (λ name. sanitized (bstring_bytes name) ≡ bstring_bytes name) }
     ensures piecewise { IfOk result (λ name. IsPiecewise (bstr_bytes path.entry) (bstring_bytes name)) }
 {
-    Ok(BString::new(sanitized_copy(alloc, path.as_bytes())?))
+    let mut name = Vec::with_capacity(alloc, path.as_bytes().len().max(1))?;
+    fill_sanitized(&mut name, path.as_bytes())?;
+    Ok(BString::new(name))
 }
 
-/// Reserves memory once, and then makes the copy.
-fn sanitized_copy(alloc: Global, path: &[u8]) -> Result<Vec<u8>, AllocError>
-    ensures { IfOk result (λ name. name.items ≡ sanitized path.now) }
-{
-    let mut name = Vec::with_capacity(alloc, path.len().max(1))?;
-    fill_sanitized(&mut name, path)?;
-    Ok(name)
-}
-
-/// Writes the sanitised path to an empty vector. The vector has room for exactly the path, or for
-/// one byte if that is empty. So it never fails.
+/// Writes the sanitised path to an empty vector, whose room is exactly enough, so it never fails.
 fn fill_sanitized(name: &mut Vec<u8>, path: &[u8]) -> Result<(), AllocError>
     requires empty { name.old.items ≡ [] }
     requires room { vec_capacity name.old ≡ max 1 (length path.now) }

@@ -1,5 +1,4 @@
-use Rattle.gix_validate.specs.Private.Lanes.{is_nonzero}
-use Rattle.gix_validate.proofs.Blocks.Lanes.{any_marked}
+use Rattle.gix_validate.{specs.Private.Scan.is_nonzero, proofs.Blocks.Lanes.any_marked}
 use Rattle.gix_validate.proofs.lanes.has_nonzero.Goals as goal
 
 pub returns : goal.returns

@@ -1,6 +1,6 @@
 -- Each condition was tried, and none holds.
 use Rattle.gix_validate.proofs.{Common.{drop, arith}, Components.Laws.{AllNone, first_from_AllNone}}
-use Rattle.gix_validate.specs.{Bytes.lower_byte, Component.{conditions, fault_of}, Windows.is_illegal, Private.Ordinary.switches}
+use Rattle.gix_validate.specs.{Bytes.lower_byte, Component.{conditions, fault_of}, Windows.is_illegal, Private.Classes.switches}
 use Rattle.gix_validate.proofs.path.first_fault_in_order.Goals as goal
 
 pub returns-else-not-hfs-2 : goal.returns-else-not-hfs-2

@@ -1,6 +1,5 @@
 -- No offset so far is a hit.
-use Rattle.gix_validate.proofs.Common.{◌≡◌, ◌+◌, ◌-◌, length}
-use Rattle.gix_validate.specs.Private.Scan.{NoneBelow, at_both}
+use Rattle.gix_validate.{proofs.Common.{◌≡◌, ◌+◌, ◌-◌, length}, specs.Private.Scan.{NoneBelow, at_both}}
 use Rattle.gix_validate.proofs.scan.first_by_blocks.Given as goal
 
 abbrev pub invariant-loop-at : goal.invariant-loop-at

@@ -1,6 +1,5 @@
 use Rattle.gix_validate.proofs.Common.{sym, ◌∙◌, arith, cond, ◌≡◌, ◌+◌, get_or}
-use Rattle.gix_validate.proofs.Submodules.{none_to, none_by_end, none_by_other, none_by_separator}
-use Rattle.gix_validate.specs.Submodule.{is_separator}
+use Rattle.gix_validate.{proofs.Submodules.{none_to, none_by_end, none_by_other, none_by_separator}, specs.Submodule.is_separator}
 use Rattle.gix_validate.proofs.submodule.has_parent_part.Goals as goal
 
 pub loop-at-preserved-then-ends_part : goal.loop-at-preserved-then-ends_part

@@ -1,6 +1,6 @@
 -- No part that is `..` begins so far.
 use Rattle.gix_validate.proofs.Common.{◌+◌, ◌-◌, ◌≤◌, length}
-use Rattle.gix_validate.specs.Private.{Parents.is_parent_at, Scan.NoneBelow}
+use Rattle.gix_validate.{proofs.Submodules.is_parent_at, specs.Private.Scan.NoneBelow}
 use Rattle.gix_validate.proofs.submodule.has_parent_part.Given as goal
 
 abbrev pub invariant-loop-at : goal.invariant-loop-at

@@ -1,5 +1,5 @@
 -- No offset so far has a fault by what is before it.
-use Rattle.gix_validate.specs.Private.TagWalk.{NoFaultBelow}
+use Rattle.gix_validate.proofs.TagNames.FaultTable.{NoFaultBelow}
 use Rattle.gix_validate.proofs.tag.fault_at_first_offset.Given as goal
 
 abbrev pub invariant-loop-offset : goal.invariant-loop-offset

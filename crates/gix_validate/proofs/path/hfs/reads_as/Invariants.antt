@@ -1,5 +1,4 @@
-use Rattle.gix_validate.proofs.Common.{◌≡◌, drop, bytes_eq}
-use Rattle.gix_validate.specs.{Bytes.lower, Hfs.hfs_form}
+use Rattle.gix_validate.{proofs.Common.{◌≡◌, drop, bytes_eq}, specs.{Bytes.lower, Hfs.hfs_form}}
 use Rattle.gix_validate.proofs.path.hfs.reads_as.Given as goal
 
 abbrev pub invariant-loop-wanted : goal.invariant-loop-wanted

@@ -1,5 +1,4 @@
-use Rattle.gix_validate.proofs.Common.{◌≡◌, ◌+◌, drop}
-use Rattle.gix_validate.specs.Units.{fitting_len}
+use Rattle.gix_validate.{proofs.Common.{◌≡◌, ◌+◌, drop}, specs.Units.fitting_len}
 use Rattle.gix_validate.proofs.path.units.fitting_len.Given as goal
 
 abbrev pub invariant-loop-offset : goal.invariant-loop-offset

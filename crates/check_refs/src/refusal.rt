@@ -1,7 +1,7 @@
 //! Which reference names are refused, and why.
 
 ghost use Rattle.std.specs.Prelude.{◌≡◌};
-ghost use Rattle.check_refs.specs.Refs.{name_fault_of, refusal_of};
+ghost use Rattle.check_refs.specs.Refs.{refusal_of};
 
 use bstr::BStr;
 use gix_validate::reference;
@@ -46,22 +46,14 @@ impl fmt::Display for Refusal {
 pub fn refusal_of(allows_replace: bool, name: &[u8]) -> Option<Refusal>
     ensures { result ≡ refusal_of allows_replace name.now }
 {
-    if let Some(fault) = name_fault_of(name) {
-        return Some(Refusal::Name(fault));
-    }
-    if !allows_replace && name.starts_with(b"refs/replace/") {
-        return Some(Refusal::Replacement);
-    }
-    None
-}
-
-/// Why a name is invalid; `None` if it is valid.
-fn name_fault_of(name: &[u8]) -> Option<NameError>
-    ensures { result ≡ name_fault_of name.now }
-{
-    if name.starts_with(b"refs/heads/") {
-        reference::branch_name(BStr::new(name)).err()
+    let checked = if name.starts_with(b"refs/heads/") {
+        reference::branch_name(BStr::new(name))
     } else {
-        reference::name(BStr::new(name)).err()
+        reference::name(BStr::new(name))
+    };
+    match checked {
+        Err(fault) => Some(Refusal::Name(fault)),
+        Ok(_) if allows_replace || !name.starts_with(b"refs/replace/") => None,
+        Ok(_) => Some(Refusal::Replacement),
     }
 }

@@ -1,6 +1,6 @@
 -- What the functions promise of one step, where the reader's and the writer's bytes are known.
 use Rattle.std.specs.Prelude.{◌≡◌, ◌≢◌, ℕ, ◌<◌, ◌≤◌, nat_lt, Bool, true, false, List, [], ◌∷◌, ◌++◌, All, length, take, drop, Option}
-use Rattle.std.specs.Prelude.{Some, None, Result, Ok, Err, IfOk, IfSome, OnErr, OnSome, ⊤, option_map}
+use Rattle.std.specs.Prelude.{Some, None, Result, Ok, Err, IfOk, IfSome, OnErr, OnSome, option_map}
 use Rattle.std.specs.{Str.bytes_eq, Io.KnownBytes.{Appends, Consumes, IsAtEnd}}
 use Rattle.git_input.specs.declared.{header.Header.Header, input.Found.{Found, TheVariants.{Byte, Limit, End}}, lines.Ending.Ending}
 use Rattle.git_input.specs.declared.{lines.Ending.TheVariants.EndLine, outcome.Malformation.{Malformation, TheVariants.Ended}}
@@ -11,7 +11,7 @@ use Rattle.git_input.specs.declared.header.Header.TheVariants as header
 use Rattle.git_input.specs.{declared.header.Object.Object, Headers.{ParsedObject, ParsedHeader}}
 use Rattle.git_input.specs.Headers as parsed
 use Rattle.git_input.specs.Reports.{Step, Reach, Report, extent, end_word, is_malformed, verdict_of}
-use Rattle.git_input.specs.Objects.{Judged, ObjectRule, after_end}
+use Rattle.git_input.specs.Objects.{Judged, ObjectRule}
 
 -- ---- headers as the code has them
 
@@ -50,11 +50,6 @@ IsCutAt byte shown part used None = All (λ b. b ≢ byte) part × (part ≡ sho
 abbrev pub ReadsExactly : ℕ → Option (List ℕ) → Option (List ℕ) → List ℕ → Bool → Type 0
 ReadsExactly count old new bytes true = Consumes old new bytes × (length bytes ≡ count)
 ReadsExactly count old new bytes false = Consumes old new bytes × (length bytes < count) × OnSome old (IsAtEnd new)
-
--- the next byte was read, if one was left
-abbrev pub ReadsNext : Option (List ℕ) → Option (List ℕ) → Option ℕ → Type 0
-ReadsNext old new (Some byte) = Consumes old new (byte ∷ [])
-ReadsNext old new None = Consumes old new [] × OnSome old (IsAtEnd new)
 
 -- no more than so many bytes were read
 abbrev pub ReadsUpTo : ℕ → Option (List ℕ) → Option (List ℕ) → Type 0
@@ -103,9 +98,3 @@ judged_with_rest (said, None) text = (said, Ok text)
 abbrev pub body_step : ObjectRule → ParsedObject → List ℕ → Step
 body_step rule object text =
     let cut = nat_lt (length text) object.size in judged_with_rest (or_cut cut (rule cut object (take object.size text))) (drop object.size text)
-
--- the LF after an object was read
-abbrev pub Closes : Bool → List ℕ → Option (List ℕ) → Result (Result Bool Malformation) RunError → Type 0
-Closes refused text new (Ok (Ok found)) = (found ≡ refused) × ((rest : List ℕ) × (new ≡ Some rest) × (after_end text ≡ Ok rest))
-Closes refused text new (Ok (Err malformation)) = after_end text ≡ Err malformation
-Closes refused text new (Err stop) = ⊤

@@ -134,19 +134,13 @@ fn fail_malformed<E: Write>(
     ensures status { exit_status result ≡ 2 }
     ensures said { Says E.contents errors.old errors.new (message program.entry.name.now (malformed_text program.entry number malformation)) }
 {
-    let (unit, hint) = (program.unit, hint_of(program.hint, number, malformation));
+    let unit = program.unit;
+    let hint = match malformation {
+        Malformation::Header if number == 1 => program.hint,
+        _ => "",
+    };
     let what = format_args!("malformed input: {unit} {number}: {malformation}{hint}");
     fail(program.name, what, errors)
-}
-
-/// What the message adds for this malformation of the part with this number.
-fn hint_of(hint: &str, number: u64, malformation: Malformation) -> &str
-    ensures { result.now ≡ hint_of hint.now number malformation }
-{
-    match malformation {
-        Malformation::Header if number == 1 => hint,
-        _ => "",
-    }
 }
 
 /// Buffers for an input and an output.

@@ -77,11 +77,8 @@ impl ObjectCheck for CheckOptions<'_> {
         if object.kind == Kind::Tree {
             return check_tree(self, object, input, output, buffers);
         }
-        if skip(input, object.size)? {
-            Ok(Ok(false))
-        } else {
-            Ok(Err(Malformation::Ended))
-        }
+        let is_whole = skip(input, object.size)?;
+        Ok(is_whole.then_some(false).ok_or(Malformation::Ended))
     }
 }
 
@@ -263,17 +260,12 @@ fn say<W: Write>(
     ensures { Says (finding_said (as_object tree.entry) (record { front = as_front front.entry; id = id.now }) finding)
         (W.contents output.old) (W.contents output.new) result }
 {
-    match finding {
-        Finding::Accepted => Ok(false),
-        Finding::Modules => {
-            set_modules(line, tree, front, id).map_err(|_| RunError::Memory)?;
-            output.write_all(line).map_err(|_| RunError::Write)?;
-            Ok(false)
-        }
-        Finding::Refused(fault) => {
-            set_refused(line, tree, front, fault).map_err(|_| RunError::Memory)?;
-            output.write_all(line).map_err(|_| RunError::Write)?;
-            Ok(true)
-        }
-    }
+    let (set, refused) = match finding {
+        Finding::Accepted => return Ok(false),
+        Finding::Modules => (set_modules(line, tree, front, id), false),
+        Finding::Refused(fault) => (set_refused(line, tree, front, fault), true),
+    };
+    set.map_err(|_| RunError::Memory)?;
+    output.write_all(line).map_err(|_| RunError::Write)?;
+    Ok(refused)
 }

@@ -10,7 +10,7 @@
 //! contents. So the status alone says whether a name is refused. No other line begins with that
 //! word, since the others begin with an id.
 
-ghost use Rattle.std.specs.{Prelude.{◌≡◌, ◌++◌, OnOk}, Option.option_map};
+ghost use Rattle.std.specs.{Prelude.{◌≡◌, ◌++◌, OnOk, codes}, Option.option_map};
 ghost use Rattle.git_input.specs.Promises.{as_object};
 ghost use Rattle.check_trees.specs.Report.{in_path, modules_line, place, refused_line, shown_path};
 ghost use Rattle.check_trees.specs.Private.{as_front};
@@ -20,6 +20,7 @@ use git_input::header::Object;
 use git_input::output::{push_hex, push_quoted};
 use gix_validate::path::ComponentError;
 use std::alloc::AllocError;
+use std::io;
 use std::io::Write;
 
 /// How many bytes of a path are displayed at most.
@@ -33,16 +34,13 @@ pub(crate) fn set_refused(
     tree: Object<'_>,
     front: ModeAndName<'_>,
     fault: ComponentError,
-) -> Result<(), AllocError>
+) -> io::Result<()>
     ensures { OnOk result (line.new.items ≡ refused_line (as_object tree.entry) (as_front front.entry) fault) }
 {
     line.clear();
     push_place(line, tree, front)?;
-    line.push(b' ')?;
-    write!(line, "{fault}").map_err(|_| AllocError)?;
-    push_path(line, tree.rest)?;
-    line.push(b'\n')?;
-    Ok(())
+    write!(line, " {fault}")?;
+    end(line, tree.rest)
 }
 
 /// Replaces the last line with that of a file that is read as `.gitmodules`. Its id is in bytes.
@@ -53,7 +51,7 @@ pub(crate) fn set_modules(
     tree: Object<'_>,
     front: ModeAndName<'_>,
     id: &[u8],
-) -> Result<(), AllocError>
+) -> io::Result<()>
     ensures { OnOk result (line.new.items ≡ modules_line (as_object tree.entry) (as_front front.entry) id.now) }
 {
     line.clear();
@@ -61,9 +59,7 @@ pub(crate) fn set_modules(
     push_hex(line, id)?;
     line.push(b' ')?;
     push_place(line, tree, front)?;
-    push_path(line, tree.rest)?;
-    line.push(b'\n')?;
-    Ok(())
+    end(line, tree.rest)
 }
 
 /// Appends the tree's id, the mode and the quoted name of an entry.
@@ -81,19 +77,19 @@ fn push_place(
     push_quoted(line, front.name)
 }
 
-/// Appends the path of the tree, if it is known, or its first bytes.
-fn push_path(line: &mut Vec<u8>, rest: Option<&[u8]>) -> Result<(), AllocError>
-    ensures { OnOk result (line.new.items ≡ line.old.items ++ in_path (option_map (λ rest. rest.now) rest.entry)) }
+/// Appends the path of the tree, if it is known, or its first bytes, and a newline.
+fn end(line: &mut Vec<u8>, rest: Option<&[u8]>) -> io::Result<()>
+    ensures { OnOk result (line.new.items ≡ line.old.items ++ in_path (option_map (λ rest. rest.now) rest.entry) ++ codes "\n") }
 {
     match rest {
         Some(path) if !path.is_empty() => {
             line.extend_from_slice(b" (in ")?;
             push_shown(line, path)?;
-            line.push(b')')?;
-            Ok(())
+            line.extend_from_slice(b")\n")?;
         }
-        _ => Ok(()),
+        _ => line.push(b'\n')?,
     }
+    Ok(())
 }
 
 /// Appends a quoted path, or the first [`MAX_PATH`] bytes of it and dots.

@@ -104,12 +104,7 @@ fn read_object<R: BufRead>(
     if !read_bytes(input, object.size as usize, &mut buffers.read)? {
         return Ok(false);
     }
-    push_lines(
-        object.id,
-        &buffers.read,
-        &mut buffers.part,
-        &mut buffers.lines,
-    )
-    .map_err(|_| RunError::Memory)?;
+    let Buffers { read, part, lines } = buffers;
+    push_lines(object.id, read, part, lines).map_err(|_| RunError::Memory)?;
     Ok(true)
 }

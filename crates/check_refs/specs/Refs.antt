@@ -1,10 +1,11 @@
 -- The updates of references that Git tells a pre-receive hook of, a line each: what a line says, which names are refused,
 -- and what is printed. Texts are lists of bytes.
-use Rattle.std.specs.Prelude.{ℕ, Bool, ◌==◌, ◌&&◌, not, if◌then◌else◌, List, [], ◌++◌, length, codes, Option, Some, None}
-use Rattle.std.specs.{Option.{option_map, option_and_then}, List.list_all, Str.byte}
-use Rattle.gix_validate.specs.{declared.reference.NameError.NameError, Bytes.{is_empty, begins}, Faults.{when, ◌orelse◌}, Quoted.quoted}
-use Rattle.gix_validate.specs.Reference.{full_fault_of, branch_fault_of, text_of}
-use Rattle.git_input.specs.Texts.{split_once, is_id}
+use Rattle.std.specs.Prelude.{ℕ, Bool, ◌==◌, ◌&&◌, not, if◌then◌else◌, List, [], ◌++◌, length, codes, Option, Some, None, Ok, Err}
+use Rattle.std.specs.{Option.{option_map, option_and_then, is_some}, List.list_all, Str.byte}
+use Rattle.gix_validate.specs.{declared.reference.NameError.NameError, Quoted.quoted, Reference.{full_fault_of, branch_fault_of, text_of}}
+use Rattle.gix_validate.specs.{Bytes.{is_empty, begins}, Faults.{when, ◌orelse◌}}
+use Rattle.git_input.specs.{Texts.{split_once, is_id}, declared.lines.Ending.TheVariants.AfterALine}
+use Rattle.git_input.specs.{declared.outcome.Malformation.TheVariants.Line, Reports.{Said, nothing, Step, LineRule, Report, report}}
 use Rattle.check_refs.specs.declared.{options.Options.Options, refusal.Refusal.{Refusal, TheVariants.{Name, Replacement}}}
 use Rattle.check_refs.specs.declared.update.Update.{Update}
 
@@ -75,3 +76,22 @@ lines_by options update None = if options.lists_ids && not (is_deletion update) 
 -- the line of an update, if it has one
 abbrev pub line_of : Options → ParsedUpdate → List ℕ
 line_of options update = lines_by options update (update_refusal_of options.allows_replace update)
+
+-- ---- the report
+
+-- what is said of an update: its line, and whether it is refused
+abbrev pub said_of : Options → ParsedUpdate → Said
+said_of options update = record { lines = line_of options update; refused = is_some (update_refusal_of options.allows_replace update) }
+
+-- what a line that says this update gives; a line that says none is malformed
+abbrev pub step_of : Options → Option ParsedUpdate → List ℕ → Step
+step_of options None text = (nothing, Err Line)
+step_of options (Some update) text = (said_of options update, Ok text)
+
+-- what a line gives; nothing that follows it belongs to it
+abbrev pub update_rule : Options → LineRule
+update_rule options line text = step_of options (parsed_update line) text
+
+-- the report of an input, which has at least one line
+abbrev pub refs_report : Options → List ℕ → Report
+refs_report options text = report (update_rule options) AfterALine text

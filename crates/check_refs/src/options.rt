@@ -2,8 +2,7 @@
 
 ghost use Rattle.check_refs.specs.Arguments.{no_options, rule};
 
-use cli::arguments;
-use cli::arguments::Setting;
+use cli::arguments::{self, Setting};
 
 pub const HELP: &str = "\
 Prints a line for each reference of a push whose name is refused. A pre-receive

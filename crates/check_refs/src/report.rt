@@ -4,14 +4,13 @@
 //! refusal begins with `ref `, and an id has only hexadecimal digits.
 
 ghost use Rattle.std.specs.Prelude.{◌≡◌, ◌++◌, OnOk, IfOk};
-ghost use Rattle.check_refs.specs.{Refs.{as_parsed, is_deletion}, Report.said_of};
+ghost use Rattle.check_refs.specs.Refs.{as_parsed, is_deletion, said_of};
 
 use crate::options::Options;
 use crate::refusal::refusal_of;
 use crate::update::Update;
 use git_input::output::push_quoted;
-use std::io;
-use std::io::Write;
+use std::io::{self, Write};
 
 /// Appends the line of an update, if it has one, and returns whether its name is refused
 /// (docs/RULES.md, "The report of references").

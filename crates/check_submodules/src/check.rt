@@ -5,11 +5,11 @@
 
 ghost use Rattle.std.specs.Prelude.{false, true, IfOk, IfSome};
 ghost use Rattle.std.proofs.Common.{ap, subst};
-ghost use Rattle.git_input.specs.{Ends.Gives, Objects.{IsWholeStream, object_reach}, Promises.{Runs, as_object}};
-ghost use Rattle.git_input.specs.Reports.{IsCleanIff, PrintsAtMost};
-ghost use Rattle.git_input.specs.Spelled.{IsReportedInOrder, IsWellFormedOnlyIfSpelled};
-ghost use Rattle.check_submodules.specs.{Private.Reads, Report.{report, submodules_rule}};
-ghost use Rattle.check_submodules.specs.Spelled.{IsAcceptedStream, IsEachSectionReported};
+ghost use Rattle.git_input.specs.Ends.{Gives};
+ghost use Rattle.git_input.specs.{Objects.{IsWholeStream, object_reach}, Reports.{IsCleanIff, PrintsAtMost}};
+ghost use Rattle.git_input.specs.{Promises.{Runs, as_object}, Spelled.{IsReportedInOrder, IsWellFormedOnlyIfSpelled}};
+ghost use Rattle.check_submodules.specs.{Private.Reads, Spelled.{IsAcceptedStream, IsEachSectionReported}};
+ghost use Rattle.check_submodules.specs.Report.{report, submodules_rule};
 
 use crate::options::Options;
 use crate::report::{push_lines, push_too_large};
@@ -17,8 +17,7 @@ use cli::outcome::RunError;
 use git_input::header::{Kind, Object};
 use git_input::input::{read_bytes, skip};
 use git_input::lines::Buffers;
-use git_input::objects;
-use git_input::objects::ObjectCheck;
+use git_input::objects::{self, ObjectCheck};
 use git_input::outcome::{Malformation, Verdict};
 use git_input::runs::Check;
 use std::alloc::Global;
@@ -32,8 +31,7 @@ impl Check<'_> for Options {
 
     /// Reads all of `input`, objects as `git cat-file --batch` prints them, and writes a line to
     /// `output` for each section of a submodule in a blob whose name is refused, and for each that
-    /// can't be read (docs/RULES.md, "The names in a .gitmodules file"). Objects that are not blobs are
-    /// skipped. A blob of more than 16,777,216 bytes is skipped too, and has a line that says so.
+    /// can't be read (docs/RULES.md, "The names in a .gitmodules file").
     ///
     /// ```
     /// Options { needs_end: false }.run(alloc, &mut input, &mut output)?; // Verdict::Refused

@@ -2,15 +2,14 @@
 
 ghost use Rattle.std.specs.Prelude.{◌≡◌, ◌++◌, OnOk};
 ghost use Rattle.gitmodules.specs.{Sections.sections, Headers.section_pair};
-ghost use Rattle.check_submodules.specs.Lines.{line_of, lines_of, line_start, too_large_line};
+ghost use Rattle.check_submodules.specs.Report.{line_of, lines_of, line_start, too_large_line};
 
 use crate::check::LARGEST;
 use bstr::BStr;
 use git_input::output::push_quoted;
 use gitmodules::{Section, Sections};
 use gix_validate::submodule;
-use std::io;
-use std::io::Write;
+use std::io::{self, Write};
 
 /// Appends the lines of a file: one for each section whose name [`submodule::name`] refuses, and
 /// one for each section that can't be read (docs/RULES.md, "The names in a .gitmodules file").

@@ -260,12 +260,17 @@ fn say<W: Write>(
     ensures { Says (finding_said (as_object tree.entry) (record { front = as_front front.entry; id = id.now }) finding)
         (W.contents output.old) (W.contents output.new) result }
 {
-    let (set, refused) = match finding {
-        Finding::Accepted => return Ok(false),
-        Finding::Modules => (set_modules(line, tree, front, id), false),
-        Finding::Refused(fault) => (set_refused(line, tree, front, fault), true),
-    };
-    set.map_err(|_| RunError::Memory)?;
-    output.write_all(line).map_err(|_| RunError::Write)?;
-    Ok(refused)
+    match finding {
+        Finding::Accepted => Ok(false),
+        Finding::Modules => {
+            set_modules(line, tree, front, id).map_err(|_| RunError::Memory)?;
+            output.write_all(line).map_err(|_| RunError::Write)?;
+            Ok(false)
+        }
+        Finding::Refused(fault) => {
+            set_refused(line, tree, front, fault).map_err(|_| RunError::Memory)?;
+            output.write_all(line).map_err(|_| RunError::Write)?;
+            Ok(true)
+        }
+    }
 }

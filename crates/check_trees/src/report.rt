@@ -20,7 +20,6 @@ use git_input::header::Object;
 use git_input::output::{push_hex, push_quoted};
 use gix_validate::path::ComponentError;
 use std::alloc::AllocError;
-use std::io;
 use std::io::Write;
 
 /// How many bytes of a path are displayed at most.
@@ -34,12 +33,12 @@ pub(crate) fn set_refused(
     tree: Object<'_>,
     front: ModeAndName<'_>,
     fault: ComponentError,
-) -> io::Result<()>
+) -> Result<(), AllocError>
     ensures { OnOk result (line.new.items ≡ refused_line (as_object tree.entry) (as_front front.entry) fault) }
 {
     line.clear();
     push_place(line, tree, front)?;
-    write!(line, " {fault}")?;
+    write!(line, " {fault}").map_err(|_| AllocError)?;
     end(line, tree.rest)
 }
 
@@ -51,7 +50,7 @@ pub(crate) fn set_modules(
     tree: Object<'_>,
     front: ModeAndName<'_>,
     id: &[u8],
-) -> io::Result<()>
+) -> Result<(), AllocError>
     ensures { OnOk result (line.new.items ≡ modules_line (as_object tree.entry) (as_front front.entry) id.now) }
 {
     line.clear();
@@ -78,7 +77,7 @@ fn push_place(
 }
 
 /// Appends the path of the tree, if it is known, or its first bytes, and a newline.
-fn end(line: &mut Vec<u8>, rest: Option<&[u8]>) -> io::Result<()>
+fn end(line: &mut Vec<u8>, rest: Option<&[u8]>) -> Result<(), AllocError>
     ensures { OnOk result (line.new.items ≡ line.old.items ++ in_path (option_map (λ rest. rest.now) rest.entry) ++ codes "\n") }
 {
     match rest {

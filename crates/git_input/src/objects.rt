@@ -7,7 +7,7 @@ ghost use Rattle.git_input.specs.Spelled.{IsCleanStream, IsReportedInOrder, IsWe
 ghost use Rattle.git_input.specs.{Reports.IsCleanIff, Private.object_rule_leaves};
 
 use crate::header::{Header, Object, header_of};
-use crate::input::{Found, read_before};
+use crate::input::read_bytes;
 use crate::lines;
 use crate::lines::{Buffers, Ending, LineCheck};
 use crate::outcome::{Malformation, Verdict};
@@ -66,7 +66,6 @@ impl<C: ObjectCheck> LineCheck for Objects<C> {
 }
 
 /// Checks the bytes of an object, and reads the LF after them.
-#[tactic(auto, using(crate::proofs::ObjectsRead::after_other))]
 fn check_and_close<C: ObjectCheck, R: BufRead, W: Write>(
     check: C,
     object: Object<'_>,
@@ -83,10 +82,13 @@ fn check_and_close<C: ObjectCheck, R: BufRead, W: Write>(
         Ok(refused) => refused,
         Err(malformation) => return Ok(Err(malformation)),
     };
-    match read_before(input, b'\n', 1, &mut buffers.read)? {
-        Found::Byte => Ok(Ok(refused)),
-        Found::Limit => Ok(Err(Malformation::LineEnd)),
-        Found::End => Ok(Err(Malformation::Ended)),
+    if !read_bytes(input, 1, &mut buffers.read)? {
+        return Ok(Err(Malformation::Ended));
+    }
+    if buffers.read[0] == b'\n' {
+        Ok(Ok(refused))
+    } else {
+        Ok(Err(Malformation::LineEnd))
     }
 }
 

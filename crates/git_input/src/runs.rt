@@ -163,22 +163,24 @@ pub fn buffers<R: Read + Drop, W: Write + Drop>(
 }
 
 /// What the `main` of a program does with its runtime, which `main` alone holds: it passes the
-/// arguments and buffered streams to [`answer`], under options of this type.
+/// arguments and buffered streams to [`answer`], under options of this type, with these fields of its
+/// [`Program`].
 #[macro_export]
 macro_rules! run_program {
-    ($options:ty, $program:ident, $rt:ident) => {{
+    ($rt:ident, $options:ty, $($field:ident: $value:expr),+) => {{
+        let program = $crate::runs::Program { $($field: $value),+ };
         let mut errors = cli::messages::Messages::new($rt.stderr());
-        match cli::arguments::arguments($rt.alloc(), std::env::args(&$rt), $program.name, &mut errors) {
+        match cli::arguments::arguments($rt.alloc(), std::env::args(&$rt), program.name, &mut errors) {
             Ok(arguments) => match $crate::runs::buffers($rt.alloc(), $rt.stdin(), $rt.stdout()) {
                 Ok((mut input, mut output)) => $crate::runs::answer::<$options, _, _, _>(
-                    $program,
+                    program,
                     $rt.alloc(),
                     &arguments,
                     &mut input,
                     &mut output,
                     &mut errors,
                 ),
-                Err(stop) => cli::fail($program.name, stop, &mut errors),
+                Err(stop) => cli::fail(program.name, stop, &mut errors),
             },
             Err(status) => status,
         }

@@ -9,8 +9,6 @@ use Rattle.git_input.specs.{declared.outcome.Malformation.TheVariants.Line, Repo
 use Rattle.check_refs.specs.declared.{options.Options.Options, refusal.Refusal.{Refusal, TheVariants.{Name, Replacement}}}
 use Rattle.check_refs.specs.declared.update.Update.{Update}
 
--- ---- a line
-
 -- an update: the id that the reference had, the id that it gets, and its name
 pub record ParsedUpdate : Type 0 where
   pub old_id : List ℕ
@@ -34,8 +32,6 @@ parsed_update line =
     (split_once (byte " ") old.1))
     (split_once (byte " ") line)
 
--- ---- which names are refused
-
 -- The fault of a name: as the name of a branch under `refs/heads/`, and as a full name elsewhere.
 abbrev pub name_fault_of : List ℕ → Option NameError
 name_fault_of name = if begins name (codes "refs/heads/") then branch_fault_of name else full_fault_of name
@@ -53,8 +49,6 @@ is_deletion update = list_all (λ b. b == byte "0") update.new_id
 abbrev pub update_refusal_of : Bool → ParsedUpdate → Option Refusal
 update_refusal_of allows_replace update = if is_deletion update then None else refusal_of allows_replace update.name
 
--- ---- what is printed
-
 -- what a refusal prints
 abbrev pub refusal_text_of : Refusal → List ℕ
 refusal_text_of (Name fault) = text_of fault
@@ -64,20 +58,14 @@ refusal_text_of Replacement = codes "replacement references are not allowed"
 abbrev pub refused_line : List ℕ → Refusal → List ℕ
 refused_line name refusal = codes "ref " ++ quoted name ++ codes " " ++ refusal_text_of refusal ++ codes "\n"
 
--- the line of a new id
-abbrev pub id_line : List ℕ → List ℕ
-id_line id = id ++ codes "\n"
-
 -- the line of a name that is refused, or else of the new id, where there is one and it is asked for
 abbrev pub lines_by : Options → ParsedUpdate → Option Refusal → List ℕ
 lines_by options update (Some refusal) = refused_line update.name refusal
-lines_by options update None = if options.lists_ids && not (is_deletion update) then id_line update.new_id else []
+lines_by options update None = if options.lists_ids && not (is_deletion update) then update.new_id ++ codes "\n" else []
 
 -- the line of an update, if it has one
 abbrev pub line_of : Options → ParsedUpdate → List ℕ
 line_of options update = lines_by options update (update_refusal_of options.allows_replace update)
-
--- ---- the report
 
 -- what is said of an update: its line, and whether it is refused
 abbrev pub said_of : Options → ParsedUpdate → Said

@@ -7,8 +7,6 @@ use Rattle.check_refs.specs.declared.options.Options.{Options}
 use Rattle.check_refs.specs.Refs.{ParsedUpdate, parsed_update, said_of, update_rule, refs_report, is_deletion}
 use Rattle.gix_validate.specs.{Bytes.begins, Reference.is_branch_name}
 
--- ---- an update
-
 -- two ids of one length and a name
 pub record IsUpdate (update : ParsedUpdate) : Type 0 where
   pub old : is_id update.old_id ≡ true
@@ -24,8 +22,6 @@ update_line update = update.old_id ++ byte " " ∷ update.new_id ++ byte " " ∷
 abbrev pub IsReadAsSpelled : List ℕ → Type 0
 IsReadAsSpelled line =
     (update : ParsedUpdate) → (parsed_update line ≡ Some update) ↔ (IsUpdate update × (line ≡ update_line update))
-
--- ---- an input
 
 -- an update whose name has no LF, and whose line fits
 abbrev pub IsSpelled : ParsedUpdate → Type 0
@@ -54,8 +50,6 @@ pub record IsWrittenOut (options : Options) (text : List ℕ) (said : Said) : Ty
 abbrev pub IsWellFormedOnlyIfSpelled : Options → Type 0
 IsWellFormedOnlyIfSpelled options =
     (text : List ℕ) → (refs_report options text).malformed ≡ None → IsWrittenOut options text (refs_report options text).said
-
--- ---- nothing refused
 
 -- By the grammar of names, without the report: an update is accepted if it deletes the reference, or if the name is a full name other than
 -- `refs/heads/HEAD`, and under `refs/replace/` only where replacements are allowed.

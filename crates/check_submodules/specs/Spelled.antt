@@ -23,8 +23,6 @@ pub record HasLines (id file lines : List ℕ) : Type 0 where
 abbrev pub IsEachSectionReported : Type 0
 IsEachSectionReported = (id file : List ℕ) → HasLines id file (lines_of id (sections 0 file))
 
--- ---- nothing refused
-
 -- the section can be read, and its name is accepted
 abbrev pub IsAccepted : ℕ × Option (List ℕ) → Type 0
 IsAccepted (offset, Some name) = fault_of name ≡ None

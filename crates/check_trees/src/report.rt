@@ -1,14 +1,11 @@
 //! The lines of the report.
 //!
-//! The rest of a header line, the path at which Git found the tree, is only displayed. Git prints
-//! one path of many, none for the tree of a commit, and cuts a path at a newline. So nothing
-//! depends on it. Each line of a tree repeats it, and a push decides how long it is and how many
-//! lines there are. So only its first bytes are displayed: what is printed stays linear in what is
-//! read.
+//! The rest of a header line, the path at which Git found the tree, is only displayed: it is one of
+//! many, and cut at a newline. Each line of a tree repeats it, and a push decides how long it is. So
+//! only its first bytes are displayed: what is printed stays linear in what is read.
 //!
-//! A `modules` line refuses nothing: the file is as it should be, and `check_submodules` checks its
-//! contents. So the status alone says whether a name is refused. No other line begins with that
-//! word, since the others begin with an id.
+//! A `modules` line refuses nothing: `check_submodules` checks the file's contents. No other line
+//! begins with that word, since the others begin with an id.
 
 ghost use Rattle.std.specs.{Prelude.{◌≡◌, ◌++◌, OnOk, codes}, Option.option_map};
 ghost use Rattle.git_input.specs.Promises.{as_object};

@@ -1,5 +1,5 @@
 -- What the arguments of a program ask for.
-use Rattle.std.specs.Prelude.{ℕ, ◌||◌, Bool, if◌then◌else◌, List, [], ◌∷◌, codes, Option, Some, None, Result, Ok, Err}
+use Rattle.std.specs.Prelude.{ℕ, ◌||◌, if◌then◌else◌, List, [], ◌∷◌, codes, Option, Some, None, Result, Ok, Err}
 use Rattle.std.specs.{Borrow.Bor, Str.{byte, bytes_eq}}
 use Rattle.cli.specs.declared.arguments.Request.{Request}
 use Rattle.cli.specs.declared.arguments.Request.TheVariants as request
@@ -75,9 +75,6 @@ abbrev pub after_set : {V : Type 0} → Result (V × Option (List ℕ)) WrongArg
 after_set (Err wrong) more = Err wrong
 after_set (Ok (options, option)) more = more options option
 
-abbrev pub is_help : List ℕ → Bool
-is_help word = bytes_eq word (codes "-h") || bytes_eq word (codes "--help")
-
 -- what words ask for, read from the first, where a check would have these options so far, and this option needs a value
 abbrev pub request_from : {V : Type 0} → OptionRule V → Option (List ℕ) → V → List (List ℕ) → Result (Task V) WrongArgument
 request_from rule None options [] = Ok (Check options)
@@ -85,7 +82,7 @@ request_from rule (Some name) options [] = Err (NoValue name)
 request_from rule (Some name) options (word ∷ words) =
     after_set (set_by rule options (Some name) word) (λ on option. request_from rule option on words)
 request_from rule None options (word ∷ words) =
-    if is_help word then Ok Help else
+    if bytes_eq word (codes "-h") || bytes_eq word (codes "--help") then Ok Help else
     if bytes_eq word (codes "--version") then Ok Version else
     after_set (set_by rule options None word) (λ on option. request_from rule option on words)
 

@@ -3,7 +3,7 @@
 ghost use Rattle.std.specs.Prelude.{◌≡◌, ◌⊎◌, ℕ, List, codes, IfErr, IfOk, IfSome, IsErr, IsOk, OnErr, OnOk, drop, map};
 ghost use Rattle.std.specs.{Option.option_map, Process.exit_status, Result.result_map_both, Str.byte};
 ghost use Rattle.std.specs.{String.string_bytes, Vec.Iter.into_iter_items};
-ghost use Rattle.cli.specs.Arguments.{OptionRule, effect_of, is_help, request_of, set_by, task_of, text_of, wrong_argument};
+ghost use Rattle.cli.specs.Arguments.{OptionRule, effect_of, request_of, set_by, task_of, text_of, wrong_argument};
 ghost use Rattle.cli.specs.{Lines.split_once, Messages.{Says, message, stop_text_of, wrong_text_of}};
 
 use crate::fail;
@@ -11,8 +11,7 @@ use crate::messages::Messages;
 use crate::outcome::RunError;
 use std::alloc::Global;
 use std::env::Args;
-use std::io;
-use std::io::{ErrorKind, Write};
+use std::io::{self, ErrorKind, Write};
 use std::process::ExitCode;
 
 /// What a program has to do.

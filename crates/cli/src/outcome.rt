@@ -2,7 +2,6 @@
 
 ghost use Rattle.std.specs.Prelude.{Some};
 
-use std::error::Error;
 use std::fmt;
 
 /// Why a run failed.
@@ -29,5 +28,3 @@ impl fmt::Display for RunError {
         })
     }
 }
-
-impl Error for RunError {}

@@ -1,6 +1,5 @@
 -- The line before an object in what `git cat-file --batch` prints.
-use Rattle.std.specs.Prelude.{ℕ, not, if◌then◌else◌, List, codes, Option, Some, None, option_map, option_and_then}
-use Rattle.std.specs.Str.{byte, bytes_eq}
+use Rattle.std.specs.{Prelude.{ℕ, not, if◌then◌else◌, List, codes, Option, Some, None, option_map, option_and_then}, Str.{byte, bytes_eq}}
 use Rattle.git_input.specs.{declared.header.Kind.{Kind, TheVariants.{Blob, Tree, Commit, Tag}}, Texts.{split_once, number_of, is_id}}
 
 -- an object's id, type and size, and the rest of its header line, if there is more: a space and any bytes

@@ -1,14 +1,12 @@
 -- The report of a text that is read line by line: what each line and what belongs to it give, in order, up to the first
 -- that is malformed. `Spelled` says it from the other side, with no steps: what is reported of a stream that is written out,
 -- object by object, and that no other text is well-formed.
-use Rattle.std.specs.Prelude.{◌≡◌, ◌↔◌, ℕ, suc, ◌+◌, ◌*◌, ◌≤◌, Bool, true, false, ◌==◌, ◌||◌, nat_lt, if◌then◌else◌, List, [], ◌∷◌, ◌++◌, length, take}
-use Rattle.std.specs.Prelude.{drop, codes}
-use Rattle.std.specs.Prelude.{Option, Some, None, Result, Ok, Err, IfOk, option_map}
-use Rattle.std.specs.Str.{bytes_eq}
+use Rattle.std.specs.Prelude.{◌≡◌, ◌↔◌, ℕ, suc, ◌+◌, ◌*◌, ◌≤◌, Bool, true, false, ◌==◌, ◌||◌, nat_lt, if◌then◌else◌, List, [], ◌∷◌, ◌++◌}
+use Rattle.std.specs.{Prelude.{length, take, drop, codes, Option, Some, None, Result, Ok, Err, IfOk, option_map}, Str.bytes_eq}
 use Rattle.gix_validate.specs.Faults.{when}
-use Rattle.git_input.specs.declared.{lines.Ending.{Ending, TheVariants.{Anywhere, EndLine, AfterALine}}, outcome.Malformation.Malformation}
-use Rattle.git_input.specs.declared.outcome.{Malformation.TheVariants.{TooLong, Ended, NoEnd, Empty}, Verdict.Verdict}
-use Rattle.git_input.specs.{declared.outcome.Verdict.TheVariants.{Clean, Refused, Malformed}, Texts.{line_end, split_once}}
+use Rattle.git_input.specs.{declared.lines.Ending.{Ending, TheVariants.{Anywhere, EndLine, AfterALine}}, Texts.{line_end, split_once}}
+use Rattle.git_input.specs.declared.outcome.{Malformation.{Malformation, TheVariants.{TooLong, Ended, NoEnd, Empty}}, Verdict.Verdict}
+use Rattle.git_input.specs.declared.outcome.Verdict.TheVariants.{Clean, Refused, Malformed}
 
 -- the most bytes of a line with its end
 abbrev pub longest : ℕ

@@ -7,8 +7,7 @@ ghost use Rattle.git_input.specs.Promises.{IsCutAt, ReadsBefore, ReadsExactly};
 
 use cli::outcome::RunError;
 use memchr::memchr;
-use std::io;
-use std::io::{BufRead, ErrorKind};
+use std::io::{self, BufRead, ErrorKind};
 
 /// The most turns of a loop that reads until it is done. An interrupted call is made again, so nothing
 /// else bounds the loop. No run takes so many.

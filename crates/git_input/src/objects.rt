@@ -8,8 +8,7 @@ ghost use Rattle.git_input.specs.{Reports.IsCleanIff, Private.object_rule_leaves
 
 use crate::header::{Header, Object, header_of};
 use crate::input::read_bytes;
-use crate::lines;
-use crate::lines::{Buffers, Ending, LineCheck};
+use crate::lines::{self, Buffers, Ending, LineCheck};
 use crate::outcome::{Malformation, Verdict};
 use cli::outcome::RunError;
 use std::alloc::Global;

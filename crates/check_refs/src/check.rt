@@ -66,11 +66,10 @@ impl LineCheck for Options {
         let Some(update) = update_of(line) else {
             return Ok(Err(Malformation::Line));
         };
-        buffers.lines.clear();
-        let refused = push_line(self, update, &mut buffers.lines).map_err(|_| RunError::Memory)?;
-        output
-            .write_all(&buffers.lines)
-            .map_err(|_| RunError::Write)?;
+        let lines = &mut buffers.lines;
+        lines.clear();
+        let refused = push_line(self, update, lines).map_err(|_| RunError::Memory)?;
+        output.write_all(lines).map_err(|_| RunError::Write)?;
         Ok(Ok(refused))
     }
 }

@@ -17,7 +17,6 @@ pub enum Refusal {
     Replacement,
 }
 
-/// The printed text of the name's error, or `replacement references are not allowed`.
 impl fmt::Display for Refusal {
     ghost use Rattle.std.specs.Prelude.{Some};
     ghost use Rattle.check_refs.specs.Refs.{refusal_text_of};

@@ -14,10 +14,6 @@ use std::io::{self, Write};
 
 /// Appends the line of an update, if it has one, and returns whether its name is refused
 /// (docs/RULES.md, "The report of references").
-///
-/// # Errors
-///
-/// An error if `lines` can't grow. The beginning of the line may have been appended then.
 pub(crate) fn push_line(
     options: Options,
     update: Update<'_>,

@@ -48,6 +48,5 @@ said_of lines = record { lines = lines; refused = not (is_empty lines) }
 abbrev pub submodules_rule : ObjectRule
 submodules_rule cut object bytes = (if cut then nothing else said_of (object_lines object.kind object.id object.size bytes), None)
 
--- the report of an input
 abbrev pub report : Bool → List ℕ → Report
 report needs_end text = object_report submodules_rule needs_end text

@@ -3,13 +3,12 @@
 //! A file is held whole, since a section may begin anywhere in it. 16 MiB have room for some
 //! hundred thousand submodules. A larger file is refused, and skipped.
 
-ghost use Rattle.std.specs.Prelude.{false, true, IfOk, IfSome};
+ghost use Rattle.std.specs.Prelude.{◌≡◌, ℕ, List, false, true, IfOk, IfSome};
 ghost use Rattle.std.proofs.Common.{ap, subst};
-ghost use Rattle.git_input.specs.Ends.{Gives};
-ghost use Rattle.git_input.specs.{Objects.{IsWholeStream, object_reach}, Reports.{IsCleanIff, PrintsAtMost}};
-ghost use Rattle.git_input.specs.{Promises.{Runs, as_object}, Spelled.{IsReportedInOrder, IsWellFormedOnlyIfSpelled}};
-ghost use Rattle.check_submodules.specs.{Private.Reads, Spelled.{IsAcceptedStream, IsEachSectionReported}};
-ghost use Rattle.check_submodules.specs.Report.{report, submodules_rule};
+ghost use Rattle.git_input.specs.{Ends.Gives, Objects.{IsWholeStream, object_reach}, Reports.{IsCleanIff, PrintsAtMost}};
+ghost use Rattle.git_input.specs.{Promises.{ReadsExactly, Runs}, Spelled.{IsReportedInOrder, IsWellFormedOnlyIfSpelled}};
+ghost use Rattle.check_submodules.specs.Report.{object_lines, report, submodules_rule};
+ghost use Rattle.check_submodules.specs.Spelled.{IsAcceptedStream, IsEachSectionReported};
 
 use crate::options::Options;
 use crate::report::{push_lines, push_too_large};
@@ -36,8 +35,6 @@ impl Check<'_> for Options {
     /// ```
     /// Options { needs_end: false }.run(alloc, &mut input, &mut output)?; // Verdict::Refused
     /// ```
-    ///
-    /// The lines of a blob are written once all of it is read.
     ///
     /// # Memory
     ///
@@ -89,7 +86,8 @@ fn read_object<R: BufRead>(
     input: &mut R,
     buffers: &mut Buffers,
 ) -> Result<bool, RunError>
-    ensures { IfOk result (Reads (as_object object.entry) (R.remaining input.old) (R.remaining input.new) buffers.new.lines.items) }
+    ensures { IfOk result (λ whole. (bytes : List ℕ) × ReadsExactly object.entry.size (R.remaining input.old) (R.remaining input.new) bytes whole
+        × (whole ≡ true → buffers.new.lines.items ≡ object_lines object.entry.kind object.entry.id.now object.entry.size bytes)) }
 {
     buffers.lines.clear();
     if object.kind != Kind::Blob {

@@ -13,10 +13,6 @@ use std::io::{self, Write};
 
 /// Appends the lines of a file: one for each section whose name [`submodule::name`] refuses, and
 /// one for each section that can't be read (docs/RULES.md, "The names in a .gitmodules file").
-///
-/// # Errors
-///
-/// An error if `name` or `lines` can't grow. Some lines may have been appended then.
 pub(crate) fn push_lines(
     id: &[u8],
     file: &[u8],

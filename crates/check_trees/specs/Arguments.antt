@@ -1,5 +1,5 @@
 -- How the input is checked, which rules hold for a name, and what the options of the command do.
-use Rattle.std.specs.Prelude.{ℕ, true, false, ◌==◌, if◌then◌else◌, List, [], ◌∷◌, codes, Option, Some, None, option_and_then, Bool}
+use Rattle.std.specs.Prelude.{ℕ, true, false, ◌==◌, ◌||◌, if◌then◌else◌, List, [], ◌∷◌, codes, Option, Some, None, option_and_then, Bool}
 use Rattle.std.specs.{List.{slice_split, list_any}, Str.{byte, bytes_eq}}
 use Rattle.gix_validate.specs.{declared.path.ComponentOptions.ComponentOptions, Component.all_protections, ComponentLaws.no_protections}
 use Rattle.gix_validate.specs.Pieces.{pieces}
@@ -15,12 +15,9 @@ pub record Options : Type 0 where
 
 -- the options as the code has them: the names are the texts between the slashes of one text
 abbrev pub as_options : CheckOptions → Options
-as_options options = record {
-  protections = options.protections;
-  modules = options.modules;
-  needs_end = options.needs_end;
-  accepted = pieces options.accepted.now;
-}
+as_options options =
+    let accepted = pieces options.accepted.now in
+    record { protections = options.protections; modules = options.modules; needs_end = options.needs_end; accepted = accepted }
 
 -- the switches for a name
 abbrev pub protections_for : Options → List ℕ → ComponentOptions
@@ -68,8 +65,7 @@ rule name None options =
     then Sets (record { protections = options.protections; modules = true; needs_end = options.needs_end; accepted = options.accepted }) else
     if bytes_eq name (codes "--end")
     then Sets (record { protections = options.protections; modules = options.modules; needs_end = true; accepted = options.accepted }) else
-    if bytes_eq name (codes "--protect") then NeedsValue else
-    if bytes_eq name (codes "--accept") then NeedsValue else
+    if bytes_eq name (codes "--protect") || bytes_eq name (codes "--accept") then NeedsValue else
     Unknown
 rule name (Some value) options =
     if bytes_eq name (codes "--protect") then protected_by value options (protections_of value) else

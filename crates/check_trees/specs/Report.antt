@@ -60,7 +60,6 @@ finding_said tree entry Accepted = nothing
 finding_said tree entry Modules = record { lines = modules_line tree entry.front entry.id; refused = false }
 finding_said tree entry (Refused fault) = record { lines = refused_line tree entry.front fault; refused = true }
 
--- what is said of an entry
 abbrev pub entry_said : Options → ParsedObject → ParsedEntry → Said
 entry_said options tree entry = finding_said tree entry (finding_of options entry.front)
 
@@ -90,6 +89,5 @@ judged_by_kind options cut object bytes kind = (nothing, None)
 abbrev pub tree_rule : Options → ObjectRule
 tree_rule options cut object bytes = judged_by_kind options cut object bytes object.kind
 
--- the report of a text
 abbrev pub report : Options → List ℕ → stream.Report
 report options text = object_report (tree_rule options) options.needs_end text

@@ -6,8 +6,7 @@ ghost use Rattle.check_trees.specs.{Entries.parsed_front, Private.as_front};
 use git_input::text::{number_of, split_once};
 use gix_validate::path::ComponentMode;
 
-/// The part of an entry that is before the NUL: the digits of the mode, what the mode means for the
-/// name, whether it is that of a file, and the name.
+/// The part of an entry that is before the NUL. `mode` is what the mode means for the name.
 #[derive(Clone, Copy)]
 pub(crate) struct ModeAndName<'a> {
     pub(crate) digits: &'a [u8],

@@ -1,6 +1,6 @@
 -- What the arguments of a program ask for.
 use Rattle.std.specs.Prelude.{ℕ, ◌||◌, if◌then◌else◌, List, [], ◌∷◌, codes, Option, Some, None, Result, Ok, Err}
-use Rattle.std.specs.{Borrow.Bor, Str.{byte, bytes_eq}}
+use Rattle.std.specs.{Borrow.Bor, Option.option_map_or, Str.{byte, bytes_eq}}
 use Rattle.cli.specs.declared.arguments.Request.{Request}
 use Rattle.cli.specs.declared.arguments.Request.TheVariants as request
 use Rattle.cli.specs.declared.arguments.Setting.{Setting}
@@ -61,14 +61,12 @@ after_effect options word name (Sets set) = Ok (set, None)
 after_effect options word name NeedsValue = Ok (options, Some name)
 after_effect options word name (Invalid value valid) = Err (WrongValue name value valid)
 
--- the options after a word, NAME=VALUE or the name of an option, and the option that needs a value then
-abbrev pub set_parts : {V : Type 0} → OptionRule V → V → List ℕ → Option (List ℕ × List ℕ) → Result (V × Option (List ℕ)) WrongArgument
-set_parts rule options word None = after_effect options word word (rule word None options)
-set_parts rule options word (Some parts) = after_effect options word parts.0 (rule parts.0 (Some parts.1) options)
-
+-- the options after a word, which is a value, or NAME=VALUE, or the name of an option, and the option that needs a value then
 abbrev pub set_by : {V : Type 0} → OptionRule V → V → Option (List ℕ) → List ℕ → Result (V × Option (List ℕ)) WrongArgument
 set_by rule options (Some name) word = after_effect options word name (rule name (Some word) options)
-set_by rule options None word = set_parts rule options word (split_once (byte "=") word)
+set_by rule options None word =
+    option_map_or (λ (parts : List ℕ × List ℕ). after_effect options word parts.0 (rule parts.0 (Some parts.1) options))
+    (split_once (byte "=") word) (after_effect options word word (rule word None options))
 
 abbrev pub after_set : {V : Type 0} → Result (V × Option (List ℕ)) WrongArgument → (V → Option (List ℕ) → Result (Task V) WrongArgument)
     → Result (Task V) WrongArgument

@@ -14,14 +14,12 @@ pub data ParsedHeader : Type 0 where
   Missing : ParsedHeader
   Object : (object : ParsedObject) → ParsedHeader
 
--- the word for a type
 abbrev pub kind_word : Kind → List ℕ
 kind_word Blob = codes "blob"
 kind_word Tree = codes "tree"
 kind_word Commit = codes "commit"
 kind_word Tag = codes "tag"
 
--- the type of a word
 abbrev pub kind_of_word : List ℕ → Option Kind
 kind_of_word text =
     if bytes_eq text (codes "blob") then Some Blob else

@@ -52,6 +52,13 @@ pub fn header_of(line: &[u8]) -> Option<Header<'_>>
     }
     let (word, sized) = split_once(b' ', after)?;
     let kind = kind_of_word(word)?;
+    object_of(id, kind, sized)
+}
+
+/// What the part of a header line after its type says.
+fn object_of<'a>(id: &'a [u8], kind: Kind, sized: &'a [u8]) -> Option<Header<'a>>
+    ensures { option_map as_parsed result ≡ sized_parts id.now kind sized.now (split_once (byte " ") sized.now) }
+{
     let (digits, rest) = match split_once(b' ', sized) {
         Some((digits, rest)) => (digits, Some(rest)),
         None => (sized, None),

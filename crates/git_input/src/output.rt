@@ -18,9 +18,17 @@ pub fn push_hex(line: &mut Vec<u8>, bytes: &[u8]) -> Result<(), AllocError>
     ensures { OnOk result (line.new.items ≡ line.old.items ++ flat_map hex_pair bytes.now) }
 {
     for byte in bytes {
-        line.push(HEX_DIGITS[usize::from(byte / 16)])?;
-        line.push(HEX_DIGITS[usize::from(byte % 16)])?;
+        push_pair(line, *byte)?;
     }
+    Ok(())
+}
+
+/// Appends the two hexadecimal digits of a byte.
+fn push_pair(line: &mut Vec<u8>, byte: u8) -> Result<(), AllocError>
+    ensures { OnOk result (line.new.items ≡ line.old.items ++ hex_pair byte) }
+{
+    line.push(HEX_DIGITS[usize::from(byte / 16)])?;
+    line.push(HEX_DIGITS[usize::from(byte % 16)])?;
     Ok(())
 }
 

@@ -1,14 +1,14 @@
 -- The verdict is clean if and only if the input is accepted.
-use Rattle.gix_validate.proofs.Common.{◌≡◌, ◌≢◌, ◌↔◌, ℕ, Bool, true, false, not, ◌&&◌, ◌||◌, IsTrue, List, [], ◌∷◌, ◌⊎◌, Option, None, cond, length, codes}
-use Rattle.gix_validate.proofs.Common.{refl, arith, ap, ◌∙◌, sym, append-nil, flat_map, is_some, is_none, option_map, bytes_eq, bytes_eq-Decides, ◌<◌, subst}
-use Rattle.gix_validate.proofs.TagNames.Grammar.{tag_grammar_law}
+use Rattle.gix_validate.proofs.Common.{◌≡◌, ◌≢◌, ◌↔◌, ℕ, Bool, true, false, not, ◌&&◌, ◌||◌, IsTrue, List, [], ◌∷◌, ◌⊎◌, Option, None, cond}
+use Rattle.gix_validate.proofs.Common.{length, codes, refl, arith, ap, ◌∙◌, sym, append-nil, flat_map, is_some, is_none, option_map}
+use Rattle.gix_validate.proofs.{Common.{bytes_eq, bytes_eq-Decides, ◌<◌, subst}, TagNames.Grammar.tag_grammar_law}
 use Rattle.gix_validate.specs.Reference.{is_partial_name, is_full_name, is_branch_name, partial_fault_of, full_fault_of, branch_fault_of}
 use Rattle.gix_validate.specs.{declared.reference.NameError.NameError, Bytes.begins, Faults.{when, ◌orelse◌}}
 use Rattle.git_input.specs.{declared.outcome.Verdict.Verdict, Reports.{verdict_of, IsCleanIff}}
 use Rattle.git_input.proofs.WrittenLines.{clean_by, all_good, if_clean}
-use Rattle.check_refs.specs.declared.{options.Options.Options, refusal.Refusal.TheVariants.{Name, Replacement}}
-use Rattle.check_refs.specs.{Refs.{ParsedUpdate, is_deletion, name_fault_of, refusal_of, update_refusal_of}, Report.{said_of, refs_report}}
-use Rattle.check_refs.specs.{Spelled.{IsSpelled, spelling}, Accepted.{IsAccepted, IsAcceptedInput}}
+use Rattle.check_refs.specs.{declared.options.Options.Options, Spelled.{IsSpelled, spelling, IsAccepted, IsAcceptedInput}}
+use Rattle.check_refs.specs.declared.refusal.Refusal.TheVariants.{Name, Replacement}
+use Rattle.check_refs.specs.Refs.{ParsedUpdate, is_deletion, name_fault_of, refusal_of, update_refusal_of, said_of, refs_report}
 use Rattle.check_refs.proofs.{LinearReports.linear_report, SpelledInputs.{reported_in_order, updates_are_read, well_formed_only_if_spelled}}
 
 -- ---- a name

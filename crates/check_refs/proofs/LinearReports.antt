@@ -1,17 +1,17 @@
 -- At most four bytes are printed for each byte of an input.
-use Rattle.gix_validate.proofs.Common.{◌≡◌, ℕ, ◌+◌, ◌*◌, ◌≤◌, Bool, cond, List, [], ◌∷◌, Option, None, Some, length, codes, refl, ap, arith, length-append}
-use Rattle.gix_validate.proofs.Common.{IfSome, option_map, bytes_eq}
+use Rattle.gix_validate.proofs.Common.{◌≡◌, ℕ, ◌+◌, ◌*◌, ◌≤◌, Bool, cond, List, [], ◌∷◌, Option, None, Some, length, codes, refl, ap, arith}
+use Rattle.gix_validate.proofs.Common.{length-append, IfSome, option_map, bytes_eq}
 use Rattle.gix_validate.specs.declared.tag.NameError.{NameError as TagError}
 use Rattle.gix_validate.specs.declared.tag.NameError.TheVariants as tag
-use Rattle.gix_validate.specs.Reference.{reserved, carried, partial_fault_of, full_fault_of, branch_fault_of, text_of}
+use Rattle.gix_validate.specs.{Reference.{reserved, carried, partial_fault_of, full_fault_of, branch_fault_of, text_of}, Quoted.quoted}
 use Rattle.gix_validate.specs.{declared.reference.NameError.{NameError, TheVariants.SomeLowercase}, Bytes.begins, Faults.{when, ◌orelse◌}}
-use Rattle.gix_validate.specs.{Quoted.quoted, Tag.fault_of}
+use Rattle.gix_validate.specs.Tag.{fault_of}
 use Rattle.git_input.specs.{declared.lines.Ending.TheVariants.AfterALine, Reports.PrintsAtMost}
 use Rattle.git_input.proofs.LinearReports.{quoted_length, id_length, IsStepWithin, IsLineWithin, prints_at_most}
-use Rattle.check_refs.specs.Refs.{ParsedUpdate, parsed_update, name_fault_of, refusal_of, is_deletion, update_refusal_of, refusal_text_of, refused_line}
-use Rattle.check_refs.specs.Refs.{lines_by}
-use Rattle.check_refs.specs.declared.{options.Options.Options, refusal.Refusal.{Refusal, TheVariants.{Name, Replacement}}}
-use Rattle.check_refs.specs.{Report.{step_of, update_rule, refs_report}, Spelled.{IsUpdate, update_line}, Private.update_leaves}
+use Rattle.check_refs.specs.Refs.{ParsedUpdate, parsed_update, name_fault_of, refusal_of, is_deletion, update_refusal_of, refusal_text_of}
+use Rattle.check_refs.specs.{Refs.{refused_line, lines_by, step_of, update_rule, refs_report}, declared.options.Options.Options}
+use Rattle.check_refs.specs.{declared.refusal.Refusal.{Refusal, TheVariants.{Name, Replacement}}, Spelled.{IsUpdate, update_line}}
+use Rattle.check_refs.specs.Private.{update_leaves}
 use Rattle.check_refs.proofs.UpdateLines.{read_spelled}
 
 -- ---- the text of a refusal

@@ -1,7 +1,7 @@
 -- The definitions computed on lines: what is printed of each, or that it says no update.
 use Rattle.gix_validate.proofs.Common.{◌≡◌, ℕ, true, false, refl, List, [], ◌∷◌, ◌++◌, Option, Some, None, map, codes, option_map}
-use Rattle.gix_validate.specs.{Bytes.is_bad, Faults.at_first_offset, Reference.{partial_fault_of, full_fault_of, branch_fault_of}}
-use Rattle.gix_validate.specs.Tag.{fault_of, faults_at, fault_table}
+use Rattle.gix_validate.specs.{Bytes.is_bad, Faults.at_first_offset}
+use Rattle.gix_validate.specs.{Reference.{partial_fault_of, full_fault_of, branch_fault_of}, Tag.{fault_of, faults_at, fault_table}}
 use Rattle.git_input.specs.Texts.{is_id}
 use Rattle.check_refs.specs.Refs.{parsed_update, line_of}
 

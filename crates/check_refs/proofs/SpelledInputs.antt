@@ -1,12 +1,13 @@
 -- Updates that are written out are read as they are written, and no other input is well-formed.
-use Rattle.gix_validate.proofs.Common.{◌≡◌, ◌≢◌, ℕ, ◌<◌, List, [], ◌∷◌, ◌++◌, All, Option, Some, None, Ok, length, refl, arith, append_assoc, length-append}
-use Rattle.gix_validate.proofs.Common.{AllByRecursion, flat_map, All-append, All-cons, All-from_recursion, byte, IfOk, append-nil}
+use Rattle.gix_validate.proofs.Common.{◌≡◌, ◌≢◌, ℕ, ◌<◌, List, [], ◌∷◌, ◌++◌, All, Option, Some, None, Ok, length, refl, arith}
+use Rattle.gix_validate.proofs.Common.{append_assoc, length-append, AllByRecursion, flat_map, All-append, All-cons, All-from_recursion}
+use Rattle.gix_validate.proofs.Common.{byte, IfOk, append-nil}
 use Rattle.git_input.specs.{declared.lines.Ending.TheVariants.AfterALine, Texts.line_end, Reports.{Said, line_of, report, longest}}
-use Rattle.git_input.proofs.{LinesRead.{line_found, lines_none, by_line}, WellFormedStreams.each_after}
-use Rattle.git_input.proofs.WrittenLines.{AreRead, in_order, well_formed}
+use Rattle.git_input.proofs.{LinesRead.{line_found, lines_none, by_line}, WrittenLines.{AreRead, in_order, well_formed}}
+use Rattle.git_input.proofs.WellFormedStreams.{each_after}
 use Rattle.check_refs.specs.Spelled.{IsSpelled, update_line, spelling, IsReportedInOrder, IsWellFormedOnlyIfSpelled}
-use Rattle.check_refs.specs.{declared.options.Options.Options, Report.{refs_report, said_of, step_of, update_rule}}
-use Rattle.check_refs.specs.{Refs.{ParsedUpdate, parsed_update}, Private.update_leaves}
+use Rattle.check_refs.specs.declared.options.Options.{Options}
+use Rattle.check_refs.specs.{Refs.{refs_report, said_of, step_of, update_rule, ParsedUpdate, parsed_update}, Private.update_leaves}
 use Rattle.check_refs.proofs.UpdateLines.{id_whole, spelled_read, read_spelled}
 
 abbrev NoEnd : ℕ → Type 0

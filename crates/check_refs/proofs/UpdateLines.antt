@@ -1,6 +1,6 @@
 -- A line is read as an update if and only if it is that update's line.
-use Rattle.gix_validate.proofs.Common.{◌≡◌, ◌≢◌, ℕ, ◌<◌, true, List, [], ◌∷◌, ◌++◌, All, Some, arith, append_assoc, byte, list_all, AllByRecursion}
-use Rattle.gix_validate.proofs.Common.{All-from_recursion}
+use Rattle.gix_validate.proofs.Common.{◌≡◌, ◌≢◌, ℕ, ◌<◌, true, List, [], ◌∷◌, ◌++◌, All, Some, arith, append_assoc, byte, list_all}
+use Rattle.gix_validate.proofs.Common.{AllByRecursion, All-from_recursion}
 use Rattle.git_input.specs.Texts.{is_hex_digit, is_id, split_once}
 use Rattle.check_refs.specs.{Refs.{ParsedUpdate, is_update, parsed_update}, Spelled.{IsUpdate, update_line, IsReadAsSpelled}}
 use Rattle.git_input.proofs.SplitTexts.{split_found, split_cuts}

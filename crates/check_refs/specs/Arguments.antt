@@ -3,11 +3,9 @@ use Rattle.std.specs.{Prelude.{true, false, if◌then◌else◌, codes, Some, No
 use Rattle.cli.specs.Arguments.{OptionRule, Unknown, Sets}
 use Rattle.check_refs.specs.declared.options.Options.{Options}
 
--- without options
 abbrev pub no_options : Options
 no_options = record { lists_ids = false; allows_replace = false }
 
--- what an option does
 abbrev pub rule : OptionRule Options
 rule name (Some value) options = Unknown
 rule name None options =

@@ -1,14 +1,13 @@
 -- The updates of references that Git tells a pre-receive hook of, a line each: what a line says, which names are refused,
 -- and what is printed. Texts are lists of bytes.
-use Rattle.std.specs.Prelude.{ℕ, Bool, ◌==◌, ◌&&◌, not, if◌then◌else◌, List, [], ◌++◌, length, codes, Option, Some, None}
-use Rattle.std.specs.{Option.{option_map, option_and_then}, List.list_all, Str.byte}
-use Rattle.gix_validate.specs.{declared.reference.NameError.NameError, Bytes.{is_empty, begins}, Faults.{when, ◌orelse◌}, Quoted.quoted}
-use Rattle.gix_validate.specs.Reference.{full_fault_of, branch_fault_of, text_of}
-use Rattle.git_input.specs.Texts.{split_once, is_id}
+use Rattle.std.specs.Prelude.{ℕ, Bool, ◌==◌, ◌&&◌, not, if◌then◌else◌, List, [], ◌++◌, length, codes, Option, Some, None, Ok, Err}
+use Rattle.std.specs.{Option.{option_map, option_and_then, is_some}, List.list_all, Str.byte}
+use Rattle.gix_validate.specs.{declared.reference.NameError.NameError, Quoted.quoted, Reference.{full_fault_of, branch_fault_of, text_of}}
+use Rattle.gix_validate.specs.{Bytes.{is_empty, begins}, Faults.{when, ◌orelse◌}}
+use Rattle.git_input.specs.{Texts.{split_once, is_id}, declared.lines.Ending.TheVariants.AfterALine}
+use Rattle.git_input.specs.{declared.outcome.Malformation.TheVariants.Line, Reports.{Said, nothing, Step, LineRule, Report, report}}
 use Rattle.check_refs.specs.declared.{options.Options.Options, refusal.Refusal.{Refusal, TheVariants.{Name, Replacement}}}
 use Rattle.check_refs.specs.declared.update.Update.{Update}
-
--- ---- a line
 
 -- an update: the id that the reference had, the id that it gets, and its name
 pub record ParsedUpdate : Type 0 where
@@ -33,8 +32,6 @@ parsed_update line =
     (split_once (byte " ") old.1))
     (split_once (byte " ") line)
 
--- ---- which names are refused
-
 -- The fault of a name: as the name of a branch under `refs/heads/`, and as a full name elsewhere.
 abbrev pub name_fault_of : List ℕ → Option NameError
 name_fault_of name = if begins name (codes "refs/heads/") then branch_fault_of name else full_fault_of name
@@ -52,8 +49,6 @@ is_deletion update = list_all (λ b. b == byte "0") update.new_id
 abbrev pub update_refusal_of : Bool → ParsedUpdate → Option Refusal
 update_refusal_of allows_replace update = if is_deletion update then None else refusal_of allows_replace update.name
 
--- ---- what is printed
-
 -- what a refusal prints
 abbrev pub refusal_text_of : Refusal → List ℕ
 refusal_text_of (Name fault) = text_of fault
@@ -63,15 +58,28 @@ refusal_text_of Replacement = codes "replacement references are not allowed"
 abbrev pub refused_line : List ℕ → Refusal → List ℕ
 refused_line name refusal = codes "ref " ++ quoted name ++ codes " " ++ refusal_text_of refusal ++ codes "\n"
 
--- the line of a new id
-abbrev pub id_line : List ℕ → List ℕ
-id_line id = id ++ codes "\n"
-
 -- the line of a name that is refused, or else of the new id, where there is one and it is asked for
 abbrev pub lines_by : Options → ParsedUpdate → Option Refusal → List ℕ
 lines_by options update (Some refusal) = refused_line update.name refusal
-lines_by options update None = if options.lists_ids && not (is_deletion update) then id_line update.new_id else []
+lines_by options update None = if options.lists_ids && not (is_deletion update) then update.new_id ++ codes "\n" else []
 
 -- the line of an update, if it has one
 abbrev pub line_of : Options → ParsedUpdate → List ℕ
 line_of options update = lines_by options update (update_refusal_of options.allows_replace update)
+
+-- what is said of an update: its line, and whether it is refused
+abbrev pub said_of : Options → ParsedUpdate → Said
+said_of options update = record { lines = line_of options update; refused = is_some (update_refusal_of options.allows_replace update) }
+
+-- what a line that says this update gives; a line that says none is malformed
+abbrev pub step_of : Options → Option ParsedUpdate → List ℕ → Step
+step_of options None text = (nothing, Err Line)
+step_of options (Some update) text = (said_of options update, Ok text)
+
+-- what a line gives; nothing that follows it belongs to it
+abbrev pub update_rule : Options → LineRule
+update_rule options line text = step_of options (parsed_update line) text
+
+-- the report of an input, which has at least one line
+abbrev pub refs_report : Options → List ℕ → Report
+refs_report options text = report (update_rule options) AfterALine text

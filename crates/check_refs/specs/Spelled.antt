@@ -1,12 +1,11 @@
--- What is reported of updates that are written out, and that no other input is well-formed.
-use Rattle.std.specs.Prelude.{◌≡◌, ◌≢◌, ◌↔◌, ◌+◌, ◌<◌, true, List, [], ◌∷◌, ◌++◌, All, length, map, flat_map, ℕ, None, Some}
-use Rattle.std.specs.{List.AllByRecursion, Str.byte}
-use Rattle.git_input.specs.{declared.lines.Ending.TheVariants.AfterALine, Texts.{line_end, is_id}}
-use Rattle.git_input.specs.Reports.{Said, all_said, longest, before_report, lines_from}
-use Rattle.check_refs.specs.{declared.options.Options.Options, Refs.{ParsedUpdate, parsed_update}}
-use Rattle.check_refs.specs.Report.{said_of, update_rule, refs_report}
-
--- ---- an update
+-- What is reported of updates that are written out, that no other input is well-formed, and the pushes of which nothing is refused.
+use Rattle.std.specs.Prelude.{◌≡◌, ◌≢◌, ◌↔◌, ◌+◌, ◌<◌, true, List, [], ◌∷◌, ◌++◌, All, length, map, flat_map, ℕ, None, Some, ◌⊎◌, IsTrue}
+use Rattle.std.specs.{List.AllByRecursion, Str.byte, Prelude.codes}
+use Rattle.git_input.specs.{declared.lines.Ending.TheVariants.AfterALine, Reports.{Said, all_said, longest, before_report, lines_from}}
+use Rattle.git_input.specs.Texts.{line_end, is_id}
+use Rattle.check_refs.specs.declared.options.Options.{Options}
+use Rattle.check_refs.specs.Refs.{ParsedUpdate, parsed_update, said_of, update_rule, refs_report, is_deletion}
+use Rattle.gix_validate.specs.{Bytes.begins, Reference.is_branch_name}
 
 -- two ids of one length and a name
 pub record IsUpdate (update : ParsedUpdate) : Type 0 where
@@ -23,8 +22,6 @@ update_line update = update.old_id ++ byte " " ∷ update.new_id ++ byte " " ∷
 abbrev pub IsReadAsSpelled : List ℕ → Type 0
 IsReadAsSpelled line =
     (update : ParsedUpdate) → (parsed_update line ≡ Some update) ↔ (IsUpdate update × (line ≡ update_line update))
-
--- ---- an input
 
 -- an update whose name has no LF, and whose line fits
 abbrev pub IsSpelled : ParsedUpdate → Type 0
@@ -53,3 +50,18 @@ pub record IsWrittenOut (options : Options) (text : List ℕ) (said : Said) : Ty
 abbrev pub IsWellFormedOnlyIfSpelled : Options → Type 0
 IsWellFormedOnlyIfSpelled options =
     (text : List ℕ) → (refs_report options text).malformed ≡ None → IsWrittenOut options text (refs_report options text).said
+
+-- By the grammar of names, without the report: an update is accepted if it deletes the reference, or if the name is a full name other than
+-- `refs/heads/HEAD`, and under `refs/replace/` only where replacements are allowed.
+abbrev pub IsAccepted : Options → ParsedUpdate → Type 0
+IsAccepted options update =
+    IsTrue (is_deletion update)
+    ⊎ (IsTrue (is_branch_name update.name) × (IsTrue (begins update.name (codes "refs/replace/")) → IsTrue options.allows_replace))
+
+-- The input is at least one update, each written out and accepted.
+pub record IsAcceptedInput (options : Options) (text : List ℕ) : Type 0 where
+  pub updates : List ParsedUpdate
+  pub some : updates ≢ []
+  pub each : AllByRecursion IsSpelled updates
+  pub accepted : AllByRecursion (IsAccepted options) updates
+  pub text_is : text ≡ flat_map spelling updates

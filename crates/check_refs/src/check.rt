@@ -2,15 +2,14 @@
 
 ghost use Rattle.std.specs.Prelude.{◌≡◌, Some, IfOk, IfSome};
 ghost use Rattle.git_input.specs.{Ends.Gives, Promises.Runs, Reports.{IsCleanIff, PrintsAtMost}};
-ghost use Rattle.check_refs.specs.{Accepted.IsAcceptedInput, Private.update_leaves, Report.{refs_report, update_rule}};
-ghost use Rattle.check_refs.specs.Spelled.{IsReportedInOrder, IsWellFormedOnlyIfSpelled};
+ghost use Rattle.check_refs.specs.Spelled.{IsAcceptedInput, IsReportedInOrder, IsWellFormedOnlyIfSpelled};
+ghost use Rattle.check_refs.specs.{Private.update_leaves, Refs.{refs_report, update_rule}};
 
 use crate::options::Options;
 use crate::report::push_line;
 use crate::update::update_of;
 use cli::outcome::RunError;
-use git_input::lines;
-use git_input::lines::{Buffers, Ending, LineCheck};
+use git_input::lines::{self, Buffers, Ending, LineCheck};
 use git_input::outcome::{Malformation, Verdict};
 use git_input::runs::Check;
 use std::alloc::Global;
@@ -27,9 +26,6 @@ impl Check<'_> for Options {
     /// let options = Options { lists_ids: false, allows_replace: false };
     /// options.run(alloc, &mut input, &mut output)?; // Verdict::Refused
     /// ```
-    ///
-    /// An empty input is malformed. The verdict is `Clean` if and only if nothing is malformed and
-    /// nothing is refused.
     ///
     /// # Memory
     ///
@@ -70,11 +66,10 @@ impl LineCheck for Options {
         let Some(update) = update_of(line) else {
             return Ok(Err(Malformation::Line));
         };
-        buffers.lines.clear();
-        let refused = push_line(self, update, &mut buffers.lines).map_err(|_| RunError::Memory)?;
-        output
-            .write_all(&buffers.lines)
-            .map_err(|_| RunError::Write)?;
+        let lines = &mut buffers.lines;
+        lines.clear();
+        let refused = push_line(self, update, lines).map_err(|_| RunError::Memory)?;
+        output.write_all(lines).map_err(|_| RunError::Write)?;
         Ok(Ok(refused))
     }
 }

@@ -9,17 +9,9 @@ mod report;
 mod update;
 
 use git_input::run_program;
-use git_input::runs::Program;
 use options::{HELP, Options};
 use std::process::ExitCode;
 
-const PROGRAM: Program<'_> = Program {
-    name: "check_refs",
-    help: HELP,
-    unit: "line",
-    hint: "",
-};
-
 fn main(rt: HostRuntime) -> ExitCode {
-    run_program!(Options, PROGRAM, rt)
+    run_program!(rt, Options, name: "check_refs", help: HELP, unit: "line", hint: "")
 }

@@ -2,8 +2,7 @@
 
 ghost use Rattle.check_refs.specs.Arguments.{no_options, rule};
 
-use cli::arguments;
-use cli::arguments::Setting;
+use cli::arguments::{self, Setting};
 
 pub const HELP: &str = "\
 Prints a line for each reference of a push whose name is refused. A pre-receive
@@ -57,17 +56,12 @@ impl<'a> arguments::Options<'a> for Options {
         }
     }
 
-    fn set(self, name: &str, value: Option<&'a str>) -> Setting<'a, Self> {
-        match value {
-            None if name == "--ids" => Setting::Set(Options {
-                lists_ids: true,
-                ..self
-            }),
-            None if name == "--replace" => Setting::Set(Options {
-                allows_replace: true,
-                ..self
-            }),
-            _ => Setting::Unknown,
+    fn set(mut self, name: &str, value: Option<&'a str>) -> Setting<'a, Self> {
+        match (name, value) {
+            ("--ids", None) => self.lists_ids = true,
+            ("--replace", None) => self.allows_replace = true,
+            _ => return Setting::Unknown,
         }
+        Setting::Set(self)
     }
 }

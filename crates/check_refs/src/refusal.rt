@@ -1,11 +1,10 @@
 //! Which reference names are refused, and why.
 
 ghost use Rattle.std.specs.Prelude.{◌≡◌};
-ghost use Rattle.check_refs.specs.Refs.{name_fault_of, refusal_of};
+ghost use Rattle.check_refs.specs.Refs.{refusal_of};
 
 use bstr::BStr;
-use gix_validate::reference;
-use gix_validate::reference::NameError;
+use gix_validate::reference::{self, NameError};
 use std::fmt;
 
 /// Why a reference name is refused (docs/RULES.md, "The report of references").
@@ -18,7 +17,6 @@ pub enum Refusal {
     Replacement,
 }
 
-/// The printed text of the name's error, or `replacement references are not allowed`.
 impl fmt::Display for Refusal {
     ghost use Rattle.std.specs.Prelude.{Some};
     ghost use Rattle.check_refs.specs.Refs.{refusal_text_of};
@@ -33,35 +31,24 @@ impl fmt::Display for Refusal {
     }
 }
 
-/// Why a reference name is refused; `None` if it isn't (docs/RULES.md, "The report of references").
+/// Why a reference name is refused; `None` if it isn't. It does not allocate.
 ///
 /// ```
 /// refusal_of(false, b"refs/heads/HEAD"); // Refusal::Name, with the error `Reserved`
 /// refusal_of(false, b"refs/replace/a"); // Refusal::Replacement
 /// refusal_of(true, b"refs/replace/a"); // None
 /// ```
-///
-/// [`reference::branch_name`] has to accept a name under `refs/heads/`, and [`reference::name`] any
-/// other name. A name under `refs/replace/` also has to be allowed. It does not allocate.
 pub fn refusal_of(allows_replace: bool, name: &[u8]) -> Option<Refusal>
     ensures { result ≡ refusal_of allows_replace name.now }
 {
-    if let Some(fault) = name_fault_of(name) {
-        return Some(Refusal::Name(fault));
-    }
-    if !allows_replace && name.starts_with(b"refs/replace/") {
-        return Some(Refusal::Replacement);
-    }
-    None
-}
-
-/// Why a name is invalid; `None` if it is valid.
-fn name_fault_of(name: &[u8]) -> Option<NameError>
-    ensures { result ≡ name_fault_of name.now }
-{
-    if name.starts_with(b"refs/heads/") {
-        reference::branch_name(BStr::new(name)).err()
+    let checked = if name.starts_with(b"refs/heads/") {
+        reference::branch_name(BStr::new(name))
     } else {
-        reference::name(BStr::new(name)).err()
+        reference::name(BStr::new(name))
+    };
+    match checked {
+        Err(fault) => Some(Refusal::Name(fault)),
+        Ok(_) if allows_replace || !name.starts_with(b"refs/replace/") => None,
+        Ok(_) => Some(Refusal::Replacement),
     }
 }

@@ -1,7 +1,7 @@
 //! A line of the input: a reference, the id that it had and the id that it gets.
 
 ghost use Rattle.std.specs.{Prelude.◌≡◌, Option.option_map};
-ghost use Rattle.check_refs.specs.{Refs.{as_parsed, is_deletion, parsed_update}, Spelled.IsReadAsSpelled};
+ghost use Rattle.check_refs.specs.{Refs.{as_parsed, parsed_update}, Spelled.IsReadAsSpelled};
 
 use git_input::text::{is_id, split_once};
 
@@ -25,8 +25,7 @@ pub struct Update<'a> {
 /// update_of(b"{zeros} refs/heads/main"); // None
 /// ```
 ///
-/// An id has 40 or 64 digits of `0` to `9` and `a` to `f`. For any other line it returns `None`. It
-/// does not allocate.
+/// For any other line it returns `None`. It does not allocate.
 #[tactic(auto, using(crate::proofs::UpdateLines::read_as_spelled), unfolding(crate::specs::Refs::parsed_update))]
 pub fn update_of(line: &[u8]) -> Option<Update<'_>>
     ensures says { option_map as_parsed result ≡ parsed_update line.now }
@@ -35,19 +34,11 @@ pub fn update_of(line: &[u8]) -> Option<Update<'_>>
     let (old_id, rest) = split_once(b' ', line)?;
     let (new_id, name) = split_once(b' ', rest)?;
     if is_id(old_id) && is_id(new_id) && old_id.len() == new_id.len() && !name.is_empty() {
-        Some(Update {
+        return Some(Update {
             old_id,
             new_id,
             name,
-        })
-    } else {
-        None
+        });
     }
-}
-
-/// Whether the update deletes its reference. It does not allocate.
-pub(crate) fn is_deletion(update: Update<'_>) -> bool
-    ensures { result ≡ is_deletion (as_parsed update.entry) }
-{
-    update.new_id.iter().all(|byte| *byte == b'0')
+    None
 }

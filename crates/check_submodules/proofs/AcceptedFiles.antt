@@ -1,9 +1,10 @@
 -- Nothing of a stream is refused if and only if each section of each file is accepted.
-use Rattle.gix_validate.proofs.Common.{◌≡◌, ℕ, Bool, true, false, not, ◌++◌, codes, List, [], ◌∷◌, Option, refl, arith, nat_lt, AllByRecursion, ◌↔◌}
+use Rattle.gix_validate.proofs.Common.{◌≡◌, ℕ, Bool, true, false, not, ◌++◌, codes, List, [], ◌∷◌, Option, refl, arith, nat_lt}
+use Rattle.gix_validate.proofs.Common.{AllByRecursion, ◌↔◌}
 use Rattle.gix_validate.specs.Bytes.{is_empty}
 use Rattle.gitmodules.specs.Sections.{sections}
 use Rattle.git_input.specs.{declared.header.Kind.{Kind, TheVariants.Blob}, Spelled.{Spelled, IsSpelled, spelled_said}}
-use Rattle.check_submodules.specs.{Lines.{largest, line_of, lines_of, too_large_line}, Report.{file_lines, object_lines, submodules_rule}}
+use Rattle.check_submodules.specs.Report.{largest, line_of, lines_of, too_large_line, file_lines, object_lines, submodules_rule}
 use Rattle.check_submodules.specs.Spelled.{IsAccepted, IsAcceptedFile, IsAcceptedObject}
 
 -- ---- lines

@@ -1,16 +1,16 @@
 -- The lines of a file have at most 17 bytes for each of its own: a section has ten bytes at least, and two names never overlap.
-use Rattle.gix_validate.proofs.Common.{◌≡◌, ◌≢◌, ℕ, zero, suc, ◌+◌, ◌*◌, ◌<◌, ◌≤◌, nat_lt, Bool, true, false, cond, ◌==◌, ◌&&◌, not, List, [], ◌∷◌, ◌++◌}
-use Rattle.gix_validate.proofs.Common.{Option, None, Some, length, take, drop, map, codes, refl, ap, arith, length-append, take-append-drop, append_assoc}
-use Rattle.gix_validate.proofs.Common.{add-zero, sym, ◌∙◌, rules, bytes_eq-Decides, option_map, ⊤, to_ascii_lowercase, AllByRecursion, byte, bytes_eq}
+use Rattle.gix_validate.proofs.Common.{◌≡◌, ◌≢◌, ℕ, zero, suc, ◌+◌, ◌*◌, ◌<◌, ◌≤◌, nat_lt, Bool, true, false, cond, ◌==◌, ◌&&◌, not, List}
+use Rattle.gix_validate.proofs.Common.{[], ◌∷◌, ◌++◌, Option, None, Some, length, take, drop, map, codes, refl, ap, arith, length-append}
+use Rattle.gix_validate.proofs.Common.{take-append-drop, append_assoc, add-zero, sym, ◌∙◌, rules, bytes_eq-Decides, option_map, ⊤}
+use Rattle.gix_validate.proofs.Common.{to_ascii_lowercase, AllByRecursion, byte, bytes_eq}
 use Rattle.std.proofs.lemmas.Fmt.{length-decimal-le}
 use Rattle.gix_validate.specs.{declared.submodule.NameError.NameError, Submodule.{fault_of, text_of}}
-use Rattle.gitmodules.specs.Sections.{is_never_in_name, closed, escaped_name, unescaped, Header, Named, Unreadable, Other, is_blank, without_blanks}
-use Rattle.gitmodules.specs.Sections.{named}
-use Rattle.gitmodules.specs.Sections.{quoted_header, header_after_word, header_after_bracket, begun, sections}
+use Rattle.gitmodules.specs.Sections.{is_never_in_name, closed, escaped_name, unescaped, Header, Named, Unreadable, Other, is_blank}
+use Rattle.gitmodules.specs.Sections.{without_blanks, named, quoted_header, header_after_word, header_after_bracket, begun, sections}
 use Rattle.git_input.specs.{declared.header.Kind.Kind, Reports.PrintsAtMost}
 use Rattle.git_input.proofs.LinearReports.{quoted_length, id_length, IsObjectWithin, stream_prints_at_most}
-use Rattle.check_submodules.specs.Lines.{largest, line_start, line_if, line_of, lines_of, too_large_line}
-use Rattle.check_submodules.specs.Report.{object_lines, submodules_rule, report}
+use Rattle.check_submodules.specs.Report.{largest, line_start, line_if, line_of, lines_of, too_large_line, object_lines, submodules_rule}
+use Rattle.check_submodules.specs.Report.{report}
 
 -- ---- a line
 

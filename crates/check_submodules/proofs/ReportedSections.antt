@@ -1,10 +1,10 @@
 -- The lines of a file, and where its sections are.
-use Rattle.gix_validate.proofs.Common.{◌≡◌, ◌≢◌, ◌⊎◌, inl, inr, ℕ, ◌<◌, List, [], ◌∷◌, ◌++◌, All, Some, None, Option, refl, ap, sym, subst, ◌∙◌, arith, zero}
-use Rattle.gix_validate.proofs.Common.{suc, Contains, flat_map, AllPairs, Contains-append_right}
+use Rattle.gix_validate.proofs.Common.{◌≡◌, ◌≢◌, ◌⊎◌, inl, inr, ℕ, ◌<◌, List, [], ◌∷◌, ◌++◌, All, Some, None, Option, refl, ap, sym, subst}
+use Rattle.gix_validate.proofs.Common.{◌∙◌, arith, zero, suc, Contains, flat_map, AllPairs, Contains-append_right}
 use Rattle.gix_validate.specs.{declared.submodule.NameError.NameError, Submodule.fault_of, Bytes.is_empty}
 use Rattle.gitmodules.specs.{Sections.sections, Spelled.SectionAt}
 use Rattle.gitmodules.proofs.{SpelledSections.each_section_found, ReadSections.{each_header_given, each_name_spelled, in_order}}
-use Rattle.check_submodules.specs.{Lines.{line_if, line_of, lines_of}, Spelled.{IsLineOf, IsEachSectionReported}}
+use Rattle.check_submodules.specs.{Report.{line_if, line_of, lines_of}, Spelled.{IsLineOf, IsEachSectionReported}}
 use Rattle.check_submodules.proofs.AcceptedFiles.{accepts}
 
 abbrev Sections : Type 0

@@ -3,11 +3,9 @@ use Rattle.std.specs.{Prelude.{true, false, if◌then◌else◌, codes, Some, No
 use Rattle.cli.specs.Arguments.{OptionRule, Unknown, Sets}
 use Rattle.check_submodules.specs.declared.options.Options.{Options}
 
--- without options
 abbrev pub no_options : Options
 no_options = record { needs_end = false }
 
--- what an option does
 abbrev pub rule : OptionRule Options
 rule name (Some value) options = Unknown
 rule name None options = if bytes_eq name (codes "--end") then Sets (record { needs_end = true }) else Unknown

@@ -1,10 +1,35 @@
 -- What is reported of a stream of `.gitmodules` files: the lines of each, in order.
-use Rattle.std.specs.Prelude.{ℕ, Bool, not, nat_lt, if◌then◌else◌, List, [], None}
-use Rattle.gix_validate.specs.Bytes.{is_empty}
-use Rattle.git_input.specs.{declared.header.Kind.{Kind, TheVariants.Blob}, Reports.{Said, nothing, Report}}
-use Rattle.git_input.specs.Objects.{ObjectRule, object_report}
+use Rattle.std.specs.{Prelude.{ℕ, Bool, not, nat_lt, if◌then◌else◌, List, [], None, ◌++◌, codes, flat_map, Option, Some}, Fmt.decimal}
+use Rattle.gix_validate.specs.{Bytes.is_empty, declared.submodule.NameError.NameError, Submodule.{fault_of, text_of}, Quoted.quoted}
+use Rattle.git_input.specs.declared.header.Kind.{Kind}
+use Rattle.git_input.specs.{declared.header.Kind.TheVariants.Blob, Reports.{Said, nothing, Report}, Objects.{ObjectRule, object_report}}
 use Rattle.gitmodules.specs.Sections.{sections}
-use Rattle.check_submodules.specs.Lines.{largest, lines_of, too_large_line}
+
+-- how a line begins: the file's id, and the offset of the section's `[` in decimal digits
+abbrev pub line_start : List ℕ → ℕ → List ℕ
+line_start id offset = id ++ codes " " ++ decimal offset ++ codes " "
+
+-- the line of a name with this fault: the quoted name and the fault's text
+abbrev pub line_if : List ℕ → ℕ → List ℕ → Option NameError → List ℕ
+line_if id offset name None = []
+line_if id offset name (Some fault) = line_start id offset ++ quoted name ++ codes " " ++ text_of fault ++ codes "\n"
+
+-- the line of a section, if it has one
+abbrev pub line_of : List ℕ → ℕ × Option (List ℕ) → List ℕ
+line_of id (offset, Some name) = line_if id offset name (fault_of name)
+line_of id (offset, None) = line_start id offset ++ codes "a section can't be read\n"
+
+-- the lines of a file with these sections
+abbrev pub lines_of : List ℕ → List (ℕ × Option (List ℕ)) → List ℕ
+lines_of id sections = flat_map (line_of id) sections
+
+-- the most bytes of a file that is read
+abbrev pub largest : ℕ
+largest = 16777216
+
+-- the line of a file that is not read
+abbrev pub too_large_line : List ℕ → List ℕ
+too_large_line id = id ++ codes " the file is larger than " ++ decimal largest ++ codes " bytes\n"
 
 -- the lines of a file of this size
 abbrev pub file_lines : List ℕ → ℕ → List ℕ → List ℕ
@@ -23,6 +48,5 @@ said_of lines = record { lines = lines; refused = not (is_empty lines) }
 abbrev pub submodules_rule : ObjectRule
 submodules_rule cut object bytes = (if cut then nothing else said_of (object_lines object.kind object.id object.size bytes), None)
 
--- the report of an input
 abbrev pub report : Bool → List ℕ → Report
 report needs_end text = object_report submodules_rule needs_end text

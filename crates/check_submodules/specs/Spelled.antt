@@ -4,7 +4,7 @@ use Rattle.std.specs.List.{AllByRecursion, AllPairs}
 use Rattle.gix_validate.specs.{declared.submodule.NameError.NameError, Submodule.{fault_of, text_of}, Quoted.quoted}
 use Rattle.gitmodules.specs.{Sections.sections, Spelled.{SectionAt, HeaderAt}}
 use Rattle.git_input.specs.{declared.header.Kind.TheVariants.Blob, Spelled.{Spelled, Present, Absent, IsStreamOf}}
-use Rattle.check_submodules.specs.{Lines.{largest, line_start, lines_of}, Report.submodules_rule}
+use Rattle.check_submodules.specs.Report.{largest, line_start, lines_of, submodules_rule}
 
 -- the line of what is at an offset of a file: of a section whose name has a fault, or of a header that isn't a section
 abbrev pub IsLineOf : (id file : List ℕ) → ℕ × List ℕ → Type 0
@@ -22,8 +22,6 @@ pub record HasLines (id file lines : List ℕ) : Type 0 where
 
 abbrev pub IsEachSectionReported : Type 0
 IsEachSectionReported = (id file : List ℕ) → HasLines id file (lines_of id (sections 0 file))
-
--- ---- nothing refused
 
 -- the section can be read, and its name is accepted
 abbrev pub IsAccepted : ℕ × Option (List ℕ) → Type 0

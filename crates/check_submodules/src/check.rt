@@ -3,12 +3,11 @@
 //! A file is held whole, since a section may begin anywhere in it. 16 MiB have room for some
 //! hundred thousand submodules. A larger file is refused, and skipped.
 
-ghost use Rattle.std.specs.Prelude.{false, true, IfOk, IfSome};
+ghost use Rattle.std.specs.Prelude.{◌≡◌, ℕ, List, false, true, IfOk, IfSome};
 ghost use Rattle.std.proofs.Common.{ap, subst};
-ghost use Rattle.git_input.specs.{Ends.Gives, Objects.{IsWholeStream, object_reach}, Promises.{Runs, as_object}};
-ghost use Rattle.git_input.specs.Reports.{IsCleanIff, PrintsAtMost};
-ghost use Rattle.git_input.specs.Spelled.{IsReportedInOrder, IsWellFormedOnlyIfSpelled};
-ghost use Rattle.check_submodules.specs.{Private.Reads, Report.{report, submodules_rule}};
+ghost use Rattle.git_input.specs.{Ends.Gives, Objects.{IsWholeStream, object_reach}, Reports.{IsCleanIff, PrintsAtMost}};
+ghost use Rattle.git_input.specs.{Promises.{ReadsExactly, Runs}, Spelled.{IsReportedInOrder, IsWellFormedOnlyIfSpelled}};
+ghost use Rattle.check_submodules.specs.Report.{object_lines, report, submodules_rule};
 ghost use Rattle.check_submodules.specs.Spelled.{IsAcceptedStream, IsEachSectionReported};
 
 use crate::options::Options;
@@ -17,8 +16,7 @@ use cli::outcome::RunError;
 use git_input::header::{Kind, Object};
 use git_input::input::{read_bytes, skip};
 use git_input::lines::Buffers;
-use git_input::objects;
-use git_input::objects::ObjectCheck;
+use git_input::objects::{self, ObjectCheck};
 use git_input::outcome::{Malformation, Verdict};
 use git_input::runs::Check;
 use std::alloc::Global;
@@ -32,14 +30,11 @@ impl Check<'_> for Options {
 
     /// Reads all of `input`, objects as `git cat-file --batch` prints them, and writes a line to
     /// `output` for each section of a submodule in a blob whose name is refused, and for each that
-    /// can't be read (docs/RULES.md, "The names in a .gitmodules file"). Objects that are not blobs are
-    /// skipped. A blob of more than 16,777,216 bytes is skipped too, and has a line that says so.
+    /// can't be read (docs/RULES.md, "The names in a .gitmodules file").
     ///
     /// ```
     /// Options { needs_end: false }.run(alloc, &mut input, &mut output)?; // Verdict::Refused
     /// ```
-    ///
-    /// The lines of a blob are written once all of it is read.
     ///
     /// # Memory
     ///
@@ -91,7 +86,8 @@ fn read_object<R: BufRead>(
     input: &mut R,
     buffers: &mut Buffers,
 ) -> Result<bool, RunError>
-    ensures { IfOk result (Reads (as_object object.entry) (R.remaining input.old) (R.remaining input.new) buffers.new.lines.items) }
+    ensures { IfOk result (λ whole. (bytes : List ℕ) × ReadsExactly object.entry.size (R.remaining input.old) (R.remaining input.new) bytes whole
+        × (whole ≡ true → buffers.new.lines.items ≡ object_lines object.entry.kind object.entry.id.now object.entry.size bytes)) }
 {
     buffers.lines.clear();
     if object.kind != Kind::Blob {
@@ -104,12 +100,7 @@ fn read_object<R: BufRead>(
     if !read_bytes(input, object.size as usize, &mut buffers.read)? {
         return Ok(false);
     }
-    push_lines(
-        object.id,
-        &buffers.read,
-        &mut buffers.part,
-        &mut buffers.lines,
-    )
-    .map_err(|_| RunError::Memory)?;
+    let Buffers { read, part, lines } = buffers;
+    push_lines(object.id, read, part, lines).map_err(|_| RunError::Memory)?;
     Ok(true)
 }

@@ -7,18 +7,13 @@ mod options;
 mod report;
 
 use git_input::run_program;
-use git_input::runs::Program;
 use options::{HELP, Options};
 use std::process::ExitCode;
 
-const PROGRAM: Program<'_> = Program {
-    name: "check_submodules",
-    help: HELP,
-    unit: "object",
-    hint: "; if it says that a name is missing, Git has no such object; a file is passed as in: \
-        echo HEAD:.gitmodules | git cat-file --batch | check_submodules",
-};
+const HINT: &str =
+    "; if it says that a name is missing, Git has no such object; a file is passed as in: \
+    echo HEAD:.gitmodules | git cat-file --batch | check_submodules";
 
 fn main(rt: HostRuntime) -> ExitCode {
-    run_program!(Options, PROGRAM, rt)
+    run_program!(rt, Options, name: "check_submodules", help: HELP, unit: "object", hint: HINT)
 }

@@ -2,8 +2,7 @@
 
 ghost use Rattle.check_submodules.specs.Arguments.{no_options, rule};
 
-use cli::arguments;
-use cli::arguments::Setting;
+use cli::arguments::{self, Setting};
 
 pub const HELP: &str = "\
 Prints a line for each submodule in a .gitmodules file whose name is refused:

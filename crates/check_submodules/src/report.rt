@@ -2,33 +2,17 @@
 
 ghost use Rattle.std.specs.Prelude.{◌≡◌, ◌++◌, OnOk};
 ghost use Rattle.gitmodules.specs.{Sections.sections, Headers.section_pair};
-ghost use Rattle.check_submodules.specs.Lines.{line_of, lines_of, line_start, too_large_line};
+ghost use Rattle.check_submodules.specs.Report.{line_of, lines_of, line_start, too_large_line};
 
 use crate::check::LARGEST;
 use bstr::BStr;
 use git_input::output::push_quoted;
 use gitmodules::{Section, Sections};
 use gix_validate::submodule;
-use std::io;
-use std::io::Write;
+use std::io::{self, Write};
 
 /// Appends the lines of a file: one for each section whose name [`submodule::name`] refuses, and
 /// one for each section that can't be read (docs/RULES.md, "The names in a .gitmodules file").
-///
-/// ```
-/// push_lines(id, b"[submodule \"..\"]\n", &mut name, &mut lines)?;
-/// // ID 0 ".." Submodules names must not contains '..'
-/// ```
-///
-/// # Errors
-///
-/// An error if `name` or `lines` can't grow. The beginning of the lines may have been appended
-/// then.
-///
-/// # Memory
-///
-/// `name` grows to the longest name. `lines` grows by the lines, each of which has the id, at most
-/// 20 digits, four bytes for each byte of the name, and the reason.
 pub(crate) fn push_lines(
     id: &[u8],
     file: &[u8],
@@ -54,8 +38,7 @@ fn push_line(
 {
     let Some(escaped) = &section.name else {
         push_start(id, section.offset, lines)?;
-        lines.extend_from_slice(b"a section can't be read\n")?;
-        return Ok(());
+        return write!(lines, "a section can't be read\n");
     };
     name.clear();
     escaped.push_to(name)?;
@@ -67,8 +50,7 @@ fn push_line(
     Ok(())
 }
 
-/// Appends the beginning of a line: the file's id, and the offset at which the section begins in
-/// it.
+/// Appends the beginning of a line: the file's id, and the offset of the section in it.
 fn push_start(id: &[u8], offset: usize, lines: &mut Vec<u8>) -> io::Result<()>
     ensures { OnOk result (lines.new.items ≡ lines.old.items ++ line_start id.now offset) }
 {
@@ -77,10 +59,6 @@ fn push_start(id: &[u8], offset: usize, lines: &mut Vec<u8>) -> io::Result<()>
 }
 
 /// Appends the line of a file that is too large to be read.
-///
-/// # Errors
-///
-/// An error if `lines` can't grow. The beginning of the line may have been appended then.
 pub(crate) fn push_too_large(id: &[u8], lines: &mut Vec<u8>) -> io::Result<()>
     ensures { OnOk result (lines.new.items ≡ lines.old.items ++ too_large_line id.now) }
 {

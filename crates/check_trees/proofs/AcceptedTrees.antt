@@ -1,12 +1,12 @@
 -- Nothing of a stream is refused if and only if each entry of each tree is accepted.
 use Rattle.gix_validate.proofs.Common.{◌≡◌, ℕ, Bool, false, List, None, refl, arith, ap, ◌∙◌, ◌↔◌, ◌/◌, length, map, AllByRecursion}
 use Rattle.gix_validate.specs.Component.{fault_of}
-use Rattle.git_input.specs.declared.{header.Kind.{Kind, TheVariants.{Blob, Tree, Commit, Tag}}, outcome.Malformation.TheVariants.Entry}
-use Rattle.git_input.specs.{Headers.ParsedObject, Objects.Judged, Spelled.{Spelled, Present, Absent, IsSpelled, spelled_said}}
-use Rattle.git_input.specs.Reports.{all_said}
+use Rattle.git_input.specs.{declared.header.Kind.{Kind, TheVariants.{Blob, Tree, Commit, Tag}}, Headers.ParsedObject, Reports.all_said}
+use Rattle.git_input.specs.{declared.outcome.Malformation.TheVariants.Entry, Spelled.{Spelled, Present, Absent, IsSpelled, spelled_said}}
+use Rattle.git_input.specs.Objects.{Judged}
 use Rattle.git_input.proofs.WrittenLines.{all_good}
-use Rattle.check_trees.specs.{Options.Options, Report.{entries, judged_by_kind, tree_rule}}
-use Rattle.check_trees.specs.Spelled.{Item, IsItem, item_said, IsAcceptedTree, IsAcceptedObject}
+use Rattle.check_trees.specs.{Arguments.Options, Spelled.{Item, IsItem, item_said, IsAcceptedTree, IsAcceptedObject}}
+use Rattle.check_trees.specs.Report.{entries, judged_by_kind, tree_rule}
 use Rattle.check_trees.proofs.SpelledTrees.{entries_spelled, read_as_items}
 
 -- ---- an entry

@@ -1,14 +1,15 @@
 -- The first entry of what is left of a tree, and what the reads of it give.
-use Rattle.gix_validate.proofs.Common.{◌≡◌, ◌≢◌, ℕ, ◌+◌, ◌-◌, ◌/◌, ◌<◌, ◌≤◌, min, nat_lt, Bool, true, false, List, ◌∷◌, ◌++◌, All, Option, Some, None, Result}
-use Rattle.gix_validate.proofs.Common.{Ok, Err, [], length, take, drop, refl, ap, ◌∙◌, arith, append-nil, append_assoc, length-append, length-take, length-drop}
-use Rattle.gix_validate.proofs.Common.{take_all, take_at, drop_at, take-take, IfSome_then, nat_tests, IfSome, IfOk, Appends}
-use Rattle.git_input.specs.declared.{input.Found.TheVariants.{Byte, Limit, End}, outcome.Malformation.Malformation}
-use Rattle.git_input.specs.{declared.outcome.Malformation.TheVariants.{Ended, TooLong, Entry}, Texts.split_once, Headers.ParsedObject}
-use Rattle.git_input.specs.{Reports.{longest, Said}, Promises.{ReadsBefore, ReadsExactly}}
-use Rattle.cli.specs.{declared.outcome.RunError.{RunError, TheVariants.Write}, Writes.AppendsPrefixOf}
+use Rattle.gix_validate.proofs.Common.{◌≡◌, ◌≢◌, ℕ, ◌+◌, ◌-◌, ◌/◌, ◌<◌, ◌≤◌, min, nat_lt, Bool, true, false, List, ◌∷◌, ◌++◌, All, Option}
+use Rattle.gix_validate.proofs.Common.{Some, None, Result, Ok, Err, [], length, take, drop, refl, ap, ◌∙◌, arith, append-nil, append_assoc}
+use Rattle.gix_validate.proofs.Common.{length-append, length-take, length-drop, take_all, take_at, drop_at, take-take, IfSome_then}
+use Rattle.gix_validate.proofs.Common.{nat_tests, IfSome, IfOk, Appends}
+use Rattle.git_input.specs.declared.{input.Found.TheVariants.{Byte, Limit, End}, outcome.Malformation.TheVariants.{Ended, TooLong, Entry}}
+use Rattle.git_input.specs.{declared.outcome.Malformation.Malformation, Reports.{longest, Said}, Promises.{ReadsBefore, ReadsExactly}}
+use Rattle.git_input.specs.{Texts.split_once, Headers.ParsedObject}
+use Rattle.cli.specs.{declared.outcome.RunError.{RunError, TheVariants.Write}, Messages.AppendsPrefixOf}
 use Rattle.git_input.proofs.SplitTexts.{take_after, take_past, drop_before, drop_both, split_within, split_short, split_long}
 use Rattle.check_trees.specs.Entries.{nul, ParsedModeAndName, ParsedEntry, parsed_front, entry_at, entry_with, entry_of}
-use Rattle.check_trees.specs.{declared.check.{Checked.Checked, Finding.Finding}, Options.Options}
+use Rattle.check_trees.specs.{declared.check.{Checked.Checked, Finding.Finding}, Arguments.Options}
 use Rattle.check_trees.specs.{Report.{short_of, finding_of, finding_said, entry_said}, Private.{first_entry, EntryGives, PassesId}}
 
 -- ---- an entry of these bytes

@@ -1,14 +1,15 @@
 -- The lines of a tree have at most 32 bytes for each of its own.
-use Rattle.gix_validate.proofs.Common.{◌≡◌, ℕ, zero, suc, ◌+◌, ◌*◌, ◌/◌, ◌≤◌, nat_lt, Bool, true, false, cond, List, [], ◌∷◌, ◌++◌, Option, None, Some, Result}
-use Rattle.gix_validate.proofs.Common.{length, take, refl, arith, length-append, length-take, codes, nat_tests, IfOk, flat_map}
+use Rattle.gix_validate.proofs.Common.{◌≡◌, ℕ, zero, suc, ◌+◌, ◌*◌, ◌/◌, ◌≤◌, nat_lt, Bool, true, false, cond, List, [], ◌∷◌, ◌++◌, Option}
+use Rattle.gix_validate.proofs.Common.{None, Some, Result, length, take, refl, arith, length-append, length-take, codes, nat_tests, IfOk}
+use Rattle.gix_validate.proofs.Common.{flat_map}
 use Rattle.gix_validate.specs.{declared.path.ComponentError.ComponentError, Quoted.quoted}
 use Rattle.git_input.specs.{declared.{header.Kind.Kind, outcome.Malformation.Malformation}, Texts.{number_of, is_id, hex_pair}}
 use Rattle.git_input.specs.{Headers.ParsedObject, Reports.PrintsAtMost, Objects.Judged}
 use Rattle.git_input.proofs.LinearReports.{quoted_length, id_length, IsObjectWithin, stream_prints_at_most}
-use Rattle.check_trees.specs.Report.{longest_path, shown_path, in_path, place, refused_line, modules_line, finding_said}
-use Rattle.check_trees.specs.Report.{entries_then, entries_within, entries, judged_by_kind, tree_rule, report}
-use Rattle.check_trees.specs.{declared.check.Finding.{Finding, TheVariants.{Accepted, Modules, Refused}}, Options.Options}
-use Rattle.check_trees.specs.{Entries.{ParsedModeAndName, ParsedEntry, entry_of, named}, Spelled.{Item, IsItem, item_bytes}}
+use Rattle.check_trees.specs.Report.{longest_path, shown_path, in_path, place, refused_line, modules_line, finding_said, entries_then}
+use Rattle.check_trees.specs.{Report.{entries_within, entries, judged_by_kind, tree_rule, report}, Spelled.{Item, IsItem, item_bytes}}
+use Rattle.check_trees.specs.{declared.check.Finding.{Finding, TheVariants.{Accepted, Modules, Refused}}, Arguments.Options}
+use Rattle.check_trees.specs.Entries.{ParsedModeAndName, ParsedEntry, entry_of, named}
 use Rattle.check_trees.proofs.SpelledTrees.{IsFirst, item_first}
 
 -- ---- the parts of a line

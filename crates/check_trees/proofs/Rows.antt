@@ -1,12 +1,12 @@
 -- The definitions of a tree's entries, computed on literals.
-use Rattle.gix_validate.proofs.Common.{refl, ℕ, List, [], ◌∷◌, ◌++◌, true, false, Some, None, codes, option_map}
-use Rattle.gix_validate.proofs.{OnLiterals.components_on_literals, Rows.Tables.Gives}
+use Rattle.gix_validate.proofs.{Common.{refl, ℕ, List, [], ◌∷◌, ◌++◌, true, false, Some, None, codes, option_map}, Rows.Tables.Gives}
+use Rattle.gix_validate.proofs.OnLiterals.{components_on_literals}
 use Rattle.gix_validate.specs.declared.path.{ComponentError.TheVariants.{WindowsReservedName, DotGitDir}, ComponentMode.TheVariants.Symlink}
 use Rattle.gix_validate.specs.{declared.path.ComponentOptions.ComponentOptions, Component.all_protections, ComponentLaws.no_protections}
 use Rattle.gix_validate.specs.Pieces.{pieces}
 use Rattle.git_input.specs.Texts.{number_of}
-use Rattle.check_trees.specs.{declared.check.Finding.TheVariants.{Accepted, Refused}, Entries.{mode_of, is_file, named}}
-use Rattle.check_trees.specs.{Options.{Options, protections_for}, Report.{finding_of, is_gitmodules}}
+use Rattle.check_trees.specs.{declared.check.Finding.TheVariants.{Accepted, Refused}, Arguments.{Options, protections_for}}
+use Rattle.check_trees.specs.{Entries.{mode_of, is_file, named}, Report.{finding_of, is_gitmodules}}
 
 -- the digits of a mode, and what it means for the name
 modes : Gives (λ digits. option_map mode_of (number_of 8 digits))

@@ -1,18 +1,19 @@
 -- The bytes of a tree are read as its entries, and nothing else is well-formed.
-use Rattle.gix_validate.proofs.Common.{◌≡◌, ◌≢◌, ℕ, zero, suc, ◌+◌, ◌/◌, ◌<◌, ◌≤◌, Bool, true, false, if◌then◌else◌, List, [], ◌∷◌, ◌++◌, All, Option, None}
-use Rattle.gix_validate.proofs.Common.{Some, Result, Ok, Err, length, take, drop, refl, ap, sym, ◌∙◌, arith, append_assoc, length-append, length-take}
-use Rattle.gix_validate.proofs.Common.{take-append-drop, drop-drop, ◌%◌, ◌==◌, ◌↔◌, IsTrue, Contains, IfSome, IfOk, map, flat_map, AllByRecursion, list_any}
-use Rattle.gix_validate.proofs.Common.{All-from_recursion, All-append, All-cons, common_steps, byte, bytes_eq, bytes_eq-Decides}
+use Rattle.gix_validate.proofs.Common.{◌≡◌, ◌≢◌, ℕ, zero, suc, ◌+◌, ◌/◌, ◌<◌, ◌≤◌, Bool, true, false, if◌then◌else◌, List, [], ◌∷◌, ◌++◌}
+use Rattle.gix_validate.proofs.Common.{All, Option, None, Some, Result, Ok, Err, length, take, drop, refl, ap, sym, ◌∙◌, arith}
+use Rattle.gix_validate.proofs.Common.{append_assoc, length-append, length-take, take-append-drop, drop-drop, ◌%◌, ◌==◌, ◌↔◌, IsTrue}
+use Rattle.gix_validate.proofs.Common.{Contains, IfSome, IfOk, map, flat_map, AllByRecursion, list_any, All-from_recursion, All-append}
+use Rattle.gix_validate.proofs.Common.{All-cons, common_steps, byte, bytes_eq, bytes_eq-Decides}
 use Rattle.std.proofs.lemmas.Map.Views.{Contains-from_any}
 use Rattle.gix_validate.specs.declared.path.{ComponentMode.{ComponentMode, TheVariants.Symlink}, ComponentOptions.ComponentOptions}
-use Rattle.git_input.specs.declared.{header.Kind.TheVariants.Tree, outcome.Malformation.{Malformation, TheVariants.Entry}}
-use Rattle.git_input.specs.{Texts.{split_once, number_of}, Headers.ParsedObject, Reports.{longest, then_said, all_said}, Objects.Judged}
+use Rattle.git_input.specs.{declared.{header.Kind.TheVariants.Tree, outcome.Malformation.{Malformation, TheVariants.Entry}}, Objects.Judged}
+use Rattle.git_input.specs.{Texts.{split_once, number_of}, Headers.ParsedObject, Reports.{longest, then_said, all_said}}
 use Rattle.git_input.proofs.{SplitTexts.{split_found, drop_both, IsCut, split_cuts, whole}, SpelledHeaders.{without, number_high}}
 use Rattle.git_input.proofs.WellFormedStreams.{each_after}
-use Rattle.check_trees.specs.Options.{Options, protections_for}
-use Rattle.check_trees.specs.Entries.{nul, named, mode_of, is_file, ParsedModeAndName, ParsedEntry, parsed_front, entry_at, entry_with, entry_of}
+use Rattle.check_trees.specs.Arguments.{Options, protections_for}
+use Rattle.check_trees.specs.Entries.{nul, named, mode_of, is_file, ParsedModeAndName, ParsedEntry, parsed_front, entry_at, entry_with}
+use Rattle.check_trees.specs.{Entries.entry_of, Spelled.{Item, IsItem, HasType, IsCheckedBy, item_bytes, item_said, IsTree, IsReadAsItems}}
 use Rattle.check_trees.specs.Report.{entry_said, entries_then, entries_within, entries, judged_by_kind, tree_rule}
-use Rattle.check_trees.specs.Spelled.{Item, IsItem, HasType, IsCheckedBy, item_bytes, item_said, IsTree, IsReadAsItems}
 use Rattle.check_trees.proofs.{FirstEntry.{entry_found, id_after}, TreeEntries.{entries_first, entries_none}}
 
 -- ---- by which rules a name is checked

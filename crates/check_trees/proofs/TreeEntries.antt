@@ -1,13 +1,14 @@
 -- The entries of a tree, one after the other, and a tree while it is read.
-use Rattle.gix_validate.proofs.Common.{◌≡◌, ◌≢◌, ℕ, zero, suc, ◌-◌, ◌/◌, ◌<◌, ◌≤◌, nat_lt, Bool, ◌||◌, List, [], ◌∷◌, Option, None, Result, Ok, Err, length}
-use Rattle.gix_validate.proofs.Common.{take, drop, refl, arith, append-nil, length-take, length-drop, drop-drop, take-append-le, IfSome_then, nat_tests, IfSome}
+use Rattle.gix_validate.proofs.Common.{◌≡◌, ◌≢◌, ℕ, zero, suc, ◌-◌, ◌/◌, ◌<◌, ◌≤◌, nat_lt, Bool, ◌||◌, List, [], ◌∷◌, Option, None, Result}
+use Rattle.gix_validate.proofs.Common.{Ok, Err, length, take, drop, refl, arith, append-nil, length-take, length-drop, drop-drop}
+use Rattle.gix_validate.proofs.Common.{take-append-le, IfSome_then, nat_tests, IfSome}
 use Rattle.git_input.specs.{declared.outcome.Malformation.Malformation, Headers.ParsedObject, Reports.{nothing, then_said}}
 use Rattle.git_input.specs.Promises.{FollowsRule}
-use Rattle.cli.specs.{declared.outcome.RunError.{RunError, TheVariants.Write}, Writes.AppendsPrefixOf}
+use Rattle.cli.specs.{declared.outcome.RunError.{RunError, TheVariants.Write}, Messages.AppendsPrefixOf}
 use Rattle.git_input.proofs.ReportSoFar.{SoFar, goes, ends, stops}
-use Rattle.check_trees.specs.{declared.check.Checked.Checked, Options.Options, Entries.{ParsedEntry, entry_of}}
-use Rattle.check_trees.specs.Report.{entry_said, entries_then, entries_within, entries, short_of}
-use Rattle.check_trees.specs.Private.{first_entry, first_said, tree_report, EntryGives}
+use Rattle.check_trees.specs.{declared.check.Checked.Checked, Report.{entry_said, entries_then, entries_within, entries, short_of}}
+use Rattle.check_trees.specs.Arguments.{Options}
+use Rattle.check_trees.specs.{Entries.{ParsedEntry, entry_of}, Private.{first_entry, first_said, tree_report, EntryGives}}
 use Rattle.check_trees.proofs.FirstEntry.{entry_shorter, first_cut}
 
 -- ---- the fuel says nothing, where there is enough

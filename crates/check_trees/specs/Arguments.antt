@@ -1,20 +1,34 @@
--- What the options of the command do.
-use Rattle.std.specs.Prelude.{ℕ, true, false, ◌==◌, if◌then◌else◌, List, [], ◌∷◌, codes, Option, Some, None, option_and_then}
-use Rattle.std.specs.Str.{byte, bytes_eq}
+-- How the input is checked, which rules hold for a name, and what the options of the command do.
+use Rattle.std.specs.Prelude.{ℕ, true, false, ◌==◌, ◌||◌, if◌then◌else◌, List, [], ◌∷◌, codes, Option, Some, None, option_and_then, Bool}
+use Rattle.std.specs.{List.{slice_split, list_any}, Str.{byte, bytes_eq}}
 use Rattle.gix_validate.specs.{declared.path.ComponentOptions.ComponentOptions, Component.all_protections, ComponentLaws.no_protections}
 use Rattle.gix_validate.specs.Pieces.{pieces}
-use Rattle.check_trees.specs.Options.{Options}
 use Rattle.cli.specs.Arguments.{OptionRule, Effect, Unknown, Sets, NeedsValue, Invalid}
+use Rattle.check_trees.specs.declared.options.CheckOptions.{CheckOptions}
 
--- a byte before the first of these texts
-abbrev pub onto : ℕ → List (List ℕ) → List (List ℕ)
-onto b [] = (b ∷ []) ∷ []
-onto b (part ∷ parts) = (b ∷ part) ∷ parts
+-- the options, with the names to which the rules of Windows do not apply
+pub record Options : Type 0 where
+  pub protections : ComponentOptions
+  pub modules : Bool
+  pub needs_end : Bool
+  pub accepted : List (List ℕ)
+
+-- the options as the code has them: the names are the texts between the slashes of one text
+abbrev pub as_options : CheckOptions → Options
+as_options options =
+    let accepted = pieces options.accepted.now in
+    record { protections = options.protections; modules = options.modules; needs_end = options.needs_end; accepted = accepted }
+
+-- the switches for a name
+abbrev pub protections_for : Options → List ℕ → ComponentOptions
+protections_for options name =
+    let on = options.protections in
+    if list_any (λ accepted. bytes_eq accepted name) options.accepted
+    then record { protect_windows = false; protect_hfs = on.protect_hfs; protect_ntfs = on.protect_ntfs } else on
 
 -- the texts between the commas of a text, in order
 abbrev pub comma_parts : List ℕ → List (List ℕ)
-comma_parts [] = [] ∷ []
-comma_parts (b ∷ text) = if b == byte "," then [] ∷ comma_parts text else onto b (comma_parts text)
+comma_parts text = slice_split (λ b. b == byte ",") text
 
 -- the switch that a word turns on, beside those that are on
 abbrev pub switched_on : List ℕ → ComponentOptions → Option ComponentOptions
@@ -35,8 +49,6 @@ all_switched_on (word ∷ words) options = option_and_then (λ (on : ComponentOp
 unfoldable pub protections_of : List ℕ → Option ComponentOptions
 protections_of list = if bytes_eq list (codes "none") then Some no_protections else all_switched_on (comma_parts list) no_protections
 
--- ---- all options
-
 -- without options every switch is on, and nothing more
 abbrev pub no_options : Options
 no_options = record { protections = all_protections; modules = false; needs_end = false; accepted = pieces [] }
@@ -53,8 +65,7 @@ rule name None options =
     then Sets (record { protections = options.protections; modules = true; needs_end = options.needs_end; accepted = options.accepted }) else
     if bytes_eq name (codes "--end")
     then Sets (record { protections = options.protections; modules = options.modules; needs_end = true; accepted = options.accepted }) else
-    if bytes_eq name (codes "--protect") then NeedsValue else
-    if bytes_eq name (codes "--accept") then NeedsValue else
+    if bytes_eq name (codes "--protect") || bytes_eq name (codes "--accept") then NeedsValue else
     Unknown
 rule name (Some value) options =
     if bytes_eq name (codes "--protect") then protected_by value options (protections_of value) else

@@ -1,7 +1,6 @@
 -- The entries of a tree, as Git's documentation has them. Texts are lists of bytes.
-use Rattle.std.specs.Prelude.{ℕ, ◌+◌, ◌/◌, ◌%◌, Bool, ◌==◌, nat_lt, if◌then◌else◌, List, length, take, drop}
-use Rattle.std.specs.Prelude.{Option, Some, None, Result, Ok, Err, option_map, option_and_then}
-use Rattle.std.specs.Str.{byte}
+use Rattle.std.specs.Prelude.{ℕ, ◌+◌, ◌/◌, ◌%◌, Bool, ◌==◌, nat_lt, if◌then◌else◌, List, length, take, drop, Option, Some, None, Result, Ok}
+use Rattle.std.specs.{Prelude.{Err, option_map, option_and_then}, Str.byte}
 use Rattle.gix_validate.specs.{declared.path.ComponentMode.{ComponentMode, TheVariants.Symlink}, Faults.when}
 use Rattle.git_input.specs.{declared.outcome.Malformation.{Malformation, TheVariants.{TooLong, Entry}}, Texts.{split_once, number_of}}
 use Rattle.git_input.specs.Reports.{longest}

@@ -1,12 +1,12 @@
 -- What the private functions promise of one step, where the reader's and the writer's bytes are known.
-use Rattle.std.specs.Prelude.{◌≡◌, ◌≢◌, ℕ, ◌-◌, ◌/◌, ◌≤◌, nat_lt, Bool, List, [], length, take, drop, Option}
-use Rattle.std.specs.Prelude.{Some, Result, Ok, Err}
+use Rattle.std.specs.Prelude.{◌≡◌, ◌≢◌, ℕ, ◌-◌, ◌/◌, ◌≤◌, nat_lt, Bool, List, [], length, take, drop, Option, Some, Result, Ok, Err}
 use Rattle.std.specs.Io.KnownBytes.{Appends}
-use Rattle.git_input.specs.{declared.outcome.Malformation.Malformation, Headers.ParsedObject, Reports.{Said, nothing, Step}}
-use Rattle.git_input.specs.Promises.{ReadsUpTo, ReadsExactly, or_cut, judged_with_rest}
-use Rattle.cli.specs.{declared.outcome.RunError.{RunError, TheVariants.Write}, Writes.AppendsPrefixOf}
-use Rattle.check_trees.specs.declared.{check.{Checked.Checked, Finding.{Finding, TheVariants.Modules}}, entry.ModeAndName.ModeAndName}
-use Rattle.check_trees.specs.{Options.Options, Entries.{ParsedModeAndName, ParsedEntry, entry_of}, Report.{entry_said, entries, short_of}}
+use Rattle.git_input.specs.{declared.outcome.Malformation.Malformation, Promises.{ReadsUpTo, ReadsExactly, judged_step}}
+use Rattle.git_input.specs.{Headers.ParsedObject, Reports.{Said, nothing, Step}}
+use Rattle.cli.specs.{declared.outcome.RunError.{RunError, TheVariants.Write}, Messages.AppendsPrefixOf}
+use Rattle.check_trees.specs.{declared.{check.Checked.Checked, entry.ModeAndName.ModeAndName}, Report.{entry_said, entries, short_of}}
+use Rattle.check_trees.specs.{declared.check.Finding.{Finding, TheVariants.Modules}, Entries.{ParsedModeAndName, ParsedEntry, entry_of}}
+use Rattle.check_trees.specs.Arguments.{Options}
 
 -- what is before an entry's NUL, as the code has it
 abbrev pub as_front : ModeAndName → ParsedModeAndName
@@ -20,7 +20,7 @@ Says said old new (Err stop) = stop ≢ Write → AppendsPrefixOf old new said.l
 -- a tree of this size in the text after its header
 abbrev pub tree_report : Options → ParsedObject → ℕ → List ℕ → Step
 tree_report options tree size text =
-    let cut = nat_lt (length text) size in judged_with_rest (or_cut cut (entries options (short_of cut) tree (take size text))) (drop size text)
+    let cut = nat_lt (length text) size in judged_step cut (entries options (short_of cut) tree (take size text)) (drop size text)
 
 -- the first entry of a tree that has so many bytes left
 abbrev pub first_entry : ParsedObject → ℕ → List ℕ → Result (ParsedEntry × List ℕ) Malformation

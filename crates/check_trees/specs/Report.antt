@@ -1,18 +1,16 @@
 -- What is said of a stream of objects: a line for each entry of a tree whose name is refused, and, if these are asked for, for each file
 -- that a checkout reads as `.gitmodules`.
-use Rattle.std.specs.Prelude.{ℕ, suc, ◌/◌, Bool, true, false, ◌&&◌, nat_lt, flat_map, if◌then◌else◌, List, [], ◌∷◌, ◌++◌, length, take, codes}
-use Rattle.std.specs.Prelude.{Option, Some, None, Result, Ok, Err}
-use Rattle.gix_validate.specs.declared.path.ComponentError.{ComponentError, TheVariants.SymlinkedGitModules}
-use Rattle.gix_validate.specs.declared.path.{ComponentMode.TheVariants.Symlink, ComponentOptions.ComponentOptions}
-use Rattle.gix_validate.specs.{Component.{fault_of, text_of}, Quoted.quoted}
+use Rattle.std.specs.Prelude.{ℕ, suc, ◌/◌, Bool, true, false, ◌&&◌, nat_lt, flat_map, if◌then◌else◌, List, [], ◌∷◌, ◌++◌, length, take}
+use Rattle.std.specs.Prelude.{codes, Option, Some, None, Result, Ok, Err}
+use Rattle.gix_validate.specs.{declared.path.{ComponentError.ComponentError, ComponentOptions.ComponentOptions}, Quoted.quoted}
+use Rattle.gix_validate.specs.declared.path.{ComponentError.TheVariants.SymlinkedGitModules, ComponentMode.TheVariants.Symlink}
+use Rattle.gix_validate.specs.Component.{fault_of, text_of}
 use Rattle.git_input.specs.declared.{header.Kind.{Kind, TheVariants.Tree}, outcome.Malformation.{Malformation, TheVariants.{Ended, Entry}}}
 use Rattle.git_input.specs.{Texts.{line_end, hex_pair}, Headers.ParsedObject}
 use Rattle.git_input.specs.Reports as stream
 use Rattle.git_input.specs.{Reports.{Said, nothing, then_said}, Objects.{Judged, ObjectRule, object_report}}
-use Rattle.check_trees.specs.declared.check.Finding.{Finding, TheVariants.{Accepted, Modules, Refused}}
-use Rattle.check_trees.specs.{Options.{Options, protections_for}, Entries.{ParsedModeAndName, ParsedEntry, entry_of}}
-
--- ---- one entry
+use Rattle.check_trees.specs.{declared.check.Finding.Finding, Entries.{ParsedModeAndName, ParsedEntry, entry_of}}
+use Rattle.check_trees.specs.{declared.check.Finding.TheVariants.{Accepted, Modules, Refused}, Arguments.{Options, protections_for}}
 
 -- the most bytes of a path that are shown
 abbrev pub longest_path : ℕ
@@ -62,11 +60,8 @@ finding_said tree entry Accepted = nothing
 finding_said tree entry Modules = record { lines = modules_line tree entry.front entry.id; refused = false }
 finding_said tree entry (Refused fault) = record { lines = refused_line tree entry.front fault; refused = true }
 
--- what is said of an entry
 abbrev pub entry_said : Options → ParsedObject → ParsedEntry → Said
 entry_said options tree entry = finding_said tree entry (finding_of options entry.front)
-
--- ---- a tree
 
 -- The entries of a tree, one after the other until its bytes are used up. (`fuel` is at least their number.)
 abbrev pub entries_then : (List ℕ → Judged) → Options → ParsedObject → Result (ParsedEntry × List ℕ) Malformation → Judged
@@ -82,8 +77,6 @@ entries_within fuel options short tree bytes = (nothing, None)
 unfoldable pub entries : Options → Malformation → ParsedObject → List ℕ → Judged
 entries options short tree bytes = entries_within (length bytes) options short tree bytes
 
--- ---- a stream
-
 -- an entry that is cut short runs past its tree, if the input does not end there
 abbrev pub short_of : Bool → Malformation
 short_of cut = if cut then Ended else Entry
@@ -96,6 +89,5 @@ judged_by_kind options cut object bytes kind = (nothing, None)
 abbrev pub tree_rule : Options → ObjectRule
 tree_rule options cut object bytes = judged_by_kind options cut object bytes object.kind
 
--- the report of a text
 abbrev pub report : Options → List ℕ → stream.Report
 report options text = object_report (tree_rule options) options.needs_end text

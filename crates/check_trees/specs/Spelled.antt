@@ -1,12 +1,12 @@
 -- A tree that is written out, entry by entry, and the streams of which nothing is refused. By which rules a name is checked is said here
 -- again, so that a slip in one of the two shows.
-use Rattle.std.specs.Prelude.{◌≡◌, ◌≢◌, ◌↔◌, ℕ, ◌+◌, ◌*◌, ◌/◌, ◌<◌, ◌≤◌, Bool, false, ◌&&◌, IsTrue, List, ◌∷◌, ◌++◌, All, length, map, flat_map, Contains, Option, Some, None, ⊤}
-use Rattle.std.specs.{List.AllByRecursion, Str.byte}
+use Rattle.std.specs.Prelude.{◌≡◌, ◌≢◌, ◌↔◌, ℕ, ◌+◌, ◌*◌, ◌/◌, ◌<◌, ◌≤◌, Bool, false, ◌&&◌, IsTrue, List, ◌∷◌, ◌++◌, All, length, map}
+use Rattle.std.specs.{Prelude.{flat_map, Contains, Option, Some, None, ⊤}, List.AllByRecursion, Str.byte}
 use Rattle.gix_validate.specs.declared.path.{ComponentMode.{ComponentMode, TheVariants.Symlink}, ComponentOptions.ComponentOptions}
 use Rattle.gix_validate.specs.Component.{fault_of}
-use Rattle.git_input.specs.{declared.header.Kind.TheVariants.Tree, Texts.number_of, Headers.ParsedObject, Reports.{longest, Said, all_said}}
-use Rattle.git_input.specs.Spelled.{Spelled, Present, Absent, IsStreamOf}
-use Rattle.check_trees.specs.{Options.Options, Entries.{nul, ParsedEntry}, Report.{finding_by, finding_said, is_gitmodules, tree_rule}}
+use Rattle.git_input.specs.{declared.header.Kind.TheVariants.Tree, Headers.ParsedObject, Spelled.{Spelled, Present, Absent, IsStreamOf}}
+use Rattle.git_input.specs.{Texts.number_of, Reports.{longest, Said, all_said}}
+use Rattle.check_trees.specs.{Arguments.Options, Entries.{nul, ParsedEntry}, Report.{finding_by, finding_said, is_gitmodules, tree_rule}}
 
 -- an entry of a tree: its mode and that as a number, its name, the id of what it names, the switches for its name, what the mode means for
 -- the name, and whether it is a file
@@ -62,8 +62,6 @@ abbrev pub IsReadAsItems : Options → Type 0
 IsReadAsItems options =
     (tree : ParsedObject) (bytes : List ℕ) (said : Said) → tree.kind ≡ Tree
     → (tree_rule options false tree bytes ≡ (said, None)) ↔ IsTree options tree bytes said
-
--- ---- nothing refused
 
 -- a tree of these bytes: its entries, each of whose names is valid under the switches for it
 pub record IsAcceptedTree (options : Options) (tree : ParsedObject) (bytes : List ℕ) : Type 0 where

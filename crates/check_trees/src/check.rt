@@ -2,14 +2,14 @@
 
 ghost use Rattle.std.specs.{Prelude.{◌≡◌, ◌<◌, ◌≤◌, Some, false, true, IfOk, IfSome}, List.list_any, Str.bytes_eq};
 ghost use Rattle.std.proofs.Common.{ap, subst};
-ghost use Rattle.git_input.specs.{Ends.Gives, Reports.{IsCleanIff, PrintsAtMost}};
-ghost use Rattle.git_input.specs.Objects.{IsWholeStream, object_reach};
+ghost use Rattle.git_input.specs.{Ends.Gives, Spelled.{IsReportedInOrder, IsWellFormedOnlyIfSpelled}};
+ghost use Rattle.git_input.specs.{Reports.{IsCleanIff, PrintsAtMost}, Objects.{IsWholeStream, object_reach}};
 ghost use Rattle.git_input.specs.Promises.{Runs, FollowsRule, ReadsUpTo, as_object};
-ghost use Rattle.git_input.specs.Spelled.{IsReportedInOrder, IsWellFormedOnlyIfSpelled};
 ghost use Rattle.gix_validate.specs.{Component.fault_of, Pieces.pieces};
-ghost use Rattle.check_trees.specs.Report.{finding_by, finding_of, finding_said, is_gitmodules_fault, report, tree_rule};
+ghost use Rattle.check_trees.specs.Report.{finding_by, finding_of, finding_said, is_gitmodules_fault, report};
+ghost use Rattle.check_trees.specs.{Report.tree_rule, Spelled.{IsAcceptedStream, IsReadAsItems}};
 ghost use Rattle.check_trees.specs.Private.{EntryGives, EntryReads, PassesId, Says, as_front, tree_report};
-ghost use Rattle.check_trees.specs.{Options.{as_options, protections_for}, Spelled.{IsAcceptedStream, IsReadAsItems}};
+ghost use Rattle.check_trees.specs.Arguments.{as_options, protections_for};
 
 use crate::entry::{ModeAndName, front_of};
 use crate::options::CheckOptions;
@@ -19,12 +19,10 @@ use cli::outcome::RunError;
 use git_input::header::{Kind, Object};
 use git_input::input::{Found, read_before, read_bytes, skip};
 use git_input::lines::{Buffers, MAX_LINE};
-use git_input::objects;
-use git_input::objects::ObjectCheck;
+use git_input::objects::{self, ObjectCheck};
 use git_input::outcome::{Malformation, Verdict};
 use git_input::runs::Check;
-use gix_validate::path;
-use gix_validate::path::{ComponentError, ComponentMode, ComponentOptions};
+use gix_validate::path::{self, ComponentError, ComponentMode, ComponentOptions};
 use std::alloc::Global;
 use std::io::{BufRead, Write};
 
@@ -77,11 +75,8 @@ impl ObjectCheck for CheckOptions<'_> {
         if object.kind == Kind::Tree {
             return check_tree(self, object, input, output, buffers);
         }
-        if skip(input, object.size)? {
-            Ok(Ok(false))
-        } else {
-            Ok(Err(Malformation::Ended))
-        }
+        let is_whole = skip(input, object.size)?;
+        Ok(is_whole.then_some(false).ok_or(Malformation::Ended))
     }
 }
 

@@ -1,13 +1,12 @@
 //! The part of a tree's entry that is before the NUL.
 
 ghost use Rattle.std.specs.{Prelude.◌≡◌, Option.option_map, Str.bytes_eq};
-ghost use Rattle.check_trees.specs.{Entries.{is_file, mode_of, parsed_front}, Private.as_front};
+ghost use Rattle.check_trees.specs.{Entries.parsed_front, Private.as_front};
 
 use git_input::text::{number_of, split_once};
 use gix_validate::path::ComponentMode;
 
-/// The part of an entry that is before the NUL: the digits of the mode, what the mode means for the
-/// name, whether it is that of a file, and the name.
+/// The part of an entry that is before the NUL. `mode` is what the mode means for the name.
 #[derive(Clone, Copy)]
 pub(crate) struct ModeAndName<'a> {
     pub(crate) digits: &'a [u8],
@@ -31,11 +30,12 @@ pub(crate) fn front_of(front: &[u8]) -> Option<ModeAndName<'_>>
         });
     }
     let (digits, name) = split_once(b' ', front)?;
-    let number = number_of(8, digits)?;
+    // The file type is in the bits from 12 on of the mode.
+    let kind = number_of(8, digits)? / 0o10000 % 16;
     Some(ModeAndName {
         digits,
-        mode: mode_of(number),
-        is_file: is_file(number),
+        mode: (kind == 0o12).then_some(ComponentMode::Symlink),
+        is_file: kind == 0o10,
         name,
     })
 }
@@ -48,18 +48,4 @@ fn is_word<const N: usize>(text: &[u8], word: &[u8; N]) -> bool
         Ok(text) => text == word,
         Err(_) => false,
     }
-}
-
-/// What a mode means for the name: the file type is in the bits from 12 on.
-fn mode_of(number: u64) -> Option<ComponentMode>
-    ensures { result ≡ mode_of number }
-{
-    (number / 0o10000 % 16 == 0o12).then_some(ComponentMode::Symlink)
-}
-
-/// Whether a mode is that of a file.
-fn is_file(number: u64) -> bool
-    ensures { result ≡ is_file number }
-{
-    number / 0o10000 % 16 == 0o10
 }

@@ -8,17 +8,9 @@ mod options;
 mod report;
 
 use git_input::run_program;
-use git_input::runs::Program;
 use options::{CheckOptions, HELP};
 use std::process::ExitCode;
 
-const PROGRAM: Program<'_> = Program {
-    name: "check_trees",
-    help: HELP,
-    unit: "object",
-    hint: "",
-};
-
 fn main(rt: HostRuntime) -> ExitCode {
-    run_program!(CheckOptions<'_>, PROGRAM, rt)
+    run_program!(rt, CheckOptions<'_>, name: "check_trees", help: HELP, unit: "object", hint: "")
 }

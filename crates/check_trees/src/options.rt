@@ -1,8 +1,7 @@
 //! The program's options (docs/RULES.md, "The report of trees").
 
 ghost use Rattle.std.specs.Prelude.{◌≡◌};
-ghost use Rattle.check_trees.specs.Arguments.{no_options, protections_of, rule, switched_on};
-ghost use Rattle.check_trees.specs.Options.{Options, as_options};
+ghost use Rattle.check_trees.specs.Arguments.{no_options, protections_of, rule, switched_on, Options, as_options};
 
 use cli::arguments::{Options, Setting};
 use gix_validate::path::ComponentOptions;
@@ -74,40 +73,24 @@ impl<'a> Options<'a> for CheckOptions<'a> {
         }
     }
 
-    fn set(self, name: &str, value: Option<&'a str>) -> Setting<'a, Self> {
-        match value {
-            None => match name {
-                "--modules" => Setting::Set(CheckOptions {
-                    modules: true,
-                    ..self
-                }),
-                "--end" => Setting::Set(CheckOptions {
-                    needs_end: true,
-                    ..self
-                }),
-                "--protect" | "--accept" => Setting::NeedsValue,
-                _ => Setting::Unknown,
+    fn set(mut self, name: &str, value: Option<&'a str>) -> Setting<'a, Self> {
+        match (name, value) {
+            ("--modules", None) => self.modules = true,
+            ("--end", None) => self.needs_end = true,
+            ("--protect" | "--accept", None) => return Setting::NeedsValue,
+            ("--protect", Some(list)) => match protections_of(list.as_bytes()) {
+                Some(protections) => self.protections = protections,
+                None => return Setting::Invalid(list, PROTECTIONS),
             },
-            Some(value) => match name {
-                "--protect" => match protections_of(value.as_bytes()) {
-                    Some(protections) => Setting::Set(CheckOptions {
-                        protections,
-                        ..self
-                    }),
-                    None => Setting::Invalid(
-                        value,
-                        "windows, hfs or ntfs, separated by commas, or none",
-                    ),
-                },
-                "--accept" => Setting::Set(CheckOptions {
-                    accepted: value,
-                    ..self
-                }),
-                _ => Setting::Unknown,
-            },
+            ("--accept", Some(names)) => self.accepted = names,
+            _ => return Setting::Unknown,
         }
+        Setting::Set(self)
     }
 }
+
+/// What the value of `--protect` has to be.
+const PROTECTIONS: &str = "windows, hfs or ntfs, separated by commas, or none";
 
 /// The switches that a list of words turns on; `None` if a word is unknown.
 #[tactic(auto, using(crate::proofs::ArgumentWords::comma_searched), unfolding(crate::specs::Arguments::protections_of))]
@@ -131,25 +114,17 @@ fn protections_of(list: &[u8]) -> Option<ComponentOptions>
 }
 
 /// The switches with the one that a word turns on; `None` if the word is unknown.
-fn switched_on(word: &[u8], options: ComponentOptions) -> Option<ComponentOptions>
+fn switched_on(word: &[u8], mut options: ComponentOptions) -> Option<ComponentOptions>
     ensures { result ≡ switched_on word.now options }
 {
     if word == b"windows".as_slice() {
-        Some(ComponentOptions {
-            protect_windows: true,
-            ..options
-        })
+        options.protect_windows = true;
     } else if word == b"hfs".as_slice() {
-        Some(ComponentOptions {
-            protect_hfs: true,
-            ..options
-        })
+        options.protect_hfs = true;
     } else if word == b"ntfs".as_slice() {
-        Some(ComponentOptions {
-            protect_ntfs: true,
-            ..options
-        })
+        options.protect_ntfs = true;
     } else {
-        None
+        return None;
     }
+    Some(options)
 }

@@ -1,16 +1,13 @@
 //! The lines of the report.
 //!
-//! The rest of a header line, the path at which Git found the tree, is only displayed. Git prints
-//! one path of many, none for the tree of a commit, and cuts a path at a newline. So nothing
-//! depends on it. Each line of a tree repeats it, and a push decides how long it is and how many
-//! lines there are. So only its first bytes are displayed: what is printed stays linear in what is
-//! read.
+//! The rest of a header line, the path at which Git found the tree, is only displayed: it is one of
+//! many, and cut at a newline. Each line of a tree repeats it, and a push decides how long it is. So
+//! only its first bytes are displayed: what is printed stays linear in what is read.
 //!
-//! A `modules` line refuses nothing: the file is as it should be, and `check_submodules` checks its
-//! contents. So the status alone says whether a name is refused. No other line begins with that
-//! word, since the others begin with an id.
+//! A `modules` line refuses nothing: `check_submodules` checks the file's contents. No other line
+//! begins with that word, since the others begin with an id.
 
-ghost use Rattle.std.specs.{Prelude.{◌≡◌, ◌++◌, OnOk}, Option.option_map};
+ghost use Rattle.std.specs.{Prelude.{◌≡◌, ◌++◌, OnOk, codes}, Option.option_map};
 ghost use Rattle.git_input.specs.Promises.{as_object};
 ghost use Rattle.check_trees.specs.Report.{in_path, modules_line, place, refused_line, shown_path};
 ghost use Rattle.check_trees.specs.Private.{as_front};
@@ -38,11 +35,8 @@ pub(crate) fn set_refused(
 {
     line.clear();
     push_place(line, tree, front)?;
-    line.push(b' ')?;
-    write!(line, "{fault}").map_err(|_| AllocError)?;
-    push_path(line, tree.rest)?;
-    line.push(b'\n')?;
-    Ok(())
+    write!(line, " {fault}").map_err(|_| AllocError)?;
+    end(line, tree.rest)
 }
 
 /// Replaces the last line with that of a file that is read as `.gitmodules`. Its id is in bytes.
@@ -61,9 +55,7 @@ pub(crate) fn set_modules(
     push_hex(line, id)?;
     line.push(b' ')?;
     push_place(line, tree, front)?;
-    push_path(line, tree.rest)?;
-    line.push(b'\n')?;
-    Ok(())
+    end(line, tree.rest)
 }
 
 /// Appends the tree's id, the mode and the quoted name of an entry.
@@ -81,19 +73,19 @@ fn push_place(
     push_quoted(line, front.name)
 }
 
-/// Appends the path of the tree, if it is known, or its first bytes.
-fn push_path(line: &mut Vec<u8>, rest: Option<&[u8]>) -> Result<(), AllocError>
-    ensures { OnOk result (line.new.items ≡ line.old.items ++ in_path (option_map (λ rest. rest.now) rest.entry)) }
+/// Appends the path of the tree, if it is known, or its first bytes, and a newline.
+fn end(line: &mut Vec<u8>, rest: Option<&[u8]>) -> Result<(), AllocError>
+    ensures { OnOk result (line.new.items ≡ line.old.items ++ in_path (option_map (λ rest. rest.now) rest.entry) ++ codes "\n") }
 {
     match rest {
         Some(path) if !path.is_empty() => {
             line.extend_from_slice(b" (in ")?;
             push_shown(line, path)?;
-            line.push(b')')?;
-            Ok(())
+            line.extend_from_slice(b")\n")?;
         }
-        _ => Ok(()),
+        _ => line.push(b'\n')?,
     }
+    Ok(())
 }
 
 /// Appends a quoted path, or the first [`MAX_PATH`] bytes of it and dots.

@@ -1,6 +1,6 @@
 -- What the arguments of a program ask for.
-use Rattle.std.specs.Prelude.{ℕ, ◌||◌, Bool, if◌then◌else◌, List, [], ◌∷◌, codes, Option, Some, None, Result, Ok, Err}
-use Rattle.std.specs.{Borrow.Bor, Str.{byte, bytes_eq}}
+use Rattle.std.specs.Prelude.{ℕ, ◌||◌, if◌then◌else◌, List, [], ◌∷◌, codes, Option, Some, None, Result, Ok, Err}
+use Rattle.std.specs.{Borrow.Bor, Option.option_map_or, Str.{byte, bytes_eq}}
 use Rattle.cli.specs.declared.arguments.Request.{Request}
 use Rattle.cli.specs.declared.arguments.Request.TheVariants as request
 use Rattle.cli.specs.declared.arguments.Setting.{Setting}
@@ -61,22 +61,17 @@ after_effect options word name (Sets set) = Ok (set, None)
 after_effect options word name NeedsValue = Ok (options, Some name)
 after_effect options word name (Invalid value valid) = Err (WrongValue name value valid)
 
--- the options after a word, NAME=VALUE or the name of an option, and the option that needs a value then
-abbrev pub set_parts : {V : Type 0} → OptionRule V → V → List ℕ → Option (List ℕ × List ℕ) → Result (V × Option (List ℕ)) WrongArgument
-set_parts rule options word None = after_effect options word word (rule word None options)
-set_parts rule options word (Some parts) = after_effect options word parts.0 (rule parts.0 (Some parts.1) options)
-
+-- the options after a word, which is a value, or NAME=VALUE, or the name of an option, and the option that needs a value then
 abbrev pub set_by : {V : Type 0} → OptionRule V → V → Option (List ℕ) → List ℕ → Result (V × Option (List ℕ)) WrongArgument
 set_by rule options (Some name) word = after_effect options word name (rule name (Some word) options)
-set_by rule options None word = set_parts rule options word (split_once (byte "=") word)
+set_by rule options None word =
+    option_map_or (λ (parts : List ℕ × List ℕ). after_effect options word parts.0 (rule parts.0 (Some parts.1) options))
+    (split_once (byte "=") word) (after_effect options word word (rule word None options))
 
 abbrev pub after_set : {V : Type 0} → Result (V × Option (List ℕ)) WrongArgument → (V → Option (List ℕ) → Result (Task V) WrongArgument)
     → Result (Task V) WrongArgument
 after_set (Err wrong) more = Err wrong
 after_set (Ok (options, option)) more = more options option
-
-abbrev pub is_help : List ℕ → Bool
-is_help word = bytes_eq word (codes "-h") || bytes_eq word (codes "--help")
 
 -- what words ask for, read from the first, where a check would have these options so far, and this option needs a value
 abbrev pub request_from : {V : Type 0} → OptionRule V → Option (List ℕ) → V → List (List ℕ) → Result (Task V) WrongArgument
@@ -85,7 +80,7 @@ request_from rule (Some name) options [] = Err (NoValue name)
 request_from rule (Some name) options (word ∷ words) =
     after_set (set_by rule options (Some name) word) (λ on option. request_from rule option on words)
 request_from rule None options (word ∷ words) =
-    if is_help word then Ok Help else
+    if bytes_eq word (codes "-h") || bytes_eq word (codes "--help") then Ok Help else
     if bytes_eq word (codes "--version") then Ok Version else
     after_set (set_by rule options None word) (λ on option. request_from rule option on words)
 

@@ -1,4 +1,3 @@
 pub mod Lines
-pub mod Writes
 pub mod Arguments
 pub mod Messages

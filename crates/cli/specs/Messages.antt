@@ -1,6 +1,6 @@
 -- What a program says on standard error, what it prints, and how it ends.
 use Rattle.std.specs.Prelude.{◌≡◌, ◌⊎◌, ℕ, Bool, false, List, [], ◌∷◌, ◌++◌, codes, Option, Some, Result, Ok, Err, IfSome}
-use Rattle.std.specs.{declared.process.ExitCode.ExitCode, Fmt.{debug_str, ◌++?◌}, Io.KnownBytes.Appends, Process.exit_status}
+use Rattle.std.specs.{declared.process.ExitCode.ExitCode, Fmt.{debug_str, ◌++?◌}, Io.{StartsWith, KnownBytes.Appends}, Process.exit_status}
 use Rattle.cli.specs.declared.{TheConstants.VERSION, messages.Messages.Messages, outcome.RunError.RunError}
 use Rattle.cli.specs.{declared.outcome.RunError.TheVariants.{Read, Memory, Write}, Lines.line_end}
 use Rattle.cli.specs.Arguments.{Task, Check, Help, Version, WrongArgument, UnknownWord, NoValue, WrongValue}
@@ -32,6 +32,10 @@ is_lost messages = messages.lost
 -- the text was appended, unless a message was lost
 abbrev pub Says : {E : Type 0} → (E → Option (List ℕ)) → Messages E → Messages E → List ℕ → Type 0
 Says contents old new text = is_lost new ≡ false → Appends (contents (writer_of old)) (contents (writer_of new)) text
+
+-- a front of these bytes was appended
+abbrev pub AppendsPrefixOf : Option (List ℕ) → Option (List ℕ) → List ℕ → Type 0
+AppendsPrefixOf old new bytes = (front : List ℕ) × Appends old new front × StartsWith bytes front
 
 -- The text was printed, and the status is 0, or writing it failed: then that is said, and the status is 2.
 abbrev pub Prints : {W E : Type 0} → (W → Option (List ℕ)) → (E → Option (List ℕ)) → (name text : List ℕ)

@@ -3,16 +3,15 @@
 ghost use Rattle.std.specs.Prelude.{◌≡◌, ◌⊎◌, ℕ, List, codes, IfErr, IfOk, IfSome, IsErr, IsOk, OnErr, OnOk, drop, map};
 ghost use Rattle.std.specs.{Option.option_map, Process.exit_status, Result.result_map_both, Str.byte};
 ghost use Rattle.std.specs.{String.string_bytes, Vec.Iter.into_iter_items};
-ghost use Rattle.cli.specs.Arguments.{OptionRule, effect_of, is_help, request_of, set_by, task_of, text_of, wrong_argument};
+ghost use Rattle.cli.specs.Arguments.{OptionRule, effect_of, request_of, set_by, task_of, text_of, wrong_argument};
 ghost use Rattle.cli.specs.{Lines.split_once, Messages.{Says, message, stop_text_of, wrong_text_of}};
 
 use crate::fail;
 use crate::messages::Messages;
 use crate::outcome::RunError;
-use std::alloc::{AllocError, Global};
+use std::alloc::Global;
 use std::env::Args;
-use std::io;
-use std::io::{ErrorKind, Write};
+use std::io::{self, ErrorKind, Write};
 use std::process::ExitCode;
 
 /// What a program has to do.
@@ -113,20 +112,13 @@ pub fn arguments<E: Write>(
         ⊎ (Says E.contents errors.old errors.new (message name.now (codes "the arguments can't be read as UTF-8")) × IsErr args)) }
 {
     match args {
-        Ok(args) => match after_first(alloc, args) {
+        Ok(args) => match args.skip(1).collect(alloc) {
             Ok(arguments) => Ok(arguments),
             Err(_) => Err(fail(name, RunError::Memory, errors)),
         },
         Err(e) if e.kind() == ErrorKind::OutOfMemory => Err(fail(name, RunError::Memory, errors)),
         Err(_) => Err(fail(name, "the arguments can't be read as UTF-8", errors)),
     }
-}
-
-/// All arguments but the first, in order.
-fn after_first(alloc: Global, args: Args) -> Result<Vec<String>, AllocError>
-    ensures { IfOk result (λ arguments. arguments.items ≡ drop 1 (into_iter_items args)) }
-{
-    args.skip(1).collect(alloc)
 }
 
 /// Reads the arguments: options, or the help or the version, if that argument comes before any that
@@ -149,7 +141,7 @@ pub fn request_of<'a, O: Options<'a>>(
         let word = word.as_str();
         match option {
             Some(name) => (options, option) = set_by(options, Some(name), word)?,
-            None if is_help(word) => return Ok(Request::Help),
+            None if word == "-h" || word == "--help" => return Ok(Request::Help),
             None if word == "--version" => return Ok(Request::Version),
             None => (options, option) = set_by(options, None, word)?,
         }
@@ -159,13 +151,6 @@ pub fn request_of<'a, O: Options<'a>>(
         Some(name) => Err(ArgumentError::NoValue(name)),
         None => Ok(Request::Check(options)),
     }
-}
-
-/// Whether the word asks for the help.
-fn is_help(word: &str) -> bool
-    ensures { result ≡ is_help word.now }
-{
-    word == "-h" || word == "--help"
 }
 
 /// The options after a word, and the option that needs a value then. The word is the value of

@@ -7,8 +7,7 @@ ghost use Rattle.cli.specs.Messages.{Prints, Says, message};
 use crate::messages::Messages;
 use crate::outcome::RunError;
 use std::fmt::Display;
-use std::io;
-use std::io::Write;
+use std::io::{self, Write};
 use std::process::ExitCode;
 
 pub mod arguments;

@@ -5,7 +5,6 @@ pub mod LinesRead
 pub mod LinesStop
 pub mod WrittenLines
 pub mod WholeStreams
-pub mod ObjectsRead
 pub mod SpelledHeaders
 pub mod SpelledStreams
 pub mod WellFormedStreams

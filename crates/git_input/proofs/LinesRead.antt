@@ -1,17 +1,17 @@
 -- A line of an input, and the lines of an input while it is read.
-use Rattle.gix_validate.proofs.Common.{◌≡◌, ◌≢◌, ℕ, zero, suc, ◌+◌, ◌<◌, ◌≤◌, Bool, true, false, cond, ◌&&◌, ◌||◌, List, [], ◌∷◌, ◌++◌, All, Option, None, Some}
-use Rattle.gix_validate.proofs.Common.{Result, Ok, Err, length, take, refl, ap, arith, take_all, append-nil, append_assoc, length-append, length-take}
-use Rattle.gix_validate.proofs.Common.{take-append-le, IfSome_then, nat_tests, IfSome, IfOk, bytes_eq, bytes_eq-Decides, Appends, Consumes, Appends-nil}
-use Rattle.gix_validate.proofs.Common.{Appends-trans, AllByRecursion, IfOk-weaker}
+use Rattle.gix_validate.proofs.Common.{◌≡◌, ◌≢◌, ℕ, zero, suc, ◌+◌, ◌<◌, ◌≤◌, Bool, true, false, cond, ◌&&◌, ◌||◌, List, [], ◌∷◌, ◌++◌, All}
+use Rattle.gix_validate.proofs.Common.{Option, None, Some, Result, Ok, Err, length, take, refl, ap, arith, take_all, append-nil}
+use Rattle.gix_validate.proofs.Common.{append_assoc, length-append, length-take, take-append-le, IfSome_then, nat_tests, IfSome, IfOk}
+use Rattle.gix_validate.proofs.Common.{bytes_eq, bytes_eq-Decides, Appends, Consumes, Appends-nil, Appends-trans, AllByRecursion}
+use Rattle.gix_validate.proofs.Common.{IfOk-weaker}
 use Rattle.gix_validate.specs.Bytes.{is_empty}
-use Rattle.git_input.specs.Reports.{longest, Said, nothing, Step, LineRule, LeavesTheEnd, line_with, line_of, Report, lines_then, end_word, end_line}
-use Rattle.git_input.specs.Reports.{is_end, malformation_at_end, at_end, at_end_line, lines_within, lines_from, report, verdict_of}
-use Rattle.git_input.specs.Reports.{EndsIn}
-use Rattle.git_input.specs.declared.{input.Found.TheVariants.{Byte, Limit, End}, lines.Ending.Ending}
-use Rattle.git_input.specs.declared.{lines.Ending.TheVariants.{Anywhere, EndLine, AfterALine}, outcome.Malformation.Malformation}
+use Rattle.git_input.specs.Reports.{longest, Said, nothing, Step, LineRule, LeavesTheEnd, line_with, line_of, Report, lines_then, end_word}
+use Rattle.git_input.specs.Reports.{end_line, is_end, malformation_at_end, at_end, at_end_line, lines_within, lines_from, report}
+use Rattle.git_input.specs.{Reports.{verdict_of, EndsIn}, declared.lines.Ending.{Ending, TheVariants.{Anywhere, EndLine, AfterALine}}}
+use Rattle.git_input.specs.{declared.input.Found.TheVariants.{Byte, Limit, End}, Promises.{FollowsRule, ReadsBefore, is_end_word}}
+use Rattle.git_input.specs.{declared.outcome.Malformation.Malformation, Texts.{line_end, split_once}}
 use Rattle.git_input.specs.declared.outcome.{Malformation.TheVariants.{TooLong, Ended}, Verdict.TheVariants.{Clean, Refused, Malformed}}
-use Rattle.git_input.specs.{Texts.{line_end, split_once}, Promises.{FollowsRule, ReadsBefore, is_end_word}}
-use Rattle.cli.specs.{declared.outcome.RunError.{RunError, TheVariants.Write}, Writes.AppendsPrefixOf}
+use Rattle.cli.specs.{declared.outcome.RunError.{RunError, TheVariants.Write}, Messages.AppendsPrefixOf}
 use Rattle.git_input.proofs.SplitTexts.{IsCut, split_cuts, whole, drop_both, split_found, split_within, split_short, split_long}
 use Rattle.git_input.proofs.ReportSoFar.{SoFar, when_known, goes, stops, said_nothing}
 

@@ -1,9 +1,9 @@
 -- A run reads no further than the first malformed line and what can belong to it.
-use Rattle.gix_validate.proofs.Common.{◌≡◌, ◌≢◌, ℕ, ◌+◌, ◌<◌, ◌≤◌, Bool, List, [], ◌∷◌, ◌++◌, All, Option, None, Some, Result, Ok, Err, length, arith}
-use Rattle.gix_validate.proofs.Common.{append-nil, append_assoc, length-append, IfOk, IfSome, Consumes, Consumes-nil, Consumes-trans}
+use Rattle.gix_validate.proofs.Common.{◌≡◌, ◌≢◌, ℕ, ◌+◌, ◌<◌, ◌≤◌, Bool, true, List, [], ◌∷◌, ◌++◌, All, Option, None, Some, Ok, Err, length, arith}
+use Rattle.gix_validate.proofs.Common.{append-nil, append_assoc, length-append, IfSome, Consumes, Consumes-nil, Consumes-trans}
 use Rattle.git_input.specs.declared.{input.Found.TheVariants.{Byte, Limit, End}, lines.Ending.Ending, outcome.Malformation.Malformation}
 use Rattle.git_input.specs.{Texts.line_end, Reports.{longest, LineRule, LeavesTheEnd, Reach, report, extent}}
-use Rattle.git_input.specs.Promises.{ReadsBefore, ReadsNext, ReadsUpTo, StopsWithin}
+use Rattle.git_input.specs.Promises.{ReadsBefore, ReadsExactly, ReadsUpTo, StopsWithin}
 use Rattle.git_input.proofs.{SplitTexts.{split_within, split_short, split_long}, ReportSoFar.SoFar}
 use Rattle.git_input.proofs.LinesRead.{LineGives, lines_report, lines_first, lines_none}
 
@@ -16,14 +16,9 @@ pub up_to_more : (n m most : ℕ) (a b c : Option (List ℕ)) → ReadsUpTo n a 
 up_to_more n m most a b c (front, first, few) (more, next, some) fits =
     (front ++ more, Consumes-trans a b c front more first next, grind (arith, length-append))
 
--- where the second read came to its end
-pub up_to_next : {T E : Type 0} (n m : ℕ) (a b c : Option (List ℕ)) (r : Result T E) → ReadsUpTo n a b → IfOk r (λ _. ReadsUpTo m b c)
-    → IfOk r (λ _. ReadsUpTo (n + m) a c)
-up_to_next n m a b c (Ok x) first next = up_to_more n m (n + m) a b c first next (omega arith)
-up_to_next n m a b c (Err stop) first next = tt
-
-pub next_within : (a b : Option (List ℕ)) (byte : Option ℕ) → ReadsNext a b byte → ReadsUpTo 1 a b
-next_within a b byte given = grind arith
+pub read_within : (n m most : ℕ) (a b c : Option (List ℕ)) (bytes : List ℕ) → ReadsUpTo n a b → ReadsExactly m b c bytes true → n + m ≤ most
+    → ReadsUpTo most a c
+read_within n m most a b c bytes first (read, long) fits = up_to_more n m most a b c first (bytes, read, omega (arith, long)) fits
 
 -- ---- a line and what is read for it
 

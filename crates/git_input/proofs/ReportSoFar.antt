@@ -1,9 +1,10 @@
 -- A text of which a part is read: its report is what was said so far, whose lines are appended, and then the report of what is left.
-use Rattle.gix_validate.proofs.Common.{◌≡◌, ℕ, Bool, false, ◌||◌, List, ◌++◌, Option, Some, Result, length, refl, arith, append_assoc, append-nil}
-use Rattle.gix_validate.proofs.Common.{length-append, IfSome_then, MatchOption-at_some, IfSome, OnErr, ⊤, Appends, Appends-nil, Appends-trans}
+use Rattle.gix_validate.proofs.Common.{◌≡◌, ℕ, Bool, false, ◌||◌, List, ◌++◌, Option, Some, Result, length, refl, arith, append_assoc}
+use Rattle.gix_validate.proofs.Common.{append-nil, length-append, IfSome_then, MatchOption-at_some, IfSome, OnErr, ⊤, Appends, Appends-nil}
+use Rattle.gix_validate.proofs.Common.{Appends-trans}
 use lib.Seq.{take-append-add}
 use Rattle.git_input.specs.Reports.{Said, nothing, then_said}
-use Rattle.cli.specs.Writes.{AppendsPrefixOf}
+use Rattle.cli.specs.Messages.{AppendsPrefixOf}
 
 pub when_known : (a : Option (List ℕ)) (P : List ℕ → Type 0) → ((text : List ℕ) → a ≡ Some text → P text) → IfSome a P
 when_known a P known = grind arith

@@ -1,19 +1,17 @@
 -- A text that is reported as well-formed is a stream that is written out, object by object, and what is said of such a stream.
-use Rattle.gix_validate.proofs.Common.{◌↔◌, Result, Ok, Err, ◌≡◌, ◌≢◌, ℕ, ◌<◌, Bool, true, false, nat_lt, List, [], ◌∷◌, ◌++◌, Option, None, Some, All, length}
-use Rattle.gix_validate.proofs.Common.{take, drop, codes, refl, ap, sym, ◌∙◌, arith, append_assoc, append-nil, length-take, length-drop, take-append-drop}
-use Rattle.gix_validate.proofs.Common.{IfSome, IfOk, AllByRecursion, option_and_then, byte, bytes_eq-Decides, All-from_recursion, IfSome_then}
-use Rattle.git_input.specs.Spelled.{IsReportedInOrder, IsStreamOf, IsCleanStream}
+use Rattle.gix_validate.proofs.Common.{◌↔◌, Result, Ok, Err, ◌≡◌, ◌≢◌, ℕ, ◌<◌, Bool, true, false, nat_lt, List, [], ◌∷◌, ◌++◌, Option, None}
+use Rattle.gix_validate.proofs.Common.{Some, All, length, take, drop, codes, refl, ap, sym, ◌∙◌, arith, append_assoc, append-nil}
+use Rattle.gix_validate.proofs.Common.{length-take, length-drop, take-append-drop, IfSome, IfOk, AllByRecursion, option_and_then, byte}
+use Rattle.gix_validate.proofs.Common.{bytes_eq-Decides, All-from_recursion, IfSome_then, IfOk-weaker}
+use Rattle.git_input.specs.Spelled.{IsReportedInOrder, IsStreamOf, IsCleanStream, Spelled, Present, Absent, header_line, IsSpelled}
 use Rattle.git_input.specs.Headers.{ParsedObject, ParsedHeader, Missing, Object, kind_word, kind_of_word, sized_parts, sized, parsed_header}
-use Rattle.git_input.specs.Spelled.{Spelled, Present, Absent, header_line, IsSpelled, spelling, spelled_said}
-use Rattle.git_input.specs.Spelled.{IsWellFormedOnlyIfSpelled}
-use Rattle.git_input.specs.declared.{header.Kind.Kind, outcome.Verdict.Verdict}
-use Rattle.git_input.specs.{Objects.{ending_of, object_report, ObjectRule, closed, header_rule, object_rule}, Promises.Runs}
-use Rattle.git_input.specs.{Reports.{Reach, verdict_of, IsCleanIff, longest, Said}, Private.{object_rule_leaves, ok_then, closed_is}}
-use Rattle.git_input.specs.Texts.{line_end, split_once, number_of, is_id}
+use Rattle.git_input.specs.{Spelled.{spelling, spelled_said, IsWellFormedOnlyIfSpelled}, Private.{object_rule_leaves, closed_is}}
+use Rattle.git_input.specs.{declared.header.Kind.Kind, Objects.{ending_of, object_report, ObjectRule, closed, header_rule, object_rule}}
+use Rattle.git_input.specs.{declared.outcome.Verdict.Verdict, Promises.Runs}
+use Rattle.git_input.specs.{Reports.{Reach, verdict_of, IsCleanIff, longest, Said}, Texts.{line_end, split_once, number_of, is_id}}
 use Rattle.cli.specs.declared.outcome.RunError.{RunError}
-use Rattle.git_input.proofs.SpelledStreams.{line_spelled, some_bytes, not_end}
-use Rattle.git_input.proofs.{WrittenLines.{AreRead, in_order, well_formed, only_clean, if_clean}, WholeStreams.whole_stream}
-use Rattle.git_input.proofs.{LinesRead.by_line, SplitTexts.{split_cuts, whole}}
+use Rattle.git_input.proofs.{SpelledStreams.{line_spelled, some_bytes, not_end}, WholeStreams.whole_stream, LinesRead.by_line}
+use Rattle.git_input.proofs.{WrittenLines.{AreRead, in_order, well_formed, only_clean, if_clean}, SplitTexts.{split_cuts, whole}}
 
 -- ---- a header line
 
@@ -69,9 +67,10 @@ module _ (rule : ObjectRule) where
   header_next false line (Some Missing) text few none (id, good, spelled) = (Absent id, (good, refl), grind (arith, append_assoc), refl)
   header_next all line (Some (Object object)) text few none (digits, good, number, spelled) =
       let judged = rule (nat_lt (length text) object.size) object (take object.size text) in
-      ok_then (closed judged (drop object.size text)).1 _ _ (closed_is judged (drop object.size text)) (λ rest (right, e).
+      IfOk-weaker (closed judged (drop object.size text)).1 _ _ (λ rest (right, e).
       let cut = content_is object.size text rest e in
       (Present object digits (take object.size text), grind (arith, rest_is object digits), grind (arith, append_assoc), grind arith))
+      (closed_is judged (drop object.size text))
 
 -- ---- a stream
 

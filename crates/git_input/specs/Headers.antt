@@ -1,6 +1,5 @@
 -- The line before an object in what `git cat-file --batch` prints.
-use Rattle.std.specs.Prelude.{ℕ, not, if◌then◌else◌, List, codes, Option, Some, None, option_map, option_and_then}
-use Rattle.std.specs.Str.{byte, bytes_eq}
+use Rattle.std.specs.{Prelude.{ℕ, not, if◌then◌else◌, List, codes, Option, Some, None, option_map, option_and_then}, Str.{byte, bytes_eq}}
 use Rattle.git_input.specs.{declared.header.Kind.{Kind, TheVariants.{Blob, Tree, Commit, Tag}}, Texts.{split_once, number_of, is_id}}
 
 -- an object's id, type and size, and the rest of its header line, if there is more: a space and any bytes
@@ -15,14 +14,12 @@ pub data ParsedHeader : Type 0 where
   Missing : ParsedHeader
   Object : (object : ParsedObject) → ParsedHeader
 
--- the word for a type
 abbrev pub kind_word : Kind → List ℕ
 kind_word Blob = codes "blob"
 kind_word Tree = codes "tree"
 kind_word Commit = codes "commit"
 kind_word Tag = codes "tag"
 
--- the type of a word
 abbrev pub kind_of_word : List ℕ → Option Kind
 kind_of_word text =
     if bytes_eq text (codes "blob") then Some Blob else

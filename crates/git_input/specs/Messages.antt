@@ -3,7 +3,6 @@ use Rattle.std.specs.Prelude.{ℕ, List, codes}
 use Rattle.git_input.specs.declared.outcome.Malformation.{Malformation}
 use Rattle.git_input.specs.declared.outcome.Malformation.TheVariants.{Header, TooLong, Ended, Entry, LineEnd, Absent, NoEnd, Line, Empty}
 
--- what a malformation prints
 abbrev pub malformation_text_of : Malformation → List ℕ
 malformation_text_of Header = codes "the header line is not 'OID TYPE SIZE' or 'OID missing'"
 malformation_text_of TooLong = codes "a line or an entry is longer than 65536 bytes"

@@ -45,12 +45,10 @@ header_reach header = 0
 abbrev pub object_reach : Reach
 object_reach line = header_reach (parsed_header line)
 
--- how a stream has to end
 abbrev pub ending_of : Bool → Ending
 ending_of true = EndLine
 ending_of false = Anywhere
 
--- the report of a stream of objects
 abbrev pub object_report : ObjectRule → Bool → List ℕ → Report
 object_report rule needs_end text = report (object_rule rule needs_end) (ending_of needs_end) text
 

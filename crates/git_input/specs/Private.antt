@@ -1,14 +1,9 @@
 -- What the rule of objects leaves of a text is its end.
-use Rattle.std.proofs.Common.{◌≡◌, ℕ, Bool, true, false, nat_lt, List, [], ◌∷◌, ◌++◌, Option, None, Some, Result, Ok, Err, length, take, drop}
-use Rattle.std.proofs.Common.{refl, arith, append_assoc, take-append-drop}
-use Rattle.std.proofs.lemmas.Bool.Decides.{nat_tests}
+use Rattle.std.proofs.Common.{◌≡◌, ℕ, Bool, true, false, nat_lt, List, [], ◌∷◌, ◌++◌, Option, None, Some, length, take, drop, refl}
+use Rattle.std.proofs.{Common.{arith, append_assoc, take-append-drop}, lemmas.{Bool.Decides.nat_tests, Result.IfOk-weaker}}
 use Rattle.std.specs.Prelude.{IfOk}
-use Rattle.git_input.specs.{Texts.line_end, Headers.{ParsedHeader, Missing, Object, parsed_header}, Reports.{EndsIn, LeavesTheEnd}}
-use Rattle.git_input.specs.Objects.{ObjectRule, Judged, closed, header_rule, object_rule}
-
-pub ok_then : {T E : Type 0} (r : Result T E) (P Q : T → Type 0) → IfOk r P → ((x : T) → P x → Q x) → IfOk r Q
-ok_then (Ok x) P Q p more = more x p
-ok_then (Err e) P Q p more = tt
+use Rattle.git_input.specs.{Texts.line_end, Reports.{EndsIn, LeavesTheEnd}, Objects.{ObjectRule, Judged, closed, header_rule, object_rule}}
+use Rattle.git_input.specs.Headers.{ParsedHeader, Missing, Object, parsed_header}
 
 -- an object is right, and LF follows it
 pub closed_is : (judged : Judged) (text : List ℕ) → IfOk (closed judged text).1 (λ rest. (judged.1 ≡ None) × (text ≡ line_end ∷ rest))
@@ -24,7 +19,8 @@ header_leaves rule true (Some Missing) text = tt
 header_leaves rule false (Some Missing) text = ([], refl)
 header_leaves rule needs_end (Some (Object object)) text =
     let judged = rule (nat_lt (length text) object.size) object (take object.size text) in
-    ok_then (closed judged (drop object.size text)).1 _ _ (closed_is judged (drop object.size text)) (λ rest right. drop_ends object.size text rest right.1)
+    IfOk-weaker (closed judged (drop object.size text)).1 _ _ (λ rest right. drop_ends object.size text rest right.1)
+    (closed_is judged (drop object.size text))
 
 pub object_rule_leaves : (rule : ObjectRule) (needs_end : Bool) → LeavesTheEnd (object_rule rule needs_end)
 object_rule_leaves rule needs_end line text = header_leaves rule needs_end (parsed_header line) text

@@ -1,19 +1,15 @@
 -- What the functions promise of one step, where the reader's and the writer's bytes are known.
-use Rattle.std.specs.Prelude.{◌≡◌, ◌≢◌, ℕ, ◌<◌, ◌≤◌, nat_lt, Bool, true, false, List, [], ◌∷◌, ◌++◌, All, length, take, drop, Option}
-use Rattle.std.specs.Prelude.{Some, None, Result, Ok, Err, IfOk, IfSome, OnErr, OnSome, ⊤, option_map}
-use Rattle.std.specs.{Str.bytes_eq, Io.KnownBytes.{Appends, Consumes, IsAtEnd}}
-use Rattle.git_input.specs.declared.{header.Header.Header, input.Found.{Found, TheVariants.{Byte, Limit, End}}, lines.Ending.Ending}
-use Rattle.git_input.specs.declared.{lines.Ending.TheVariants.EndLine, outcome.Malformation.{Malformation, TheVariants.Ended}}
-use Rattle.git_input.specs.declared.outcome.Verdict.{Verdict}
-use Rattle.cli.specs.{declared.outcome.RunError.{RunError, TheVariants.Write}, Writes.AppendsPrefixOf}
-use Rattle.gix_validate.specs.Faults.{when}
+use Rattle.std.specs.Prelude.{◌≡◌, ◌≢◌, ℕ, ◌<◌, ◌≤◌, nat_lt, if◌then◌else◌, Bool, true, false, List, [], ◌∷◌, ◌++◌, All, length, take, drop}
+use Rattle.std.specs.{Prelude.{Option, Some, None, Result, Ok, Err, IfOk, IfSome, OnErr, OnSome, option_map}, Str.bytes_eq}
+use Rattle.std.specs.Io.KnownBytes.{Appends, Consumes, IsAtEnd}
+use Rattle.git_input.specs.declared.{header.Header.Header, lines.Ending.{Ending, TheVariants.EndLine}, outcome.Verdict.Verdict}
+use Rattle.git_input.specs.declared.input.Found.{Found}
+use Rattle.git_input.specs.declared.{input.Found.TheVariants.{Byte, Limit, End}, outcome.Malformation.{Malformation, TheVariants.Ended}}
+use Rattle.cli.specs.{declared.outcome.RunError.{RunError, TheVariants.Write}, Messages.AppendsPrefixOf}
 use Rattle.git_input.specs.declared.header.Header.TheVariants as header
 use Rattle.git_input.specs.{declared.header.Object.Object, Headers.{ParsedObject, ParsedHeader}}
 use Rattle.git_input.specs.Headers as parsed
-use Rattle.git_input.specs.Reports.{Step, Reach, Report, extent, end_word, is_malformed, verdict_of}
-use Rattle.git_input.specs.Objects.{Judged, ObjectRule, after_end}
-
--- ---- headers as the code has them
+use Rattle.git_input.specs.{Reports.{Step, Reach, Report, extent, end_word, is_malformed, verdict_of}, Objects.{Judged, ObjectRule}}
 
 abbrev pub as_object : Object → ParsedObject
 as_object object = record { id = object.id.now; kind = object.kind; size = object.size; rest = option_map (λ rest. rest.now) object.rest }
@@ -21,8 +17,6 @@ as_object object = record { id = object.id.now; kind = object.kind; size = objec
 abbrev pub as_parsed : Header → ParsedHeader
 as_parsed header.Missing = parsed.Missing
 as_parsed (header.Object object) = parsed.Object (as_object object)
-
--- ---- reads and writes
 
 -- what was read for a byte: what is before it, and it alone where it was found
 abbrev pub taken : ℕ → Found → List ℕ → List ℕ
@@ -51,11 +45,6 @@ abbrev pub ReadsExactly : ℕ → Option (List ℕ) → Option (List ℕ) → Li
 ReadsExactly count old new bytes true = Consumes old new bytes × (length bytes ≡ count)
 ReadsExactly count old new bytes false = Consumes old new bytes × (length bytes < count) × OnSome old (IsAtEnd new)
 
--- the next byte was read, if one was left
-abbrev pub ReadsNext : Option (List ℕ) → Option (List ℕ) → Option ℕ → Type 0
-ReadsNext old new (Some byte) = Consumes old new (byte ∷ [])
-ReadsNext old new None = Consumes old new [] × OnSome old (IsAtEnd new)
-
 -- no more than so many bytes were read
 abbrev pub ReadsUpTo : ℕ → Option (List ℕ) → Option (List ℕ) → Type 0
 ReadsUpTo most old new = (bytes : List ℕ) × Consumes old new bytes × (length bytes ≤ most)
@@ -76,8 +65,6 @@ pub record Runs (report : List ℕ → Report) (reach : Reach) (old new before a
   -- where reading or memory fails, a front of the report was written; of a failed write nothing is said
   pub stopped : result ≢ Err Write → OnErr result (IfSome old (λ text. AppendsPrefixOf before after (report text).said.lines))
 
--- ---- steps
-
 -- the line has to end the text
 abbrev pub is_end_word : Ending → List ℕ → Bool
 is_end_word EndLine line = bytes_eq line end_word
@@ -90,22 +77,12 @@ FollowsRule wanted left old new (Ok (Ok refused)) =
 FollowsRule wanted left old new (Ok (Err malformation)) = Appends old new wanted.0.lines × (wanted.1 ≡ Err malformation)
 FollowsRule wanted left old new (Err stop) = stop ≢ Write → AppendsPrefixOf old new wanted.0.lines
 
--- what a rule judges of an object, where the text after its header may have fewer bytes than it: then the input ended within it
-abbrev pub or_cut : Bool → Judged → Judged
-or_cut cut (said, Some malformation) = (said, Some malformation)
-or_cut cut (said, None) = (said, when cut Ended)
-
-abbrev pub judged_with_rest : Judged → List ℕ → Step
-judged_with_rest (said, Some malformation) text = (said, Err malformation)
-judged_with_rest (said, None) text = (said, Ok text)
+-- what a rule judges of an object, and the text after it, where the text may have fewer bytes than the object: then the input ended within it
+abbrev pub judged_step : Bool → Judged → List ℕ → Step
+judged_step cut (said, Some malformation) text = (said, Err malformation)
+judged_step cut (said, None) text = (said, if cut then Err Ended else Ok text)
 
 -- an object's bytes in the text after its header
 abbrev pub body_step : ObjectRule → ParsedObject → List ℕ → Step
 body_step rule object text =
-    let cut = nat_lt (length text) object.size in judged_with_rest (or_cut cut (rule cut object (take object.size text))) (drop object.size text)
-
--- the LF after an object was read
-abbrev pub Closes : Bool → List ℕ → Option (List ℕ) → Result (Result Bool Malformation) RunError → Type 0
-Closes refused text new (Ok (Ok found)) = (found ≡ refused) × ((rest : List ℕ) × (new ≡ Some rest) × (after_end text ≡ Ok rest))
-Closes refused text new (Ok (Err malformation)) = after_end text ≡ Err malformation
-Closes refused text new (Err stop) = ⊤
+    let cut = nat_lt (length text) object.size in judged_step cut (rule cut object (take object.size text)) (drop object.size text)

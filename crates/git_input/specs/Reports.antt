@@ -1,20 +1,16 @@
 -- The report of a text that is read line by line: what each line and what belongs to it give, in order, up to the first
 -- that is malformed. `Spelled` says it from the other side, with no steps: what is reported of a stream that is written out,
 -- object by object, and that no other text is well-formed.
-use Rattle.std.specs.Prelude.{◌≡◌, ◌↔◌, ℕ, suc, ◌+◌, ◌*◌, ◌≤◌, Bool, true, false, ◌==◌, ◌||◌, nat_lt, if◌then◌else◌, List, [], ◌∷◌, ◌++◌, length, take}
-use Rattle.std.specs.Prelude.{drop, codes}
-use Rattle.std.specs.Prelude.{Option, Some, None, Result, Ok, Err, IfOk, option_map}
-use Rattle.std.specs.Str.{bytes_eq}
+use Rattle.std.specs.Prelude.{◌≡◌, ◌↔◌, ℕ, suc, ◌+◌, ◌*◌, ◌≤◌, Bool, true, false, ◌==◌, ◌||◌, nat_lt, if◌then◌else◌, List, [], ◌∷◌, ◌++◌}
+use Rattle.std.specs.{Prelude.{length, take, drop, codes, Option, Some, None, Result, Ok, Err, IfOk, option_map}, Option.option_map_or, Str.bytes_eq}
 use Rattle.gix_validate.specs.Faults.{when}
-use Rattle.git_input.specs.declared.{lines.Ending.{Ending, TheVariants.{Anywhere, EndLine, AfterALine}}, outcome.Malformation.Malformation}
-use Rattle.git_input.specs.declared.outcome.{Malformation.TheVariants.{TooLong, Ended, NoEnd, Empty}, Verdict.Verdict}
-use Rattle.git_input.specs.{declared.outcome.Verdict.TheVariants.{Clean, Refused, Malformed}, Texts.{line_end, split_once}}
+use Rattle.git_input.specs.{declared.lines.Ending.{Ending, TheVariants.{Anywhere, EndLine, AfterALine}}, Texts.{line_end, split_once}}
+use Rattle.git_input.specs.declared.outcome.{Malformation.{Malformation, TheVariants.{TooLong, Ended, NoEnd, Empty}}, Verdict.Verdict}
+use Rattle.git_input.specs.declared.outcome.Verdict.TheVariants.{Clean, Refused, Malformed}
 
 -- the most bytes of a line with its end
 abbrev pub longest : ℕ
 longest = 65536
-
--- ---- what is said
 
 -- the lines that are printed, and whether something is refused
 pub record Said : Type 0 where
@@ -31,8 +27,6 @@ then_said first more = record { lines = first.lines ++ more.lines; refused = fir
 abbrev pub all_said : List Said → Said
 all_said [] = nothing
 all_said (first ∷ more) = then_said first (all_said more)
-
--- ---- a line
 
 -- what is said of a part of a text, and what follows it, or what is wrong with it
 abbrev pub Step : Type 0
@@ -58,8 +52,6 @@ line_with rule text (Some parts) = rule parts.0 (drop (length parts.0 + 1) text)
 -- the first line of a text
 unfoldable pub line_of : LineRule → List ℕ → Step
 line_of rule text = line_with rule text (split_once line_end (take longest text))
-
--- ---- a text
 
 -- what is said, the first line that is malformed, counted from 1, if one is, and the text from that line on
 pub record Report : Type 0 where
@@ -117,7 +109,6 @@ lines_within fuel rule ending number text = at_end ending number
 unfoldable pub lines_from : LineRule → Ending → ℕ → List ℕ → Report
 lines_from rule ending number text = lines_within (length text) rule ending number text
 
--- the report of a text
 unfoldable pub report : LineRule → Ending → List ℕ → Report
 report rule ending text = lines_from rule ending 1 text
 
@@ -133,31 +124,21 @@ verdict_of report = verdict_by report.said.refused report.malformed
 abbrev pub IsCleanIff : (List ℕ → Type 0) → Verdict → List ℕ → Type 0
 IsCleanIff IsAccepted verdict text = (verdict ≡ Clean) ↔ IsAccepted text
 
--- whether it says that something is malformed
 abbrev pub is_malformed : Verdict → Bool
 is_malformed (Malformed number malformation) = true
 is_malformed verdict = false
-
--- ---- what is read where a line is malformed
 
 -- how many bytes of the text after a line, which is given without its end, can belong to it
 abbrev pub Reach : Type 0
 Reach = List ℕ → ℕ
 
--- the most bytes of a first line with its end and what can belong to it, where it is known what is before its end, if there is one within the limit
-abbrev pub extent_with : Reach → Option (List ℕ × List ℕ) → ℕ
-extent_with reach None = longest
-extent_with reach (Some parts) = length parts.0 + 1 + reach parts.0
-
 -- the most bytes of the first line of a text with its end and what can belong to it
 unfoldable pub extent : Reach → List ℕ → ℕ
-extent reach text = extent_with reach (split_once line_end (take longest text))
+extent reach text = option_map_or (λ (parts : List ℕ × List ℕ). length parts.0 + 1 + reach parts.0) (split_once line_end (take longest text)) longest
 
 -- A text that has to end in the line for that is well-formed only if it does.
 abbrev pub IsWhole : LineRule → Type 0
 IsWhole rule = (text : List ℕ) → (report rule EndLine text).malformed ≡ None → EndsIn text end_line
-
--- ---- how much is printed
 
 -- For each byte of a text no more than so many are printed.
 abbrev pub PrintsAtMost : ℕ → (List ℕ → Report) → Type 0

@@ -1,10 +1,9 @@
 -- The report of a stream that is written out, object by object, and that no other text is well-formed.
 use Rattle.std.specs.Prelude.{◌≡◌, ◌≢◌, ℕ, ◌+◌, ◌<◌, Bool, true, false, List, [], ◌∷◌, ◌++◌, All, length, map, flat_map, codes, Option}
-use Rattle.std.specs.Prelude.{None, Some, IfSome}
-use Rattle.std.specs.{List.AllByRecursion, Str.byte}
-use Rattle.git_input.specs.{Texts.{line_end, number_of, is_id}, Headers.{ParsedObject, kind_word}}
+use Rattle.std.specs.{Prelude.{None, Some, IfSome}, List.AllByRecursion, Str.byte}
+use Rattle.git_input.specs.{Texts.{line_end, number_of, is_id}, Objects.{ObjectRule, object_rule, ending_of, object_report}}
+use Rattle.git_input.specs.Headers.{ParsedObject, kind_word}
 use Rattle.git_input.specs.Reports.{Said, nothing, all_said, longest, end_of, before_report, lines_from}
-use Rattle.git_input.specs.Objects.{ObjectRule, object_rule, ending_of, object_report}
 
 -- an object with the digits of its size and its bytes, or the id of one that is missing
 pub data Spelled : Type 0 where
@@ -56,8 +55,6 @@ pub record IsStream (rule : ObjectRule) (needs_end : Bool) (text : List ℕ) (sa
 abbrev pub IsWellFormedOnlyIfSpelled : ObjectRule → Bool → Type 0
 IsWellFormedOnlyIfSpelled rule needs_end =
     (text : List ℕ) → (object_report rule needs_end text).malformed ≡ None → IsStream rule needs_end text (object_report rule needs_end text).said
-
--- ---- nothing refused
 
 -- such a stream, each of whose objects is as `IsGood` says
 pub record IsStreamOf (rule : ObjectRule) (needs_end : Bool) (IsGood : Spelled → Type 0) (text : List ℕ) : Type 0 where

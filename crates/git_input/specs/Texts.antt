@@ -1,6 +1,5 @@
 -- Texts as lists of bytes: a text cut at a byte, numbers in digits, and the ids of objects in hexadecimal.
-use Rattle.std.specs.Prelude.{ℕ, ◌+◌, ◌-◌, ◌*◌, ◌/◌, ◌%◌, ◌^◌, Bool, ◌==◌, ◌&&◌, ◌||◌, not, nat_lt, nat_le, List, [], ◌∷◌, length}
-use Rattle.std.specs.Prelude.{Option}
+use Rattle.std.specs.Prelude.{ℕ, ◌+◌, ◌-◌, ◌*◌, ◌/◌, ◌%◌, ◌^◌, Bool, ◌==◌, ◌&&◌, ◌||◌, not, nat_lt, nat_le, List, [], ◌∷◌, length, Option}
 use Rattle.std.specs.{List.list_all, Str.byte}
 use Rattle.gix_validate.specs.{Bytes.is_empty, Faults.when, Quoted.hex_digit}
 pub use Rattle.cli.specs.Lines.{line_end, split_once}

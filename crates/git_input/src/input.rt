@@ -3,12 +3,11 @@
 ghost use Rattle.std.specs.Prelude.{◌≡◌, ◌≢◌, ◌↔◌, ◌<◌, ℕ, true, List, [], vec_capacity, Err, IsOk, IfOk, IfSome, OnErr, OnSome, Some};
 ghost use Rattle.std.specs.{IoError.error_kind, Io.KnownBytes.{Consumes, IsAtEnd}};
 ghost use Rattle.gix_validate.specs.Bytes.{is_empty};
-ghost use Rattle.git_input.specs.Promises.{IsCutAt, ReadsBefore, ReadsNext, ReadsExactly};
+ghost use Rattle.git_input.specs.Promises.{IsCutAt, ReadsBefore, ReadsExactly};
 
 use cli::outcome::RunError;
 use memchr::memchr;
-use std::io;
-use std::io::{BufRead, ErrorKind};
+use std::io::{self, BufRead, ErrorKind};
 
 /// The most turns of a loop that reads until it is done. An interrupted call is made again, so nothing
 /// else bounds the loop. No run takes so many.
@@ -150,26 +149,6 @@ pub fn skip<R: BufRead>(input: &mut R, count: u64) -> Result<bool, RunError>
         let skipped = (available.len() as u64).min(left);
         input.consume(skipped as usize);
         left -= skipped;
-    }
-    Err(RunError::Read)
-}
-
-/// Reads a byte, if one is left. It does not allocate.
-///
-/// # Errors
-///
-/// [`RunError::Read`] if reading failed.
-pub fn read_byte<R: BufRead>(input: &mut R) -> Result<Option<u8>, RunError>
-    ensures byte { IfOk result (λ byte. ReadsNext (R.remaining input.old) (R.remaining input.new) byte) }
-    ensures stop { OnErr result (result ≡ Err RunError.Read) }
-{
-    for _ in 0..TURNS {
-        let byte = match filled!(input) {
-            [] => return Ok(None),
-            [byte, ..] => *byte,
-        };
-        input.consume(1);
-        return Ok(Some(byte));
     }
     Err(RunError::Read)
 }

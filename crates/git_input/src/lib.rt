@@ -1,11 +1,8 @@
 //! What the programs share that check a stream: bounded reads, the header lines of
 //! `git cat-file --batch`, the loop over the lines of an input, quoted output, and exit statuses.
 //!
-//! Three programs read lines, count them, check for the end and keep a verdict. They differ in what
-//! a line means, which is the trait [`lines::LineCheck`]: a rule as a definition, and the function
-//! that follows it. [`objects`] implements it for header lines, and has the trait
-//! [`objects::ObjectCheck`] for the bytes of an object. So the loop is proved once for all rules,
-//! and each program proves one step.
+//! The programs differ in what a line means, which is the trait [`lines::LineCheck`]. [`objects`]
+//! implements it for header lines, and has [`objects::ObjectCheck`] for the bytes of an object.
 #![tactic(auto)]
 
 pub mod header;

@@ -4,11 +4,12 @@
 //! `check_trees` and `check_refs` hold a bounded number of bytes, whatever their input is. No size
 //! that the input claims is trusted: bytes are read or skipped as they come.
 
-ghost use Rattle.std.specs.Prelude.{◌≡◌, ◌≢◌, ◌<◌, [], Some, Err, true, false, ◌&&◌, if◌then◌else◌, IfOk, OnErr, IfSome, OnSome};
-ghost use Rattle.std.specs.Io.KnownBytes.{Appends, Consumes, IsAtEnd};
-ghost use Rattle.cli.specs.Writes.{AppendsPrefixOf};
+ghost use Rattle.std.specs.Prelude.{◌≡◌, ◌≢◌, ◌<◌, [], Some, Err, true, false, ◌&&◌, if◌then◌else◌, IfOk, OnErr};
+ghost use Rattle.std.specs.{Prelude.{IfSome, OnSome}, Io.KnownBytes.{Appends, Consumes, IsAtEnd}};
+ghost use Rattle.cli.specs.Messages.{AppendsPrefixOf};
 ghost use Rattle.gix_validate.specs.Bytes.{is_empty};
-ghost use Rattle.git_input.specs.Reports.{IsWhole, LeavesTheEnd, LineRule, Reach, malformation_at_end, is_malformed, report, verdict_of};
+ghost use Rattle.git_input.specs.Reports.{IsWhole, LeavesTheEnd, LineRule, Reach, malformation_at_end, is_malformed};
+ghost use Rattle.git_input.specs.Reports.{report, verdict_of};
 ghost use Rattle.git_input.specs.Promises.{FollowsRule, ReadsUpTo, StopsWithin, is_end_word};
 
 use crate::input::{Found, TURNS, is_at_end, read_before};
@@ -68,16 +69,8 @@ pub trait LineCheck: Copy {
     ghost leaves: { (check : Self) → LeavesTheEnd (line_rule check) };
 }
 
-/// Reads all of `input`, and writes what `check` reports for each line and the bytes that belong to
-/// it (docs/RULES.md, "Streams of objects" and "The report of references").
-///
-/// Each line of the report is written as it is found, and `output` is not flushed. A malformed line
-/// ends the run, and what was reported before it is written.
-///
-/// # Errors
-///
-/// [`RunError`] says whether reading, memory or writing failed. If reading or memory did, what was
-/// written is the beginning of the report.
+/// Does what [`Check::run`](crate::runs::Check::run) does, for what `check` reports for each line and
+/// the bytes that belong to it (docs/RULES.md, "Streams of objects" and "The report of references").
 ///
 /// # Memory
 ///

@@ -2,14 +2,13 @@
 
 ghost use Rattle.std.specs.Prelude.{◌≡◌, ◌+◌, Some, false, IfOk, IfSome};
 ghost use Rattle.git_input.specs.Objects.{IsWholeStream, ObjectRule, ending_of, object_reach, object_report, object_rule, object_step};
-ghost use Rattle.git_input.specs.Promises.{Runs, Closes, FollowsRule, ReadsUpTo, as_object, body_step};
+ghost use Rattle.git_input.specs.Promises.{Runs, FollowsRule, ReadsUpTo, as_object, body_step};
 ghost use Rattle.git_input.specs.Spelled.{IsCleanStream, IsReportedInOrder, IsWellFormedOnlyIfSpelled};
 ghost use Rattle.git_input.specs.{Reports.IsCleanIff, Private.object_rule_leaves};
 
 use crate::header::{Header, Object, header_of};
-use crate::input::read_byte;
-use crate::lines;
-use crate::lines::{Buffers, Ending, LineCheck};
+use crate::input::read_bytes;
+use crate::lines::{self, Buffers, Ending, LineCheck};
 use crate::outcome::{Malformation, Verdict};
 use cli::outcome::RunError;
 use std::alloc::Global;
@@ -78,22 +77,17 @@ fn check_and_close<C: ObjectCheck, R: BufRead, W: Write>(
         (R.remaining input.new) (W.contents output.old) (W.contents output.new) result) }
     ensures within { IfOk result (λ _. ReadsUpTo (object.entry.size + 1) (R.remaining input.old) (R.remaining input.new)) }
 {
-    match check.check_object(object, input, output, buffers)? {
-        Ok(refused) => close(refused, input),
-        Err(malformation) => Ok(Err(malformation)),
+    let refused = match check.check_object(object, input, output, buffers)? {
+        Ok(refused) => refused,
+        Err(malformation) => return Ok(Err(malformation)),
+    };
+    if !read_bytes(input, 1, &mut buffers.read)? {
+        return Ok(Err(Malformation::Ended));
     }
-}
-
-/// Reads the LF after an object's bytes, and returns `refused` if it is there.
-#[tactic(auto, using(crate::proofs::LinesStop::next_within))]
-fn close<R: BufRead>(refused: bool, input: &mut R) -> Result<Result<bool, Malformation>, RunError>
-    ensures gives { IfSome (R.remaining input.old) (λ text. Closes refused text (R.remaining input.new) result) }
-    ensures within { IfOk result (λ _. ReadsUpTo 1 (R.remaining input.old) (R.remaining input.new)) }
-{
-    match read_byte(input)? {
-        Some(b'\n') => Ok(Ok(refused)),
-        Some(_) => Ok(Err(Malformation::LineEnd)),
-        None => Ok(Err(Malformation::Ended)),
+    if buffers.read[0] == b'\n' {
+        Ok(Ok(refused))
+    } else {
+        Ok(Err(Malformation::LineEnd))
     }
 }
 

@@ -134,19 +134,13 @@ fn fail_malformed<E: Write>(
     ensures status { exit_status result ≡ 2 }
     ensures said { Says E.contents errors.old errors.new (message program.entry.name.now (malformed_text program.entry number malformation)) }
 {
-    let (unit, hint) = (program.unit, hint_of(program.hint, number, malformation));
+    let unit = program.unit;
+    let hint = match malformation {
+        Malformation::Header if number == 1 => program.hint,
+        _ => "",
+    };
     let what = format_args!("malformed input: {unit} {number}: {malformation}{hint}");
     fail(program.name, what, errors)
-}
-
-/// What the message adds for this malformation of the part with this number.
-fn hint_of(hint: &str, number: u64, malformation: Malformation) -> &str
-    ensures { result.now ≡ hint_of hint.now number malformation }
-{
-    match malformation {
-        Malformation::Header if number == 1 => hint,
-        _ => "",
-    }
 }
 
 /// Buffers for an input and an output.
@@ -169,22 +163,24 @@ pub fn buffers<R: Read + Drop, W: Write + Drop>(
 }
 
 /// What the `main` of a program does with its runtime, which `main` alone holds: it passes the
-/// arguments and buffered streams to [`answer`], under options of this type.
+/// arguments and buffered streams to [`answer`], under options of this type, with these fields of its
+/// [`Program`].
 #[macro_export]
 macro_rules! run_program {
-    ($options:ty, $program:ident, $rt:ident) => {{
+    ($rt:ident, $options:ty, $($field:ident: $value:expr),+) => {{
+        let program = $crate::runs::Program { $($field: $value),+ };
         let mut errors = cli::messages::Messages::new($rt.stderr());
-        match cli::arguments::arguments($rt.alloc(), std::env::args(&$rt), $program.name, &mut errors) {
+        match cli::arguments::arguments($rt.alloc(), std::env::args(&$rt), program.name, &mut errors) {
             Ok(arguments) => match $crate::runs::buffers($rt.alloc(), $rt.stdin(), $rt.stdout()) {
                 Ok((mut input, mut output)) => $crate::runs::answer::<$options, _, _, _>(
-                    $program,
+                    program,
                     $rt.alloc(),
                     &arguments,
                     &mut input,
                     &mut output,
                     &mut errors,
                 ),
-                Err(stop) => cli::fail($program.name, stop, &mut errors),
+                Err(stop) => cli::fail(program.name, stop, &mut errors),
             },
             Err(status) => status,
         }

@@ -1,7 +1,7 @@
 -- the lines so far, and those of the sections that are left, are the lines of the file
 use Rattle.gix_validate.proofs.Common.{◌≡◌, ◌++◌}
 use Rattle.gitmodules.specs.Sections.{sections}
-use Rattle.check_submodules.specs.Lines.{lines_of}
+use Rattle.check_submodules.specs.Report.{lines_of}
 use Rattle.check_submodules.proofs.report.push_lines.Given as goal
 
 abbrev pub invariant-loop-section : goal.invariant-loop-section

@@ -1,8 +1,8 @@
-use Rattle.check_trees.specs.{Options.as_options, Entries.parsed_front}
+use Rattle.check_trees.specs.{Arguments.as_options, Entries.parsed_front}
 use Rattle.gix_validate.proofs.Common.{◌∙◌, ap, arith, common_steps}
 use Rattle.git_input.specs.Promises.{as_object}
-use Rattle.check_trees.proofs.FirstEntry.{gives_past, gives_long, gives_cut, gives_malformed, gives_id_cut, gives_id_past, gives_stop, gives_entry}
-use Rattle.check_trees.proofs.EntryReads.{entry_within}
+use Rattle.check_trees.proofs.FirstEntry.{gives_past, gives_long, gives_cut, gives_malformed, gives_id_cut, gives_id_past, gives_stop}
+use Rattle.check_trees.proofs.{FirstEntry.gives_entry, EntryReads.entry_within}
 use Rattle.check_trees.proofs.check.check_entry.Goals as goal
 
 pub returns-in-Limit-clause-gives : goal.returns-in-Limit-clause-gives

@@ -3,7 +3,7 @@
 use Rattle.gix_validate.proofs.Common.{◌-◌, ◌≤◌}
 use Rattle.git_input.specs.Promises.{ReadsUpTo, as_object}
 use Rattle.git_input.proofs.ReportSoFar.{SoFar}
-use Rattle.check_trees.specs.{Options.as_options, Private.tree_report}
+use Rattle.check_trees.specs.{Arguments.as_options, Private.tree_report}
 use Rattle.check_trees.proofs.check.check_tree.Given as goal
 
 abbrev pub invariant-loop-left : goal.invariant-loop-left

@@ -1,5 +1,5 @@
 use Rattle.git_input.proofs.WellFormedStreams.{clean_run}
-use Rattle.check_trees.specs.{Options.as_options, Report.tree_rule, Spelled.IsAcceptedObject}
+use Rattle.check_trees.specs.{Arguments.as_options, Report.tree_rule, Spelled.IsAcceptedObject}
 use Rattle.check_trees.proofs.{AcceptedTrees.object_same, LinearReports.linear_report, SpelledTrees.read_as_items}
 use Rattle.check_trees.proofs.check.CheckOptionsCheck.run.Goals as goal
 

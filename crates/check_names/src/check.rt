@@ -21,8 +21,6 @@ use std::io::{Read, Write};
 use std::{fmt, io};
 use typed_names::{Component, FullName, PartialName, TagName};
 
-const UNKNOWN_KIND: &[u8] = b"unknown kind";
-
 /// Reads all of `input`, builds a line of output for each of its lines, writes all of them to
 /// `output` at once, and flushes (docs/RULES.md, "The program's lines"). Reading is by std's
 /// `read_to_end` and writing by its `write_all`: nothing else is tried again.
@@ -161,7 +159,7 @@ fn push_answer(alloc: Global, line: &[u8], answers: &mut Vec<u8>) -> Result<(), 
     } else if let Some(name) = name_after(b"sanitize ", line) {
         push_sanitized(alloc, name, answers)
     } else {
-        answers.extend_from_slice(UNKNOWN_KIND)
+        answers.extend_from_slice(b"unknown kind")
     }
 }
 

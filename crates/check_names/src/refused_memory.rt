@@ -6,24 +6,18 @@
 
 use crate::check::{RunError, run};
 use crate::tests::{Device, ROWS, printed};
-use std::alloc::{AllocError, Global};
 use std::process::Abort;
 use std::test::Fail;
 
-/// Makes allocations until the given one that follows is the one that fails.
-fn allocate_until(alloc: Global, request: usize) -> Result<(), AllocError> {
-    for _ in request..8 {
-        Vec::from_slice(alloc, b" ")?;
-    }
-    Ok(())
-}
-
-/// Runs with a writer that doesn't allocate, and again if an allocation of the run fails.
+/// Makes allocations until the given one of the run is the one that fails, runs with a writer that
+/// doesn't allocate, and again if an allocation of the run fails.
 fn run_with_refused<R: Abort + AllocGlobal + Print>(rt: &R, request: usize) -> Result<(), Fail> {
     let (input, output) = ROWS;
     let mut room = [0; 512];
-    allocate_until(rt.alloc(), request)?;
-    match run(rt.alloc(), &mut &*input, &mut Device::new(&mut room)) {
+    for _ in request..8 {
+        Vec::from_slice(rt.alloc(), b" ")?;
+    }
+    match run(rt.alloc(), &mut &*input, &mut Device::new(&mut room, 1)) {
         Ok(()) => {
             assert!(rt; room.starts_with(output));
             println!(rt; "run: answered")?;
@@ -41,7 +35,6 @@ fn run_with_refused<R: Abort + AllocGlobal + Print>(rt: &R, request: usize) -> R
 #[test]
 fn growing_writer(rt: HostRuntime) -> Result<(), Fail> {
     let (input, output) = ROWS;
-    allocate_until(rt.alloc(), 8)?;
     if let Err(stop) = printed(rt.alloc(), input) {
         println!(rt; "run: {stop}")?;
     }

@@ -3,7 +3,7 @@
 use crate::check::{RunError, run};
 use bstr::BStr;
 use gix_validate::tag;
-use std::alloc::{AllocError, Global};
+use std::alloc::Global;
 use std::io;
 use std::io::{ErrorKind, Read, Write};
 use std::test::Fail;
@@ -41,18 +41,6 @@ pub fn printed(alloc: Global, input: &[u8]) -> Result<Vec<u8>, RunError> {
     Ok(output)
 }
 
-/// What has to be printed for an input of one line, by the rule of tags.
-fn wanted(alloc: Global, input: &[u8]) -> Result<String, AllocError> {
-    let line = input.strip_suffix(b"\n").unwrap_or(input);
-    match line.strip_prefix(b"tag ") {
-        None => format!(in alloc; "unknown kind\n"),
-        Some(name) => match tag::name(BStr::new(name)) {
-            Ok(_) => format!(in alloc; "ok\n"),
-            Err(fault) => format!(in alloc; "error: {fault}\n"),
-        },
-    }
-}
-
 /// A reader that fails.
 #[derive(Drop)]
 struct Broken;
@@ -63,22 +51,16 @@ impl Read for Broken {
     }
 }
 
-/// A writer that takes bytes while it has room, and then fails. It counts its flushes, which can fail.
+/// A writer that takes bytes while it has room, and then fails. It can be flushed so many times.
 #[derive(Drop)]
 pub struct Device<'a> {
     room: &'a mut [u8],
     flushes: usize,
-    can_flush: bool,
 }
 
 impl<'a> Device<'a> {
-    /// A device that can be flushed.
-    pub fn new(room: &'a mut [u8]) -> Device<'a> {
-        Device {
-            room,
-            flushes: 0,
-            can_flush: true,
-        }
+    pub fn new(room: &'a mut [u8], flushes: usize) -> Device<'a> {
+        Device { room, flushes }
     }
 }
 
@@ -91,12 +73,9 @@ impl Write for Device<'_> {
     }
 
     fn flush(&mut self) -> io::Result<()> {
-        self.flushes = self.flushes.saturating_add(1);
-        if self.can_flush {
-            Ok(())
-        } else {
-            Err(io::Error::from(ErrorKind::BrokenPipe))
-        }
+        let broken = io::Error::from(ErrorKind::BrokenPipe);
+        self.flushes = self.flushes.checked_sub(1).ok_or(broken)?;
+        Ok(())
     }
 }
 
@@ -112,9 +91,14 @@ fn prints_the_rows(rt: HostRuntime) -> Result<(), Fail> {
 fn prints_each_byte(rt: HostRuntime) -> Result<(), Fail> {
     for byte in 0..=255 {
         let line = [b't', b'a', b'g', b' ', byte];
-        for input in [&line[4..], &line] {
-            let (is, wants) = (printed(rt.alloc(), input)?, wanted(rt.alloc(), input)?);
-            assert_eq!(rt; is.as_slice(), wants.as_bytes(), "{byte}");
+        let name = line[4..].strip_suffix(b"\n").unwrap_or(&line[4..]);
+        let wanted = match tag::name(BStr::new(name)) {
+            Ok(_) => format!(in rt.alloc(); "ok\n")?,
+            Err(fault) => format!(in rt.alloc(); "error: {fault}\n")?,
+        };
+        for (input, wanted) in [(&line[4..], "unknown kind\n"), (&line, wanted.as_str())] {
+            let came = printed(rt.alloc(), input)?;
+            assert_eq!(rt; came.as_slice(), wanted.as_bytes(), "{byte}");
         }
     }
     Ok(())
@@ -149,7 +133,7 @@ fn reports_failed_writes(rt: HostRuntime) -> Result<(), Fail> {
     let mut room = [0; 512];
     assert!(rt; output.len() <= room.len());
     for k in 0..output.len() {
-        let mut device = Device::new(&mut room[..k]);
+        let mut device = Device::new(&mut room[..k], 1);
         let result = run(rt.alloc(), &mut &*input, &mut device);
         assert!(rt; matches!(result, Err(RunError::Write)), "{k}");
         run(rt.alloc(), &mut io::empty(), &mut device)?;
@@ -162,12 +146,10 @@ fn reports_failed_writes(rt: HostRuntime) -> Result<(), Fail> {
 fn flushes_once(rt: HostRuntime) -> Result<(), Fail> {
     let mut room = [0; 512];
     for (input, flushes) in [(ROWS.0, 1), (TAGS.0, 1), (b"\n", 1), (b"", 0)] {
-        let mut device = Device::new(&mut room);
+        let mut device = Device::new(&mut room, flushes);
         run(rt.alloc(), &mut &*input, &mut device)?;
-        assert_eq!(rt; device.flushes, flushes);
-        device = Device::new(&mut room);
-        device.can_flush = false;
-        let result = run(rt.alloc(), &mut &*input, &mut device);
+        assert_eq!(rt; device.flushes, 0);
+        let result = run(rt.alloc(), &mut &*input, &mut Device::new(&mut room, 0));
         assert_eq!(rt; matches!(result, Err(RunError::Write)), flushes == 1);
     }
     assert_eq!(rt; printed(rt.alloc(), ROWS.0)?.as_slice(), ROWS.1);

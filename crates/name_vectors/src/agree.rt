@@ -3,8 +3,7 @@
 
 use crate::path::{SETTINGS, conditions, hfs_form, is_device, of_component};
 use crate::printed::{OF_COMPONENTS, OF_REFERENCES, OF_SUBMODULES, OF_TAGS, Texts, printed};
-use crate::reference::{Fault, VALID, accepting, of_references, of_submodule};
-use crate::sanitize::sanitized;
+use crate::reference::{Fault, VALID, accepting, of_references, of_submodule, sanitized};
 use crate::text::before_first;
 use bstr::BStr;
 use gix_validate::path::{ComponentMode, ComponentOptions, component, component_is_windows_device};
@@ -29,13 +28,9 @@ pub(crate) type Checked = Result<(), AllocError>;
 pub(crate) fn check(rt: &impl Host, text: &[u8]) -> Checked {
     let faults = of_references(text);
     let accepting = accepting(rt.alloc(), text)?;
-    for kind in 0..4 {
-        assert_eq!(rt;
-            faults[kind] == VALID,
-            kind < accepting,
-            "{:?}",
-            BStr::new(text)
-        );
+    let accepted = faults.iter().map(|fault| *fault == VALID);
+    for (kind, is_accepted) in accepted.enumerate() {
+        assert_eq!(rt; is_accepted, kind < accepting, "{:?}", BStr::new(text));
     }
     expect_references(rt, text, faults)?;
     expect_submodule(rt, text, of_submodule(rt.alloc(), text)?)?;
@@ -51,13 +46,8 @@ pub(crate) fn check(rt: &impl Host, text: &[u8]) -> Checked {
 
 /// Panics if the call with this name gave something else than what is wanted.
 pub(crate) fn expect(rt: &impl Abort, (call, text): (&str, &[u8]), wanted: &[u8], came: &[u8]) {
-    assert!(rt;
-        came == wanted,
-        "{call} of {:?}: wanted {:?}, came {:?}",
-        BStr::new(text),
-        BStr::new(wanted),
-        BStr::new(came)
-    );
+    let [text, wanted, came] = [BStr::new(text), BStr::new(wanted), BStr::new(came)];
+    assert_eq!(rt; came, wanted, "{call} of {text:?}");
 }
 
 /// Panics if the result isn't the name itself if it is valid, or else the error, which prints its text.
@@ -90,14 +80,16 @@ pub(crate) fn expect_references(
     text: &[u8],
     [tag, partial, full, branch]: [Fault<'_>; 4],
 ) -> Checked {
-    let path = BStr::new(text);
-    expect_told(rt, ("tag::name", text), (OF_TAGS, tag), tag::name(path))?;
-    let partial = (OF_REFERENCES, partial);
-    expect_told(rt, ("name_partial", text), partial, name_partial(path))?;
-    let full = (OF_REFERENCES, full);
-    expect_told(rt, ("reference::name", text), full, name(path))?;
-    let branch = (OF_REFERENCES, branch);
-    expect_told(rt, ("branch_name", text), branch, branch_name(path))
+    let given = BStr::new(text);
+    expect_told(rt, ("tag::name", text), (OF_TAGS, tag), tag::name(given))?;
+    for (call, fault, told) in [
+        ("name_partial", partial, name_partial(given)),
+        ("reference::name", full, name(given)),
+        ("branch_name", branch, branch_name(given)),
+    ] {
+        expect_told(rt, (call, text), (OF_REFERENCES, fault), told)?;
+    }
+    Ok(())
 }
 
 /// Checks the result for a submodule name.

@@ -1,5 +1,4 @@
-//! The tests of `gix_validate`, `typed_names` and `examples`. A crate that has tests is proved a second
-//! time with them, so these three have none. This crate has four parts:
+//! The tests of `gix_validate`, `typed_names` and `examples`:
 //!
 //! - Tables of worked names, and what docs/RULES.md gives for each (`rows`, and of typed names
 //!   `members`), and of the texts of errors (`printed`).
@@ -7,14 +6,13 @@
 //!   `crates/gix_validate/specs`, against which the library is proved.) It uses nothing of the library,
 //!   and other algorithms: it searches names for what they may not have instead of scanning them, and
 //!   lists all names instead of comparing prefixes. An error is its name in docs/RULES.md.
-//! - Tests that pass tens of thousands of names to the validators and sanitisers of `gix_validate`
-//!   and to the second implementation, and compare the results, all names of up to two bytes too.
+//! - Tests that pass tens of thousands of names to `gix_validate` and to the second implementation,
+//!   and compare the results, all names of up to two bytes too.
 //! - What no clause says: that calls which may fail succeed, and what `Debug` prints. And callers
 //!   that show what the ghost members of the types' traits say.
 //!
-//! All of it is built for the tests alone. Its proofs say that the tests are safe and end, so it is
-//! written for short ones: few functions, tables in place of code, and few different functions of the
-//! standard library.
+//! Its proofs say that the tests are safe and end, so it is written for short ones: few functions,
+//! tables in place of code, and few different functions of the standard library.
 #![tactic(auto)]
 
 #[cfg(test)]
@@ -33,8 +31,6 @@ mod reference;
 mod refused_memory;
 #[cfg(test)]
 mod rows;
-#[cfg(test)]
-mod sanitize;
 #[cfg(test)]
 mod tests;
 #[cfg(test)]

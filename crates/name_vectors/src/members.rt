@@ -11,6 +11,7 @@ ghost use Rattle.typed_names.specs.Names.{name_bytes, name_text, component_bytes
 
 use crate::agree::{expect, expect_told, options};
 use crate::printed::{OF_COMPONENTS, OF_REFERENCES};
+use crate::reference::Fault;
 use bstr::BStr;
 use gix_validate::path::{ComponentError, ComponentMode, ComponentOptions};
 use gix_validate::{reference, submodule, tag};
@@ -187,20 +188,17 @@ fn parts_outlive_the_name_that_gave_them(rt: HostRuntime) -> Result<(), Fail> {
 #[test]
 fn checks_typed_names(rt: HostRuntime) -> Result<(), Fail> {
     let told = PartialName::new(BStr::from("@")).map(|name| name.as_bstr());
-    let wanted = (OF_REFERENCES, (b"Reserved".as_slice(), b"@".as_slice()));
-    expect_told(&rt, ("PartialName", b"@"), wanted, told)?;
+    let fault: Fault<'_> = (b"Reserved", b"@");
+    expect_told(&rt, ("PartialName", b"@"), (OF_REFERENCES, fault), told)?;
     let told = FullName::new(BStr::from("V1")).map(|name| name.as_bstr());
-    let wanted = (OF_REFERENCES, (b"SomeLowercase".as_slice(), b"".as_slice()));
-    expect_told(&rt, ("FullName", b"V1"), wanted, told)?;
+    let fault: Fault<'_> = (b"SomeLowercase", b"");
+    expect_told(&rt, ("FullName", b"V1"), (OF_REFERENCES, fault), told)?;
     let tag = tag_of(BranchName::new(BStr::from("HEAD"))?);
     expect(&rt, ("TagName", b"HEAD"), b"HEAD", tag.as_slice());
     let told = Component::new(BStr::from("CON"), None, options("whn-"));
     let told = told.map(|name| name.as_bstr());
-    let wanted = (
-        OF_COMPONENTS,
-        (b"WindowsReservedName".as_slice(), b"".as_slice()),
-    );
-    expect_told(&rt, ("Component", b"CON"), wanted, told)?;
+    let fault: Fault<'_> = (b"WindowsReservedName", b"");
+    expect_told(&rt, ("Component", b"CON"), (OF_COMPONENTS, fault), told)?;
     let name = Component::new(BStr::from("CON"), None, options("w---"))?;
     expect(&rt, ("Component", b"CON"), b"CON", name.as_slice());
     Ok(())

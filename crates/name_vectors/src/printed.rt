@@ -1,6 +1,6 @@
 //! What errors print (docs/RULES.md, "Printed texts"), with a quoted byte or name.
 
-use crate::agree::expect;
+use crate::agree::{expect, expect_told};
 use crate::members::converted;
 use crate::reference::Fault;
 use arrayvec::ArrayVec;
@@ -76,29 +76,22 @@ fn quotes_bytes_and_names(rt: HostRuntime) -> Result<(), Fail> {
     let alloc = rt.alloc();
     for (given, quoted) in QUOTED {
         let name = ArrayVec::try_from(*given)?;
-        let said = reference::NameError::Reserved { name }.to_string(alloc)?;
-        let came = printed(alloc, OF_REFERENCES, (b"Reserved", given))?;
-        expect(&rt, ("Reserved", given), &came, said.as_bytes());
+        let told = Err(reference::NameError::Reserved { name });
+        let fault: Fault<'_> = (b"Reserved", given);
+        expect_told(&rt, ("Reserved", given), (OF_REFERENCES, fault), told)?;
+        let came = printed(alloc, OF_REFERENCES, fault)?;
         let wanted = [b"Reference name is reserved and cannot be used: ", *quoted].concat(alloc)?;
         expect(&rt, ("Reserved", given), &wanted, &came);
     }
     for byte in 0..=u8::MAX {
-        let error = tag::NameError::InvalidByte { byte };
-        let said = error.to_string(alloc)?;
-        let wanted = printed(alloc, OF_TAGS, (b"InvalidByte", &[byte]))?;
-        expect(&rt, ("tag", &[byte]), &wanted, said.as_bytes());
-        let said = converted(error).to_string(alloc)?;
-        let wanted = printed(alloc, OF_REFERENCES, (b"InvalidByte", &[byte]))?;
-        expect(&rt, ("reference", &[byte]), &wanted, said.as_bytes());
+        let fault: Fault<'_> = (b"InvalidByte", &[byte]);
+        let told = Err(tag::NameError::InvalidByte { byte });
+        expect_told(&rt, ("tag", fault.1), (OF_TAGS, fault), told)?;
+        let told = Err(converted(tag::NameError::InvalidByte { byte }));
+        expect_told(&rt, ("reference", fault.1), (OF_REFERENCES, fault), told)?;
     }
     Ok(())
 }
-
-/// The bytes that have a short escape, and the escape.
-#[rattlefmt::skip]
-const SHORT_ESCAPES: &[(u8, &[u8])] = &[
-    (0x00, b"\\0"), (0x09, b"\\t"), (0x0A, b"\\n"), (0x0D, b"\\r"), (0x22, b"\\\""), (0x5C, b"\\\\"),
-];
 
 /// The text of the error, followed by what is quoted after it in its quoted form, if it wants that.
 pub(crate) fn printed(
@@ -107,33 +100,29 @@ pub(crate) fn printed(
     (error, quoted): Fault<'_>,
 ) -> Result<Vec<u8>, AllocError> {
     let mut printed = Vec::new(alloc);
-    for (word, text) in texts {
-        if *word == error {
-            printed.extend_from_slice(text)?;
-            break;
-        }
+    if let Some((_, text)) = texts.iter().find(|(word, _)| *word == error) {
+        printed.extend_from_slice(text)?;
     }
     if printed.ends_with(b": ") {
         printed.extend_from_slice(b"\"")?;
         for byte in quoted {
-            push_quoted(&mut printed, *byte)?;
+            printed.extend_from_slice(escaped(alloc, *byte)?.as_bytes())?;
         }
         printed.extend_from_slice(b"\"")?;
     }
     Ok(printed)
 }
 
-/// Appends the quoted form of the byte.
-fn push_quoted(text: &mut Vec<u8>, byte: u8) -> Result<(), AllocError> {
-    for (of, escape) in SHORT_ESCAPES {
-        if *of == byte {
-            return text.extend_from_slice(escape);
-        }
+/// The byte as it is in a quoted form.
+fn escaped(alloc: Global, byte: u8) -> Result<String, AllocError> {
+    match byte {
+        0x00 => String::from_str(alloc, "\\0"),
+        b'\t' => String::from_str(alloc, "\\t"),
+        b'\n' => String::from_str(alloc, "\\n"),
+        b'\r' => String::from_str(alloc, "\\r"),
+        b'"' => String::from_str(alloc, "\\\""),
+        b'\\' => String::from_str(alloc, "\\\\"),
+        0x20..0x7F => format!(in alloc; "{}", char::from(byte)),
+        _ => format!(in alloc; "\\x{byte:02x}"),
     }
-    if byte >= 0x20 && byte < 0x7F {
-        return text.extend_from_slice(&[byte]);
-    }
-    let digits = b"0123456789abcdef";
-    let (high, low) = (digits[(byte / 16) as usize], digits[(byte % 16) as usize]);
-    text.extend_from_slice(&[b'\\', b'x', high, low])
 }

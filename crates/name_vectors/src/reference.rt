@@ -1,4 +1,5 @@
-//! Tag names, reference names and submodule names (docs/RULES.md, the sections of these names).
+//! Tag names, reference names, submodule names and sanitised names (docs/RULES.md, the sections of
+//! these names).
 
 use crate::text::{contains_one, is_bad};
 use bstr::ByteSlice;
@@ -39,12 +40,8 @@ fn at_lowest_offset(text: &[u8]) -> Fault<'_> {
 
 /// The first of these errors whose condition holds.
 fn first<'a>(errors: &[(bool, Fault<'a>)]) -> Fault<'a> {
-    for (holds, fault) in errors {
-        if *holds {
-            return *fault;
-        }
-    }
-    VALID
+    let error = errors.iter().find(|(holds, _)| *holds);
+    error.map_or(VALID, |(_, fault)| *fault)
 }
 
 /// The first error as a tag name, a partial name, a full name and the name of a branch.
@@ -70,21 +67,17 @@ pub(crate) fn of_references(text: &[u8]) -> [Fault<'_>; 4] {
 
 /// Whether the name has a slash, or only bytes that a name without one may have.
 fn may_stand(text: &[u8]) -> bool {
-    text.contains(&b'/')
-        || text
-            .find_not_byteset(b"ABCDEFGHIJKLMNOPQRSTUVWXYZ_")
-            .is_none()
+    let other = text.find_not_byteset(b"ABCDEFGHIJKLMNOPQRSTUVWXYZ_");
+    other.is_none() || text.contains(&b'/')
 }
 
 /// How many of these four rules accept the name, by what it may not have. The slashes around it are
 /// for what a piece may not start with or end in.
 pub(crate) fn accepting(alloc: Global, text: &[u8]) -> Result<usize, AllocError> {
     let pieces = [b"/", text, b"/"].concat(alloc)?;
-    let mut is_tag = !text.ends_with(b".")
+    let is_tag = !text.ends_with(b".")
+        && !text.iter().any(|byte| is_bad(*byte))
         && !contains_one(&pieces, &[b"*", b"//", b"/.", b"..", b"@{", b".lock/"]);
-    for byte in text {
-        is_tag &= !is_bad(*byte);
-    }
     Ok(match text {
         _ if !is_tag => 0,
         b"@" => 1,
@@ -97,11 +90,54 @@ pub(crate) fn accepting(alloc: Global, text: &[u8]) -> Result<usize, AllocError>
 /// The error of a submodule name, one of whose parts is `..`. The slashes around it end its parts.
 pub(crate) fn of_submodule(alloc: Global, text: &[u8]) -> Result<&'static [u8], AllocError> {
     let parts = [b"/", text, b"/"].concat(alloc)?;
-    Ok(
-        match contains_one(&parts, &[b"/../", b"/..\\", b"\\../", b"\\..\\"]) {
-            _ if text.is_empty() => b"Empty",
-            true => b"ParentComponent",
-            false => b"",
-        },
-    )
+    let has_parent = contains_one(&parts, &[b"/../", b"/..\\", b"\\../", b"\\..\\"]);
+    Ok(match has_parent {
+        _ if text.is_empty() => b"Empty",
+        true => b"ParentComponent",
+        false => b"",
+    })
+}
+
+/// The sanitised name.
+pub(crate) fn sanitized(alloc: Global, text: &[u8]) -> Result<Vec<u8>, AllocError> {
+    let mut name = Vec::new(alloc);
+    for piece in text.split_str(b"/") {
+        if !piece.is_empty() {
+            let separator: &[u8] = if name.is_empty() { b"" } else { b"/" };
+            name.extend_from_slice(separator)?;
+            name.extend_from_slice(cut(&cleaned(alloc, piece)?))?;
+        }
+    }
+    match name.as_slice() {
+        b"" | b"@" => Vec::from_slice(alloc, b"-"),
+        [front @ .., b'.'] => [front, b"-"].concat(alloc),
+        _ => Ok(name),
+    }
+}
+
+/// The piece with each run cleaned. A run is all dots in a row, or one other byte.
+fn cleaned(alloc: Global, piece: &[u8]) -> Result<Vec<u8>, AllocError> {
+    let mut text = Vec::new(alloc);
+    for offset in 0..piece.len() {
+        let (before, byte) = (&piece[..offset], piece[offset]);
+        if byte != b'.' || !before.ends_with(b".") {
+            text.push(match byte {
+                b'*' => b'-',
+                b'.' if before.is_empty() => b'-',
+                b'{' if before.ends_with(b"@") => b'-',
+                _ if is_bad(byte) => b'-',
+                _ => byte,
+            })?;
+        }
+    }
+    Ok(text)
+}
+
+/// The piece without `.lock` at its end, as often as it is there.
+fn cut(piece: &[u8]) -> &[u8] {
+    let mut front = piece;
+    for _ in 0..piece.len() {
+        front = front.strip_suffix(b".lock").unwrap_or(front);
+    }
+    front
 }

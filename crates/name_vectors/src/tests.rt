@@ -2,7 +2,6 @@
 
 use crate::agree::{Checked, Host, check};
 use crate::path::{DEVICES, IGNORED_CHARACTERS, SEQUENCES};
-use crate::text::joined;
 use std::alloc::{AllocError, Global};
 
 /// The parts of which names are made, and how many names there are of at most five, four or three:
@@ -33,42 +32,33 @@ fn numbered(alloc: Global, parts: &[&[u8]], number: usize) -> Result<Vec<u8>, Al
     Ok(text)
 }
 
-/// Checks the names of these parts. (`rt try` stops a test that takes a minute.)
-fn check_parts(rt: &impl Host, (parts, end): (&[&[u8]], usize)) -> Checked {
-    for number in 0..end {
-        check(rt, &numbered(rt.alloc(), parts, number)?)?;
+#[test]
+fn agrees_on_names_of_few_parts(rt: HostRuntime) -> Checked {
+    for (parts, end) in PARTS {
+        for number in 0..*end {
+            check(&rt, &numbered(rt.alloc(), parts, number)?)?;
+        }
     }
     Ok(())
 }
 
-#[test]
-fn agrees_on_names_of_few_marks(rt: HostRuntime) -> Checked {
-    check_parts(&rt, PARTS[0])
-}
-
-#[test]
-fn agrees_on_names_of_few_words(rt: HostRuntime) -> Checked {
-    check_parts(&rt, PARTS[1])?;
-    check_parts(&rt, PARTS[2])
-}
-
 /// What is around each byte: nothing, what makes a name of one piece or of several, and the first two
 /// bytes of an ignored character.
+#[rattlefmt::skip]
 const AROUND: &[(&[u8], &[u8])] = &[
-    (b"", b""),
-    (b"a", b"b"),
-    (b"refs/heads/a", b"b"),
-    (b".g\xE2\x80", b"it"),
-    (b".g\xE2\x81", b"it"),
-    (b".g\xEF\xBB", b"it"),
+    (b"", b""), (b"a", b"b"), (b"refs/heads/a", b"b"),
+    (b".g\xE2\x80", b"it"), (b".g\xE2\x81", b"it"), (b".g\xEF\xBB", b"it"),
 ];
 
 /// Checks each byte from this one to the next multiple of 64 within names, and each name of two bytes
-/// that it begins.
+/// that it begins. (`rt try` stops a test that takes a minute.)
 fn check_quarter(rt: &impl Host, least: u8) -> Checked {
     for first in least..=least | 0x3F {
         for (front, back) in AROUND {
-            check(rt, &joined(rt.alloc(), front, &[first], back)?)?;
+            let mut name = Vec::from_slice(rt.alloc(), front)?;
+            name.push(first)?;
+            name.extend_from_slice(back)?;
+            check(rt, &name)?;
         }
         for second in 0..=u8::MAX {
             check(rt, &[first, second])?;
@@ -108,7 +98,7 @@ fn check_changed(
     for offset in 0..name.len() + 1 {
         let back = name.get(offset.saturating_add(len)..).unwrap_or(b"");
         for word in words {
-            check(rt, &joined(rt.alloc(), &name[..offset], word, back)?)?;
+            check(rt, &[&name[..offset], *word, back].concat(rt.alloc())?)?;
             checked = checked.saturating_add(1);
         }
     }
@@ -118,13 +108,11 @@ fn check_changed(
 /// The name with uppercase letters at the first so many of each two offsets, and lowercase ones
 /// otherwise.
 fn spelled(alloc: Global, name: &[u8], uppercase: usize) -> Result<Vec<u8>, AllocError> {
-    let mut text = Vec::new(alloc);
-    for offset in 0..name.len() {
-        text.push(if offset % 2 < uppercase {
-            name[offset].to_ascii_uppercase()
-        } else {
-            name[offset].to_ascii_lowercase()
-        })?;
+    let mut text = name.to_ascii_lowercase(alloc)?;
+    for (offset, byte) in text.iter_mut().enumerate() {
+        if offset % 2 < uppercase {
+            *byte = byte.to_ascii_uppercase();
+        }
     }
     Ok(text)
 }
@@ -186,7 +174,7 @@ fn agrees_on_each_edge_of_sequences(rt: HostRuntime) -> Checked {
     for (least, greatest) in SEQUENCES {
         for sequence in [least, greatest] {
             for end in 0..sequence.len() {
-                let name = joined(rt.alloc(), &sequence[..end + 1], b":", b"")?;
+                let name = [&sequence[..end + 1], b":"].concat(rt.alloc())?;
                 let more = check_changed(&rt, (&name, 1), EDGES)?;
                 checked = checked.saturating_add(more);
             }

@@ -6,8 +6,8 @@ use Rattle.gix_validate.proofs.Texts.NamesIn.{names_in-cut, names_in-last}
 use Rattle.bstr.specs.{declared.bstr.BStr.BStr, BStr.bstr_bytes}
 use Rattle.typed_names.specs.Names.{NewChecks}
 use Rattle.gix_validate.specs.Pieces.{names_in}
-use Rattle.check_names.specs.Lines.{line_end, lines, request_of}
-use Rattle.check_names.specs.Answers.{answer_by, answer_of, answer_to, answers, kinds, unknown_kind, verdict}
+use Rattle.cli.specs.Lines.{line_end}
+use Rattle.check_names.specs.Answers.{answer_by, answer_of, answer_to, answers, kinds, lines, request_of, unknown_kind, verdict}
 
 -- ---- one line
 

@@ -2,7 +2,7 @@
 use Rattle.gix_validate.proofs.{Common.{refl, [], ◌∷◌, Some, None, codes}, OnLiterals.{names_on_literals, components_on_literals}}
 use Rattle.gix_validate.proofs.Rows.Tables.{Gives}
 use Rattle.gix_validate.specs.Pieces.{names_in}
-use Rattle.check_names.specs.{Lines.request_of, Answers.{answer_of, answers, kinds}}
+use Rattle.check_names.specs.Answers.{answer_of, answers, kinds, request_of}
 
 -- lines, and what they ask for
 requests : Gives request_of

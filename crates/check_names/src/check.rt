@@ -1,12 +1,12 @@
 //! The results for the lines of the input.
 
-ghost use Rattle.std.specs.Prelude.{◌≡◌, ◌≢◌, ◌+◌, ◌<◌, [], ◌∷◌, ◌++◌, ℕ, List, codes, length, vec_len, vec_capacity, Some, None, Err, IsOk, IsOkUnless, IfOk, OnOk, OnErr, IfSome, MatchOption, MatchResult};
+ghost use Rattle.std.specs.Prelude.{◌≡◌, ◌≢◌, ◌+◌, ◌<◌, [], ◌∷◌, ◌++◌, ℕ, List, codes, length, vec_len, vec_capacity, Some, None, Err, IsOk, IsOkUnless, IfOk, OnOk, OnErr, IfSome, if◌then◌else◌, MatchOption, MatchResult};
 ghost use Rattle.std.specs.Io.KnownBytes.{Appends, IsAtEnd};
 ghost use Rattle.bstr.specs.BStr.{bstr_bytes};
 ghost use Rattle.gix_validate.specs.Component.{all_protections, fault_of, text_of as component_text};
-ghost use Rattle.gix_validate.specs.Sanitized.{sanitized};
-ghost use Rattle.check_names.specs.Answers.{answer_of, answers, device_answer, unknown_kind, verdict};
-ghost use Rattle.check_names.specs.{Lines.{lines, request_of}, Messages.Runs};
+ghost use Rattle.gix_validate.specs.{Sanitized.sanitized, Windows.is_device};
+ghost use Rattle.check_names.specs.Answers.{answer_of, answers, lines, request_of, unknown_kind, verdict};
+ghost use Rattle.check_names.specs.Messages.{Runs};
 
 use crate::options::NoOptions;
 use crate::runs::Check;
@@ -193,7 +193,7 @@ fn push_component(
 /// Appends whether the name is a device on Windows: `yes` or `no`.
 fn push_device(name: BStr<'_>, answers: &mut Vec<u8>) -> Result<(), AllocError>
     ensures { OnOk result (answers.new.items
-        ≡ answers.old.items ++ device_answer (bstr_bytes name.entry)) }
+        ≡ answers.old.items ++ (if is_device (bstr_bytes name.entry) then codes "yes" else codes "no")) }
 {
     if path::component_is_windows_device(name) {
         answers.extend_from_slice(b"yes")

@@ -51,7 +51,7 @@ impl Read for Broken {
     }
 }
 
-/// A writer that takes bytes while it has room, and then fails. It can be flushed so many times.
+/// A writer that takes bytes while it has room, and then fails. It can be flushed `flushes` times.
 #[derive(Drop)]
 pub struct Device<'a> {
     room: &'a mut [u8],
@@ -73,9 +73,11 @@ impl Write for Device<'_> {
     }
 
     fn flush(&mut self) -> io::Result<()> {
-        let broken = io::Error::from(ErrorKind::BrokenPipe);
-        self.flushes = self.flushes.checked_sub(1).ok_or(broken)?;
-        Ok(())
+        let can_flush = self.flushes > 0;
+        self.flushes = self.flushes.wrapping_sub(1);
+        can_flush
+            .then_some(())
+            .ok_or(io::Error::from(ErrorKind::BrokenPipe))
     }
 }
 

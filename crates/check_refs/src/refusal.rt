@@ -31,13 +31,16 @@ impl fmt::Display for Refusal {
     }
 }
 
-/// Why a reference name is refused; `None` if it isn't. It does not allocate.
+/// Why a reference name is refused; `None` if it isn't (docs/RULES.md, "The report of references").
 ///
 /// ```
 /// refusal_of(false, b"refs/heads/HEAD"); // Refusal::Name, with the error `Reserved`
 /// refusal_of(false, b"refs/replace/a"); // Refusal::Replacement
 /// refusal_of(true, b"refs/replace/a"); // None
 /// ```
+///
+/// [`reference::branch_name`] has to accept a name under `refs/heads/`, and [`reference::name`] any
+/// other name. A name under `refs/replace/` also has to be allowed. It does not allocate.
 pub fn refusal_of(allows_replace: bool, name: &[u8]) -> Option<Refusal>
     ensures { result ≡ refusal_of allows_replace name.now }
 {

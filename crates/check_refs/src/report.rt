@@ -28,7 +28,9 @@ pub(crate) fn push_line(
     if let Some(refusal) = refusal_of(options.allows_replace, update.name) {
         lines.extend_from_slice(b"ref ")?;
         push_quoted(lines, update.name)?;
-        write!(lines, " {refusal}\n")?;
+        lines.push(b' ')?;
+        write!(lines, "{refusal}")?;
+        lines.push(b'\n')?;
         return Ok(true);
     }
     if options.lists_ids {

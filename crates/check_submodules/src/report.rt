@@ -38,7 +38,8 @@ fn push_line(
 {
     let Some(escaped) = &section.name else {
         push_start(id, section.offset, lines)?;
-        return write!(lines, "a section can't be read\n");
+        lines.extend_from_slice(b"a section can't be read\n")?;
+        return Ok(());
     };
     name.clear();
     escaped.push_to(name)?;

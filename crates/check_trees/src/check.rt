@@ -75,8 +75,11 @@ impl ObjectCheck for CheckOptions<'_> {
         if object.kind == Kind::Tree {
             return check_tree(self, object, input, output, buffers);
         }
-        let is_whole = skip(input, object.size)?;
-        Ok(is_whole.then_some(false).ok_or(Malformation::Ended))
+        if skip(input, object.size)? {
+            Ok(Ok(false))
+        } else {
+            Ok(Err(Malformation::Ended))
+        }
     }
 }
 

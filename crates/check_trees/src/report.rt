@@ -36,7 +36,7 @@ pub(crate) fn set_refused(
     line.clear();
     push_place(line, tree, front)?;
     write!(line, " {fault}").map_err(|_| AllocError)?;
-    end(line, tree.rest)
+    push_end(line, tree.rest)
 }
 
 /// Replaces the last line with that of a file that is read as `.gitmodules`. Its id is in bytes.
@@ -55,7 +55,7 @@ pub(crate) fn set_modules(
     push_hex(line, id)?;
     line.push(b' ')?;
     push_place(line, tree, front)?;
-    end(line, tree.rest)
+    push_end(line, tree.rest)
 }
 
 /// Appends the tree's id, the mode and the quoted name of an entry.
@@ -74,8 +74,9 @@ fn push_place(
 }
 
 /// Appends the path of the tree, if it is known, or its first bytes, and a newline.
-fn end(line: &mut Vec<u8>, rest: Option<&[u8]>) -> Result<(), AllocError>
-    ensures { OnOk result (line.new.items ≡ line.old.items ++ in_path (option_map (λ rest. rest.now) rest.entry) ++ codes "\n") }
+fn push_end(line: &mut Vec<u8>, rest: Option<&[u8]>) -> Result<(), AllocError>
+    ensures { OnOk result (line.new.items
+        ≡ line.old.items ++ in_path (option_map (λ rest. rest.now) rest.entry) ++ codes "\n") }
 {
     match rest {
         Some(path) if !path.is_empty() => {

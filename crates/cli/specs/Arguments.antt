@@ -1,13 +1,10 @@
 -- What the arguments of a program ask for.
 use Rattle.std.specs.Prelude.{ℕ, ◌||◌, if◌then◌else◌, List, [], ◌∷◌, codes, Option, Some, None, Result, Ok, Err}
+use Rattle.cli.specs.{declared.arguments.{ArgumentError.ArgumentError, Request.Request, Setting.Setting}, Lines.split_once}
 use Rattle.std.specs.{Borrow.Bor, Option.option_map_or, Str.{byte, bytes_eq}}
-use Rattle.cli.specs.declared.arguments.Request.{Request}
 use Rattle.cli.specs.declared.arguments.Request.TheVariants as request
-use Rattle.cli.specs.declared.arguments.Setting.{Setting}
 use Rattle.cli.specs.declared.arguments.Setting.TheVariants as setting
-use Rattle.cli.specs.declared.arguments.ArgumentError.{ArgumentError}
 use Rattle.cli.specs.declared.arguments.ArgumentError.TheVariants as error
-use Rattle.cli.specs.Lines.{split_once}
 
 -- what an option does: there is none of this name, the options are these from now on, it needs a value, or it can't have this one, and needs one as the second text says
 pub data Effect (V : Type 0) : Type 0 where

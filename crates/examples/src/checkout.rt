@@ -24,8 +24,8 @@ pub enum EnterError {
 }
 
 /// Where a checkout is: the names of the directories that it entered, and of the file in the last
-/// of them. Each is valid under the options of the `Place`. (A `typed_names::Component` says only
-/// that its name is valid with no option on.)
+/// of them. Each is valid under the options of the `Place`. The options are a field of it, since a
+/// `typed_names::Component` says only that its name is valid with no option on.
 ///
 /// In contracts it is these options and the list of these names.
 #[derive(Debug, Drop)]
@@ -50,9 +50,12 @@ impl<'a> Model for Place<'a> {
 }
 
 impl<'a> Place<'a> {
-    /// The top of a working tree, on a file system that these options protect: NTFS and HFS+, with
-    /// `protect_windows` on Windows. The default is for all of these. With no option on, that is a
-    /// file system that distinguishes names by their bytes, or by these without ASCII case.
+    /// The top of a working tree, on a file system that these options protect.
+    ///
+    /// With no option on, that is a file system that distinguishes names by their bytes, or by
+    /// these without ASCII case. `protect_ntfs` is for NTFS, where `git~1` and `.git ` are names
+    /// for `.git`; with `protect_windows`, for Windows, where `\` separates names too.
+    /// `protect_hfs` is for HFS+, which ignores some characters. The default is for all of these.
     pub fn top(alloc: Global, options: ComponentOptions) -> Place<'a>
         ensures { result ≡ record { options = options; names = [] } }
     {

@@ -1,9 +1,9 @@
 -- A run reads no further than the first malformed line and what can belong to it.
-use Rattle.gix_validate.proofs.Common.{◌≡◌, ◌≢◌, ℕ, ◌+◌, ◌<◌, ◌≤◌, Bool, true, List, [], ◌∷◌, ◌++◌, All, Option, None, Some, Ok, Err, length, arith}
+use Rattle.gix_validate.proofs.Common.{◌≡◌, ◌≢◌, ℕ, ◌+◌, ◌<◌, ◌≤◌, Bool, List, [], ◌∷◌, ◌++◌, All, Option, None, Some, Ok, Err, length, arith}
 use Rattle.gix_validate.proofs.Common.{append-nil, append_assoc, length-append, IfSome, Consumes, Consumes-nil, Consumes-trans}
 use Rattle.git_input.specs.declared.{input.Found.TheVariants.{Byte, Limit, End}, lines.Ending.Ending, outcome.Malformation.Malformation}
 use Rattle.git_input.specs.{Texts.line_end, Reports.{longest, LineRule, LeavesTheEnd, Reach, report, extent}}
-use Rattle.git_input.specs.Promises.{ReadsBefore, ReadsExactly, ReadsUpTo, StopsWithin}
+use Rattle.git_input.specs.Promises.{ReadsBefore, ReadsUpTo, StopsWithin}
 use Rattle.git_input.proofs.{SplitTexts.{split_within, split_short, split_long}, ReportSoFar.SoFar}
 use Rattle.git_input.proofs.LinesRead.{LineGives, lines_report, lines_first, lines_none}
 
@@ -16,9 +16,8 @@ pub up_to_more : (n m most : ℕ) (a b c : Option (List ℕ)) → ReadsUpTo n a 
 up_to_more n m most a b c (front, first, few) (more, next, some) fits =
     (front ++ more, Consumes-trans a b c front more first next, grind (arith, length-append))
 
-pub read_within : (n m most : ℕ) (a b c : Option (List ℕ)) (bytes : List ℕ) → ReadsUpTo n a b → ReadsExactly m b c bytes true → n + m ≤ most
-    → ReadsUpTo most a c
-read_within n m most a b c bytes first (read, long) fits = up_to_more n m most a b c first (bytes, read, omega (arith, long)) fits
+pub byte_within : (n : ℕ) (a b c : Option (List ℕ)) (byte : ℕ) → ReadsUpTo n a b → Consumes b c (byte ∷ []) → ReadsUpTo (n + 1) a c
+byte_within n a b c byte first read = up_to_more n 1 (n + 1) a b c first (byte ∷ [], read, omega arith) (omega arith)
 
 -- ---- a line and what is read for it
 

@@ -45,6 +45,11 @@ abbrev pub ReadsExactly : ℕ → Option (List ℕ) → Option (List ℕ) → Li
 ReadsExactly count old new bytes true = Consumes old new bytes × (length bytes ≡ count)
 ReadsExactly count old new bytes false = Consumes old new bytes × (length bytes < count) × OnSome old (IsAtEnd new)
 
+-- the next byte was read, if one was left
+abbrev pub ReadsNext : Option (List ℕ) → Option (List ℕ) → Option ℕ → Type 0
+ReadsNext old new (Some byte) = Consumes old new (byte ∷ [])
+ReadsNext old new None = Consumes old new [] × OnSome old (IsAtEnd new)
+
 -- no more than so many bytes were read
 abbrev pub ReadsUpTo : ℕ → Option (List ℕ) → Option (List ℕ) → Type 0
 ReadsUpTo most old new = (bytes : List ℕ) × Consumes old new bytes × (length bytes ≤ most)
@@ -77,7 +82,7 @@ FollowsRule wanted left old new (Ok (Ok refused)) =
 FollowsRule wanted left old new (Ok (Err malformation)) = Appends old new wanted.0.lines × (wanted.1 ≡ Err malformation)
 FollowsRule wanted left old new (Err stop) = stop ≢ Write → AppendsPrefixOf old new wanted.0.lines
 
--- what a rule judges of an object, and the text after it, where the text may have fewer bytes than the object: then the input ended within it
+-- what a rule judges of an object, and the text after it, which may have fewer bytes than the object: then the input ended within it
 abbrev pub judged_step : Bool → Judged → List ℕ → Step
 judged_step cut (said, Some malformation) text = (said, Err malformation)
 judged_step cut (said, None) text = (said, if cut then Err Ended else Ok text)

@@ -2,7 +2,8 @@
 -- that is malformed. `Spelled` says it from the other side, with no steps: what is reported of a stream that is written out,
 -- object by object, and that no other text is well-formed.
 use Rattle.std.specs.Prelude.{◌≡◌, ◌↔◌, ℕ, suc, ◌+◌, ◌*◌, ◌≤◌, Bool, true, false, ◌==◌, ◌||◌, nat_lt, if◌then◌else◌, List, [], ◌∷◌, ◌++◌}
-use Rattle.std.specs.{Prelude.{length, take, drop, codes, Option, Some, None, Result, Ok, Err, IfOk, option_map}, Option.option_map_or, Str.bytes_eq}
+use Rattle.std.specs.Prelude.{length, take, drop, codes, Option, Some, None, Result, Ok, Err, IfOk, option_map}
+use Rattle.std.specs.{Option.option_map_or, Str.bytes_eq}
 use Rattle.gix_validate.specs.Faults.{when}
 use Rattle.git_input.specs.{declared.lines.Ending.{Ending, TheVariants.{Anywhere, EndLine, AfterALine}}, Texts.{line_end, split_once}}
 use Rattle.git_input.specs.declared.outcome.{Malformation.{Malformation, TheVariants.{TooLong, Ended, NoEnd, Empty}}, Verdict.Verdict}
@@ -134,7 +135,8 @@ Reach = List ℕ → ℕ
 
 -- the most bytes of the first line of a text with its end and what can belong to it
 unfoldable pub extent : Reach → List ℕ → ℕ
-extent reach text = option_map_or (λ (parts : List ℕ × List ℕ). length parts.0 + 1 + reach parts.0) (split_once line_end (take longest text)) longest
+extent reach text =
+    option_map_or (λ (parts : List ℕ × List ℕ). length parts.0 + 1 + reach parts.0) (split_once line_end (take longest text)) longest
 
 -- A text that has to end in the line for that is well-formed only if it does.
 abbrev pub IsWhole : LineRule → Type 0

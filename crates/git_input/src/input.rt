@@ -3,7 +3,7 @@
 ghost use Rattle.std.specs.Prelude.{◌≡◌, ◌≢◌, ◌↔◌, ◌<◌, ℕ, true, List, [], vec_capacity, Err, IsOk, IfOk, IfSome, OnErr, OnSome, Some};
 ghost use Rattle.std.specs.{IoError.error_kind, Io.KnownBytes.{Consumes, IsAtEnd}};
 ghost use Rattle.gix_validate.specs.Bytes.{is_empty};
-ghost use Rattle.git_input.specs.Promises.{IsCutAt, ReadsBefore, ReadsExactly};
+ghost use Rattle.git_input.specs.Promises.{IsCutAt, ReadsBefore, ReadsNext, ReadsExactly};
 
 use cli::outcome::RunError;
 use memchr::memchr;
@@ -149,6 +149,26 @@ pub fn skip<R: BufRead>(input: &mut R, count: u64) -> Result<bool, RunError>
         let skipped = (available.len() as u64).min(left);
         input.consume(skipped as usize);
         left -= skipped;
+    }
+    Err(RunError::Read)
+}
+
+/// Reads a byte, if one is left. It does not allocate.
+///
+/// # Errors
+///
+/// [`RunError::Read`] if reading failed.
+pub fn read_byte<R: BufRead>(input: &mut R) -> Result<Option<u8>, RunError>
+    ensures byte { IfOk result (λ byte. ReadsNext (R.remaining input.old) (R.remaining input.new) byte) }
+    ensures stop { OnErr result (result ≡ Err RunError.Read) }
+{
+    for _ in 0..TURNS {
+        let byte = match filled!(input) {
+            [] => return Ok(None),
+            [byte, ..] => *byte,
+        };
+        input.consume(1);
+        return Ok(Some(byte));
     }
     Err(RunError::Read)
 }

@@ -2,7 +2,8 @@
 //! `git cat-file --batch`, the loop over the lines of an input, quoted output, and exit statuses.
 //!
 //! The programs differ in what a line means, which is the trait [`lines::LineCheck`]. [`objects`]
-//! implements it for header lines, and has [`objects::ObjectCheck`] for the bytes of an object.
+//! implements it for header lines, and has [`objects::ObjectCheck`] for the bytes of an object. So
+//! the loop is proved once for all rules, and each program proves one step.
 #![tactic(auto)]
 
 pub mod header;

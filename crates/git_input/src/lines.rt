@@ -72,6 +72,10 @@ pub trait LineCheck: Copy {
 /// Does what [`Check::run`](crate::runs::Check::run) does, for what `check` reports for each line and
 /// the bytes that belong to it (docs/RULES.md, "Streams of objects" and "The report of references").
 ///
+/// # Errors
+///
+/// [`RunError`], as `Check::run` says.
+///
 /// # Memory
 ///
 /// It allocates memory for the longest line, of at most 65,536 bytes, and what `check` allocates,

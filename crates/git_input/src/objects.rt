@@ -7,7 +7,7 @@ ghost use Rattle.git_input.specs.Spelled.{IsCleanStream, IsReportedInOrder, IsWe
 ghost use Rattle.git_input.specs.{Reports.IsCleanIff, Private.object_rule_leaves};
 
 use crate::header::{Header, Object, header_of};
-use crate::input::read_bytes;
+use crate::input::read_byte;
 use crate::lines::{self, Buffers, Ending, LineCheck};
 use crate::outcome::{Malformation, Verdict};
 use cli::outcome::RunError;
@@ -81,19 +81,20 @@ fn check_and_close<C: ObjectCheck, R: BufRead, W: Write>(
         Ok(refused) => refused,
         Err(malformation) => return Ok(Err(malformation)),
     };
-    if !read_bytes(input, 1, &mut buffers.read)? {
-        return Ok(Err(Malformation::Ended));
-    }
-    if buffers.read[0] == b'\n' {
-        Ok(Ok(refused))
-    } else {
-        Ok(Err(Malformation::LineEnd))
+    match read_byte(input)? {
+        Some(b'\n') => Ok(Ok(refused)),
+        Some(_) => Ok(Err(Malformation::LineEnd)),
+        None => Ok(Err(Malformation::Ended)),
     }
 }
 
 /// Does what [`lines::run`] does for objects as `git cat-file --batch` prints them (docs/RULES.md,
 /// "Streams of objects"). If `needs_end` is set, the last line has to be `..end missing`, and no
 /// object may be missing.
+///
+/// # Errors
+///
+/// [`RunError`], as `Check::run` says.
 ///
 /// # Memory
 ///

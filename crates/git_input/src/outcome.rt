@@ -1,5 +1,5 @@
-//! The outcome of a run. Malformed input is a verdict, and not an error, so that one clause says for
-//! every input what is written and returned.
+//! The outcome of a run. Malformed input is a verdict, and not an error: `run` fails only if reading,
+//! writing or an allocation does. So one clause says for every input what is written and returned.
 
 ghost use Rattle.std.specs.Prelude.{Some};
 

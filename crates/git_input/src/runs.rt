@@ -5,7 +5,7 @@ ghost use Rattle.std.specs.Prelude.{◌≡◌, ℕ, List, Option, Result, Err, I
 ghost use Rattle.std.specs.{Io.Buffered.{reader_remaining, writer_buffer, writer_contents}, Process.exit_status};
 ghost use Rattle.std.specs.String.{string_bytes};
 ghost use Rattle.cli.specs.{Arguments.request_of, Messages.{Does, Says, message}};
-ghost use Rattle.git_input.specs.Ends.{Checks, EndsBy, Finishes, Ran, hint_of, malformed_text};
+ghost use Rattle.git_input.specs.Ends.{Checks, EndsBy, Finishes, Ran, malformed_text};
 
 use crate::outcome::{Malformation, Verdict};
 use cli::arguments::{Options, Request, fail_arguments, request_of};

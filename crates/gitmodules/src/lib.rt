@@ -13,15 +13,15 @@
 //!
 //! **Why the values need not be read.** Git reads a section's header from a `[` on, and what it
 //! finds depends only on the bytes after that `[`. Whether Git looks for a header at a `[` depends
-//! on what is before it: a comment, a value with quotes, or a line that continues. This reader
-//! needs no rule for these: it finds every section that Git sees, and others, such as one in a
-//! comment. A reader that followed Git through these, and disagreed with it once, would miss a name;
-//! `git config --blob` itself stops at a byte 0xFF that a checkout reads past. A caller that has the
-//! file in memory needs no stream, so the reader is a crate of its own.
+//! on what is before it: a comment, a value with quotes, or a line that continues. This reader looks
+//! at every `[`, so it needs no rule for these: it finds every section that Git sees, and others,
+//! such as one in a comment. A reader that followed Git through these, and disagreed with it once,
+//! would miss a name; `git config --blob` itself stops at a byte 0xFF that a checkout reads past. A
+//! caller that has the file in memory needs no stream, so the reader is a crate of its own.
 //!
-//! A section in the old form, `[submodule.name]`, can't be read: Git still reads it, but writes the
-//! other one. Nor can one with a NUL, a newline (LF) or the byte 0xFF in its name, where Git ends
-//! the name, in one way of its reading or another.
+//! Git still reads the old form `[submodule.name]`, but no longer writes it; here such a section
+//! can't be read. A NUL, a newline (LF) or the byte 0xFF ends a name in one of Git's ways of
+//! reading, so a section with one of them in its name can't be read either.
 //!
 //! Offsets and lengths are in bytes. Only [`EscapedName::push_to`] allocates.
 #![tactic(auto)]

@@ -3,9 +3,10 @@
 //! Most names have nothing that an error could be made of: no bad byte, no `*` or `{`, no dot or
 //! slash at the start, at the end, or after a dot or a slash, and no `l` after a dot, as each
 //! `.lock` has. Such a name is clear: a tag name and, if it has two bytes or more, its own sanitised
-//! form; both are proved. (A test for a dot or slash after the `k` of `.lock` would also fail on
-//! `task/` and `pack.1`.) The contract says exactly which names are clear: a test that rejects every
-//! name would be right, but slow.
+//! form; both are proved. Apart from the ends, only neighbours are compared, so a block is tested at
+//! once. (A test for a dot or slash after the `k` of `.lock` would also fail on `task/` and
+//! `pack.1`.) The contract says exactly which names are clear: a test that rejects every name would
+//! be right, but slow.
 
 ghost use Rattle.std.specs.Prelude.{◌≡◌, ◌↔◌, ◌<◌, ◌≤◌, ◌+◌, ◌-◌, ◌^◌, ◌==◌, ◌||◌, ◌&&◌, ℕ, false, if◌then◌else◌, IsTrue, map, length, slice_index, codes};
 ghost use Rattle.std.specs.{Int.bit_at, Str.byte};

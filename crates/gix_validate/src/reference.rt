@@ -196,8 +196,12 @@ pub fn branch_name<'a>(path: BStr<'a>) -> Result<BStr<'a>, NameError>
 ///
 /// # Errors
 ///
-/// Out of memory, and nothing else. It allocates once, before it writes a byte. A length above
-/// `isize::MAX` bytes counts as out of memory.
+/// Out of memory, and nothing else.
+///
+/// # Memory
+///
+/// It allocates once, before it writes a byte. A length above `isize::MAX` bytes counts as out of
+/// memory.
 #[tactic(auto, using(crate::proofs::References::joined_is_full))]
 pub fn join(alloc: Global, a: BStr<'_>, b: BStr<'_>) -> Result<BString, AllocError>
     requires first { IsTrue (is_tag_name (bstr_bytes a)) }

@@ -59,7 +59,8 @@ pub(crate) fn first<P: Pattern>(front: &[u8], back: &[u8]) -> Option<usize>
     first_of_parts::<P>(front, back, 1, first, u8x16::splat(back[0]))
 }
 
-/// The first hit of texts that have a block. Most names have two blocks at most, which need no loop.
+/// The first hit of texts that have a block. The last block overlaps the one before it. Most names
+/// have two blocks at most, which need no loop.
 #[inline(always)]
 fn first_by_blocks<P: Pattern>(front: &[u8], back: &[u8]) -> Option<usize>
     requires same { length back.now ≡ length front.now }
@@ -128,7 +129,8 @@ fn first_of_parts<P: Pattern>(
     })
 }
 
-/// Whether a byte of a text of more than four blocks is a hit. Four blocks are checked at a time.
+/// Whether a byte of a text of more than four blocks is a hit. Four blocks are checked at a time. The
+/// last four overlap those before them.
 #[inline(always)]
 pub(crate) fn has<P: Pattern>(text: &[u8]) -> bool
     requires { FOUR_BLOCKS < length text.now }

@@ -47,7 +47,7 @@ impl Error for NameError {}
 
 /// Returns `name` if it is a valid submodule name: it isn't empty, and none of its parts is `..`.
 /// Both `/` and `\` separate parts, and parts may be empty (docs/RULES.md, "Submodule names").
-/// It doesn't allocate. On `Ok` it returns the value that it was passed.
+/// The function doesn't allocate. On `Ok` it returns the value that it was passed.
 ///
 /// ```
 /// name(BStr::from("vendor/package"))?; // `vendor/package`

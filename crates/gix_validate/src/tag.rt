@@ -88,7 +88,8 @@ impl Error for NameError {}
 ///
 /// Slashes split a tag name into pieces. No piece is empty, has an invalid byte or a `*`, starts
 /// with a dot, ends in `.lock`, or contains `..` or `@{`. The whole name doesn't end in a dot. The
-/// input needn't be UTF-8. It doesn't allocate. On `Ok` it returns the value that it was passed.
+/// input needn't be UTF-8. The function doesn't allocate. On `Ok` it returns the value that it was
+/// passed.
 ///
 /// ```
 /// tag::name(BStr::from("v1.2.3"))?; // `v1.2.3`
@@ -126,7 +127,8 @@ fn name_on_walk<'a>(input: BStr<'a>) -> Result<BStr<'a>, NameError>
 }
 
 /// The offset in bytes of the first fault of a tag name, or `None` if it is valid. A fault of the end,
-/// as `EndsWithDot`, is at the last byte; that of an empty name is at 0. It doesn't allocate.
+/// as `EndsWithDot`, is at the last byte; that of an empty name is at 0. The function doesn't
+/// allocate.
 ///
 /// ```
 /// tag::fault_offset(BStr::from("v1..2")); // Some(3), the second dot

@@ -20,7 +20,7 @@ use crate::flags::{mode_of, options_of};
 use bstr::BStr;
 use gix_validate::{path, reference, submodule, tag};
 
-/// Returns 0 for a valid tag name, or its fault's number (docs/RULES.md, "Tag names").
+/// Returns 0 if it is a valid tag name, otherwise its fault's number (docs/RULES.md, "Tag names").
 ///
 /// ```c
 /// gix_validate_tag((const uint8_t *)"v1.2.3", 6); // 0
@@ -37,7 +37,8 @@ pub extern "C" fn gix_validate_tag(name: &[u8]) -> u32
     code(tag::name(BStr::new(name))).into()
 }
 
-/// Returns 0 for a valid partial name, or its fault's number (docs/RULES.md, "Reference names").
+/// Returns 0 if it is a valid partial name, otherwise its fault's number (docs/RULES.md,
+/// "Reference names").
 ///
 /// ```c
 /// gix_validate_partial((const uint8_t *)"main", 4); // 0
@@ -53,7 +54,8 @@ pub extern "C" fn gix_validate_partial(name: &[u8]) -> u32
     code(reference::name_partial(BStr::new(name))).into()
 }
 
-/// Returns 0 for a valid full name, or its fault's number (docs/RULES.md, "Reference names").
+/// Returns 0 if it is a valid full name, otherwise its fault's number (docs/RULES.md,
+/// "Reference names").
 ///
 /// ```c
 /// gix_validate_full((const uint8_t *)"refs/heads/main", 15); // 0
@@ -69,7 +71,8 @@ pub extern "C" fn gix_validate_full(name: &[u8]) -> u32
     code(reference::name(BStr::new(name))).into()
 }
 
-/// Returns 0 for a valid name of a branch, or its fault's number (docs/RULES.md, "Reference names").
+/// Returns 0 if it is a valid full name of a branch, otherwise its fault's number (docs/RULES.md,
+/// "Reference names").
 ///
 /// ```c
 /// gix_validate_branch((const uint8_t *)"refs/heads/main", 15); // 0
@@ -85,7 +88,8 @@ pub extern "C" fn gix_validate_branch(name: &[u8]) -> u32
     code(reference::branch_name(BStr::new(name))).into()
 }
 
-/// Returns 0 for a valid submodule name, or its fault's number (docs/RULES.md, "Submodule names").
+/// Returns 0 if it is a valid submodule name, otherwise its fault's number (docs/RULES.md,
+/// "Submodule names").
 ///
 /// ```c
 /// gix_validate_submodule((const uint8_t *)"vendor/package", 14); // 0
@@ -102,7 +106,8 @@ pub extern "C" fn gix_validate_submodule(name: &[u8]) -> u32
     code(submodule::name(BStr::new(name))).into()
 }
 
-/// Returns 0 for a valid path component, or its fault's number (docs/RULES.md, "Path components").
+/// Returns 0 if it is a valid path component, otherwise its fault's number (docs/RULES.md,
+/// "Path components").
 ///
 /// The flags are 1 for the rules of Windows, 2 for those of HFS+, 4 for those of NTFS, and 8 for the
 /// name of a symlink. Other bits are ignored. The default in Rust is 7.
@@ -163,7 +168,8 @@ pub extern "C" fn gix_validate_fault_offset(name: &[u8]) -> usize
     tag::fault_offset(BStr::new(name)).unwrap_or(name.len())
 }
 
-/// Whether Windows takes the name for a device (docs/RULES.md, "Path components").
+/// Whether Windows takes the name for a device, in any ASCII letter case (docs/RULES.md, "Path
+/// components").
 ///
 /// ```c
 /// gix_validate_is_windows_device((const uint8_t *)"nul.txt", 7); // true

@@ -10,5 +10,6 @@ ghost use Rattle.gix_validate_c.specs.Numbers.{version_number};
 pub extern "C" fn gix_validate_version() -> u32
     ensures { result ≡ version_number 3 0 0 }
 {
-    3_000_000
+    let (major, minor, patch): (u32, u32, u32) = (3, 0, 0);
+    major * 1_000_000 + minor * 1_000 + patch
 }

@@ -9,7 +9,6 @@ use Rattle.gix_validate.specs.declared.path.{ComponentError.ComponentError, Comp
 use Rattle.gix_validate.specs.Faults.{when, first_of}
 
 -- Bytes and texts.
-
 abbrev pub is_among : List ℕ → ℕ → Bool
 is_among set b = list_any (λ c. b == c) set
 
@@ -24,7 +23,6 @@ abbrev pub without_end : (ℕ → Bool) → List ℕ → List ℕ
 without_end test x = take (length x - suffix_len test x) x
 
 -- The first unit, by Unicode's Table 3-7 of the whole sequences.
-
 abbrev pub is_within : ℕ × ℕ → ℕ → Bool
 is_within range b = nat_le range.0 b && nat_le b range.1
 
@@ -58,7 +56,6 @@ unfoldable pub first_unit_len : List ℕ → ℕ
 first_unit_len x = unwrap_or (whole_len whole_sequences x) (max 1 (begun_len whole_sequences x))
 
 -- What HFS+ and NTFS read.
-
 unfoldable pub is_ignored : ℕ → ℕ → ℕ → Bool
 is_ignored a b c =
     a == 0xE2 && b == 0x80 && is_within (0x8C, 0x8F) c
@@ -97,7 +94,6 @@ is_modules_form form =
     || list_any (λ k. is_short_name k form) (0 ∷ 1 ∷ 2 ∷ 3 ∷ 4 ∷ 5 ∷ 6 ∷ [])
 
 -- What Windows forbids.
-
 unfoldable pub device_form : List ℕ → List ℕ
 device_form x = without_end (λ b. b == byte " ") (before_first (is_among (codes ".:")) x)
 

@@ -1,7 +1,8 @@
 -- The HFS form: what the bytes in front do to it, and that it is the units without the ignored characters.
 use Rattle.gix_validate.proofs.Common.{◌≡◌, ℕ, suc, ◌+◌, ◌-◌, ◌<◌, ◌≤◌, Bool, true, false, ◌&&◌, not, nat_le, eqb, List, [], ◌∷◌, ◌++◌, length, take, drop}
 use Rattle.gix_validate.proofs.Common.{get_or, ◌⊎◌, refl, inl, inr, arith, list_all, list_any, filter, concat, bytes_eq, cases_Bool, nat_tests, common_steps}
-use Rattle.gix_validate.{proofs.Common.{◌||◌, length-drop}, specs.Units.{is_within, fitting_len, whole_sequences, first_unit_len, units_within}}
+use Rattle.gix_validate.proofs.Common.{◌||◌, length-drop}
+use Rattle.gix_validate.specs.Units.{is_within, fitting_len, whole_sequences, first_unit_len, units_within}
 use Rattle.gix_validate.proofs.{Texts.LetterCase.lower_byte-is, Components.FirstUnit.{row_for, unit_by_row}}
 use Rattle.gix_validate.specs.{Bytes.{lower, lower_byte}, Hfs.{is_ignored, hfs_form, is_ignored_unit}}
 

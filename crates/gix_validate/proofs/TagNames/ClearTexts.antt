@@ -3,7 +3,8 @@ use Rattle.gix_validate.proofs.Common.{◌≡◌, ℕ, zero, suc, ◌+◌, ◌-�
 use Rattle.gix_validate.proofs.Common.{length-take, not, ◌&&◌, Some, inl, inr, false_from_ne_true, cases_lt, take_all, get_or-take, bytes_eq-Decides, codes}
 use Rattle.gix_validate.{proofs.Common.{byte, nat_tests}, specs.Private.{Adjacent.{is_suspect, suspect_at, IsClear}, Scan.NoneBelow}}
 use Rattle.gix_validate.proofs.TagNames.FaultTable.{at_first_offset_none, is_none-fault_of_byte, at_first_offset_split, at_first_found, quiet, offset_split, offset_of_byte}
-use Rattle.gix_validate.proofs.{Texts.Endings.{ends_read, lock_read}, TagNames.{FaultTable.{fault_of_byte_at, NoFaultBelow}, Grammar.tag_grammar_law}}
+use Rattle.gix_validate.proofs.Texts.Endings.{ends_read, lock_read}
+use Rattle.gix_validate.proofs.TagNames.{FaultTable.{fault_of_byte_at, NoFaultBelow}, Grammar.tag_grammar_law}
 use Rattle.gix_validate.specs.{declared.tag.NameError.{NameError, TheVariants.LockFileSuffix}, Bytes.{is_among, ends}}
 use Rattle.gix_validate.specs.{Tag.{fault_of, fault_offset_of, faults_at, offset_at}, Reference.is_partial_name}
 use Rattle.gix_validate.specs.Faults.{first_of, at_first_offset, when}

@@ -11,8 +11,8 @@ may_be_faulty b = is_bad b || is_among (codes "*./{") b
 unfoldable pub fault_of_byte : List ℕ → ℕ → Option NameError
 fault_of_byte before b = first_of (fault_table before b (0 ∷ []))
 
--- After the byte before it, the byte may have a fault, or lead to one: a dot or slash has none after other bytes, and an `l`
--- after a dot may be that of `.lock`.
+-- After the byte before it, the byte may have a fault, or lead to one: a bad byte, `*` or `{`; a dot or slash after a dot or
+-- slash; an `l` after a dot, as in `.lock`, whose fault is at a later byte.
 unfoldable pub is_suspect : ℕ → ℕ → Bool
 is_suspect before b =
     is_bad b || is_among (codes "*{") b || (is_among (codes "./") before && is_among (codes "./") b)

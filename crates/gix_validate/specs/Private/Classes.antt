@@ -1,5 +1,6 @@
 -- The classes of the bytes of a name, a bit for each, and what they say about the name.
-use Rattle.std.specs.{Prelude.{◌≡◌, ℕ, Bool, ◌==◌, ◌&&◌, ◌||◌, not, nat_lt, if◌then◌else◌, List, codes, map, bit_and}, List.list_any, Str.byte}
+use Rattle.std.specs.Prelude.{◌≡◌, ℕ, Bool, ◌==◌, ◌&&◌, ◌||◌, not, nat_lt, if◌then◌else◌, List, codes, map, bit_and}
+use Rattle.std.specs.{List.list_any, Str.byte}
 use Rattle.gix_validate.specs.declared.path.classes.TheConstants.{CONTROL, QUOTE_OR_STAR, COLON_ANGLE_OR_MARK, BACKSLASH, PIPE, LEAD, SLASH, TILDE}
 use Rattle.gix_validate.specs.{declared.path.ComponentOptions.ComponentOptions, Bytes.{is_among, is_empty, ends}, Windows.is_illegal_byte}
 

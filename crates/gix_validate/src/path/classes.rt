@@ -1,5 +1,5 @@
-//! One look at the bytes of a name says of a short one which of several classes of bytes it has. A
-//! long name is searched by `scan` for each thing by itself.
+//! One look at a short name says which classes of bytes it has. A long name is searched by `scan` for
+//! each thing by itself.
 
 ghost use Rattle.std.specs.Prelude.{◌≡◌, ◌==◌, false, IsTrue, ◌≤◌, ◌<◌, ◌+◌, ◌&&◌, ◌||◌, not, length, map};
 ghost use Rattle.std.specs.{Str.byte, List.list_any, Simd.Lanes.chunk};

@@ -22,8 +22,12 @@ use std::alloc::{AllocError, Global};
 ///
 /// # Errors
 ///
-/// Out of memory, and nothing else. It allocates once, before it writes a byte. A length above
-/// `isize::MAX` bytes counts as out of memory.
+/// Out of memory, and nothing else.
+///
+/// # Memory
+///
+/// It allocates once, before it writes a byte. A length above `isize::MAX` bytes counts as out of
+/// memory.
 #[tactic(auto, using(crate::proofs::Components::JoinedParts::joined_path_laws))]
 pub fn join(alloc: Global, parts: &[BStr<'_>]) -> Result<BString, AllocError>
     requires some { 0 < length parts.now }

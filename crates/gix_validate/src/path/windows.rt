@@ -119,7 +119,8 @@ fn ends_console(rest: &[u8]) -> bool
     ends_form(rest) || form_is(rest, b"IN$") || form_is(rest, b"OUT$")
 }
 
-/// Whether the form of the name is the word, in any ASCII case.
+/// Whether the form of the name is the word, in any ASCII case. No byte of the word ends a form, or is
+/// cut from its end.
 #[inline(always)]
 #[tactic(auto, using(crate::proofs::Components::Devices::device_word))]
 fn form_is(name: &[u8], word: &[u8]) -> bool

@@ -27,8 +27,11 @@ use std::alloc::{AllocError, Global};
 ///
 /// # Errors
 ///
-/// Out of memory, and nothing else. It allocates once, before it writes a byte: the length of
-/// `path`, or one byte if that is empty.
+/// Out of memory, and nothing else.
+///
+/// # Memory
+///
+/// It allocates once, before it writes a byte: the length of `path`, or one byte if that is empty.
 #[tactic(auto, using(crate::proofs::Sanitizing::Laws::sanitized_laws))]
 pub fn name_partial_or_sanitize(alloc: Global, path: BStr<'_>) -> Result<BString, AllocError>
     ensures text { IfOk result (λ name. bstring_bytes name ≡ sanitized (bstr_bytes path.entry)) }
@@ -45,7 +48,8 @@ pub fn name_partial_or_sanitize(alloc: Global, path: BStr<'_>) -> Result<BString
     Ok(BString::new(name))
 }
 
-/// Writes the sanitised path to an empty vector, whose room is exactly enough, so it never fails.
+/// Writes the sanitised path to an empty vector. The vector has room for exactly the path, or for
+/// one byte if that is empty. So it never fails.
 fn fill_sanitized(name: &mut Vec<u8>, path: &[u8]) -> Result<(), AllocError>
     requires empty { name.old.items ≡ [] }
     requires room { vec_capacity name.old ≡ max 1 (length path.now) }

@@ -10,7 +10,9 @@ const CALLS = {
 };
 const SETTINGS = { w: "windows", h: "hfs", n: "ntfs", s: "symlink" };
 const utf8 = new TextDecoder("utf-8", { fatal: true, ignoreBOM: true });
-const shown = (value) => JSON.stringify(value) ?? String(value);
+/** A value as text, which tells null from undefined, and bytes from what only has their numbers. */
+const shown = (value) => JSON.stringify(value, (_, it) =>
+    it instanceof Uint8Array ? { bytes: Array.from(it) } : it === undefined ? "undefined" : it);
 let checked = 0;
 
 function equal(found, wanted, where) {
@@ -157,6 +159,9 @@ function lists() {
     equal(gix.faults(new Set(["a", "a", "b.lock"]).values(), "tag"), [null, "LockFileSuffix"], "any iterable");
     equal([gix.faults([], "tag"), gix.firstInvalid([], "tag")], [[], -1], "no name");
     equal(gix.faults([""], "tag"), ["Empty"], "an empty name");
+    for (const last of ["b ", new Uint8Array([32])]) { // (in one buffer, and each by itself)
+        equal(gix.firstInvalid([...Array(100000).fill("a"), last], "tag"), 100000, "a long list");
+    }
     equal(["a", "b"].map(gix.tagName), ["a", "b"], "what map passes besides");
     equal(Object.isFrozen(gix.FAULTS), true, "FAULTS");
 }

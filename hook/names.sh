@@ -9,8 +9,8 @@
 #   on the way, that line is missing, and the program's status is 2.
 # - `git rev-list` reads ids up to an empty line. `..end` follows the ids in the same pipe, after more than it can have
 #   read ahead. So a list of ids that was cut has no `..end`.
-# - Each `$( )` that checks names prints `ended` last. Its status doesn't count: bash sets it to 0 if it could not even
-#   start a subshell.
+# - Each `$( )` that checks names prints `ended` last. If that line doesn't arrive, nothing was checked. The status of
+#   `$( )` doesn't count: bash sets it to 0 if it could not even start a subshell.
 # - No file is written, and no here-document is used, so the hook needs no TMPDIR.
 # - What Git says on standard error can have names of the pusher's choice, as they are, so it isn't shown.
 {

@@ -1,5 +1,7 @@
-r"""Validation of the names that Git uses, and the repair of a bad reference name, by proved functions in a shared object. The
-rules are those of docs/RULES.md; docs/ASSURANCE.md says what is proved and what is not.
+r"""Validation of the names that Git uses, and the repair of a bad reference name.
+
+Each function calls a proved function of the Rattle crate gix_validate_c, in its shared object. The rules are those
+of docs/RULES.md; docs/ASSURANCE.md says what is proved and what is not.
 
 >>> import gix_validate
 >>> from gix_validate import Kind
@@ -25,10 +27,13 @@ Many names are checked by one call, which is much faster than a call for each:
 b'\x00\x0c'
 
 A name is bytes of any values, or a bytearray or memoryview, which is copied; a str or None is a TypeError, and
-os.fsencode makes bytes of the str that Python has for a file's name. The functions may be called from any thread.
+os.fsencode makes bytes of the str that Python has for a file's name. The functions have no state and may be called from
+any thread.
 
-The shared object is the one beside this module, as the wheel has it, that of bindings/out, or the one that the environment
-variable GIX_VALIDATE_LIBRARY names. The import is an ImportError if it has another major version, is older, or isn't this one.
+The shared object is the one beside this module, as the wheel has it, or that of bindings/out. The environment variable
+GIX_VALIDATE_LIBRARY may name another path.
+Its major version has to be that of this module, and it may not be older; otherwise the import is an ImportError, as it
+is for a library that isn't this one.
 """
 
 import ctypes
@@ -117,7 +122,10 @@ class InvalidName(ValueError):
 
     def __init__(self, name: bytes, fault: Fault, text: str, byte: Optional[int] = None) -> None:
         super().__init__(name, fault, text, byte)
-        self.name, self.fault, self.text, self.byte = name, fault, text, byte
+        self.name = name
+        self.fault = fault
+        self.text = text
+        self.byte = byte
 
     def __str__(self) -> str:
         return f"{self.name[:200]!r}{'..' if len(self.name) > 200 else ''}: {self.text}"

@@ -61,8 +61,7 @@ is_illegal-lower x = rw (list_any-lower is_illegal_byte refl x, ends-lower (code
 pub case_law : (options : ComponentOptions) (mode : Option ComponentMode) (x : List ℕ) → FaultIgnoresCase options mode x
 unfolding fault_of conditions
 case_law options mode x =
-    grind (arith, bytes_eq-lower, list_any-lower, prefix-lower, device_case_law, is_illegal-lower, lower-lower, hfs_form-lower,
-    ntfs_form-lower)
+    grind (arith, bytes_eq-lower, list_any-lower, prefix-lower, device_case_law, is_illegal-lower, lower-lower, hfs_form-lower, ntfs_form-lower)
 
 pub device_form_law : (x : List ℕ) → DeviceGoesByForm x
 unfolding is_device device_form

@@ -5,10 +5,10 @@ ghost use Rattle.cli.specs.Messages.{Does};
 ghost use Rattle.check_names.specs.{Arguments.request_of, Messages.{Checks, Ran}};
 
 use crate::NAME;
-use crate::check::RunError;
 use crate::options::{HELP, NoOptions};
 use cli::arguments::{Request, fail_arguments, request_of};
 use cli::messages::Messages;
+use cli::outcome::RunError;
 use cli::{VERSION, print};
 use std::alloc::Global;
 use std::io::{Read, Write};
@@ -45,6 +45,6 @@ pub fn answer<C: Check, R: Read, W: Write, E: Write>(
         },
         Ok(Request::Help) => print(NAME, HELP, output, errors),
         Ok(Request::Version) => print(NAME, format_args!("{NAME} {VERSION}"), output, errors),
-        Err(fault) => fail_arguments(NAME, fault, errors),
+        Err(wrong) => fail_arguments(NAME, wrong, errors),
     }
 }

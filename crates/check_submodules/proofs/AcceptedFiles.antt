@@ -39,6 +39,6 @@ file_empty id bytes size (small, each) = rw small (no_lines id (sections 0 bytes
 kind_accepts : (kind : Kind) (id bytes : List ℕ) (size : ℕ) → not (is_empty (object_lines kind id size bytes)) ≡ false → kind ≡ Blob → IsAcceptedFile size bytes
 kind_accepts kind id bytes size e is = grind (arith, file_by)
 
-pub object_same : (whole : Bool) (object : Spelled) → IsSpelled submodules_rule whole object
+pub object_same : (needs_end : Bool) (object : Spelled) → IsSpelled submodules_rule needs_end object
     → ((spelled_said submodules_rule object).refused ≡ false) ↔ IsAcceptedObject object
-object_same whole object good = (λ e. grind (arith, kind_accepts), λ fine. grind (arith, file_empty))
+object_same needs_end object good = (λ e. grind (arith, kind_accepts), λ fine. grind (arith, file_empty))

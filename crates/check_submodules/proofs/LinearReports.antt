@@ -234,5 +234,5 @@ file_within : IsObjectWithin 17 submodules_rule
 file_within true object bytes good whole = omega arith
 file_within false object bytes good whole = object_length object.id (id_length object.id good).1 object.kind object.size bytes (whole refl)
 
-pub linear_report : (whole : Bool) → PrintsAtMost 17 (report whole)
-linear_report whole = stream_prints_at_most 17 submodules_rule whole file_within
+pub linear_report : (needs_end : Bool) → PrintsAtMost 17 (report needs_end)
+linear_report needs_end = stream_prints_at_most 17 submodules_rule needs_end file_within

@@ -11,7 +11,7 @@ ghost use Rattle.check_submodules.specs.Report.{object_lines, report, submodules
 ghost use Rattle.check_submodules.specs.Spelled.{IsAcceptedStream, IsEachSectionReported};
 
 use crate::options::Options;
-use crate::report::{push_lines, push_too_large};
+use crate::report::{LARGEST, push_lines, push_too_large};
 use cli::outcome::RunError;
 use git_input::header::{Kind, Object};
 use git_input::input::{read_bytes, skip};
@@ -21,9 +21,6 @@ use git_input::outcome::{Malformation, Verdict};
 use git_input::runs::Check;
 use std::alloc::Global;
 use std::io::{BufRead, Write};
-
-/// The size in bytes of the largest file that is read.
-pub(crate) const LARGEST: u64 = 16_777_216;
 
 impl Check<'_> for Options {
     ghost gave = { λ options. Gives (report options.needs_end) object_reach (IsAcceptedStream options.needs_end) };

@@ -4,12 +4,14 @@ ghost use Rattle.std.specs.Prelude.{◌≡◌, ◌++◌, OnOk};
 ghost use Rattle.gitmodules.specs.{Sections.sections, Headers.section_pair};
 ghost use Rattle.check_submodules.specs.Report.{line_of, lines_of, line_start, too_large_line};
 
-use crate::check::LARGEST;
 use bstr::BStr;
 use git_input::output::push_quoted;
 use gitmodules::{Section, Sections};
 use gix_validate::submodule;
 use std::io::{self, Write};
+
+/// The size in bytes of the largest file that is read.
+pub(crate) const LARGEST: u64 = 16_777_216;
 
 /// Appends the lines of a file: one for each section whose name [`submodule::name`] refuses, and
 /// one for each section that can't be read (docs/RULES.md, "The names in a .gitmodules file").

@@ -28,9 +28,9 @@ with_none : (judged : Judged) → judged.1 ≡ None → judged ≡ (judged.0, No
 with_none (said, fault) e = ap (λ fault. (said, fault)) e
 
 module _ (options : Options) where
-  object_accepts : (whole : Bool) (object : Spelled) → IsSpelled (tree_rule options) whole object → (spelled_said (tree_rule options) object).refused ≡ false
+  object_accepts : (needs_end : Bool) (object : Spelled) → IsSpelled (tree_rule options) needs_end object → (spelled_said (tree_rule options) object).refused ≡ false
       → IsAcceptedObject options object
-  object_accepts whole (Present object digits content) (good, number, long, none, fits, right) clean = λ is.
+  object_accepts needs_end (Present object digits content) (good, number, long, none, fits, right) clean = λ is.
       let judged = tree_rule options false object content in
       let tree = (read_as_items options object content judged.0 is).0 (with_none judged right) in
       record {
@@ -40,7 +40,7 @@ module _ (options : Options) where
         accepted = (items_good options object tree.items tree.each).0 (rw tree.said_is at clean);
         bytes_are = tree.bytes_are;
       }
-  object_accepts whole (Absent id) good clean = tt
+  object_accepts needs_end (Absent id) good clean = tt
 
   tree_accepted : (object : ParsedObject) (content : List ℕ) → IsAcceptedTree options object content
       → (entries options Entry object content).0.refused ≡ false

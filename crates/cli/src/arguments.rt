@@ -71,14 +71,14 @@ pub enum ArgumentError<'a> {
 /// Says why the arguments of the program `name` are wrong, and returns the status 2.
 pub fn fail_arguments<E: Write>(
     name: &str,
-    fault: ArgumentError<'_>,
+    wrong: ArgumentError<'_>,
     errors: &mut Messages<E>,
 ) -> ExitCode
     ensures status { exit_status result ≡ 2 }
-    ensures said { IfSome (wrong_text_of name.now (wrong_argument fault.entry))
+    ensures said { IfSome (wrong_text_of name.now (wrong_argument wrong.entry))
         (λ text. Says E.contents errors.old errors.new (message name.now text)) }
 {
-    match fault {
+    match wrong {
         ArgumentError::Unknown(word) => {
             let what = format_args!("unknown argument {word:?}, see {name} --help");
             fail(name, what, errors)

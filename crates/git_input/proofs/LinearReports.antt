@@ -86,21 +86,21 @@ module _ (most : ℕ) where
   closed_within count (said, Some malformation) front after few fits = few_within most count said front few (omega (arith, fits))
   closed_within count (said, None) front after few fits = after_within most count said front few after fits
 
-  missing_within : (whole : Bool) (count : ℕ) (text : List ℕ) → length text ≤ count → IsStepWithin most count (nothing, if whole then Err Absent else Ok text)
-  missing_within whole count text given = grind arith
+  missing_within : (needs_end : Bool) (count : ℕ) (text : List ℕ) → length text ≤ count → IsStepWithin most count (nothing, if needs_end then Err Absent else Ok text)
+  missing_within needs_end count text given = grind arith
 
-  module _ (rule : ObjectRule) (whole : Bool) (each : IsObjectWithin most rule) where
+  module _ (rule : ObjectRule) (needs_end : Bool) (each : IsObjectWithin most rule) where
     header_within : (count : ℕ) (header : Option ParsedHeader) (text : List ℕ) → IfSome header HasId → length text ≤ count
-        → IsStepWithin most count (header_rule rule whole header text)
+        → IsStepWithin most count (header_rule rule needs_end header text)
     header_within count None text id fits = omega arith
-    header_within count (Some Missing) text id fits = missing_within whole count text fits
+    header_within count (Some Missing) text id fits = missing_within needs_end count text fits
     header_within count (Some (Object object)) text id fits =
         closed_within count (rule (nat_lt (length text) object.size) object (take object.size text)) (take object.size text) (drop object.size text)
         (each (nat_lt (length text) object.size) object (take object.size text) id (λ e. grind (arith, length-take object.size text)))
         (omega (arith, length-take object.size text, length-drop object.size text, fits))
 
-    object_within : IsLineWithin most (object_rule rule whole)
+    object_within : IsLineWithin most (object_rule rule needs_end)
     object_within line rest = header_within (length line + 1 + length rest) (parsed_header line) rest (header_id line) (omega arith)
 
-    pub stream_prints_at_most : PrintsAtMost most (object_report rule whole)
-    stream_prints_at_most = prints_at_most most (object_rule rule whole) (object_rule_leaves rule whole) (ending_of whole) object_within
+    pub stream_prints_at_most : PrintsAtMost most (object_report rule needs_end)
+    stream_prints_at_most = prints_at_most most (object_rule rule needs_end) (object_rule_leaves rule needs_end) (ending_of needs_end) object_within

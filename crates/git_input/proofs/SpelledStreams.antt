@@ -6,14 +6,14 @@ use Rattle.git_input.specs.{Objects.{ObjectRule, header_rule, object_rule}, Head
 use Rattle.git_input.specs.Spelled.{Spelled, Present, Absent, rest_bytes, IsSpelled, spelling, spelled_said}
 use Rattle.git_input.proofs.{SpelledHeaders.{id_high, header_spelled, header_none, missing_spelled, missing_none}, LinesRead.line_found}
 
-module _ (rule : ObjectRule) (whole : Bool) where
+module _ (rule : ObjectRule) (needs_end : Bool) where
   body_spelled : (object : ParsedObject) (content rest : List ℕ) → length content ≡ object.size → (rule false object content).1 ≡ None
-      → header_rule rule whole (Some (Object object)) ((content ++ byte "\n" ∷ []) ++ rest)
+      → header_rule rule needs_end (Some (Object object)) ((content ++ byte "\n" ∷ []) ++ rest)
       ≡ ((rule false object content).0, Ok rest)
   body_spelled object content rest long good = grind (arith, length-append, append_assoc, take_at, drop_at)
 
-  pub line_spelled : (object : Spelled) (rest : List ℕ) → IsSpelled rule whole object
-      → line_of (object_rule rule whole) (spelling object ++ rest) ≡ (spelled_said rule object, Ok rest)
+  pub line_spelled : (object : Spelled) (rest : List ℕ) → IsSpelled rule needs_end object
+      → line_of (object_rule rule needs_end) (spelling object ++ rest) ≡ (spelled_said rule object, Ok rest)
   line_spelled (Present object digits content) rest (good, number, long, none, fits, right) = grind (
     arith,
     append_assoc,
@@ -36,10 +36,10 @@ id_before how id rest given = grind (arith, common_steps)
 all_assoc : (a b c d : List ℕ) → ((a ++ b) ++ c) ++ d ≡ a ++ (b ++ (c ++ d))
 all_assoc a b c d = grind (arith, append_assoc)
 
-pub not_end : (rule : ObjectRule) (whole : Bool) (how : Ending) (object : Spelled) (rest : List ℕ) → IsSpelled rule whole object
+pub not_end : (rule : ObjectRule) (needs_end : Bool) (how : Ending) (object : Spelled) (rest : List ℕ) → IsSpelled rule needs_end object
     → is_end how (spelling object ++ rest) ≡ false
-not_end rule whole how (Present object digits content) rest good =
+not_end rule needs_end how (Present object digits content) rest good =
     rw (all_assoc object.id (byte " " ∷ (kind_word object.kind ++ (byte " " ∷ (digits ++ rest_bytes object.rest))))
     (byte "\n" ∷ (content ++ byte "\n" ∷ [])) rest)
     (id_before how object.id _ good.0)
-not_end rule whole how (Absent id) rest good = rw (all_assoc id (codes " missing") (byte "\n" ∷ []) rest) (id_before how id _ good.0)
+not_end rule needs_end how (Absent id) rest good = rw (all_assoc id (codes " missing") (byte "\n" ∷ []) rest) (id_before how id _ good.0)

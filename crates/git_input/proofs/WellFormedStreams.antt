@@ -11,7 +11,7 @@ use Rattle.git_input.specs.{declared.outcome.Verdict.Verdict, Promises.Runs}
 use Rattle.git_input.specs.{Reports.{Reach, verdict_of, IsCleanIff, longest, Said}, Texts.{line_end, split_once, number_of, is_id}}
 use Rattle.cli.specs.declared.outcome.RunError.{RunError}
 use Rattle.git_input.proofs.{SpelledStreams.{line_spelled, some_bytes, not_end}, WholeStreams.whole_stream, LinesRead.by_line}
-use Rattle.git_input.proofs.{WrittenLines.{AreRead, in_order, well_formed, only_clean, if_clean}, SplitTexts.{split_cuts, whole}}
+use Rattle.git_input.proofs.{WrittenLines.{AreRead, in_order, well_formed, only_clean, if_clean}, SplitTexts.split_cuts}
 
 -- ---- a header line
 
@@ -74,40 +74,40 @@ module _ (rule : ObjectRule) where
 
 -- ---- a stream
 
-pub objects_are_read : (rule : ObjectRule) (whole : Bool)
-    → AreRead (object_rule rule whole) (ending_of whole) (IsSpelled rule whole) spelling (spelled_said rule)
-objects_are_read rule whole = record {
-  leaves = object_rule_leaves rule whole;
-  read = λ object rest good. (some_bytes object rest, not_end rule whole (ending_of whole) object rest good, line_spelled rule whole object rest good);
-  only = by_line (object_rule rule whole) (IsNext rule whole)
-      (λ line text few none. header_next rule whole line (parsed_header line) text few none (header_is line));
+pub objects_are_read : (rule : ObjectRule) (needs_end : Bool)
+    → AreRead (object_rule rule needs_end) (ending_of needs_end) (IsSpelled rule needs_end) spelling (spelled_said rule)
+objects_are_read rule needs_end = record {
+  leaves = object_rule_leaves rule needs_end;
+  read = λ object rest good. (some_bytes object rest, not_end rule needs_end (ending_of needs_end) object rest good, line_spelled rule needs_end object rest good);
+  only = by_line (object_rule rule needs_end) (IsNext rule needs_end)
+      (λ line text few none. header_next rule needs_end line (parsed_header line) text few none (header_is line));
 }
 
-pub reported_in_order : (rule : ObjectRule) (whole : Bool) → IsReportedInOrder rule whole
-reported_in_order rule whole = in_order (objects_are_read rule whole)
+pub reported_in_order : (rule : ObjectRule) (needs_end : Bool) → IsReportedInOrder rule needs_end
+reported_in_order rule needs_end = in_order (objects_are_read rule needs_end)
 
-pub well_formed_only_if_spelled : (rule : ObjectRule) (whole : Bool) → IsWellFormedOnlyIfSpelled rule whole
-well_formed_only_if_spelled rule whole text none = grind (arith, well_formed (objects_are_read rule whole) text none)
+pub well_formed_only_if_spelled : (rule : ObjectRule) (needs_end : Bool) → IsWellFormedOnlyIfSpelled rule needs_end
+well_formed_only_if_spelled rule needs_end text none = grind (arith, well_formed (objects_are_read rule needs_end) text none)
 
 -- a run finds a text clean if and only if nothing of it is refused, by what that means of each object
-module _ (rule : ObjectRule) (whole : Bool) (IsGood : Spelled → Type 0)
-    (same : (object : Spelled) → IsSpelled rule whole object → ((spelled_said rule object).refused ≡ false) ↔ IsGood object) where
-  pub clean_if_good : (verdict : Verdict) (text : List ℕ) → verdict ≡ verdict_of (object_report rule whole text)
-      → IsCleanIff (IsStreamOf rule whole IsGood) verdict text
+module _ (rule : ObjectRule) (needs_end : Bool) (IsGood : Spelled → Type 0)
+    (same : (object : Spelled) → IsSpelled rule needs_end object → ((spelled_said rule object).refused ≡ false) ↔ IsGood object) where
+  pub clean_if_good : (verdict : Verdict) (text : List ℕ) → verdict ≡ verdict_of (object_report rule needs_end text)
+      → IsCleanIff (IsStreamOf rule needs_end IsGood) verdict text
   clean_if_good verdict text is = (
-    λ e. (let (all, good) = only_clean (objects_are_read rule whole) same text (sym is ∙ e) in
+    λ e. (let (all, good) = only_clean (objects_are_read rule needs_end) same text (sym is ∙ e) in
         record { stream = all.parts; each = all.each; good = good; text_is = all.text_is }),
-    λ all. is ∙ if_clean (objects_are_read rule whole) same text all.stream all.each all.good all.text_is (λ e. absurd (grind arith)),
+    λ all. is ∙ if_clean (objects_are_read rule needs_end) same text all.stream all.each all.good all.text_is (λ e. absurd (grind arith)),
   )
 
-  pub clean_run : {reach : Reach} {a b before after : Option (List ℕ)} (r : Result Verdict RunError) → Runs (object_report rule whole) reach a b before after r
-      → IfOk r (λ verdict. IfSome a (IsCleanIff (IsStreamOf rule whole IsGood) verdict))
+  pub clean_run : {reach : Reach} {a b before after : Option (List ℕ)} (r : Result Verdict RunError) → Runs (object_report rule needs_end) reach a b before after r
+      → IfOk r (λ verdict. IfSome a (IsCleanIff (IsStreamOf rule needs_end IsGood) verdict))
   clean_run {a = a} (Ok verdict) runs = IfSome_then a runs.verdict (λ text is. clean_if_good verdict text is.1)
   clean_run (Err stop) runs = tt
 
-pub clean_if_accepted : (rule : ObjectRule) (whole : Bool) (verdict : Verdict) (text : List ℕ) → verdict ≡ verdict_of (object_report rule whole text)
-    → IsCleanIff (IsCleanStream rule whole) verdict text
-clean_if_accepted rule whole = clean_if_good rule whole (λ object. (spelled_said rule object).refused ≡ false) (λ object good. (λ e. e, λ e. e))
+pub clean_if_accepted : (rule : ObjectRule) (needs_end : Bool) (verdict : Verdict) (text : List ℕ) → verdict ≡ verdict_of (object_report rule needs_end text)
+    → IsCleanIff (IsCleanStream rule needs_end) verdict text
+clean_if_accepted rule needs_end = clean_if_good rule needs_end (λ object. (spelled_said rule object).refused ≡ false) (λ object good. (λ e. e, λ e. e))
 
 -- what the promises of `objects::run` need
 pub ruleset object_laws = (reported_in_order, well_formed_only_if_spelled, whole_stream, clean_if_accepted)

@@ -14,5 +14,5 @@ module _ (rule : LineRule) (leaves : LeavesTheEnd rule) where
       (λ text is none. ([], (bytes_eq-Decides text end_line).0 is)) (λ number text said malformation e none. grind arith)
       (λ text said rest after e go none. ends_then text rest end_line (rw e at (line_ends rule leaves text)) (go none)) 1 text
 
-pub whole_stream : (rule : ObjectRule) (whole : Bool) → IsWholeStream rule whole
-whole_stream rule whole = grind (arith, ended_whole, object_rule_leaves)
+pub whole_stream : (rule : ObjectRule) (needs_end : Bool) → IsWholeStream rule needs_end
+whole_stream rule needs_end = grind (arith, ended_whole, object_rule_leaves)

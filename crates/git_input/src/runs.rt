@@ -84,7 +84,7 @@ pub fn answer<'a, C: Check<'a>, R: BufRead, W: Write + Drop, E: Write>(
         }
         Ok(Request::Help) => print(name, program.help, output, errors),
         Ok(Request::Version) => print(name, format_args!("{name} {VERSION}"), output, errors),
-        Err(fault) => fail_arguments(name, fault, errors),
+        Err(wrong) => fail_arguments(name, wrong, errors),
     }
 }
 

@@ -30,7 +30,12 @@ pub(crate) fn check(rt: &impl Host, text: &[u8]) -> Checked {
     let accepting = accepting(rt.alloc(), text)?;
     let accepted = faults.iter().map(|fault| *fault == VALID);
     for (kind, is_accepted) in accepted.enumerate() {
-        assert_eq!(rt; is_accepted, kind < accepting, "{:?}", BStr::new(text));
+        assert_eq!(rt;
+            is_accepted,
+            kind < accepting,
+            "rule {kind} accepts {:?}",
+            BStr::new(text)
+        );
     }
     expect_references(rt, text, faults)?;
     expect_submodule(rt, text, of_submodule(rt.alloc(), text)?)?;
@@ -125,7 +130,12 @@ pub(crate) fn expect_component(
 /// Checks the result for a device.
 pub(crate) fn expect_device(rt: &impl Abort, text: &[u8], wanted: bool) {
     let came = component_is_windows_device(BStr::new(text));
-    assert_eq!(rt; came, wanted, "device {:?}", BStr::new(text));
+    assert_eq!(rt;
+        came,
+        wanted,
+        "component_is_windows_device of {:?}",
+        BStr::new(text)
+    );
 }
 
 /// What follows the name in the buffer: no bytes, one or several.

@@ -1,12 +1,7 @@
 //! What errors print (docs/RULES.md, "Printed texts"), with a quoted byte or name.
 
-use crate::agree::{expect, expect_told};
-use crate::members::converted;
 use crate::reference::Fault;
-use arrayvec::ArrayVec;
-use gix_validate::{reference, tag};
 use std::alloc::{AllocError, Global};
-use std::test::Fail;
 
 /// Errors of one kind of name, and their texts.
 pub(crate) type Texts = &'static [(&'static [u8], &'static [u8])];
@@ -60,38 +55,6 @@ pub(crate) const OF_COMPONENTS: Texts = &[
     (b"SymlinkedGitModules", b"The .gitmodules file must not be a symlink"),
     (b"Relative", b"Relative components '.' and '..' are disallowed"),
 ];
-
-/// Names of at most fifteen bytes, and their quoted forms.
-#[rattlefmt::skip]
-const QUOTED: &[(&[u8], &[u8])] = &[
-    (b"", b"\"\""), (b"@", b"\"@\""), (b"refs/heads/HEAD", b"\"refs/heads/HEAD\""),
-    (b"\0", b"\"\\0\""), (b"\x1B", b"\"\\x1b\""), (b" ", b"\" \""), (b"\\", b"\"\\\\\""),
-    (b"~", b"\"~\""), (b"\x7F", b"\"\\x7f\""), (b"\xC3", b"\"\\xc3\""),
-    (b"\"\\", b"\"\\\"\\\\\""), (b"\t\n\r", b"\"\\t\\n\\r\""), (b"\x80\xFF", b"\"\\x80\\xff\""),
-];
-
-/// Names and bytes that are never an error are quoted too.
-#[test]
-fn quotes_bytes_and_names(rt: HostRuntime) -> Result<(), Fail> {
-    let alloc = rt.alloc();
-    for (given, quoted) in QUOTED {
-        let name = ArrayVec::try_from(*given)?;
-        let told = Err(reference::NameError::Reserved { name });
-        let fault: Fault<'_> = (b"Reserved", given);
-        expect_told(&rt, ("Reserved", given), (OF_REFERENCES, fault), told)?;
-        let came = printed(alloc, OF_REFERENCES, fault)?;
-        let wanted = [b"Reference name is reserved and cannot be used: ", *quoted].concat(alloc)?;
-        expect(&rt, ("Reserved", given), &wanted, &came);
-    }
-    for byte in 0..=u8::MAX {
-        let fault: Fault<'_> = (b"InvalidByte", &[byte]);
-        let told = Err(tag::NameError::InvalidByte { byte });
-        expect_told(&rt, ("tag", fault.1), (OF_TAGS, fault), told)?;
-        let told = Err(converted(tag::NameError::InvalidByte { byte }));
-        expect_told(&rt, ("reference", fault.1), (OF_REFERENCES, fault), told)?;
-    }
-    Ok(())
-}
 
 /// The text of the error, followed by what is quoted after it in its quoted form, if it wants that.
 pub(crate) fn printed(

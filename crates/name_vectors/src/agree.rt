@@ -28,13 +28,12 @@ pub(crate) type Checked = Result<(), AllocError>;
 pub(crate) fn check(rt: &impl Host, text: &[u8]) -> Checked {
     let faults = of_references(text);
     let accepting = accepting(rt.alloc(), text)?;
-    let accepted = faults.iter().map(|fault| *fault == VALID);
+    let (name, accepted) = (BStr::new(text), faults.iter().map(|fault| *fault == VALID));
     for (kind, is_accepted) in accepted.enumerate() {
         assert_eq!(rt;
             is_accepted,
             kind < accepting,
-            "rule {kind} accepts {:?}",
-            BStr::new(text)
+            "rule {kind} accepts {name:?}"
         );
     }
     expect_references(rt, text, faults)?;
@@ -129,13 +128,9 @@ pub(crate) fn expect_component(
 
 /// Checks the result for a device.
 pub(crate) fn expect_device(rt: &impl Abort, text: &[u8], wanted: bool) {
-    let came = component_is_windows_device(BStr::new(text));
-    assert_eq!(rt;
-        came,
-        wanted,
-        "component_is_windows_device of {:?}",
-        BStr::new(text)
-    );
+    let text = BStr::new(text);
+    let came = component_is_windows_device(text);
+    assert_eq!(rt; came, wanted, "component_is_windows_device of {text:?}");
 }
 
 /// What follows the name in the buffer: no bytes, one or several.

@@ -124,14 +124,14 @@ function wrong() {
     refused(RangeError, gix.faultNumbers, "a", "tag", 256);
 }
 
-/** Parts of buffers, and buffers that are shared or lie. */
+/** Parts of buffers, also as those of another window, buffers that are shared or lie, and results that no later call changes. */
 function buffers() {
     const lying = new Lying([72, 69, 65, 68]), shared = new Uint8Array(new SharedArrayBuffer(3)).fill(97);
     equal(gix.fullName(lying) === lying, true, "a lying array");
     equal(thrown(gix.tagName, new Lying([97, 32])).message.startsWith('"a ": '), true, "a lying array");
-    equal(gix.sanitize(new Lying([97, 32])), new Uint8Array([97, 45]), "a lying array");
-    equal(gix.faultNumbers(new Lying([97, 10, 32]), "tag"), new Uint8Array([0, 1]), "a lying array");
-    equal(gix.isValidTagName(new Uint8Array([32, 97, 98, 0]).subarray(1, 3)), true, "a part of a buffer");
+    const results = [gix.sanitize(new Lying([97, 32])), gix.faultNumbers(new Lying([97, 10, 32]), "tag"), gix.tagName("later")];
+    equal(results, [new Uint8Array([97, 45]), new Uint8Array([0, 1]), "later"], "a lying array, and calls after it");
+    equal(gix.isValidTagName(Object.setPrototypeOf(new Uint8Array([32, 97, 98, 0]).subarray(1, 3), null)), true, "a part");
     equal(gix.tagName(shared) === shared, true, "a shared buffer");
     shared[1] = 32;
     equal(thrown(gix.tagName, shared).byte, 32, "a shared buffer");
@@ -158,7 +158,6 @@ function lists() {
     }
     equal(gix.faults(new Set(["a", "a", "b.lock"]).values(), "tag"), [null, "LockFileSuffix"], "any iterable");
     equal([gix.faults([], "tag"), gix.firstInvalid([], "tag")], [[], -1], "no name");
-    equal(gix.faults([""], "tag"), ["Empty"], "an empty name");
     for (const last of ["b ", new Uint8Array([32])]) { // (in one buffer, and each by itself)
         equal(gix.firstInvalid([...Array(100000).fill("a"), last], "tag"), 100000, "a long list");
     }
@@ -168,7 +167,7 @@ function lists() {
 
 function strings() {
     ["Grüße", "🎉", "\ufeffa", "a\u2028b", "\u0085"].forEach((name) => validated("tag", undefined, name, "Ok", name));
-    validated("tag", undefined, "é ", "InvalidByte:20", "é ");
+    ["é ", `${"a".repeat(199)} `].forEach((name) => validated("tag", undefined, name, "InvalidByte:20", name));
     equal(gix.sanitize("é..🎉.lock"), "é.🎉", "a repair");
     equal(gix.sanitize("\ufeff.. "), "\ufeff.-", "a repair keeps a mark of byte order");
     equal(thrown(gix.tagName, "a\x1b[1m\x9b ").message.includes("\\u001b[1m\\u009b "), true, "a message is ASCII");
@@ -177,12 +176,12 @@ function strings() {
 
 function long() {
     for (const length of [63000, 65400, 65536, 1 << 20, (1 << 20) + 1, 5000001]) {
-        const name = "a".repeat(length), bytes = new Uint8Array(length).fill(0x80);
+        const name = "a".repeat(length), bytes = new Uint8Array(length).fill(10);
+        equal(gix.faultNumbers(bytes, "tag").every((number) => gix.FAULTS[number] === "Empty"), true, `${length} names`);
         equal(gix.tagName(name) === name && gix.submoduleName(bytes) === bytes, true, `${length} bytes`);
-        equal([`${name} `, `é${name} `].map((it) => thrown(gix.tagName, it).byte), [32, 32], `${length} bytes`);
+        equal([`${name} `, `${"漢".repeat(length)} `].map((it) => thrown(gix.tagName, it).byte), [32, 32], `${length} bytes`);
         equal(gix.sanitize(`${name}..b//`) === `${name}.b`, true, `${length} bytes`);
         equal(gix.faults([name, `${name} `], "tag"), [null, "InvalidByte"], `${length} bytes`);
-        equal(gix.faultNumbers("\n".repeat(length), "tag").every((number) => gix.FAULTS[number] === "Empty"), true, `${length} names`);
     }
 }
 
@@ -190,7 +189,7 @@ export function run(text, version) {
     const rows = text.split("\n").filter((line) => /^[^#]/.test(line));
     equal(rows.length > 500, true, "there are rows");
     rows.forEach(replayed);
-    [wrong, buffers, settings, lists, strings, long].forEach((test) => test());
+    [long, wrong, buffers, settings, lists, strings].forEach((test) => test()); // (the memory grows, and stays)
     equal(gix.version(), version, "the version");
     return `${rows.length} rows, ${checked} comparisons`;
 }

@@ -95,8 +95,8 @@ class Test(unittest.TestCase):
     def test_wrong_arguments(self):
         numbers, tag = gix_validate.fault_numbers, Kind.TAG
         wrong = [
-            (numbers, ("main", tag), "a buffer of names has to be bytes, not str"),
-            (numbers, ([b"main"], tag), "a buffer of names has to be bytes, not list"),
+            (numbers, ("main", tag), "a buffer of names has to be bytes, not str .os.fsencode "),
+            (numbers, ([b"main"], tag), "a buffer of names has to be bytes, not list$"),
             (numbers, (b"main", tag, "\n"), "the end of a name has to be bytes, not str"),
             (numbers, (b"main", "tag"), "a kind has to be a Kind, not str"),
         ]
@@ -122,17 +122,12 @@ class Test(unittest.TestCase):
             self.assertIs(gix_validate.is_valid_tag_name(make(b"a..b")), False)
             self.assertEqual(gix_validate.sanitize(make(b"a//b")), b"a/b")
             self.assertEqual(gix_validate.fault_numbers(make(b"v1;a..b;v2"), Kind.TAG, make(b";")), b"\0\4\0")
-            names = [make(b"v1"), b"a..b", make(b"")]
-            self.assertEqual(gix_validate.faults(names, Kind.TAG), [None, Fault.REPEATED_DOT, Fault.EMPTY])
+            names = [make(b"v1"), b"a..b", make(b"b\0")]
+            self.assertEqual(gix_validate.faults(names, Kind.TAG), [None, Fault.REPEATED_DOT, Fault.INVALID_BYTE])
         self.assertEqual(gix_validate.tag_name(memoryview(b"v-1-")[::2]), b"v1")
 
     def test_many_names(self):
-        self.assertEqual(gix_validate.faults([], Kind.TAG), [])
-        self.assertIsNone(gix_validate.first_invalid([], Kind.TAG))
-        self.assertEqual(gix_validate.fault_numbers(b"", Kind.TAG), b"")
-        self.assertEqual(gix_validate.first_invalid([b"a"] * 1000 + [b""], Kind.TAG), 1000)
-        names = [b"a", b"a\0b", b"", b"b\0"]
-        self.assertEqual(gix_validate.faults(names, Kind.SUBMODULE), [None, None, Fault.EMPTY, None])
+        self.assertEqual(gix_validate.faults([b"a\0b", b""], Kind.SUBMODULE), [None, Fault.EMPTY])
         for length, count in ((0, 10_000), (1, 10_000), (1_000_000, 3)):
             numbers = bytes([0 if length else Fault.EMPTY]) * count
             buffer = (b"a" * length + b"\n") * count
@@ -142,6 +137,7 @@ class Test(unittest.TestCase):
     def test_the_default_protects_against_all(self):
         for call in (CALLS["component"], WHETHER["component"]):
             self.assertEqual(call.__kwdefaults__, {"windows": True, "hfs": True, "ntfs": True, "symlink": False})
+        self.assertIs(gix_validate.is_valid_path_component(b".gitmodules", symlink=0o20000), False)
 
     def test_the_exception(self):
         error = self.refused(gix_validate.full_name, b"a\x1bb")
@@ -149,13 +145,12 @@ class Test(unittest.TestCase):
         copied = pickle.loads(pickle.dumps(error))
         self.assertEqual((copied.args, copied.text), ((error.name, error.fault, error.text, error.byte), error.text))
         self.assertEqual(f"{error.fault} {Fault.EMPTY:>6}", "InvalidByte  Empty")
-        self.assertEqual([fault_of(str(fault)) for fault in Fault], [*Fault])
-        self.assertIs(pickle.loads(pickle.dumps(Fault.EMPTY)), Fault.EMPTY)
         self.assertNotIsInstance(Fault.EMPTY, int)  # (msgpack would make it one, as a key of a dict)
         told = re.findall(r"GIX_VALIDATE_(\w+) = (\d+),? +/\* (.*) \*/", HEADER.split("not a fault")[1].split("};")[0])
         self.assertEqual([(fault.name, str(fault.value), fault.text) for fault in Fault], told)
         error = self.refused(gix_validate.tag_name, b"a" * 200 + b" ")
         self.assertEqual(str(error), f"{b'a' * 200!r}..: {error.text}")
+        self.validate("tag", {}, b"a" * 199 + b" ", "InvalidByte:20")
 
     def test_from_many_threads(self):
         with ThreadPoolExecutor(4) as pool:
@@ -163,7 +158,9 @@ class Test(unittest.TestCase):
 
     def test_the_examples_and_the_names(self):
         self.assertEqual(doctest.testmod(gix_validate).failed, 0)
-        self.assertEqual([name for name in gix_validate.__all__ if not getattr(gix_validate, name).__doc__], [])
+        own = [it for it in vars(gix_validate).values() if getattr(it, "__module__", "") == "gix_validate"]
+        documented = {it.__name__ for it in own if it.__doc__ and it.__name__[0] != "_"}
+        self.assertEqual({*gix_validate.__all__}, documented)
         self.assertEqual(gix_validate.__version__.partition(".dev")[0], "%d.%d.%d" % gix_validate.version())
 
     def test_a_library_that_is_missing_or_of_another_version(self):
@@ -172,8 +169,9 @@ class Test(unittest.TestCase):
             message = "same major version that isn't older: .* has %d[.]%d[.]%d" % found
             with mock.patch.object(gix_validate, "_VERSION", wanted), self.assertRaisesRegex(ImportError, message):
                 gix_validate._library()
-        with mock.patch.object(gix_validate, "_VERSION", (major, 0, 0)):
-            self.assertEqual(gix_validate._version_of(gix_validate._library()), found)
+        newer = mock.Mock(gix_validate_version=lambda: major * 1_000_000 + 123_456)
+        with mock.patch.object(ctypes, "CDLL", return_value=newer):
+            self.assertEqual(gix_validate._version_of(gix_validate._library()), (major, 123, 456))
         with mock.patch.dict(os.environ, GIX_VALIDATE_LIBRARY="/none.so"):
             self.assertRaisesRegex(ImportError, "none.so.*bindings/build.*GIX_VALIDATE_LIBRARY", gix_validate._library)
         for foreign in (ctypes.util.find_library("c"), __file__):

@@ -26,9 +26,10 @@ def copied(start, size):
 
 
 class Pack:
-    """A pack, and the references that are pushed with it."""
-    def __init__(self, algorithm="sha1"):
+    """A pack that a function fills, and the references that are pushed with it."""
+    def __init__(self, fill, *given, algorithm="sha1"):
         self.algorithm, self.parts, self.refs, self.ids = algorithm, [], [], set()
+        fill(self, *given)
 
     def sum(self, data):
         return hashlib.new(self.algorithm, data).digest()
@@ -64,9 +65,9 @@ class Pack:
         return body + self.sum(body)
 
 
-def modules(count):
+def modules(pack, count):
     """Versions of a file .gitmodules of 500 kB, each a delta of the one before, in random order."""
-    pack, rest = Pack(), b"[submodule \"a\"]\n" + b"#\n" * 250000
+    rest = b"[submodule \"a\"]\n" + b"#\n" * 250000
     base, ids = None, []
     for n in range(count):
         text = b"#%09d\n" % n + rest
@@ -76,7 +77,6 @@ def modules(count):
     commit = ()
     for it in ids:
         commit = (pack.commit(pack.tree((0o100644, b".gitmodules", it)), *commit, ref=b"main" if it is ids[-1] else None),)
-    return pack
 
 
 def below(pack, count, length):
@@ -89,96 +89,82 @@ def below(pack, count, length):
     return tree
 
 
-def folders(count, algorithm="sha1"):
-    pack = Pack(algorithm)
+def folders(pack, count):
     pack.commit(below(pack, count, 65000), ref=b"main")
-    return pack
 
 
-def orphans(count, each):
+def orphans(pack, count, each):
     """Commits without parents, each with the same 4,000 trees below a path of 65 kB, after references to another commit."""
-    pack = Pack()
     tree = below(pack, 4000, 65000)
     other = pack.commit(pack.tree((0o100644, b"f", pack.add("blob", b"x"))))
     for n in range(count):
         pack.commit(tree, ref=b"%d/first" % n)
         pack.refs += [(other, b"%d/%d" % (n, it)) for it in range(each)]
-    return pack
 
 
-def references(count):
-    pack = Pack()
+def references(pack, count):
     tree = pack.tree((0o100644, b"f", pack.add("blob", b"x")))
     commit = pack.commit(tree)
     pack.refs = [(commit, b"%06d" % n) for n in range(count)]
-    return pack
 
 
-def small_modules(count):
-    pack = Pack()
+def small_modules(pack, count):
     trees = [pack.tree((0o100644, b".gitmodules", pack.add("blob", b"[submodule \"a%d\"]\n" % n))) for n in range(count)]
     pack.commit(pack.tree(*((0o40000, b"d%06d" % n, it) for n, it in enumerate(trees))), ref=b"main")
-    return pack
 
 
-def chain(count):
+def chain(pack, count):
     """Trees, each a delta of the one before."""
-    pack, base, trees = Pack(), None, []
+    base, trees = None, []
     blob = pack.add("blob", b"x")
     for n in range(count):
         data = b"100644 f%06d\0%s" % (n, blob)
         base = pack.add("tree", data, base, len(blob)), len(data)
         trees.append((0o40000, b"d%06d" % n, base[0]))
     pack.commit(pack.tree(*trees), ref=b"main")
-    return pack
 
 
-def tags(count):
+def tags(pack, count):
     """A tag of a tag of a tag .., and a reference to each."""
-    pack = Pack()
     target, kind = pack.commit(pack.tree((0o100644, b"f", pack.add("blob", b"x")))), "commit"
     for n in range(count):
         text = f"object {target.hex()}\ntype {kind}\ntag t\ntagger a <b> 1 +0000\n\n{n}\n"
         target, kind = pack.add("tag", text.encode()), "tag"
         pack.refs.append((target, b"t%d" % n))
-    return pack
 
 
-def merges(count, parents):
-    pack = Pack()
+def merges(pack, count, parents):
     tree = pack.tree((0o100644, b"f", pack.add("blob", b"x")))
     commits = [pack.commit(tree) for _ in range(parents)]
     for n in range(count):
         pack.commit(tree, *commits, ref=b"m%d" % n)
-    return pack
 
 
-def files(count):
+def files(pack, count):
     """A first push of so many files, twenty in a folder, in a hundred commits that change one of them each."""
-    pack, commit = Pack(), ()
+    commit, trees = (), [None] * (count // 20)
     texts = [pack.add("blob", b"%d\n" % n * 500) for n in range(count)]
     for n in range(100):
-        texts[n * 131 % count] = pack.add("blob", b"%d\n" % n * 400)
-        parts = [texts[at:at + 20] for at in range(0, count, 20)]
-        trees = [pack.tree(*((0o100644, b"f%02d.txt" % at, it) for at, it in enumerate(part))) for part in parts] if n == 0 else trees
-        at = n * 131 % count // 20
-        trees[at] = pack.tree(*((0o100644, b"f%02d.txt" % k, it) for k, it in enumerate(parts[at])))
+        changed = n * 131 % count
+        texts[changed] = pack.add("blob", b"%d\n" % n * 400)
+        for at in range(len(trees)) if n == 0 else [changed // 20]:
+            part = texts[20 * at:20 * at + 20]
+            trees[at] = pack.tree(*((0o100644, b"f%02d.txt" % k, it) for k, it in enumerate(part)))
         commit = (pack.commit(pack.tree(*((0o40000, b"d%06d" % k, it) for k, it in enumerate(trees))), *commit),)
     pack.refs = [(*commit, b"main")]
-    return pack
 
 
 PUSHES = {
-    "1,000 .gitmodules of 500 kB, deltas of each other": lambda: modules(1000),
-    "4,000 trees below 65 kB, for 40 of 100,000 references": lambda: orphans(40, 2500),
-    "200,000 references": lambda: references(200000),
-    "100,000 trees below 65 kB": lambda: folders(100000),
-    "the same with SHA-256": lambda: folders(100000, "sha256"),
-    "100,000 small .gitmodules": lambda: small_modules(100000),
-    "a chain of 30,000 deltas": lambda: chain(30000),
-    "3,000 tags of tags": lambda: tags(3000),
-    "10 merges of 20,000 commits": lambda: merges(10, 20000),
-    "17,000 files": lambda: files(17000),
+    "1,000 .gitmodules of 500 kB, deltas of each other": lambda: Pack(modules, 1000),
+    "4,000 trees below 65 kB, for 40 of 100,000 references": lambda: Pack(orphans, 40, 2500),
+    "200,000 references": lambda: Pack(references, 200000),
+    "100,000 trees below 65 kB": lambda: Pack(folders, 100000),
+    "the same with SHA-256": lambda: Pack(folders, 100000, algorithm="sha256"),
+    "100,000 small .gitmodules": lambda: Pack(small_modules, 100000),
+    "a chain of 30,000 deltas": lambda: Pack(chain, 30000),
+    "3,000 tags of tags": lambda: Pack(tags, 3000),
+    "10 merges of 20,000 commits": lambda: Pack(merges, 10, 20000),
+    "17,000 files": lambda: Pack(files, 17000),
 }
 
 

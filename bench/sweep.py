@@ -130,20 +130,11 @@ def measure_all(library, listed, slow):
     return logs, differences
 
 
-def measure_again(library, slow, most):
-    """Measures the calls that are over on names of at most so many bytes, in passes over all."""
-    for _ in range(PASSES):
-        for (call, name), best in slow.items():
-            if is_over(best) and len(name) <= most:
-                slow[call, name] = measured(library, call, name, best)
-
-
-def measure_long(library, slow, keys):
-    """Measures these calls on long names as far as they are over, or not measured next to this crate."""
-    for key in keys:
-        for _ in range(PASSES):
-            if is_over(slow[key]) or slow[key][1] == math.inf:
-                slow[key] = measured(library, *key, slow[key], PASSES * ROUNDS)
+def measure_again(library, slow, keys, rounds=ROUNDS):
+    """Measures these calls as far as they are over, or not measured next to this crate, in passes over all."""
+    for _, key in itertools.product(range(PASSES), keys):
+        if is_over(slow[key]) or slow[key][1] == math.inf:
+            slow[key] = measured(library, *key, slow[key], rounds)
 
 
 def worst(slow):
@@ -172,13 +163,14 @@ def lines(first, without_avx2, layouts):
             grown += 1
             note(f"GROWS      {call:14} a byte takes {times:.1f} times as long at 64 KiB as at 1 KiB: {shown(name)}")
     logs, differences = measure_all(first, listed, slow)
-    measure_again(first, slow, LONG)
+    measure_again(first, slow, slow)
     long = [key for key, best in slow.items() if len(key[1]) == LONG and is_over(best)]
+    short = [key for key in slow if len(key[1]) < LONG]
     slow.update({key: (slow[key][0], math.inf) for key in long})
     for library in itertools.islice(again, len(without_avx2)):
-        measure_long(library, slow, long)
+        measure_again(library, slow, long, PASSES * ROUNDS)
     for library in again:
-        measure_again(library, slow, LONG - 1)
+        measure_again(library, slow, short)
     slow = {key: best for key, best in slow.items() if len(key[1]) < LONG or is_over(best)}
     by_avx2 = sum(key not in slow for key in long)
     yield f"time of a byte at 64 KiB against 1 KiB: {grown} are over {MOST_GROWTH} times" + "  OVER" * bool(grown)

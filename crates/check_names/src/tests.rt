@@ -8,7 +8,7 @@ use std::io;
 use std::io::{ErrorKind, Read, Write};
 use std::test::Fail;
 
-/// A line of each kind, and what is printed for it.
+/// Lines, and what is printed for them.
 pub const ROWS: (&[u8], &[u8]) = (
     b"partial @\nref V1\nbranch refs/heads/main\nsubmodule a/..\npath .git\nsymlink .gitmodules\n\
     device nul.txt\nsanitize a b.lock\nbogus x\ntag\n\ntag \n",

@@ -51,7 +51,7 @@ pub(crate) fn check(rt: &impl Host, text: &[u8]) -> Checked {
 /// Panics if the call with this name gave something else than what is wanted.
 pub(crate) fn expect(rt: &impl Abort, (call, text): (&str, &[u8]), wanted: &[u8], came: &[u8]) {
     let [text, wanted, came] = [BStr::new(text), BStr::new(wanted), BStr::new(came)];
-    assert_eq!(rt; came, wanted, "{call} of {text:?}");
+    assert_eq!(rt; came, wanted, "{call} of {text:?} (right: wanted)");
 }
 
 /// Panics if the result isn't the name itself if it is valid, or else the error, which prints its text.

@@ -25,7 +25,7 @@ module _ (options : Options) (tree : ParsedObject) where
 -- ---- an object
 
 with_none : (judged : Judged) → judged.1 ≡ None → judged ≡ (judged.0, None)
-with_none (said, fault) e = ap (λ fault. (said, fault)) e
+with_none (said, malformed) e = ap (λ malformed. (said, malformed)) e
 
 module _ (options : Options) where
   object_accepts : (needs_end : Bool) (object : Spelled) → IsSpelled (tree_rule options) needs_end object → (spelled_said (tree_rule options) object).refused ≡ false

@@ -116,8 +116,8 @@ IsFirst options width bytes entry =
     × (entry.0 ≡ record { front = named item.digits item.name item.number; id = item.id })
 
 -- what a test lets through
-if_ok : {T : Type 0} (test : Bool) (fault : Malformation) (x : T) (P : T → Type 0) → (test ≡ false → P x) → IfOk (if test then Err fault else Ok x) P
-if_ok test fault x P holds = grind arith
+if_ok : {T : Type 0} (test : Bool) (why : Malformation) (x : T) (P : T → Type 0) → (test ≡ false → P x) → IfOk (if test then Err why else Ok x) P
+if_ok test why x P holds = grind arith
 
 module _ (options : Options) (short : Malformation) (width : ℕ) where
   item_at : (bytes front : List ℕ) (parsed : Option ParsedModeAndName) → bytes ≡ front ++ nul ∷ drop (length front + 1) bytes → length front < longest
@@ -155,7 +155,7 @@ module _ (options : Options) (short : Malformation) (tree : ParsedObject) where
   tree_then : (more : List ℕ → Judged) (r : Result (ParsedEntry × List ℕ) Malformation) (bytes : List ℕ) (fuel : ℕ) → length bytes ≤ suc fuel
       → ((rest : List ℕ) → length rest ≤ fuel → Goes rest (more rest))
       → IfOk r (IsFirst options (length tree.id / 2) bytes) → Goes bytes (entries_then more options tree r)
-  tree_then more (Err fault) bytes fuel many go first none = grind arith
+  tree_then more (Err why) bytes fuel many go first none = grind arith
   tree_then more (Ok entry) bytes fuel many go (item, good, by, cut, same) none =
       let long : length bytes ≡ length (item_bytes item ++ entry.1) = ap length cut in
       let others = go entry.1 (grind (arith, length-append)) none in

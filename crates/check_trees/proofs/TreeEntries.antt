@@ -35,8 +35,8 @@ module _ (options : Options) (short : Malformation) (tree : ParsedObject) where
 -- ---- a tree from its first entry
 
 module _ (options : Options) (tree : ParsedObject) (left : ℕ) where
-  tree_faulty : (text : List ℕ) (fault : Malformation) → 0 < left → first_entry tree left text ≡ Err fault → tree_report options tree left text ≡ (nothing, Err fault)
-  tree_faulty text fault some e = grind (arith, entries_none, first_cut, entries_first)
+  malformed_tree : (text : List ℕ) (why : Malformation) → 0 < left → first_entry tree left text ≡ Err why → tree_report options tree left text ≡ (nothing, Err why)
+  malformed_tree text why some e = grind (arith, entries_none, first_cut, entries_first)
 
   tree_entry : (text : List ℕ) (len : ℕ) (entry : ParsedEntry) → 0 < len → len ≤ left → len ≤ length text
       → first_entry tree left text ≡ Ok (entry, take (left - len) (drop len text)) → tree_report options tree left text
@@ -62,10 +62,10 @@ module _ (options : Options) (tree : ParsedObject) (size left : ℕ) {a b old mi
   tree_goes c new entry bound gives = goes sofar _ c new entry.refused (IfSome_then b gives (λ rest (named, first, after, many, appends, found).
       (entry_said options tree named, _, after, tree_entry options tree left rest entry.len named bound.0 bound.1 many first, appends, found)))
 
-  pub tree_faults : (new : Option (List ℕ)) (fault : Malformation) → 0 < left → IfSome b (λ rest. EntryGives options tree left rest b mid new (Ok (Err fault)))
-      → IfSome a (λ text. FollowsRule (tree_report options tree size text) b old new (Ok (Err fault)))
-  tree_faults new fault some gives = ends sofar new (Err fault) (IfSome_then b gives (λ rest e.
-      (nothing, tree_faulty options tree left rest fault some e.0, e.1)))
+  pub tree_malformed : (new : Option (List ℕ)) (why : Malformation) → 0 < left → IfSome b (λ rest. EntryGives options tree left rest b mid new (Ok (Err why)))
+      → IfSome a (λ text. FollowsRule (tree_report options tree size text) b old new (Ok (Err why)))
+  tree_malformed new why some gives = ends sofar new (Err why) (IfSome_then b gives (λ rest e.
+      (nothing, malformed_tree options tree left rest why some e.0, e.1)))
 
   pub tree_ends : left ≡ 0 → IfSome a (λ text. FollowsRule (tree_report options tree size text) b old mid (Ok (Ok refused)))
   tree_ends none = IfSome_then a sofar.known (λ text so. grind (arith, append-nil, entries_none))

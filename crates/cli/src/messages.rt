@@ -1,4 +1,4 @@
-//! Where a program says why it can't answer.
+//! Where a program says why it failed.
 
 ghost use Rattle.std.specs.Prelude.{◌≡◌, false, IfSome};
 ghost use Rattle.cli.specs.Messages.{Says, is_lost, message, writer_of};

@@ -156,10 +156,10 @@ module _ (rule : LineRule) (leaves : LeavesTheEnd rule) (ending : Ending) (numbe
       goes sofar _ c new more (IfSome_then b gives.known (λ rest (some, other, (appends, found, (after, left, is))).
       ((line_of rule rest).0, after, left, grind (arith, lines_first rule leaves ending number rest), appends, found)))
 
-  pub stream_faults : {new : Option (List ℕ)} {malformation : Malformation} → LineGives rule ending b None mid new (Ok (Err malformation))
+  pub stream_malformed : {new : Option (List ℕ)} {malformation : Malformation} → LineGives rule ending b None mid new (Ok (Err malformation))
       → IfSome a (λ text. Appends old new (report rule ending text).said.lines × (Malformed number malformation ≡ verdict_of (report rule ending text)))
   unfolding report
-  stream_faults {new = new} {malformation = malformation} gives = grind (arith, lines_first, Appends-trans)
+  stream_malformed {new = new} {malformation = malformation} gives = grind (arith, lines_first, Appends-trans)
 
   -- nothing is left, and nothing has to be
   pub stream_ends : {front : List ℕ} {now : Option (List ℕ)} → ReadsBefore line_end longest b now front End → front ≡ [] → None ≡ malformation_at_end ending number

@@ -53,10 +53,10 @@ module _ (reach : Reach) where
 
 module _ (rule : LineRule) (leaves : LeavesTheEnd rule) (ending : Ending) (number : ℕ) (reach : Reach) {a b old mid : Option (List ℕ)} {refused : Bool}
     (sofar : SoFar (lines_report rule ending 1) (lines_report rule ending number) a b old mid refused) where
-  pub faults_within : {new : Option (List ℕ)} {malformation : Malformation} (c : Option (List ℕ)) → LineGives rule ending b None mid new (Ok (Err malformation))
+  pub malformed_within : {new : Option (List ℕ)} {malformation : Malformation} (c : Option (List ℕ)) → LineGives rule ending b None mid new (Ok (Err malformation))
       → IfSome b (λ rest. ReadsUpTo (extent reach rest) (Some rest) c) → IfSome a (λ text. StopsWithin reach (report rule ending text) c)
   unfolding report
-  faults_within c gives within = grind (arith, lines_first)
+  malformed_within c gives within = grind (arith, lines_first)
 
   -- nothing is left
   pub ends_within : (front : List ℕ) (c : Option (List ℕ)) → ReadsBefore line_end longest b c front End → front ≡ []

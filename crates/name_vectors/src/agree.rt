@@ -20,7 +20,7 @@ pub(crate) trait Host: Abort + AllocGlobal {}
 
 impl<T: Abort + AllocGlobal> Host for T {}
 
-/// What a check returns that found no fault.
+/// What a check returns if the results agree.
 pub(crate) type Checked = Result<(), AllocError>;
 
 /// Passes the name to the functions of the library, and panics if a result isn't that of the second
@@ -28,13 +28,10 @@ pub(crate) type Checked = Result<(), AllocError>;
 pub(crate) fn check(rt: &impl Host, text: &[u8]) -> Checked {
     let faults = of_references(text);
     let accepting = accepting(rt.alloc(), text)?;
-    let (name, accepted) = (BStr::new(text), faults.iter().map(|fault| *fault == VALID));
+    let accepted = faults.iter().map(|fault| *fault == VALID);
     for (kind, is_accepted) in accepted.enumerate() {
-        assert_eq!(rt;
-            is_accepted,
-            kind < accepting,
-            "rule {kind} accepts {name:?}"
-        );
+        let text = BStr::new(text);
+        assert_eq!(rt; is_accepted, kind < accepting, "rule {kind} of {text:?}");
     }
     expect_references(rt, text, faults)?;
     expect_submodule(rt, text, of_submodule(rt.alloc(), text)?)?;

@@ -1,6 +1,6 @@
 use Rattle.gix_validate.proofs.Common.{◌-◌, arith}
 use Rattle.git_input.proofs.{ReportSoFar.starts, LinesStop.{up_to_none, up_to_more}}
-use Rattle.check_trees.proofs.TreeEntries.{tree_goes, tree_faults, tree_ends, tree_stops}
+use Rattle.check_trees.proofs.TreeEntries.{tree_goes, tree_malformed, tree_ends, tree_stops}
 use Rattle.check_trees.proofs.check.check_tree.Goals as goal
 
 pub loop-left-init : goal.loop-left-init
@@ -16,7 +16,7 @@ loop-left-preserved g c =
     )
 
 pub returns-in-Err-clause-gives : goal.returns-in-Err-clause-gives
-returns-in-Err-clause-gives g c = tree_faults _ _ _ _ c.loop-left.invariant.2 _ _ c.loop-left-test.true (rw c.in-Err.is at c.in_ok-entry.ensures.gives)
+returns-in-Err-clause-gives g c = tree_malformed _ _ _ _ c.loop-left.invariant.2 _ _ c.loop-left-test.true (rw c.in-Err.is at c.in_ok-entry.ensures.gives)
 
 pub returns-clause-gives : goal.returns-clause-gives
 returns-clause-gives g c = tree_ends _ _ _ _ c.loop-left.invariant.2 (omega (arith, c.loop-left-test.false))

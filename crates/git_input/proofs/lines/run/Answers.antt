@@ -1,8 +1,8 @@
 use Rattle.gix_validate.proofs.Common.{arith, common_steps}
 use Rattle.git_input.proofs.LinesRead.{line_gives, long_gives, cut_gives}
-use Rattle.git_input.proofs.LinesRead.{stream_goes, stream_faults, stream_ends, stream_breaks, stream_marked, stream_spent, stream_stops, stream_pauses}
+use Rattle.git_input.proofs.LinesRead.{stream_goes, stream_malformed, stream_ends, stream_breaks, stream_marked, stream_spent, stream_stops, stream_pauses}
 use Rattle.git_input.proofs.lines.run.Goals.{in-Byte+in_ok-is_last-in-Byte+else-branch+in_ok-more-in-Byte+in-Err, in-Limit, in-End, in-End-2+in-Some}
-use Rattle.git_input.proofs.{ReportSoFar.{starts, on_err}, LinesStop.{line_within, long_within, cut_within, faults_within, ends_within}}
+use Rattle.git_input.proofs.{ReportSoFar.{starts, on_err}, LinesStop.{line_within, long_within, cut_within, malformed_within, ends_within}}
 use Rattle.git_input.proofs.WholeStreams.{ended_whole}
 use Rattle.git_input.proofs.lines.run.Goals as goal
 
@@ -48,13 +48,13 @@ returns-clause-stopped g c = λ _. stream_pauses _ (g.met.C.LineCheck.leaves _) 
 pub returns-in-loop-before-clause-verdict : goal.returns-in-loop-before-clause-verdict
 returns-in-loop-before-clause-verdict g c = elim c.match-branch-2.branch [
   | in-Byte+in_ok-is_last-in-Byte+else-branch+in_ok-more-in-Byte+in-Err w ↦ rw (w.output-is, w.malformation-is)
-      (stream_faults _ (g.met.C.LineCheck.leaves _) _ _ c.loop-before.invariant
+      (stream_malformed _ (g.met.C.LineCheck.leaves _) _ _ c.loop-before.invariant
       (line_gives _ (rw w.in-Byte.is at c.in_ok-read_before.ensures.read)
       (rw (w.if-branch.false, w.deref.ensures.value) at w.in_ok-is_last-in-Byte.ensures.known) w.in_ok-is_last-in-Byte.ensures.kept
       (rw (w.in-Err.is, w.deref-in-Byte.ensures.value) at w.in_ok-more-in-Byte.ensures.gives)))
-  | in-Limit w ↦ rw (w.output-is, w.malformation-is) (stream_faults _ (g.met.C.LineCheck.leaves _) _ _ c.loop-before.invariant
+  | in-Limit w ↦ rw (w.output-is, w.malformation-is) (stream_malformed _ (g.met.C.LineCheck.leaves _) _ _ c.loop-before.invariant
       (long_gives (rw w.in-Limit.is at c.in_ok-read_before.ensures.read)))
-  | in-End w ↦ rw (w.output-is, w.malformation-is) (stream_faults _ (g.met.C.LineCheck.leaves _) _ _ c.loop-before.invariant
+  | in-End w ↦ rw (w.output-is, w.malformation-is) (stream_malformed _ (g.met.C.LineCheck.leaves _) _ _ c.loop-before.invariant
       (cut_gives (rw w.in-End.is at c.in_ok-read_before.ensures.read) (grind (arith, common_steps))))
   | in-End-2+in-Some w ↦ rw (w.output-is, w.malformation-is) (stream_breaks _ (g.met.C.LineCheck.leaves _) _ _ c.loop-before.invariant
       (rw w.in-End-2.is at c.in_ok-read_before.ensures.read) (grind (arith, common_steps)) (grind (arith, common_steps)))
@@ -63,16 +63,16 @@ returns-in-loop-before-clause-verdict g c = elim c.match-branch-2.branch [
 pub returns-in-loop-before-clause-within : goal.returns-in-loop-before-clause-within
 returns-in-loop-before-clause-within g c = λ _. elim c.match-branch-2.branch [
   | in-Byte+in_ok-is_last-in-Byte+else-branch+in_ok-more-in-Byte+in-Err w ↦ rw (w.input-is)
-      (faults_within _ (g.met.C.LineCheck.leaves _) _ _ _ c.loop-before.invariant _
+      (malformed_within _ (g.met.C.LineCheck.leaves _) _ _ _ c.loop-before.invariant _
       (line_gives _ (rw w.in-Byte.is at c.in_ok-read_before.ensures.read)
       (rw (w.if-branch.false, w.deref.ensures.value) at w.in_ok-is_last-in-Byte.ensures.known) w.in_ok-is_last-in-Byte.ensures.kept
       (rw (w.in-Err.is, w.deref-in-Byte.ensures.value) at w.in_ok-more-in-Byte.ensures.gives))
       (line_within _ _ _ _ _ _ (rw w.in-Byte.is at c.in_ok-read_before.ensures.read) w.in_ok-is_last-in-Byte.ensures.kept
       (rw w.deref-in-Byte.ensures.value at w.in_ok-more-in-Byte.ensures.within)))
-  | in-Limit w ↦ rw (w.input-is) (faults_within _ (g.met.C.LineCheck.leaves _) _ _ _ c.loop-before.invariant _
+  | in-Limit w ↦ rw (w.input-is) (malformed_within _ (g.met.C.LineCheck.leaves _) _ _ _ c.loop-before.invariant _
       (long_gives (rw w.in-Limit.is at c.in_ok-read_before.ensures.read))
       (long_within _ _ _ _ (rw w.in-Limit.is at c.in_ok-read_before.ensures.read)))
-  | in-End w ↦ rw (w.input-is) (faults_within _ (g.met.C.LineCheck.leaves _) _ _ _ c.loop-before.invariant _
+  | in-End w ↦ rw (w.input-is) (malformed_within _ (g.met.C.LineCheck.leaves _) _ _ _ c.loop-before.invariant _
       (cut_gives (rw w.in-End.is at c.in_ok-read_before.ensures.read) (grind (arith, common_steps)))
       (cut_within _ _ _ _ (rw w.in-End.is at c.in_ok-read_before.ensures.read)))
   | in-End-2+in-Some w ↦ rw (w.input-is) (ends_within _ (g.met.C.LineCheck.leaves _) _ _ _ c.loop-before.invariant _ _

@@ -4,7 +4,7 @@
  * 0; reads and writes past either end of a name, a buffer and an array; the version.
  * Each name and each buffer is a block of its exact size, so that valgrind sees any byte beyond it.
  *
- *     rows FILE      prints how many rows were replayed; status 1 where an answer is wrong
+ *     rows FILE      prints how many rows were replayed; status 1 if a result is wrong
  */
 #define _DEFAULT_SOURCE /* MAP_ANONYMOUS */
 #include "gix_validate.h"
@@ -51,7 +51,7 @@ static bool same(const uint8_t *left, const void *right, size_t length) {
     return memcmp(left, right, length) == 0;
 }
 
-/* The calls by their words in the rows. A component asks under its flags, the others leave them aside. */
+/* The calls by their words in the rows. A component is checked with its flags; the others ignore them. */
 struct question {
     const char *call;
     uint32_t (*code)(const uint8_t *, size_t) GIX_VALIDATE_ABI;
@@ -78,7 +78,7 @@ static size_t text_of(const struct question *asked, uint32_t flags, struct bytes
                                : gix_validate_component_text(name.start, name.length, flags, text.start, text.length);
 }
 
-/* Whatever the buffer's size, the call answers the length of the text. It writes the same text into each buffer that
+/* Whatever the buffer's size, the call returns the length of the text. It writes the same text into each buffer that
    the text fits, and changes nothing else. */
 static void check_texts(const struct question *asked, uint32_t flags, struct bytes name, const char *wanted) {
     struct bytes none = {NULL, 0};
@@ -161,7 +161,7 @@ static void check_sanitized(struct bytes name, struct bytes wanted) {
     free(small.start);
 }
 
-/* Takes the quoted text at *at into a block of its size, and moves *at behind its closing quote. */
+/* Takes the quoted text at *at into a block of its size, and moves *at after its closing quote. */
 static struct bytes quoted(const char **at) {
     uint8_t decoded[4096];
     size_t length = 0;
@@ -286,7 +286,7 @@ static void check_row(const char *row) {
     free(name.start);
 }
 
-/* Asks everything of a name; what is answered is not looked at. */
+/* Passes a name to every function; the results are ignored. */
 static void ask_all(struct bytes name) {
     struct bytes none = {NULL, 0};
     uint8_t copy[512];

@@ -53,7 +53,7 @@ pub fn name(input: &BStr) -> Result<&BStr, name::Error> {
 }
 
 /// The offset of the fault of a tag's name in bytes, or `None` if it is valid. A fault of the end is at the last byte, that of
-/// an empty name at 0. It serves for references, too: what is invalid as a tag is so at the same place.
+/// an empty name at 0. It serves for references, too: what is invalid as a tag is so at the same offset.
 ///
 /// ```
 /// use bstr::ByteSlice;

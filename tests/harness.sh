@@ -22,7 +22,8 @@ while [[ ${1-} == --case ]]; do
     chosen+=("$2")
     shift 2
 done
-(($# == 0)) || [[ $# == 1 && ($1 == --built || -f $1) ]] || { echo "usage: $0 [--list] [--case NAME], not $*; --help says more" >&2; exit 2; }
+(($# == 0)) || [[ $# == 1 && $1 == @(--built|*.tar.gz) ]] ||
+    { echo "usage: $0 [--list] [--case NAME], not $*; --help says more" >&2; exit 2; }
 
 # A folder for the script, which goes when it ends, and the file of checks. The script ends by `leave`, or it fails.
 room=$(mktemp -d) && tally=$(mktemp) || exit

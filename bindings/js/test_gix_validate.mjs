@@ -189,7 +189,7 @@ export function run(text, version) {
     const rows = text.split("\n").filter((line) => /^[^#]/.test(line));
     equal(rows.length > 500, true, "there are rows");
     rows.forEach(replayed);
-    [long, wrong, buffers, settings, lists, strings].forEach((test) => test()); // (the memory grows, and stays)
+    [long, wrong, buffers, settings, lists, strings].forEach((test) => test()); // (long is first: memory that grew stays)
     equal(gix.version(), version, "the version");
     return `${rows.length} rows, ${checked} comparisons`;
 }

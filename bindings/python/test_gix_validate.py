@@ -128,6 +128,7 @@ class Test(unittest.TestCase):
 
     def test_many_names(self):
         self.assertEqual(gix_validate.faults([b"a\0b", b""], Kind.SUBMODULE), [None, Fault.EMPTY])
+        self.assertEqual(gix_validate.fault_numbers(b"a\n.git", Kind.COMPONENT), bytes([0, Fault.DOT_GIT_DIR]))
         for length, count in ((0, 10_000), (1, 10_000), (1_000_000, 3)):
             numbers = bytes([0 if length else Fault.EMPTY]) * count
             buffer = (b"a" * length + b"\n") * count
@@ -159,8 +160,8 @@ class Test(unittest.TestCase):
     def test_the_examples_and_the_names(self):
         self.assertEqual(doctest.testmod(gix_validate).failed, 0)
         own = [it for it in vars(gix_validate).values() if getattr(it, "__module__", "") == "gix_validate"]
-        documented = {it.__name__ for it in own if it.__doc__ and it.__name__[0] != "_"}
-        self.assertEqual({*gix_validate.__all__}, documented)
+        documented = {it.__name__: bool(it.__doc__) for it in own if it.__name__[0] != "_"}
+        self.assertEqual(dict.fromkeys(gix_validate.__all__, True), documented)
         self.assertEqual(gix_validate.__version__.partition(".dev")[0], "%d.%d.%d" % gix_validate.version())
 
     def test_a_library_that_is_missing_or_of_another_version(self):

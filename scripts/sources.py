@@ -14,11 +14,6 @@ EDIT = re.compile(r"file: (.*)\nold: (.*)\nnew: ?(.*)\nrefused: ([\w:]+)((?: \w+
 BEGIN = re.compile(r"""(?mx)^(?P<margin>[ ]{4})? (?P<pub>pub[ ])? (?:pub\([\w ]+\)[ ])? (?:const[ ]|extern[ ]"C"[ ])* (?:
     (?P<kind>fn|struct|enum|trait|type|const|static|impl)\b (?:<[^>]*>)?[ ] (?:.*[ ]for[ ])? (?P<name>[\w:]*\w)
     |[ ]*(?P<member>ghost|ensures)(?:[ ](?P<clause>\w+))?(?::|[ ]=)?[ ]\{)""")
-# The pages that tests/pages runs, all but the last with a release.
-PAGES = ["README.md", "docs/BINDINGS.md", "docs/RELEASES.md", "docs/RECIPES.md", "docs/RULES.md", "hook/README.md",
-         "bench/README.md", *(f"bindings/{it}/README.md" for it in ("c", "rust", "python", "js")), "docs/TUTORIAL.md"]
-# A block: the line before it, a comment between them, its language, and its code.
-BLOCK = re.compile(r"(?:^([^\n]*)\n\n?)?(?:^<!-- ([^\n]*) -->\n)?^```(\w*)\n(.*?)^```$", re.M | re.S)
 Item = namedtuple("Item", "file offset path clause is_public")
 Edit = namedtuple("Edit", "file crate source old new function clauses is_limit")
 
@@ -53,16 +48,6 @@ def write_or_check(doc, derive, then=()):
     failed = not is_check and any([subprocess.call([script]) for script in then])
     end = f"differs: run {sys.argv[0]}" if is_check else "is written"
     parser.exit(bool(failed or is_check and differ), "".join(f"{path} {end}\n" for path in differ))
-
-
-def blocks(page):
-    """Yields the blocks of a page that can be run, and its texts: the line before each, its note, its language, its code, its
-    line, and the number of headings above."""
-    for it in BLOCK.finditer(read(page)):
-        before, note, language, code = (group or "" for group in it.groups())
-        if language in ("text", "sh", "c", "cmake", "python", "js", "toml", "rust") and "From `" not in before:
-            above = it.string[:it.start(3)]
-            yield before, note, language, code, above.count("\n") + 1, len(re.findall("(?m)^##", above))
 
 
 @lru_cache(None)

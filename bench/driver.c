@@ -3,9 +3,7 @@
    number of milliseconds it makes passes over all names for that long with each library, and prints the nanoseconds a
    name of the best pass of each, or a dash.
 
-       driver CALL NAMES [MILLISECONDS]
-
-   As a shared object it has `measure` and `agree`, for bench/sweep.py. */
+       driver CALL NAMES [MILLISECONDS] */
 #include <math.h>
 #include <stdio.h>
 #include <stdlib.h>
@@ -17,8 +15,7 @@
 #include <git2.h>
 #endif
 
-enum { LIBRARIES = 3, ROOM = 1 << 21, MOST_CALLS = 201 };
-static const double BATCH = 1000;
+enum { LIBRARIES = 3, ROOM = 1 << 21 };
 static uint8_t our_buffer[ROOM], crate_buffer[ROOM];
 
 struct name {
@@ -38,17 +35,13 @@ typedef size_t pass(const struct name *names, size_t count);
         }                                                                                                              \
         return sum;                                                                                                    \
     }
-#define BOTH(call, function, ...)                                                                                      \
-    EACH(our_##call, gix_validate_##function(bytes, len, ##__VA_ARGS__))                                               \
-    EACH(crates_##call, crate_##function(bytes, len, ##__VA_ARGS__))
-BOTH(tag, tag)
-BOTH(partial, partial)
-BOTH(full, full)
-BOTH(branch, branch)
-BOTH(submodule, submodule)
-BOTH(component, component, 7)
-BOTH(component_bare, component, 0)
-BOTH(symlink, component, 15)
+#define BOTH(call, ...)                                                                                                \
+    EACH(our_##call, gix_validate_##call(bytes, len, ##__VA_ARGS__))                                                   \
+    EACH(crates_##call, crate_##call(bytes, len, ##__VA_ARGS__))
+BOTH(tag)
+BOTH(full)
+BOTH(submodule)
+BOTH(component, 7)
 EACH(our_sanitize, gix_validate_sanitize(bytes, len, our_buffer, len + 1))
 EACH(crates_sanitize, crate_sanitize(bytes, len, crate_buffer))
 EACH(in_place, (memcpy(our_buffer, bytes, len), gix_validate_sanitize_in_place(our_buffer, len + 1, len)))
@@ -74,13 +67,9 @@ static const struct call {
     pass *passes[LIBRARIES];
 } calls[] = {
     {"tag", {our_tag, OF_CRATE(crates_tag), OF_LIBGIT2(libgit2_tag)}},
-    {"partial", {our_partial, OF_CRATE(crates_partial)}},
     {"full", {our_full, OF_CRATE(crates_full), OF_LIBGIT2(libgit2_full)}},
-    {"branch", {our_branch, OF_CRATE(crates_branch)}},
     {"submodule", {our_submodule, OF_CRATE(crates_submodule)}},
     {"component", {our_component, OF_CRATE(crates_component)}},
-    {"component_bare", {our_component_bare, OF_CRATE(crates_component_bare)}},
-    {"symlink", {our_symlink, OF_CRATE(crates_symlink)}},
     {"sanitize", {our_sanitize, OF_CRATE(crates_sanitize)}},
     {"sanitize_in_place", {in_place, OF_CRATE(crates_sanitize)}},
 };
@@ -99,27 +88,6 @@ static double nanoseconds(pass *pass, const struct name *names, size_t count) {
     double start = now();
     sum += pass(names, count);
     return (now() - start) / (double)count;
-}
-
-/* Lowers the best times of a call on a name: of several batches of calls, those of both libraries in turn. */
-void measure(const char *name, const uint8_t *bytes, size_t len, int rounds, double best[2]) {
-    pass *const *passes = find(name)->passes;
-    struct name names[MOST_CALLS];
-    for (int i = 0; i < MOST_CALLS; i++)
-        names[i] = (struct name){bytes, len};
-    double guess = fmin(nanoseconds(passes[0], names, 2), nanoseconds(passes[1], names, 2));
-    size_t count = guess > BATCH ? 1 : 1 + (size_t)(BATCH / fmax(guess, 5));
-    for (int round = 0; round < rounds; round++)
-        for (int i = 0; i < 2; i++)
-            best[i] = fmin(best[i], nanoseconds(passes[i], names, count));
-}
-
-/* Whether both libraries accept a name, or both refuse it; of repaired names, whether they are the same. */
-int agree(const char *name, const uint8_t *bytes, size_t len) {
-    pass *const *passes = find(name)->passes;
-    const struct name names[] = {{bytes, len}};
-    size_t ours = passes[0](names, 1), crates = passes[1](names, 1);
-    return passes[0] == our_sanitize ? ours == crates && !memcmp(our_buffer, crate_buffer, ours) : !ours == !crates;
 }
 
 int main(int argc, char **argv) {

@@ -18,9 +18,7 @@ macro_rules! calls {
 }
 calls! {
     crate_tag: tag::name,
-    crate_partial: reference::name_partial,
     crate_full: reference::name,
-    crate_branch: reference::branch_name,
     crate_submodule: submodule::name,
 }
 

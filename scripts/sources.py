@@ -1,4 +1,5 @@
-"""What the scripts share that read the sources, and work at the root: files, clauses, must-fail edits, what is written."""
+"""What the scripts share that read the sources, and work at the root: files, clauses,
+must-fail edits, what is written."""
 import argparse
 import os
 import re
@@ -9,11 +10,17 @@ from functools import lru_cache
 from pathlib import Path
 
 os.chdir(Path(__file__).resolve().parent.parent)
-EDIT = re.compile(r"file: (.*)\nold: (.*)\nnew: ?(.*)\nrefused: ([\w:]+)((?: \w+)+)( \(limit\))?\n")
+EDIT = re.compile(
+    r"file: (.*)\nold: (.*)\nnew: ?(.*)\nrefused: ([\w:]+)((?: \w+)+)( \(limit\))?\n"
+)
 # What begins a function, a type or the like, or one of their clauses.
-BEGIN = re.compile(r"""(?mx)^(?P<margin>[ ]{4})? (?P<pub>pub[ ])? (?:pub\([\w ]+\)[ ])? (?:const[ ]|extern[ ]"C"[ ])* (?:
-    (?P<kind>fn|struct|enum|trait|type|const|static|impl)\b (?:<[^>]*>)?[ ] (?:.*[ ]for[ ])? (?P<name>[\w:]*\w)
-    |[ ]*(?P<member>ghost|ensures)(?:[ ](?P<clause>\w+))?(?::|[ ]=)?[ ]\{)""")
+BEGIN = re.compile(
+    r"""(?mx)^(?P<margin>[ ]{4})?
+    (?P<pub>pub[ ])? (?:pub\([\w ]+\)[ ])? (?:const[ ]|extern[ ]"C"[ ])* (?:
+    (?P<kind>fn|struct|enum|trait|type|const|static|impl)\b
+    (?:<[^>]*>)?[ ] (?:.*[ ]for[ ])? (?P<name>[\w:]*\w)
+    |[ ]*(?P<member>ghost|ensures)(?:[ ](?P<clause>\w+))?(?::|[ ]=)?[ ]\{)"""
+)
 Item = namedtuple("Item", "file offset path clause is_public")
 Edit = namedtuple("Edit", "file crate source old new function clauses is_limit")
 
@@ -22,10 +29,25 @@ def read(path):
     return Path(path).read_text("utf-8")
 
 
+def put_between(path, text, before, after, new):
+    """The text with this between what is before and after it, which it has once. That
+    has as many lines as the old one, or ends with a line."""
+    head, _, rest = text.partition(before)
+    old, end, tail = rest.partition(after)
+    is_as_long = old.count("\n") == new.count("\n") or after[0] == "\n"
+    if text.count(before) != 1 or not end or not is_as_long:
+        raise SystemExit(
+            f"{path} does not have this once, in as many lines as are written: "
+            f"{before!r} .. {after!r}"
+        )
+    return head + before + new + end + tail
+
+
 def write_or_check(doc, derive, then=()):
-    """Runs a script that gives places of files: what is before each and after it, and the text between; or a file, and all of
-    it. It writes them, or with --check fails if a file has another. A text has as many lines as the old one, or ends with a
-    line. If it writes, the scripts `then` run. It writes nothing if the script gives strings, too, which say what is wrong."""
+    """Runs a script that gives places of files: what is before each and after it, and
+    the text between; or a file, and all of it. It writes them, or with --check fails if
+    a file has another. If it writes, the scripts `then` run. It writes nothing if the
+    script gives strings, too, which say what is wrong."""
     parser = argparse.ArgumentParser(description=doc)
     parser.add_argument("--check", action="store_true")
     is_check = parser.parse_args().check
@@ -33,73 +55,98 @@ def write_or_check(doc, derive, then=()):
     if faults := [it for it in places if isinstance(it, str)]:
         raise SystemExit("\n".join(faults))
     for path, *around, new in places:
-        text = texts.get(path) or read(path)
         if around:
-            before, after = around
-            head, _, rest = text.partition(before)
-            old, end, tail = rest.partition(after)
-            if text.count(before) != 1 or not end or old.count("\n") != new.count("\n") and after[0] != "\n":
-                raise SystemExit(f"{path} does not have this once, in as many lines as are written: {before!r} .. {after!r}")
-            new = head + before + new + end + tail
+            new = put_between(path, texts.get(path) or read(path), *around, new)
         texts[path] = new
     differ = [path for path in texts if texts[path] != read(path)]
     for path in [] if is_check else differ:
         Path(path).write_text(texts[path], "utf-8")
     failed = not is_check and any([subprocess.call([script]) for script in then])
     end = f"differs: run {sys.argv[0]}" if is_check else "is written"
-    parser.exit(bool(failed or is_check and differ), "".join(f"{path} {end}\n" for path in differ))
+    status = bool(failed or is_check and differ)
+    parser.exit(status, "".join(f"{path} {end}\n" for path in differ))
+
+
+def items_of(file):
+    """What begins in a source, in order."""
+    text = read(file)
+    _, crate, _, *modules = file.with_suffix("").parts
+    for it in BEGIN.finditer(text):
+        kind, name = it["kind"] or it["member"], it["name"]
+        if it["kind"] and not it["margin"]:
+            # (What comes next, with a margin, is a member of this.)
+            top, owner = kind, ""
+            if kind != "fn":
+                words = name.split("::")
+                owner = "".join(word[0].upper() + word[1:] for word in words)
+            # (`main` calls the functions beside it.)
+            is_called = kind == "fn" and file.name == "main.rt"
+            is_shown = is_called or re.search(rf"(?m)^pub \w+ {name}\b", text)
+            # (What an impl says of a trait's method stands for what the trait says.)
+            is_of_trait = kind == "trait" and is_shown or " for " in it[0]
+        if kind == "fn":
+            names = (owner, name)
+            is_public = it["pub"] or is_of_trait or is_shown and top == "fn"
+        elif kind != "ensures":
+            names = (owner,)
+            is_public = is_shown and top != "trait"
+        parts = (crate, *modules, *names)
+        path = "::".join(part for part in parts if part not in ("lib", "main", ""))
+        clause = it["member"] and (it["clause"] or "answer")
+        yield Item(file, it.start(), path, clause, bool(clause and is_public))
 
 
 @lru_cache(None)
 def items():
-    """What begins in sources: where, the path of its function or type (a ghost member of an impl is one of its type),
-    and for a clause its name and whether that is public."""
-    found = []
-    for file in sorted(Path("crates").glob("*/src/**/*.rt")):
-        text, (_, crate, _, *modules) = read(file), file.with_suffix("").parts
-        for it in BEGIN.finditer(text):
-            kind, name = it["kind"] or it["member"], it["name"]
-            if it["kind"] and not it["margin"]:
-                top, owner = kind, "" if kind == "fn" else "".join(word[0].upper() + word[1:] for word in name.split("::"))
-                # (`main` calls the functions beside it.)
-                is_shown = kind == "fn" and file.name == "main.rt" or re.search(rf"(?m)^pub \w+ {name}\b", text)
-                # (What an impl of a trait says of a method stands for what the trait says.)
-                is_of_trait = kind == "trait" and is_shown or " for " in it[0]
-            if kind == "fn":
-                names, is_public = (owner, name), it["pub"] or is_of_trait or is_shown and top == "fn"
-            elif kind != "ensures":
-                names, is_public = (owner,), is_shown and top != "trait"
-            path = "::".join(it for it in (crate, *modules, *names) if it not in ("lib", "main", ""))
-            clause = it["member"] and (it["clause"] or "answer")
-            found.append(Item(file, it.start(), path, clause, bool(clause and is_public)))
-    return found
+    """What begins in sources: where, the path of its function or type (a ghost member
+    of an impl is one of its type), and for a clause its name and whether it is public.
+    """
+    files = sorted(Path("crates").glob("*/src/**/*.rt"))
+    return [it for file in files for it in items_of(file)]
 
 
 @lru_cache(None)
 def bodies(file):
-    """The functions of a source, each with the range of its body: what is between its braces, which hold no statement."""
-    text, begun, found = read(file), [it for it in items() if it.file == file and it.clause is None], []
+    """The functions of a source, each with the range of its body: what is between its
+    braces, which hold no statement."""
+    text, found = read(file), []
+    begun = [it for it in items() if it.file == file and it.clause is None]
     for it, end in zip(begun, [*(it.offset for it in begun[1:]), len(text)]):
-        margin, head = re.match(r"( *)(.*)", text[it.offset:end]).groups()
+        margin, head = re.match(r"( *)(.*)", text[it.offset : end]).groups()
         # (A line that is a brace alone, or ends a signature without clauses.)
         opening = re.compile(r"(?m)(?:^ *| )\{$").search(text, it.offset, end)
         if opening and re.search(r"\bfn ", head):
-            found.append((it.path, opening.end(), text.index(f"\n{margin}}}\n", opening.end() - 1)))
+            first = opening.end()
+            last = text.index(f"\n{margin}}}\n", first - 1)
+            found.append((it.path, first, last))
     return found
 
 
+def edit_of(file):
+    """A must-fail edit. It has to replace one text, in the body of its function."""
+    parts = EDIT.fullmatch(read(file))
+    if not parts:
+        raise SystemExit(
+            f"{file} is no edit: its lines are "
+            "'file:', 'old:', 'new:', 'refused: FUNCTION CLAUSE..'"
+        )
+    name, old, new, function, clauses, limit = parts.groups()
+    crate, source = file.parts[1], file.parent.parent / name
+    text, path = read(source), f"{crate}::{function}"
+    if text.count(old) != 1:
+        raise SystemExit(
+            f"{file} no longer applies: {name} does not have this once: {old}"
+        )
+    start = text.index(old)
+    end = start + len(old)
+    ranges = [(first, last) for it, first, last in bodies(source) if it == path]
+    if not any(first <= start < end <= last for first, last in ranges):
+        raise SystemExit(f"{file} changes something else than the body of {function}")
+    return Edit(file, crate, source, old, new, path, clauses.split(), bool(limit))
+
+
 def edits():
-    """Yields the must-fail edits: what each replaces in the body of a function, which refuses it, with its clauses, and
-    whether only a search that gave up says so."""
+    """Yields the must-fail edits: what each replaces in the body of a function, which
+    refuses it, with its clauses, and whether only a search that gave up says so."""
     for file in sorted(Path("crates").glob("*/*/*.edit")):
-        folder, crate, parts = file.parent.parent, file.parts[1], EDIT.fullmatch(read(file))
-        if not parts:
-            raise SystemExit(f"{file} is no edit: its lines are 'file:', 'old:', 'new:', 'refused: FUNCTION CLAUSE..'")
-        source, old, new, function, clauses, limit = parts.groups()
-        if read(folder / source).count(old) != 1:
-            raise SystemExit(f"{file} no longer applies: {source} does not have this once: {old}")
-        at = read(folder / source).index(old)
-        if not any(path == f"{crate}::{function}" and first <= at < at + len(old) <= last
-                   for path, first, last in bodies(folder / source)):
-            raise SystemExit(f"{file} changes something else than the body of {function}")
-        yield Edit(file, crate, folder / source, old, new, f"{crate}::{function}", clauses.split(), bool(limit))
+        yield edit_of(file)

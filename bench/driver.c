@@ -8,6 +8,7 @@
 #include <stdio.h>
 #include <stdlib.h>
 #include <string.h>
+#include <time.h>
 
 #include "crate/crate.h"
 #include "gix_validate.h"
@@ -80,6 +81,13 @@ static const struct call *find(const char *name) {
             return call;
     fprintf(stderr, "no such call: %s\n", name);
     exit(2);
+}
+
+/* The time in nanoseconds. */
+static double now(void) {
+    struct timespec time;
+    clock_gettime(CLOCK_MONOTONIC, &time);
+    return (double)time.tv_sec * 1e9 + (double)time.tv_nsec;
 }
 
 /* The nanoseconds a name of a pass. */

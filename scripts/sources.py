@@ -9,7 +9,8 @@ from functools import lru_cache
 from pathlib import Path
 
 os.chdir(Path(__file__).resolve().parent.parent)
-EDIT = re.compile(r"file: (.*)\nold: (.*)\nnew: ?(.*)\nrefused: ([\w:]+)((?: \w+)+)( \(limit\))?\n")
+EDIT = re.compile(r"file: (.*)\n((?:old: .*\nnew: ?.*\n)+)refused: ([\w:]+)((?: \w+)+)( \(limit\))?\n")
+PAIR = re.compile(r"old: (.*)\nnew: ?(.*)\n")
 # What begins a function, a type or the like, or one of their clauses.
 BEGIN = re.compile(r"""(?mx)^(?P<margin>[ ]{4})? (?P<pub>pub[ ])? (?:pub\([\w ]+\)[ ])? (?:const[ ]|extern[ ]"C"[ ])* (?:
     (?P<kind>fn|struct|enum|trait|type|const|static|impl)\b (?:<[^>]*>)?[ ] (?:.*[ ]for[ ])? (?P<name>[\w:]*\w)
@@ -20,7 +21,7 @@ PAGES = ["README.md", "docs/BINDINGS.md", "docs/RELEASES.md", "docs/RECIPES.md",
 # A block: the line before it, a comment between them, its language, and its code.
 BLOCK = re.compile(r"(?:^([^\n]*)\n\n?)?(?:^<!-- ([^\n]*) -->\n)?^```(\w*)\n(.*?)^```$", re.M | re.S)
 Item = namedtuple("Item", "file offset path clause is_public")
-Edit = namedtuple("Edit", "file crate source old new function clauses is_limit")
+Edit = namedtuple("Edit", "file crate source pairs function clauses is_limit")
 
 
 def read(path):
@@ -104,17 +105,21 @@ def bodies(file):
 
 
 def edits():
-    """Yields the must-fail edits: what each replaces in the body of a function, which refuses it, with its clauses, and
-    whether only a search that gave up says so."""
+    """Yields the must-fail edits: the texts that each replaces in the body of a function, one after the other, which refuses
+    it, with its clauses, and whether only a search that gave up says so."""
     for file in sorted(Path("crates").glob("*/*/*.edit")):
         folder, crate, parts = file.parent.parent, file.parts[1], EDIT.fullmatch(read(file))
         if not parts:
-            raise SystemExit(f"{file} is no edit: its lines are 'file:', 'old:', 'new:', 'refused: FUNCTION CLAUSE..'")
-        source, old, new, function, clauses, limit = parts.groups()
-        if read(folder / source).count(old) != 1:
-            raise SystemExit(f"{file} no longer applies: {source} does not have this once: {old}")
-        at = read(folder / source).index(old)
-        if not any(path == f"{crate}::{function}" and first <= at < at + len(old) <= last
+            raise SystemExit(f"{file} is no edit: its lines are 'file:', 'old:', 'new:', perhaps more pairs of these two, and "
+                             "'refused: FUNCTION CLAUSE..'")
+        source, lines, function, clauses, limit = parts.groups()
+        text = changed = read(folder / source)
+        pairs = PAIR.findall(lines)
+        for old, new in pairs:
+            if changed.count(old) != 1:
+                raise SystemExit(f"{file} no longer applies: {source} does not have this once: {old}")
+            changed = changed.replace(old, new)
+        if not any(path == f"{crate}::{function}" and changed.startswith(text[:first]) and changed.endswith(text[last:])
                    for path, first, last in bodies(folder / source)):
             raise SystemExit(f"{file} changes something else than the body of {function}")
-        yield Edit(file, crate, folder / source, old, new, f"{crate}::{function}", clauses.split(), bool(limit))
+        yield Edit(file, crate, folder / source, pairs, f"{crate}::{function}", clauses.split(), bool(limit))

@@ -22,7 +22,8 @@ faults : Judges fault_of is_tag_name
 unfolding names_on_literals
 faults = (refl, refl)
 
--- A fault with its offset, for each line of the order: were one at another offset there and in the body, all would be proved.
+-- A text for each line of the order, with its fault and the offset. An offset that is wrong in the definition and in the body
+-- alike is refused by this proof alone.
 faults_at_offsets : Gives first_fault
     (([], Some Empty at 0)  -- nothing
     ∷ (codes "refs/", Some EndsWithSlash at 4)  -- last slash

@@ -11,8 +11,10 @@ from pathlib import Path
 
 os.chdir(Path(__file__).resolve().parent.parent)
 EDIT = re.compile(
-    r"file: (.*)\nold: (.*)\nnew: ?(.*)\nrefused: ([\w:]+)((?: \w+)+)( \(limit\))?\n"
+    r"file: (.*)\n((?:old: .*\nnew: ?.*\n)+)"
+    r"refused: ([\w:]+)((?: \w+)+)( \(limit\))?\n"
 )
+PAIR = re.compile(r"old: (.*)\nnew: ?(.*)\n")
 # What begins a function, a type or the like, or one of their clauses.
 BEGIN = re.compile(
     r"""(?mx)^(?P<margin>[ ]{4})?
@@ -22,7 +24,7 @@ BEGIN = re.compile(
     |[ ]*(?P<member>ghost|ensures)(?:[ ](?P<clause>\w+))?(?::|[ ]=)?[ ]\{)"""
 )
 Item = namedtuple("Item", "file offset path clause is_public")
-Edit = namedtuple("Edit", "file crate source old new function clauses is_limit")
+Edit = namedtuple("Edit", "file crate source pairs function clauses is_limit")
 
 
 def read(path):
@@ -123,26 +125,31 @@ def bodies(file):
 
 
 def edit_of(file):
-    """A must-fail edit. It has to replace one text, in the body of its function."""
+    """A must-fail edit. It replaces one text, or several one after the other, in the body
+    of its function."""
     parts = EDIT.fullmatch(read(file))
     if not parts:
         raise SystemExit(
-            f"{file} is no edit: its lines are "
-            "'file:', 'old:', 'new:', 'refused: FUNCTION CLAUSE..'"
+            f"{file} is no edit: its lines are 'file:', 'old:', 'new:', "
+            "perhaps more pairs of these two, and 'refused: FUNCTION CLAUSE..'"
         )
-    name, old, new, function, clauses, limit = parts.groups()
+    name, lines, function, clauses, limit = parts.groups()
     crate, source = file.parts[1], file.parent.parent / name
-    text, path = read(source), f"{crate}::{function}"
-    if text.count(old) != 1:
-        raise SystemExit(
-            f"{file} no longer applies: {name} does not have this once: {old}"
-        )
-    start = text.index(old)
-    end = start + len(old)
+    path, pairs = f"{crate}::{function}", PAIR.findall(lines)
+    text = changed = read(source)
+    for old, new in pairs:
+        if changed.count(old) != 1:
+            raise SystemExit(
+                f"{file} no longer applies: {name} does not have this once: {old}"
+            )
+        changed = changed.replace(old, new)
     ranges = [(first, last) for it, first, last in bodies(source) if it == path]
-    if not any(first <= start < end <= last for first, last in ranges):
+    if not any(
+        changed.startswith(text[:first]) and changed.endswith(text[last:])
+        for first, last in ranges
+    ):
         raise SystemExit(f"{file} changes something else than the body of {function}")
-    return Edit(file, crate, source, old, new, path, clauses.split(), bool(limit))
+    return Edit(file, crate, source, pairs, path, clauses.split(), bool(limit))
 
 
 def edits():

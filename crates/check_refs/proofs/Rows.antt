@@ -1,7 +1,7 @@
 -- The definitions computed on lines: what is printed of each, or that it says no update.
 use Rattle.gix_validate.proofs.Common.{◌≡◌, ℕ, true, false, refl, List, [], ◌∷◌, ◌++◌, Option, Some, None, map, codes, option_map}
 use Rattle.gix_validate.specs.{Bytes.is_bad, Faults.at_first_offset}
-use Rattle.gix_validate.specs.{Reference.{partial_fault_of, full_fault_of, branch_fault_of}, Tag.{fault_of, faults_at, fault_table}}
+use Rattle.gix_validate.specs.{Reference.{partial_fault_of, full_fault_of, branch_fault_of}, Tag.{first_fault, fault_of, faults_at, fault_table}}
 use Rattle.git_input.specs.Texts.{is_id}
 use Rattle.check_refs.specs.Refs.{parsed_update, line_of}
 
@@ -55,10 +55,10 @@ rows = (
 
 printed_without : map (λ (row : Row). option_map (line_of (record { lists_ids = false; allows_replace = false })) (parsed_update row.0)) rows
     ≡ map (λ (row : Row). row.1) rows
-unfolding parsed_update is_id partial_fault_of full_fault_of branch_fault_of fault_of faults_at fault_table at_first_offset is_bad
+unfolding parsed_update is_id partial_fault_of full_fault_of branch_fault_of first_fault fault_of faults_at fault_table at_first_offset is_bad
 printed_without = refl
 
 printed_under_both : map (λ (row : Row). option_map (line_of (record { lists_ids = true; allows_replace = true })) (parsed_update row.0)) rows
     ≡ map (λ (row : Row). row.2) rows
-unfolding parsed_update is_id partial_fault_of full_fault_of branch_fault_of fault_of faults_at fault_table at_first_offset is_bad
+unfolding parsed_update is_id partial_fault_of full_fault_of branch_fault_of first_fault fault_of faults_at fault_table at_first_offset is_bad
 printed_under_both = refl

@@ -1,5 +1,5 @@
 -- Tag names: which texts are one, and the fault of those that aren't.
-use Rattle.std.specs.Prelude.{ℕ, ◌+◌, ◌-◌, is_some, Bool, ◌==◌, ◌&&◌, ◌||◌, not, List, [], ◌∷◌, ◌++◌, length, take, drop, slice_index, codes, Option}
+use Rattle.std.specs.Prelude.{ℕ, ◌+◌, ◌-◌, Bool, ◌==◌, ◌&&◌, ◌||◌, not, List, [], ◌∷◌, ◌++◌, length, take, drop, slice_index, codes, Option, Some, None, option_map}
 use Rattle.std.specs.{List.{list_all, list_any}, Str.{byte, bytes_eq}}
 use Rattle.gix_validate.specs.declared.tag.NameError.TheVariants.{InvalidByte, StartsWithSlash, RepeatedSlash, RepeatedDot, LockFileSuffix}
 use Rattle.gix_validate.specs.declared.tag.NameError.TheVariants.{ReflogPortion, Asterisk, StartsWithDot, EndsWithDot, EndsWithSlash, Empty}
@@ -38,29 +38,38 @@ fault_table before b after =
 unfoldable pub faults_at : List ℕ → ℕ → List (Option NameError)
 faults_at x i = fault_table (take i x) (slice_index x i) (drop (i + 1) x)
 
--- The fault of a text: the first of these that applies.
+-- A fault of a text: the error, and the offset that it is at.
+pub record Fault : Type 0 where
+  pub error : NameError
+  pub offset : ℕ
+
+-- the error of a line of a table, if the line applies, at the offset
+infixl 68 ◌at◌
+abbrev pub ◌at◌ : Option NameError → ℕ → Option Fault
+None at i = None
+(Some e) at i = Some (record { error = e; offset = i })
+
+-- the fault at offset i of x, if a line of the table applies there
+abbrev pub fault_at : List ℕ → ℕ → Option Fault
+fault_at x i = first_of (faults_at x i) at i
+
+-- The first fault of a text: the first of these that applies. A fault of the end is at the last byte.
+unfoldable pub first_fault : List ℕ → Option Fault
+first_fault x = first_of (
+    when (is_empty x) Empty at 0
+    ∷ when (ends x (codes "/")) EndsWithSlash at (length x - 1)
+    ∷ when (begins x (codes "/")) StartsWithSlash at 0
+    ∷ at_first_offset (fault_at x) (length x)
+    ∷ when (begins x (codes ".")) StartsWithDot at 0
+    ∷ when (ends x (codes ".")) EndsWithDot at (length x - 1) ∷ [])
+
+-- the error of the first fault
 unfoldable pub fault_of : List ℕ → Option NameError
-fault_of x = first_of (
-    when (is_empty x) Empty
-    ∷ when (ends x (codes "/")) EndsWithSlash
-    ∷ when (begins x (codes "/")) StartsWithSlash
-    ∷ at_first_offset (λ i. first_of (faults_at x i)) (length x)
-    ∷ when (begins x (codes ".")) StartsWithDot
-    ∷ when (ends x (codes ".")) EndsWithDot ∷ [])
+fault_of x = option_map Fault.error (first_fault x)
 
--- the offset, if a line of the table applies there
-abbrev pub offset_at : List ℕ → ℕ → Option ℕ
-offset_at x i = when (is_some (first_of (faults_at x i))) i
-
--- The offset of the fault of a text, by the same lines. A fault of the end is at the last byte.
+-- the offset of the first fault
 unfoldable pub fault_offset_of : List ℕ → Option ℕ
-fault_offset_of x = first_of (
-    when (is_empty x) 0
-    ∷ when (ends x (codes "/")) (length x - 1)
-    ∷ when (begins x (codes "/")) 0
-    ∷ at_first_offset (offset_at x) (length x)
-    ∷ when (begins x (codes ".")) 0
-    ∷ when (ends x (codes ".")) (length x - 1) ∷ [])
+fault_offset_of x = option_map Fault.offset (first_fault x)
 
 -- What an error prints.
 abbrev pub text_of : NameError → List ℕ

@@ -1,9 +1,9 @@
 //! Tag names, whose rule is part of that of every reference name.
 
-ghost use Rattle.std.specs.Prelude.{◌≡◌, ◌↔◌, ◌<◌, ◌≤◌, ◌+◌, ◌-◌, length, slice_index, codes, Some, IsNone, IfSome, IsOk, IfOk, IsTrue, MatchOption};
+ghost use Rattle.std.specs.Prelude.{◌≡◌, ◌↔◌, ◌<◌, ◌≤◌, ◌+◌, ◌-◌, length, slice_index, codes, Some, IsNone, IfSome, option_map, IsOk, IfOk, IsTrue, MatchOption};
 ghost use Rattle.bstr.specs.BStr.{bstr_bytes};
-ghost use Rattle.gix_validate.specs.Tag.{fault_of, fault_offset_of, faults_at, is_tag_name, offset_at, text_of};
-ghost use Rattle.gix_validate.specs.{Bytes.ends, Faults.{Validates, first_of, at_first_offset}, Printed.printed};
+ghost use Rattle.gix_validate.specs.Tag.{Fault, ◌at◌, fault_at, fault_of, fault_offset_of, first_fault, is_tag_name, text_of};
+ghost use Rattle.gix_validate.specs.{Bytes.ends, Faults.{Validates, at_first_offset}, Printed.printed};
 ghost use Rattle.gix_validate.specs.Private.Adjacent.{fault_of_byte, may_be_faulty};
 
 use crate::adjacent::{clear_front, is_clear};
@@ -134,9 +134,11 @@ fn name_on_walk<'a>(input: BStr<'a>) -> Result<BStr<'a>, NameError>
 /// tag::fault_offset(BStr::from("v1..2")); // Some(3), the second dot
 /// tag::fault_offset(BStr::from("v1.2")); // None
 /// ```
-#[tactic(auto, using(crate::proofs::TagNames::Grammar::offset_grammar_law, crate::proofs::TagNames::ClearTexts::offset_within))]
+#[tactic(auto, using(crate::proofs::TagNames::Grammar::offset_grammar_law, crate::proofs::TagNames::ClearTexts::offset_within, crate::proofs::TagNames::Grammar::halves_law))]
 pub fn fault_offset(input: BStr<'_>) -> Option<usize>
     ensures offset { result ≡ fault_offset_of (bstr_bytes input.entry) }
+    // The error that `name` returns is at this offset.
+    ensures error { IfSome result (λ i. first_fault (bstr_bytes input.entry) ≡ (fault_of (bstr_bytes input.entry) at i)) }
     ensures grammar { IsNone result ↔ IsTrue (is_tag_name (bstr_bytes input.entry)) }
     ensures within { IfSome result (λ i. i ≤ length (bstr_bytes input.entry) - 1) }
 {
@@ -144,7 +146,7 @@ pub fn fault_offset(input: BStr<'_>) -> Option<usize>
 }
 
 /// The offset of the first fault, in the order of docs/RULES.md, "Tag names".
-#[tactic(auto, unfolding(crate::specs::Tag::fault_offset_of))]
+#[tactic(auto, unfolding(crate::specs::Tag::first_fault, crate::specs::Tag::fault_offset_of))]
 fn offset_of_fault(bytes: &[u8]) -> Option<usize>
     ensures { result ≡ fault_offset_of bytes.now }
 {
@@ -171,7 +173,7 @@ fn offset_of_fault(bytes: &[u8]) -> Option<usize>
 #[tactic(auto, using(crate::proofs::TagNames::ClearTexts::least_offset))]
 fn first_offset(bytes: &[u8]) -> Option<usize>
     requires { 0 < length bytes.now }
-    ensures { result ≡ at_first_offset (offset_at bytes.now) (length bytes.now) }
+    ensures { result ≡ option_map Fault.offset (at_first_offset (fault_at bytes.now) (length bytes.now)) }
 {
     for offset in 0..bytes.len() {
         let byte = bytes[offset];
@@ -187,7 +189,7 @@ fn first_offset(bytes: &[u8]) -> Option<usize>
 
 /// The first fault of a name, in the order of docs/RULES.md, "Tag names".
 #[inline(never)]
-#[tactic(auto, unfolding(crate::specs::Tag::fault_of))]
+#[tactic(auto, unfolding(crate::specs::Tag::first_fault, crate::specs::Tag::fault_of))]
 fn first_fault(bytes: &[u8]) -> Option<NameError>
     ensures { result ≡ fault_of bytes.now }
 {
@@ -218,7 +220,7 @@ fn first_fault(bytes: &[u8]) -> Option<NameError>
 #[tactic(auto, using(crate::proofs::TagNames::ClearTexts::least_fault))]
 fn fault_at_first_offset(bytes: &[u8]) -> Option<NameError>
     requires { 0 < length bytes.now }
-    ensures { result ≡ at_first_offset (λ i. first_of (faults_at bytes.now i)) (length bytes.now) }
+    ensures { result ≡ option_map Fault.error (at_first_offset (fault_at bytes.now) (length bytes.now)) }
 {
     for offset in clear_front(bytes)..bytes.len() {
         let byte = bytes[offset];

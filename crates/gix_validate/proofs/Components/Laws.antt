@@ -67,6 +67,11 @@ pub device_form_law : (x : List ℕ) → DeviceGoesByForm x
 unfolding is_device device_form
 device_form_law x = grind (arith, nat_tests, form_cut, form_trimmed)
 
+-- Names with the same form are all devices, or all are not.
+pub same_form_law : (x y : List ℕ) → device_form y ≡ device_form x → is_device y ≡ is_device x
+unfolding is_device
+same_form_law x y same = rw same refl
+
 all_none-first_of : (lines : List (Option ComponentError)) → list_all is_none lines ≡ is_none (first_of lines)
 all_none-first_of [] = refl
 all_none-first_of (line ∷ lines) = grind (arith, all_none-first_of lines)

@@ -2,7 +2,7 @@
 use Rattle.gix_validate.proofs.{Common.{refl, [], ◌∷◌, Some, None, codes}, OnLiterals.names_on_literals, Rows.Tables.{Gives, Judges}}
 use Rattle.gix_validate.specs.declared.tag.NameError.TheVariants.{InvalidByte, StartsWithSlash, RepeatedSlash, RepeatedDot, LockFileSuffix}
 use Rattle.gix_validate.specs.declared.tag.NameError.TheVariants.{ReflogPortion, Asterisk, StartsWithDot, EndsWithDot, EndsWithSlash, Empty}
-use Rattle.gix_validate.specs.{Quoted.quoted, Tag.{fault_of, is_tag_name}}
+use Rattle.gix_validate.specs.{Quoted.quoted, Tag.{◌at◌, first_fault, fault_of, is_tag_name}}
 
 -- an accepted text, and one for each fault: where several rules are broken, which comes first
 faults : Judges fault_of is_tag_name
@@ -21,6 +21,24 @@ faults : Judges fault_of is_tag_name
     ∷ [])
 unfolding names_on_literals
 faults = (refl, refl)
+
+-- A text for each line of the order, with its fault and the offset. An offset that is wrong in the definition and in the body
+-- alike is refused by this proof alone.
+faults_at_offsets : Gives first_fault
+    (([], Some Empty at 0)  -- nothing
+    ∷ (codes "refs/", Some EndsWithSlash at 4)  -- last slash
+    ∷ (codes "/tags", Some StartsWithSlash at 0)  -- first slash
+    ∷ (codes "v1 a", Some (InvalidByte 0x20) at 2)  -- least offset
+    ∷ (codes "v1.lock", Some LockFileSuffix at 6)  -- lock at the end
+    ∷ (codes ".tags", Some StartsWithDot at 0)  -- first dot
+    ∷ (codes "tags.", Some EndsWithDot at 4)  -- last dot
+    ∷ (codes ".a.", Some StartsWithDot at 0)  -- first dot before last
+    ∷ (codes "/a.", Some StartsWithSlash at 0)  -- slash before dot
+    ∷ (codes "a/.", Some StartsWithDot at 2)  -- least before last
+    ∷ (codes "v1", None)  -- no fault
+    ∷ [])
+unfolding names_on_literals
+faults_at_offsets = refl
 
 -- bytes, and the same quoted
 quoted_bytes : Gives quoted

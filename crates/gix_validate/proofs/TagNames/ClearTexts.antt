@@ -1,13 +1,13 @@
 -- What is not suspect has no fault: offset by offset, and so a clear text. The walk over the other bytes.
 use Rattle.gix_validate.proofs.Common.{◌≡◌, ℕ, zero, suc, ◌+◌, ◌-◌, ◌<◌, ◌≤◌, true, false, eqb, List, [], ◌∷◌, length, take, get_or, refl, arith, None, add-one}
-use Rattle.gix_validate.proofs.Common.{length-take, not, ◌&&◌, Some, inl, inr, false_from_ne_true, cases_lt, take_all, get_or-take, bytes_eq-Decides, codes}
+use Rattle.gix_validate.proofs.Common.{length-take, not, ◌&&◌, Some, inl, inr, false_from_ne_true, cases_lt, take_all, get_or-take, bytes_eq-Decides, codes, option_map}
 use Rattle.gix_validate.{proofs.Common.{byte, nat_tests}, specs.Private.{Adjacent.{is_suspect, suspect_at, IsClear}, Scan.NoneBelow}}
-use Rattle.gix_validate.proofs.TagNames.FaultTable.{at_first_offset_none, is_none-fault_of_byte, at_first_offset_split, at_first_found, quiet, offset_split, offset_of_byte}
+use Rattle.gix_validate.proofs.TagNames.FaultTable.{at_first_offset_none, is_none-fault_of_byte, at_first_offset_split, at_first_found, quiet, byte_fault_at}
 use Rattle.gix_validate.proofs.Texts.Endings.{ends_read, lock_read}
 use Rattle.gix_validate.proofs.TagNames.{FaultTable.{fault_of_byte_at, NoFaultBelow}, Grammar.tag_grammar_law}
 use Rattle.gix_validate.specs.{declared.tag.NameError.{NameError, TheVariants.LockFileSuffix}, Bytes.{is_among, ends}}
-use Rattle.gix_validate.specs.{Tag.{fault_of, fault_offset_of, faults_at, offset_at}, Reference.is_partial_name}
-use Rattle.gix_validate.specs.Faults.{first_of, at_first_offset, when}
+use Rattle.gix_validate.specs.{Tag.{Fault, ◌at◌, first_fault, fault_of, fault_offset_of, fault_at}, Reference.is_partial_name}
+use Rattle.gix_validate.specs.Faults.{at_first_offset, when}
 
 -- a byte that isn't suspect has no fault, where no dot or slash follows what it may not follow
 no_fault : (x : List ℕ) (i a : ℕ) → is_suspect a (get_or x i 0) ≡ false
@@ -37,11 +37,14 @@ none_to_suspect x n within quiet (suc p) to = no_fault x (suc p) (get_or x p 0) 
     (λ other. grind (arith, last_read x (suc p)))
     (λ slash. no_lock x (suc p) (omega arith) (λ five. pair_quiet x n (suc p - 5) quiet (omega arith)))
 
+byte_none : (x : List ℕ) (n : ℕ) → NoFaultBelow x n → (k : ℕ) → k < n → byte_fault_at x k ≡ None
+byte_none x n none k below = rw (none k below) refl
+
 pub clear_has_no_fault : (x : List ℕ) → IsClear x → fault_of x ≡ None
-unfolding fault_of is_suspect
+unfolding fault_of first_fault is_suspect
 clear_has_no_fault x clear =
     let n = length x in
-    let offsets = at_first_offset_none (fault_of_byte_at x) n (none_to_suspect x n (omega arith) clear.quiet) in
+    let offsets = at_first_offset_none (byte_fault_at x) n (byte_none x n (none_to_suspect x n (omega arith) clear.quiet)) in
     let lock = no_lock x n (omega arith) (λ five. pair_quiet x n (n - 5) clear.quiet (omega arith)) in
     grind (arith, nat_tests, take_all, at_first_offset_split, offsets, lock, clear.end, clear.some, clear.quiet 0)
 
@@ -56,37 +59,29 @@ pub none_more : (x : List ℕ) (j : ℕ) → NoFaultBelow x j → fault_of_byte_
 none_more x j none here p to = elim (cases_lt p j) [ inl early ↦ none p early | inr last ↦ grind (arith, here) ]
 
 -- Where none has a fault by what is before it, the last line of the table says the fault. (A text that ends in `.lock` is longer, or is that.)
-pub fault_none : (x : List ℕ) (n : ℕ) → (n ≡ length x) × (0 < n) → NoFaultBelow x n → at_first_offset (λ i. first_of (faults_at x i)) (length x)
-    ≡ when (ends x (codes ".lock") && not (eqb (length x) 5)) LockFileSuffix
-fault_none x n all none = grind (arith, nat_tests, at_first_offset_none, at_first_offset_split, bytes_eq-Decides)
-
-pub offset_none : (x : List ℕ) → 0 < length x → NoFaultBelow x (length x)
-    → at_first_offset (offset_at x) (length x) ≡ when (ends x (codes ".lock") && not (eqb (length x) 5)) (length x - 1)
-offset_none x some none = grind (arith, nat_tests, at_first_offset_none, offset_split, bytes_eq-Decides)
+pub fault_none : (x : List ℕ) (n : ℕ) → (n ≡ length x) × (0 < n) → NoFaultBelow x n → at_first_offset (fault_at x) (length x)
+    ≡ (when (ends x (codes ".lock") && not (eqb (length x) 5)) LockFileSuffix at (length x - 1))
+fault_none x n all none =
+    let offsets = at_first_offset_none (byte_fault_at x) n (byte_none x n none) in
+    grind (arith, nat_tests, offsets, at_first_offset_split, bytes_eq-Decides)
 
 -- and else the first that has one
 pub fault_found : (x : List ℕ) (j : ℕ) (a : NameError) → j < length x → NoFaultBelow x j → fault_of_byte_at x j ≡ Some a
-    → at_first_offset (λ i. first_of (faults_at x i)) (length x) ≡ Some a
+    → at_first_offset (fault_at x) (length x) ≡ (Some a at j)
 fault_found x j a small none here =
-    let found = at_first_found (fault_of_byte_at x) j (length x) a small none here in
+    let found = at_first_found (byte_fault_at x) j (length x) (record { error = a; offset = j }) small (byte_none x j none) (rw here refl) in
     grind (arith, at_first_offset_split, found)
 
-pub offset_found : (x : List ℕ) (j : ℕ) (a : NameError) → j < length x → NoFaultBelow x j → fault_of_byte_at x j ≡ Some a
-    → at_first_offset (offset_at x) (length x) ≡ Some j
-offset_found x j a small none here =
-    let found = at_first_found (offset_of_byte x) j (length x) j small (λ k less. grind (arith, none k less)) (grind (arith, here)) in
-    grind (arith, offset_split, found)
-
 -- what is found is within the text
-offset_below : (x : List ℕ) (n i : ℕ) → at_first_offset (offset_at x) n ≡ Some i → i < n
+offset_below : (x : List ℕ) (n i : ℕ) → option_map Fault.offset (at_first_offset (fault_at x) n) ≡ Some i → i < n
 unfolding at_first_offset
 offset_below x zero i found = grind arith
 offset_below x (suc n) i found = grind (arith, offset_below x n i)
 
 pub offset_within : (x : List ℕ) (i : ℕ) → fault_offset_of x ≡ Some i → i ≤ length x - 1
-unfolding fault_offset_of
+unfolding first_fault fault_offset_of
 offset_within x i found = grind (arith, offset_below x (length x))
 
 pub ruleset least_fault = (none_more, quiet)
 
-pub ruleset least_offset = (none_more, offset_none, offset_found, quiet)
+pub ruleset least_offset = (none_more, fault_none, fault_found, quiet)

@@ -1,11 +1,11 @@
 -- The table of the faults at an offset: what each byte may have of them, and, along a text, its last line apart.
 use Rattle.gix_validate.proofs.Common.{◌≡◌, ℕ, ◌<◌, Bool, false, not, ◌&&◌, eqb, List, take, get_or, true, refl, Option, None, zero, suc, ◌+◌, ◌-◌, ◌≤◌, []}
-use Rattle.gix_validate.proofs.Common.{◌∷◌, ◌++◌, length, arith, Some, agree_below_at, cases_lt, byte, bytes_eq, codes, is_none, is_some, append-nil}
+use Rattle.gix_validate.proofs.Common.{◌∷◌, ◌++◌, length, arith, Some, agree_below_at, cases_lt, byte, bytes_eq, codes, is_none, option_map, append-nil}
 use Rattle.gix_validate.proofs.Common.{append_assoc, take_all, take_more, drop_all, length-drop, nat_tests}
 use Rattle.gix_validate.proofs.Texts.Endings.{ends_read, lock_read}
 use Rattle.gix_validate.specs.declared.{bytes.TheConstants.MAY_BE_FAULTY, tag.NameError.{NameError, TheVariants.LockFileSuffix}}
 use Rattle.gix_validate.specs.{Private.Adjacent.{may_be_faulty, fault_of_byte}, Bytes.{is_bad, ends, is_empty}}
-use Rattle.gix_validate.specs.{Faults.{when, ◌orelse◌, first_of, at_first_offset}, Tag.{fault_table, faults_at, offset_at}}
+use Rattle.gix_validate.specs.{Faults.{when, ◌orelse◌, first_of, at_first_offset}, Tag.{Fault, ◌at◌, fault_table, faults_at, fault_at}}
 
 -- ---- the least offset at which a function gives something
 
@@ -90,28 +90,32 @@ fault_at_end : (x : List ℕ) (i : ℕ) → i + 1 ≡ length x → first_of (fau
 unfolding faults_at fault_of_byte fault_table
 fault_at_end x i last = grind (arith, first_of-more, take_more, take_all, drop_all)
 
+-- the same, at its offset
+abbrev pub byte_fault_at : List ℕ → ℕ → Option Fault
+byte_fault_at x i = fault_of_byte_at x i at i
+
+at_orelse : (a b : Option NameError) (i : ℕ) → ((a orelse b) at i) ≡ (a at i orelse b at i)
+at_orelse a b i = grind arith
+
 -- The fault at the least offset: by the lines that look back alone, and then the last line.
 pub at_first_offset_split : (x : List ℕ) → is_empty x ≡ false
-    → at_first_offset (λ i. first_of (faults_at x i)) (length x)
-    ≡ (at_first_offset (fault_of_byte_at x) (length x) orelse when (has_lock_suffix x) LockFileSuffix)
+    → at_first_offset (fault_at x) (length x)
+    ≡ (at_first_offset (byte_fault_at x) (length x) orelse when (has_lock_suffix x) LockFileSuffix at (length x - 1))
 at_first_offset_split [] some = grind arith
-at_first_offset_split (b ∷ x) some = at_first_offset_last (λ i. first_of (faults_at (b ∷ x) i)) (fault_of_byte_at (b ∷ x)) (length x) _
-    (λ i small. fault_inside (b ∷ x) i (omega arith)) (fault_at_end (b ∷ x) (length x) (omega arith))
+at_first_offset_split (b ∷ x) some = at_first_offset_last (fault_at (b ∷ x)) (byte_fault_at (b ∷ x)) (length x) _
+    (λ i small. grind (arith, fault_inside (b ∷ x) i)) (grind (arith, fault_at_end (b ∷ x) (length x), at_orelse))
 
--- the offset, if it has a fault by what is before it
-abbrev pub offset_of_byte : List ℕ → ℕ → Option ℕ
-offset_of_byte x i = when (is_some (fault_of_byte_at x i)) i
+-- a fault is found where an error is
+pub is_none-found : (f : ℕ → Option NameError) (n : ℕ) → is_none (at_first_offset (λ i. f i at i) n) ≡ is_none (at_first_offset f n)
+unfolding at_first_offset
+is_none-found f zero = refl
+is_none-found f (suc n) = grind (arith, is_none-found f n)
 
-some_orelse : (o : Option NameError) (t : Bool) (i : ℕ)
-    → when (is_some (o orelse when t LockFileSuffix)) i ≡ (when (is_some o) i orelse when t i)
-some_orelse o t i = grind arith
+pub is_none-half : {A : Type 0} (half : Fault → A) (o : Option Fault) → is_none (option_map half o) ≡ is_none o
+is_none-half half o = grind arith
 
--- The same of the offsets.
-pub offset_split : (x : List ℕ) → is_empty x ≡ false
-    → at_first_offset (offset_at x) (length x) ≡ (at_first_offset (offset_of_byte x) (length x) orelse when (has_lock_suffix x) (length x - 1))
-offset_split [] some = grind arith
-offset_split (b ∷ x) some = at_first_offset_last (offset_at (b ∷ x)) (offset_of_byte (b ∷ x)) (length x) _
-    (λ i small. grind (arith, fault_inside (b ∷ x) i)) (grind (arith, fault_at_end (b ∷ x) (length x), some_orelse))
+pub is_none-line : (t : Bool) (e : NameError) (i : ℕ) (o : Option Fault) → is_none (when t e at i orelse o) ≡ (not t && is_none o)
+is_none-line t e i o = grind arith
 
 -- the faults from here on, what is before growing by each byte
 unfoldable pub walked : List ℕ → List ℕ → Option NameError

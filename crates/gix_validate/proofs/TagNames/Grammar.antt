@@ -1,12 +1,12 @@
 -- A text is a tag name if and only if it has no fault.
-use Rattle.gix_validate.proofs.Common.{◌≡◌, ℕ, zero, suc, length, Bool, true, false, not, ◌&&◌, ◌||◌, cond, eqb, List, [], ◌∷◌, ◌++◌, refl, append-nil}
+use Rattle.gix_validate.proofs.Common.{◌≡◌, ℕ, length, Some, Bool, true, false, not, ◌&&◌, ◌||◌, cond, eqb, List, [], ◌∷◌, ◌++◌, refl, append-nil}
 use Rattle.gix_validate.proofs.Common.{append_assoc, list_any-append, codes, is_none, ◌==◌, list_all, list_any, byte, nat_tests}
 use Rattle.gix_validate.proofs.Texts.Pieces.{pieces_front, pieces_alone}
 use Rattle.gix_validate.proofs.Texts.Endings.{last_piece, last_piece_push, ends_last_piece, slash_last, last_piece_apart, ends_cons}
-use Rattle.gix_validate.proofs.TagNames.FaultTable.{is_none-when, is_none-fault_of_byte, walked, has_lock_suffix, at_first_offset_split, at_first_offset_walked}
+use Rattle.gix_validate.proofs.TagNames.FaultTable.{is_none-half, is_none-line, is_none-found, fault_of_byte_at, is_none-fault_of_byte, walked, has_lock_suffix, at_first_offset_split, at_first_offset_walked}
 use Rattle.gix_validate.specs.{Bytes.{is_bad, is_empty, begins, ends, holds}, Pieces.{is_slash, pieces, has_no_slash}}
-use Rattle.gix_validate.specs.Tag.{is_good_piece, is_tag_name, fault_of, fault_offset_of, faults_at, offset_at}
-use Rattle.gix_validate.specs.{Faults.{first_of, at_first_offset}, Private.Adjacent.fault_of_byte}
+use Rattle.gix_validate.specs.Tag.{is_good_piece, is_tag_name, ◌at◌, first_fault, fault_of, fault_offset_of}
+use Rattle.gix_validate.specs.{Private.Adjacent.fault_of_byte}
 use native.Mathlib.Omega.{arith}
 
 -- a byte that no good piece has
@@ -74,8 +74,8 @@ begun_good b x = grind (arith, walked_good (b ∷ []) x refl, last_piece_push []
 
 is_none-parts : (x : List ℕ) → is_empty x ≡ false → is_none (fault_of x) ≡ (not (ends x (codes "/")) && (not (begins x (codes "/"))
     && ((is_none (walked [] x) && not (has_lock_suffix x)) && (not (begins x (codes ".")) && not (ends x (codes "."))))))
-unfolding fault_of
-is_none-parts x some = grind (arith, is_none-when, at_first_offset_split, at_first_offset_walked)
+unfolding fault_of first_fault
+is_none-parts x some = grind (arith, is_none-half, is_none-line, is_none-found (fault_of_byte_at x) (length x), at_first_offset_split, at_first_offset_walked)
 
 law_begun : (b : ℕ) (x : List ℕ) → is_tag_name (b ∷ x) ≡ is_none (fault_of (b ∷ x))
 unfolding is_tag_name may_end
@@ -83,16 +83,15 @@ law_begun b x = grind (arith, nat_tests, begun_good, is_none-parts, slash_last, 
 
 -- the grammar, and the table with its order: a text is a tag name if and only if it has no fault
 pub tag_grammar_law : (x : List ℕ) → is_tag_name x ≡ is_none (fault_of x)
-unfolding is_tag_name fault_of is_good_piece
+unfolding is_tag_name fault_of first_fault is_good_piece
 tag_grammar_law x = grind (arith, nat_tests, law_begun)
-
--- an offset is found where a fault is
-offset_none_law : (x : List ℕ) (n : ℕ) → is_none (at_first_offset (offset_at x) n) ≡ is_none (at_first_offset (λ i. first_of (faults_at x i)) n)
-unfolding at_first_offset
-offset_none_law x zero = refl
-offset_none_law x (suc n) = grind (arith, offset_none_law x n)
 
 -- a text is a tag name if and only if it has no offset of a fault
 pub offset_grammar_law : (x : List ℕ) → is_tag_name x ≡ is_none (fault_offset_of x)
-unfolding fault_offset_of fault_of
-offset_grammar_law x = grind (arith, tag_grammar_law x, offset_none_law x (length x), is_none-when)
+unfolding fault_of fault_offset_of
+offset_grammar_law x = grind (arith, tag_grammar_law x)
+
+-- the two halves of the first fault, put together again
+pub halves_law : (x : List ℕ) (i : ℕ) → fault_offset_of x ≡ Some i → first_fault x ≡ (fault_of x at i)
+unfolding fault_of fault_offset_of
+halves_law x i found = grind arith

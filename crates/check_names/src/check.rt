@@ -67,11 +67,9 @@ pub fn run<R: Read, W: Write>(alloc: Global, input: &mut R, output: &mut W) -> R
 impl Check for NoOptions {
     ghost gave = { λ R W remaining contents input rest output written ran. Runs remaining contents input rest output written ran };
 
-    fn run<R: Read, W: Write>(
-        alloc: Global,
-        input: &mut R,
-        output: &mut W,
-    ) -> Result<(), RunError> {
+    fn run<R: Read, W: Write>(alloc: Global, input: &mut R, output: &mut W) -> Result<(), RunError>
+        ensures runs { Runs R.remaining W.contents input.old input.new output.old output.new result }
+    {
         run(alloc, input, output)
     }
 }

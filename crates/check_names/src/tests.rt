@@ -1,4 +1,5 @@
-//! What no clause of `run` says: that it succeeds, which error it returns, and that it flushes.
+//! What no clause of `run` says: that it succeeds, which error it returns, and that it flushes. And
+//! tables of lines, with what docs/RULES.md gives for each.
 
 use crate::check::{RunError, run};
 use bstr::BStr;
@@ -6,6 +7,7 @@ use gix_validate::tag;
 use std::alloc::Global;
 use std::io;
 use std::io::{ErrorKind, Read, Write};
+use std::process::Abort;
 use std::test::Fail;
 
 /// Lines, and what is printed for them.
@@ -39,6 +41,133 @@ pub fn printed(alloc: Global, input: &[u8]) -> Result<Vec<u8>, RunError> {
     let mut output = Vec::new(alloc);
     run(alloc, &mut &*input, &mut output)?;
     Ok(output)
+}
+
+/// Panics if for this line something else is printed.
+fn expect_line(rt: &(impl Abort + AllocGlobal), line: &[u8], answer: &[u8]) -> Result<(), Fail> {
+    let input = [line, b"\n"].concat(rt.alloc())?;
+    let wanted = [answer, b"\n"].concat(rt.alloc())?;
+    let [line, wanted] = [BStr::new(line), BStr::new(&wanted)];
+    let came = printed(rt.alloc(), &input)?;
+    assert_eq!(rt; BStr::new(&came), wanted, "{line:?} (right: wanted)");
+    Ok(())
+}
+
+/// Lines, and the answers: the space after the kind alone is not part of the name, and no name is
+/// too short or has a byte too many.
+#[rattlefmt::skip]
+const LINES: &[(&[u8], &[u8])] = &[
+    (b"", b"unknown kind"),
+    (b" ", b"unknown kind"),
+    (b" tag x", b"unknown kind"),
+    (b"TAG x", b"unknown kind"),
+    (b"tags x", b"unknown kind"),
+    (b"tag\tx", b"unknown kind"),
+    (b"sanitize", b"unknown kind"),
+    (b"tag  x", b"error: A ref must not contain invalid bytes or ascii control characters: \" \""),
+    (b"tag a\r", b"error: A ref must not contain invalid bytes or ascii control characters: \"\\r\""),
+    (b"path .git\\x", b"error: Path separators like / or \\ are not allowed"),
+];
+
+#[test]
+fn answers_lines(rt: HostRuntime) -> Result<(), Fail> {
+    for (line, answer) in LINES {
+        expect_line(&rt, line, answer)?;
+    }
+    Ok(())
+}
+
+/// Names, and the same repaired.
+#[rattlefmt::skip]
+const REPAIRS: &[(&[u8], &[u8])] = &[
+    (b"", b"-"), (b"///", b"-"), (b".", b"-"), (b"..", b"-"), (b"a.", b"a-"),
+    (b"a..b", b"a.b"), (b"/a//b/", b"a/b"), (b"a./b", b"a./b"), (b"a/.lock", b"a/-lock"),
+    (b"a//.lock", b"a/-lock"), (b"a.lock.lock", b"a"), (b"a.lock/b.lock", b"a/b"),
+    (b"x.lock..", b"x.lock-"), (b"@{", b"@-"), (b"@..{", b"@.{"), (b"@", b"-"),
+    (b"@/@", b"@/@"), (b"*.lock", b"-"), (b"\x00\x7F", b"--"), (b"\xC3\xA9", b"\xC3\xA9"),
+];
+
+#[test]
+fn sanitizes_names(rt: HostRuntime) -> Result<(), Fail> {
+    for (name, repaired) in REPAIRS {
+        let line = [b"sanitize ", *name].concat(rt.alloc())?;
+        expect_line(&rt, &line, repaired)?;
+    }
+    Ok(())
+}
+
+/// The kinds of line, in the order of the answers below.
+#[rattlefmt::skip]
+const KINDS: [&[u8]; 9] = [
+    b"tag ", b"partial ", b"ref ", b"branch ", b"submodule ", b"path ", b"symlink ", b"device ", b"sanitize ",
+];
+
+const TAG_EMPTY: &[u8] = b"error: A ref must not be empty";
+
+const TAG_DOT: &[u8] = b"error: A ref must not start with a '.'";
+
+const TAG_TILDE: &[u8] =
+    b"error: A ref must not contain invalid bytes or ascii control characters: \"~\"";
+
+const TAG_SLASH: &[u8] =
+    b"error: A ref must not contain invalid bytes or ascii control characters: \"\\\\\"";
+
+const REF_EMPTY: &[u8] = b"error: Reference name cannot be empty";
+
+const REF_DOT: &[u8] = b"error: Reference name cannot start with a dot";
+
+const REF_TILDE: &[u8] = b"error: Reference name contains invalid byte: \"~\"";
+
+const REF_SLASH: &[u8] = b"error: Reference name contains invalid byte: \"\\\\\"";
+
+const LOWERCASE: &[u8] = b"error: Standalone references must be all uppercased, like 'HEAD'";
+
+const AT: &[u8] = b"error: Reference name is reserved and cannot be used: \"@\"";
+
+const HEAD: &[u8] = b"error: Reference name is reserved and cannot be used: \"refs/heads/HEAD\"";
+
+const NO_NAME: &[u8] = b"error: Submodule names cannot be empty";
+
+const PARENT: &[u8] = b"error: Submodules names must not contains '..'";
+
+const NO_PATH: &[u8] = b"error: A path component must not be empty";
+
+const SEPARATOR: &[u8] = b"error: Path separators like / or \\ are not allowed";
+
+const DEVICE: &[u8] = b"error: Windows device-names may have side-effects and are not allowed";
+
+const GIT: &[u8] = b"error: The .git name may never be used";
+
+const MODULES: &[u8] = b"error: The .gitmodules file must not be a symlink";
+
+/// Names, and the answers of each kind. Each two kinds differ for one of the names. Without one of its
+/// protections `path` accepts `a\b`, `.git` with an ignored character, or `git~1`, and `symlink` these
+/// and as many names for `.gitmodules`, which `path` accepts.
+#[rattlefmt::skip]
+const ANSWERS: &[(&[u8], [&[u8]; 9])] = &[
+    (b"", [TAG_EMPTY, REF_EMPTY, REF_EMPTY, REF_EMPTY, NO_NAME, NO_PATH, NO_PATH, b"no", b"-"]),
+    (b"@", [b"ok", AT, AT, AT, b"ok", b"ok", b"ok", b"no", b"-"]),
+    (b"main", [b"ok", b"ok", LOWERCASE, LOWERCASE, b"ok", b"ok", b"ok", b"no", b"main"]),
+    (b"refs/heads/HEAD", [b"ok", b"ok", b"ok", HEAD, b"ok", SEPARATOR, SEPARATOR, b"no", b"refs/heads/HEAD"]),
+    (b"a/../b", [TAG_DOT, REF_DOT, REF_DOT, REF_DOT, PARENT, SEPARATOR, SEPARATOR, b"no", b"a/-/b"]),
+    (b"nul.txt", [b"ok", b"ok", LOWERCASE, LOWERCASE, b"ok", DEVICE, DEVICE, b"yes", b"nul.txt"]),
+    (b"a\\b", [TAG_SLASH, REF_SLASH, REF_SLASH, REF_SLASH, b"ok", SEPARATOR, SEPARATOR, b"no", b"a-b"]),
+    (b".g\xE2\x80\x8Cit", [TAG_DOT, REF_DOT, REF_DOT, REF_DOT, b"ok", GIT, GIT, b"no", b"-g\xE2\x80\x8Cit"]),
+    (b"git~1", [TAG_TILDE, REF_TILDE, REF_TILDE, REF_TILDE, b"ok", GIT, GIT, b"no", b"git-1"]),
+    (b".gitmodules", [TAG_DOT, REF_DOT, REF_DOT, REF_DOT, b"ok", b"ok", MODULES, b"no", b"-gitmodules"]),
+    (b".gitmodules\xE2\x80\x8D", [TAG_DOT, REF_DOT, REF_DOT, REF_DOT, b"ok", b"ok", MODULES, b"no", b"-gitmodules\xE2\x80\x8D"]),
+    (b"gitmod~1", [TAG_TILDE, REF_TILDE, REF_TILDE, REF_TILDE, b"ok", b"ok", MODULES, b"no", b"gitmod-1"]),
+];
+
+#[test]
+fn answers_by_the_rule_of_the_kind(rt: HostRuntime) -> Result<(), Fail> {
+    for (name, answers) in ANSWERS {
+        for (kind, answer) in KINDS.iter().zip(answers) {
+            let line = [*kind, *name].concat(rt.alloc())?;
+            expect_line(&rt, &line, answer)?;
+        }
+    }
+    Ok(())
 }
 
 /// A reader that fails.
@@ -108,9 +237,20 @@ fn prints_each_byte(rt: HostRuntime) -> Result<(), Fail> {
 
 #[test]
 fn accepts_a_long_name(rt: HostRuntime) -> Result<(), Fail> {
-    let mut line = b"tag ".to_vec(rt.alloc())?;
-    line.resize(10_004, b'a')?;
-    assert_eq!(rt; printed(rt.alloc(), &line)?.as_slice(), b"ok\n".as_slice());
+    for len in [10_000, 3_000_000] {
+        let mut line = b"tag ".to_vec(rt.alloc())?;
+        line.resize(4 + len, b'a')?;
+        assert_eq!(rt; printed(rt.alloc(), &line)?.as_slice(), b"ok\n".as_slice());
+    }
+    Ok(())
+}
+
+#[test]
+fn answers_many_lines(rt: HostRuntime) -> Result<(), Fail> {
+    let input = ROWS.0.repeat(rt.alloc(), 20_000)?;
+    let wanted = ROWS.1.repeat(rt.alloc(), 20_000)?;
+    assert!(rt; input.len() > 2_000_000);
+    assert!(rt; printed(rt.alloc(), &input)?.as_slice() == wanted.as_slice());
     Ok(())
 }
 

@@ -18,6 +18,21 @@ names_of_sections :
 unfolding header_after_bracket
 names_of_sections = (refl, refl, refl)
 
+-- the blanks, each alone and together, and words in other letters
+blanks_before_names :
+    (sections 0 (codes "[submodule\t\"a\"]\n[submodule\r\"b\"]") ≡ name_at 0 (codes "a") ∷ name_at 16 (codes "b") ∷ [])
+    × (sections 0 (codes "[Submodule \t\r\"a\"]\n[SUBMODULE\r\t \"b\"]") ≡ name_at 0 (codes "a") ∷ name_at 18 (codes "b") ∷ [])
+unfolding header_after_bracket
+blanks_before_names = (refl, refl)
+
+-- no blanks: NUL, a vertical tab, a form feed, DEL, and the blanks of other alphabets
+other_bytes_before_names :
+    (sections 0 (codes "[submodule" ++ 0x00 ∷ codes "\"a\"]\n[submodule \u{b}\"a\"]") ≡ unreadable_at 0 ∷ unreadable_at 16 ∷ [])
+    × (sections 0 (codes "[submodule\u{c}\"a\"]\n[submodule\u{7f}\"a\"]") ≡ unreadable_at 0 ∷ unreadable_at 16 ∷ [])
+    × (sections 0 (codes "[submodule" ++ 0x85 ∷ codes "\"a\"]\n[submodule" ++ 0xA0 ∷ codes "\"a\"]") ≡ unreadable_at 0 ∷ unreadable_at 16 ∷ [])
+unfolding header_after_bracket
+other_bytes_before_names = (refl, refl, refl)
+
 -- sections in values and names
 sections_anywhere :
     (sections 0 (codes "[x]\n\ty = \"[submodule \\\"a\\\"]\"\n") ≡ unreadable_at 10 ∷ [])
@@ -39,5 +54,6 @@ unreadable_sections :
     × (sections 0 (codes "[submodule \"a\" ]\n[submodule \"a") ≡ unreadable_at 0 ∷ unreadable_at 17 ∷ [])
     × (sections 0 (codes "[submodule \"a\nb\"]\n[submodule \"a\\\nb\"]") ≡ unreadable_at 0 ∷ unreadable_at 18 ∷ [])
     × (sections 0 (codes "[submodule \"a\\" ++ 0 ∷ codes "\"]") ≡ unreadable_at 0 ∷ [])
+    × (sections 0 (codes "[submodule \"a" ++ 0xFF ∷ codes "\"]") ≡ unreadable_at 0 ∷ [])
 unfolding header_after_bracket
-unreadable_sections = (refl, refl, refl, refl, refl)
+unreadable_sections = (refl, refl, refl, refl, refl, refl)

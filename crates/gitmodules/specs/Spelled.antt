@@ -83,6 +83,15 @@ IsEachNameSpelled = (file : List ℕ) (offset : ℕ) (name : List ℕ) → Conta
 abbrev pub IsEachHeaderGiven : Type 0
 IsEachHeaderGiven = (file : List ℕ) (offset : ℕ) → HeaderAt file offset ↔ ((name : Option (List ℕ)) × Contains (sections 0 file) (offset, name))
 
+-- the three blanks
+abbrev pub blanks : List ℕ
+blanks = 0x20 ∷ 0x09 ∷ 0x0D ∷ []
+
+-- A byte alone between the word and the name is one of these, or else there is no section of the name: so Git reads each byte (tests/headers).
+abbrev pub IsNamedAfterEachBlank : Type 0
+IsNamedAfterEachBlank = (b : ℕ) → Contains (sections 0 (codes "[submodule" ++ b ∷ codes "\"x\"]")) (0, Some (codes "x"))
+    ↔ (list_any (λ c. b == c) blanks ≡ true)
+
 -- each offset is given once, in order
 abbrev pub IsInOrder : Type 0
 IsInOrder = (file : List ℕ) → AllPairs (λ a b. a.0 < b.0) (sections 0 file)

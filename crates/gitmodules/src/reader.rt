@@ -3,7 +3,7 @@
 ghost use Rattle.std.specs.Prelude.{◌≡◌, ◌+◌, ◌<◌, ◌≤◌, ◌++◌, [], ◌∷◌, MatchOption, drop, length, ⊤};
 ghost use Rattle.gitmodules.specs.Sections.{begun, header_after_bracket, header_after_word, sections, without_blanks};
 ghost use Rattle.gitmodules.specs.Headers.{header_of};
-ghost use Rattle.gitmodules.specs.Spelled.{IsEachHeaderGiven, IsEachNameSpelled, IsEachSectionFound, IsInOrder};
+ghost use Rattle.gitmodules.specs.Spelled.{IsEachHeaderGiven, IsEachNameSpelled, IsEachSectionFound, IsInOrder, IsNamedAfterEachBlank};
 
 use crate::escaped::EscapedName;
 use memchr::memchr;
@@ -49,13 +49,14 @@ impl<'a> Sections<'a> {
     /// ```
     ///
     /// It does not allocate. A whole iteration reads each byte a bounded number of times.
-    #[tactic(auto, using(crate::proofs::SpelledSections::each_section_found, crate::proofs::ReadSections::each_name_spelled, crate::proofs::ReadSections::in_order))]
+    #[tactic(auto, using(crate::proofs::SpelledSections::each_section_found, crate::proofs::ReadSections::each_name_spelled, crate::proofs::ReadSections::in_order, crate::proofs::Blanks::named_after_each_blank))]
     pub fn new(file: &'a [u8]) -> Sections<'a>
         ensures value { result ≡ sections 0 file.now }
         ensures found { IsEachSectionFound }
         ensures spelled { IsEachNameSpelled }
         ensures given { IsEachHeaderGiven }
         ensures ordered { IsInOrder }
+        ensures blanks { IsNamedAfterEachBlank }
     {
         Sections { file, start: 0 }
     }

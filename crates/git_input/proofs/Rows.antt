@@ -1,6 +1,11 @@
--- The definitions of numbers and ids, computed on literals.
-use Rattle.gix_validate.proofs.{Common.{refl, ℕ, List, [], ◌∷◌, ◌++◌, true, false, Some, None, codes}, Rows.Tables.Gives}
-use Rattle.git_input.specs.Texts.{number_of, is_id}
+-- The definitions of numbers, ids, header lines and verdicts, computed on literals.
+use Rattle.gix_validate.proofs.{Common.{refl, ℕ, Bool, List, [], ◌∷◌, ◌++◌, true, false, Option, Some, None, codes}, Rows.Tables.Gives}
+use Rattle.git_input.specs.{Texts.{split_once, number_of, is_id, hex_pair}, Headers.{ParsedHeader, Missing, Object, parsed_header}}
+use Rattle.git_input.specs.{Objects.object_reach, Reports.{extent, malformation_at_end, verdict_by}}
+use Rattle.git_input.specs.declared.header.Kind.{Kind, TheVariants.{Blob, Tree, Commit, Tag}}
+use Rattle.git_input.specs.declared.lines.Ending.{Ending, TheVariants.{Anywhere, EndLine, AfterALine}}
+use Rattle.git_input.specs.declared.outcome.Malformation.{Malformation, TheVariants.{NoEnd, Line, Empty}}
+use Rattle.git_input.specs.declared.outcome.Verdict.TheVariants.{Clean, Refused, Malformed}
 
 abbrev forty : List ℕ
 forty = codes "4b825dc642cb6eb9a060e54bf8d69288fbee4904"
@@ -49,3 +54,59 @@ octals : Gives (number_of 8)
     ∷ [])
 unfolding number_of
 octals = refl
+
+-- bytes, and their two hexadecimal digits
+pairs : Gives hex_pair
+    ((0x00, codes "00") ∷ (0x09, codes "09") ∷ (0x0A, codes "0a") ∷ (0x9F, codes "9f") ∷ (0xF0, codes "f0") ∷ (0xFF, codes "ff") ∷ [])
+pairs = refl
+
+abbrev object : Kind → ℕ → Option (List ℕ) → Option ParsedHeader
+object kind size rest = Some (Object (record { id = forty; kind = kind; size = size; rest = rest }))
+
+-- header lines, and what each says
+headers : Gives parsed_header
+    ((forty ++ codes " missing", Some Missing)
+    ∷ (forty ++ codes " blob 0", object Blob 0 None)
+    ∷ (forty ++ codes " tree 104", object Tree 104 None)
+    ∷ (forty ++ codes " commit 0012", object Commit 12 None)  -- leading zeros
+    ∷ (forty ++ codes " tag 7 ", object Tag 7 (Some []))  -- an empty rest
+    ∷ (forty ++ codes " tree 7  a b ", object Tree 7 (Some (codes " a b ")))  -- a rest with spaces
+    ∷ (forty ++ codes " tags 7", None)  -- no type
+    ∷ (forty ++ codes " Blob 7", None)  -- a capital
+    ∷ (forty ++ codes " blob  7", None)  -- two spaces
+    ∷ (forty ++ codes " blob", None)  -- no size
+    ∷ (forty ++ codes " missing ", None)  -- more than that
+    ∷ (codes "HEAD missing", None)  -- no id
+    ∷ [])
+unfolding parsed_header is_id number_of
+headers = refl
+
+-- texts, and the most bytes of the first line with its end and what can belong to it
+extents : Gives (extent object_reach)
+    ((forty ++ codes " blob 3\nabc\n" ++ forty, 52)  -- the object, and the byte after it
+    ∷ (forty ++ codes " missing\n" ++ forty, 49)
+    ∷ (codes "..end missing\n" ++ forty, 14)  -- no header line
+    ∷ (codes "", 65536)  -- no end
+    ∷ [])
+unfolding extent parsed_header is_id number_of
+extents = refl
+
+-- how a text has to end, the number of the line before which it does, and what is wrong with that
+ends : Gives (λ (end : Ending × ℕ). malformation_at_end end.0 end.1)
+    (((Anywhere, 1), None)
+    ∷ ((Anywhere, 2), None)
+    ∷ ((EndLine, 1), Some NoEnd)
+    ∷ ((EndLine, 2), Some NoEnd)
+    ∷ ((AfterALine, 1), Some Empty)
+    ∷ ((AfterALine, 2), None)
+    ∷ [])
+ends = refl
+
+-- whether something is refused, what is malformed, and the verdict
+verdicts : Gives (λ (found : Bool × Option (ℕ × Malformation)). verdict_by found.0 found.1)
+    (((false, None), Clean)
+    ∷ ((true, None), Refused)
+    ∷ ((false, Some (2, Line)), Malformed 2 Line)
+    ∷ ((true, Some (2, Line)), Malformed 2 Line)  -- the refused part was printed
+    ∷ [])
+verdicts = refl

@@ -1,10 +1,10 @@
 -- What the words of a command line ask for.
-use Rattle.std.proofs.Common.{◌≡◌, ℕ, ◌||◌, Bool, true, List, [], ◌∷◌, Ok, codes, IsTrue, ◌↔◌, Contains, subst, ap, sym, ◌∙◌, arith, All}
+use Rattle.std.proofs.Common.{◌≡◌, ℕ, ◌||◌, true, List, [], ◌∷◌, Ok, codes, IsTrue, ◌↔◌, Contains, subst, ap, sym, ◌∙◌, arith}
 use Rattle.std.proofs.lemmas.{Slice.Eq.bytes_eq-Decides, List.Elements.{All-from_recursion}}
 use Rattle.std.specs.{List.AllByRecursion, Prelude.None}
 use Rattle.cli.specs.Arguments.{Check, request_from}
 use Rattle.cli.proofs.AskedWords.{has, among, same_test, each_of, one_check}
-use Rattle.check_submodules.specs.{declared.options.Options.Options, Arguments.{no_options, rule}, Options.{IsAskedFor, AreByWords}}
+use Rattle.check_submodules.specs.{declared.options.Options.Options, Arguments.{no_options, rule}, Options.{AreByWords}}
 
 abbrev Known : List ℕ → Type 0
 Known word = word ≡ codes "--end"

@@ -1,10 +1,11 @@
 -- What a list of switches turns on.
-use Rattle.std.proofs.Common.{◌≡◌, ◌↔◌, ◌⊎◌, inl, inr, ℕ, ◌||◌, Bool, true, false, IsTrue, List, [], ◌∷◌, Option, Some, None, codes, arith, refl, ap, sym, ◌∙◌, subst, Contains, All}
+use Rattle.std.proofs.Common.{◌≡◌, ◌↔◌, ◌⊎◌, inl, inr, ℕ, ◌||◌, Bool, true, false, IsTrue, List, [], ◌∷◌, Some, codes, arith, refl, ap, sym}
+use Rattle.std.proofs.Common.{◌∙◌, subst, Contains}
 use Rattle.std.proofs.lemmas.{Slice.Eq.bytes_eq-Decides, List.Elements.{All-from_recursion}}
 use Rattle.std.specs.{List.AllByRecursion, Str.bytes_eq}
 use Rattle.gix_validate.specs.{declared.path.ComponentOptions.ComponentOptions, ComponentLaws.no_protections}
 use Rattle.cli.proofs.AskedWords.{has, among, same_test, each_of}
-use Rattle.check_trees.specs.{Arguments.{comma_parts, switched_on, all_switched_on, protections_of}, Options.TurnsOn}
+use Rattle.check_trees.specs.{Arguments.{comma_parts, all_switched_on, protections_of}, Options.TurnsOn}
 
 abbrev Word : List ℕ → Type 0
 Word word = (word ≡ codes "windows") ⊎ (word ≡ codes "hfs") ⊎ (word ≡ codes "ntfs")
@@ -41,20 +42,20 @@ turned [] start known = ap (λ on. Some on) (sym (none_after start))
 turned (word ∷ words) start known =
     elim (known.0) as (λ _. all_switched_on (word ∷ words) start ≡ Some (after start (word ∷ words))) [
       | inl is ↦
-        rw is (
+          rw is (
           turned words (record { protect_windows = true; protect_hfs = start.protect_hfs; protect_ntfs = start.protect_ntfs }) known.1
           ∙ ap (λ on. Some on) (windows_after start words)
-        )
+          )
       | inr (inl is) ↦
-        rw is (
+          rw is (
           turned words (record { protect_windows = start.protect_windows; protect_hfs = true; protect_ntfs = start.protect_ntfs }) known.1
           ∙ ap (λ on. Some on) (hfs_after start words)
-        )
+          )
       | inr (inr is) ↦
-        rw is (
+          rw is (
           turned words (record { protect_windows = start.protect_windows; protect_hfs = start.protect_hfs; protect_ntfs = true }) known.1
           ∙ ap (λ on. Some on) (ntfs_after start words)
-        )
+          )
     ]
 
 one_known : (word : List ℕ) (words : List (List ℕ)) (start on : ComponentOptions) → all_switched_on (word ∷ words) start ≡ Some on
@@ -120,10 +121,10 @@ list_law list on = (
   λ is.
       elim (is) as (λ _. protections_of list ≡ Some on) [
         | inl (known, windows, hfs, ntfs) ↦
-          let w = one_switch list (codes "windows") on.protect_windows windows in
-          let h = one_switch list (codes "hfs") on.protect_hfs hfs in
-          let n = one_switch list (codes "ntfs") on.protect_ntfs ntfs in
-          turns list on (each_of Word (comma_parts list) known) (grind arith)
+            let w = one_switch list (codes "windows") on.protect_windows windows in
+            let h = one_switch list (codes "hfs") on.protect_hfs hfs in
+            let n = one_switch list (codes "ntfs") on.protect_ntfs ntfs in
+            turns list on (each_of Word (comma_parts list) known) (grind arith)
         | inr (none, windows, hfs, ntfs) ↦ turns_none list on none windows hfs ntfs
       ],
 )

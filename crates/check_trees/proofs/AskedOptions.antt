@@ -1,12 +1,15 @@
 -- What the words of a command line ask for.
-use Rattle.std.proofs.Common.{◌≡◌, ◌↔◌, ◌⊎◌, inl, inr, ℕ, zero, suc, ◌||◌, Bool, true, false, IsTrue, List, [], ◌∷◌, ◌++◌, Option, Some, None, Result, Ok, Err, codes, arith, refl, ap, sym, ◌∙◌, subst, Contains, All, flat_map, MatchOption}
+use Rattle.std.proofs.Common.{◌≡◌, ◌↔◌, ◌⊎◌, inl, inr, ℕ, zero, suc, ◌||◌, Bool, true, false, IsTrue, List, [], ◌∷◌, ◌++◌, Option, Some, None, Result, Ok}
+use Rattle.std.proofs.Common.{codes, arith, refl, ap, sym, ◌∙◌, subst, Contains, flat_map, MatchOption}
 use Rattle.std.proofs.lemmas.{Slice.Eq.bytes_eq-Decides, List.Elements.{All-from_recursion}}
 use Rattle.std.specs.{List.{AllByRecursion, last_or, list_any}, Str.{byte, bytes_eq}, Option.{option_map, option_and_then}}
-use Rattle.gix_validate.specs.{declared.path.ComponentOptions.ComponentOptions, Component.all_protections, Pieces.pieces}
-use Rattle.cli.specs.{Lines.split_once, Arguments.{Check, Task, WrongArgument, Effect, Unknown, Sets, NeedsValue, Invalid, after_effect, after_set, set_by, request_from}}
+use Rattle.gix_validate.specs.{declared.path.ComponentOptions.ComponentOptions, Pieces.pieces}
+use Rattle.cli.specs.Arguments.{Check, Task, WrongArgument, Effect, Unknown, Sets, NeedsValue, Invalid}
+use Rattle.cli.specs.{Lines.split_once, Arguments.{after_effect, after_set, set_by, request_from}}
 use Rattle.cli.proofs.AskedWords.{same_test, each_of}
-use Rattle.check_trees.specs.Arguments.{Options, no_options, protected_by, protections_of, rule}
-use Rattle.check_trees.specs.Options.{Asked, Modules, End, Protect, Accept, IsGivenBy, AreGivenBy, list_of, names_of, TurnsOn, IsAllOn, IsAskedFor, AreByWords}
+use Rattle.check_trees.specs.Arguments.{Options, no_options, protections_of, rule}
+use Rattle.check_trees.specs.Options.{Asked, Modules, End, Protect, Accept, IsGivenBy, AreGivenBy, list_of, names_of}
+use Rattle.check_trees.specs.Options.{TurnsOn, IsAllOn, IsAskedFor, AreByWords}
 use Rattle.check_trees.proofs.AskedLists.{list_law}
 
 -- ---- what the options do, one after the other
@@ -89,16 +92,20 @@ value_step : (name value : List ℕ) (words : List (List ℕ)) (start options : 
 value_step name value words start options e =
     elim (bytes_eq name (codes "--protect")) as (λ b. bytes_eq name (codes "--protect") ≡ b → Next (Valued name) value start words options) [
       | true ↦ λ is.
-        let protect = (bytes_eq-Decides name (codes "--protect")).0 is in
-        (Protect value, inl (protect, refl), list_step value words start options (protections_of value) refl (rw protect at e))
+          let protect = (bytes_eq-Decides name (codes "--protect")).0 is in
+          (Protect value, inl (protect, refl), list_step value words start options (protections_of value) refl (rw protect at e))
       | false ↦ λ other.
-        elim (bytes_eq name (codes "--accept")) as (λ b. bytes_eq name (codes "--accept") ≡ b → Next (Valued name) value start words options) [
-          | true ↦ λ is.
-            let accept = (bytes_eq-Decides name (codes "--accept")).0 is in
-            let at : AsksFor (Some (codes "--accept")) start (value ∷ words) options = rw accept at e in
-            (Accept value, inr (accept, refl), (record { protections = start.protections; modules = start.modules; needs_end = start.needs_end; accepted = pieces value }, refl, at))
-          | false ↦ λ neither. absurd (grind arith)
-        ] refl
+          elim (bytes_eq name (codes "--accept")) as (λ b. bytes_eq name (codes "--accept") ≡ b → Next (Valued name) value start words options) [
+            | true ↦ λ is.
+                let accept = (bytes_eq-Decides name (codes "--accept")).0 is in
+                let at : AsksFor (Some (codes "--accept")) start (value ∷ words) options = rw accept at e in
+                (
+                  Accept value,
+                  inr (accept, refl),
+                  (record { protections = start.protections; modules = start.modules; needs_end = start.needs_end; accepted = pieces value }, refl, at),
+                )
+            | false ↦ λ neither. absurd (grind arith)
+          ] refl
     ] refl
 
 abbrev GivenAlone : List ℕ → Asked → Type 0
@@ -110,9 +117,9 @@ cut_step : (name value word : List ℕ) (words : List (List ℕ)) (start options
 cut_step name value word words start options is (first, valued, next) =
     elim (valued) as (λ _. Next GivenAlone word start words options) [
       | inl (protect, one) ↦
-        (first, rw one (inr (ap (λ word. word ∷ []) (is ∙ ap (λ name. name ++ byte "=" ∷ value) protect))), next)
+          (first, rw one (inr (ap (λ word. word ∷ []) (is ∙ ap (λ name. name ++ byte "=" ∷ value) protect))), next)
       | inr (accept, one) ↦
-        (first, rw one (inr (ap (λ word. word ∷ []) (is ∙ ap (λ name. name ++ byte "=" ∷ value) accept))), next)
+          (first, rw one (inr (ap (λ word. word ∷ []) (is ∙ ap (λ name. name ++ byte "=" ∷ value) accept))), next)
     ]
 
 -- a value that is the next word
@@ -123,22 +130,26 @@ next_given name value first valued =
       | inr (accept, one) ↦ rw one (inl (ap (λ name. name ∷ value ∷ []) accept))
     ]
 
+-- the word is an option, or needs the next one as its value
+abbrev IsRead : List ℕ → List (List ℕ) → Options → Options → Type 0
+IsRead word words start options = Next GivenAlone word start words options ⊎ AsksFor (Some word) start words options
+
 -- a word of which no part is a value
 alone_step : (word : List ℕ) (words : List (List ℕ)) (start options : Options)
     → after_set (after_effect start word word (rule word None start)) (λ on option. request_from rule option on words) ≡ Ok (Check options)
-    → Next GivenAlone word start words options ⊎ AsksFor (Some word) start words options
+    → IsRead word words start options
 alone_step word words start options e =
-    elim (bytes_eq word (codes "--modules")) as (λ b. bytes_eq word (codes "--modules") ≡ b → Next GivenAlone word start words options ⊎ AsksFor (Some word) start words options) [
+    elim (bytes_eq word (codes "--modules")) as (λ b. bytes_eq word (codes "--modules") ≡ b → IsRead word words start options) [
       | true ↦ λ is.
-        let modules = (bytes_eq-Decides word (codes "--modules")).0 is in
-        inl (Modules, ap (λ word. word ∷ []) modules, (_, refl, rw modules at e))
+          let modules = (bytes_eq-Decides word (codes "--modules")).0 is in
+          inl (Modules, ap (λ word. word ∷ []) modules, (_, refl, rw modules at e))
       | false ↦ λ other.
-        elim (bytes_eq word (codes "--end")) as (λ b. bytes_eq word (codes "--end") ≡ b → Next GivenAlone word start words options ⊎ AsksFor (Some word) start words options) [
-          | true ↦ λ is.
-            let end = (bytes_eq-Decides word (codes "--end")).0 is in
-            inl (End, ap (λ word. word ∷ []) end, (_, refl, rw end at e))
-          | false ↦ λ neither. inr (grind arith)
-        ] refl
+          elim (bytes_eq word (codes "--end")) as (λ b. bytes_eq word (codes "--end") ≡ b → IsRead word words start options) [
+            | true ↦ λ is.
+                let end = (bytes_eq-Decides word (codes "--end")).0 is in
+                inl (End, ap (λ word. word ∷ []) end, (_, refl, rw end at e))
+            | false ↦ λ neither. inr (grind arith)
+          ] refl
     ] refl
 
 -- the parts of a text give it back
@@ -151,14 +162,14 @@ not_help : (word : List ℕ) (words : List (List ℕ)) (start options : Options)
 not_help word words start options e = grind arith
 
 word_step : (word : List ℕ) (words : List (List ℕ)) (start options : Options) → AsksFor None start (word ∷ words) options
-    → Next GivenAlone word start words options ⊎ AsksFor (Some word) start words options
+    → IsRead word words start options
 word_step word words start options e =
-    elim (split_once (byte "=") word) as (λ parts. split_once (byte "=") word ≡ parts → Next GivenAlone word start words options ⊎ AsksFor (Some word) start words options) [
+    elim (split_once (byte "=") word) as (λ parts. split_once (byte "=") word ≡ parts → IsRead word words start options) [
       | Some (name, value) ↦ λ is.
-        inl (cut_step name value word words start options (joined word name value is)
-        (value_step name value words start options
-        (after_same (rule name (Some value) start) word value name start options (λ on option. request_from rule option on words)
-        (rw is at (not_help word words start options e)))))
+          inl (cut_step name value word words start options (joined word name value is)
+          (value_step name value words start options
+          (after_same (rule name (Some value) start) word value name start options (λ on option. request_from rule option on words)
+          (rw is at (not_help word words start options e)))))
       | None ↦ λ is. alone_step word words start options (rw is at (not_help word words start options e))
     ] refl
 
@@ -184,11 +195,11 @@ read (value ∷ words) (Some name) start options e =
 read (word ∷ words) None start options e =
     elim (word_step word words start options e) as (λ _. Reads None start (word ∷ words) options) [
       | inl (first, alone, (mid, sets, next)) ↦
-        let (asked, given, all) = read words None mid options next in
-        (first ∷ asked, (word ∷ [], words, refl, alone, given), joined_set start mid options first asked sets all)
+          let (asked, given, all) = read words None mid options next in
+          (first ∷ asked, (word ∷ [], words, refl, alone, given), joined_set start mid options first asked sets all)
       | inr more ↦
-        let (value, rest, is, first, given, asked, others, all) = read words (Some word) start options more in
-        (first ∷ asked, (word ∷ value ∷ [], rest, ap (λ words. word ∷ words) is, given, others), all)
+          let (value, rest, is, first, given, asked, others, all) = read words (Some word) start options more in
+          (first ∷ asked, (word ∷ value ∷ [], rest, ap (λ words. word ∷ words) is, given, others), all)
     ]
 
 -- ---- what is set, field by field
@@ -265,8 +276,7 @@ values_set [] start options list names e listed named =
 values_set (first ∷ more) start options list names e listed named =
     let (mid, sets, all) = split_set start options first more e in
     let (one, two) = value_one first start mid list names sets listed named in
-    let others = values_set more mid options (last_or list (list_of first)) (last_or names (names_of first)) all one two in
-    (
+    let others = values_set more mid options (last_or list (list_of first)) (last_or names (names_of first)) all one two in (
       subst (λ last. IsListed last options.protections) (sym (last_append list (list_of first) (flat_map list_of more))) others.0,
       subst (λ last. IsNamed last options.accepted) (sym (last_append names (names_of first) (flat_map names_of more))) others.1,
     )
@@ -332,10 +342,10 @@ asks_for words options is =
     let flags = flags_set is.asked no_options mid all in
     let values = values_set is.asked no_options mid None None all (refl, refl, refl) refl in
     let same = same_options mid options
-      (listed_one (last_or None (flat_map list_of is.asked)) mid.protections options.protections values.0 is.protections)
-      (flags.0 ∙ same_test (list_any is_modules is.asked) options.modules (Contains is.asked Modules) (modules_among is.asked) is.modules)
-      (flags.1 ∙ same_test (list_any is_end is.asked) options.needs_end (Contains is.asked End) (end_among is.asked) is.end)
-      (named_one (last_or None (flat_map names_of is.asked)) mid.accepted options.accepted values.1 is.accepted) in
+    (listed_one (last_or None (flat_map list_of is.asked)) mid.protections options.protections values.0 is.protections)
+    (flags.0 ∙ same_test (list_any is_modules is.asked) options.modules (Contains is.asked Modules) (modules_among is.asked) is.modules)
+    (flags.1 ∙ same_test (list_any is_end is.asked) options.needs_end (Contains is.asked End) (end_among is.asked) is.end)
+    (named_one (last_or None (flat_map names_of is.asked)) mid.accepted options.accepted values.1 is.accepted) in
     asks is.asked words no_options options is.given (all ∙ ap (λ on. Some on) same)
 
 pub by_words : AreByWords

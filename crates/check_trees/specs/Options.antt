@@ -1,5 +1,5 @@
 -- What a command line asks for, by its options, whatever their order.
-use Rattle.std.specs.Prelude.{◌≡◌, ◌↔◌, ◌⊎◌, ℕ, true, false, IsTrue, List, [], ◌∷◌, ◌++◌, All, Contains, codes, flat_map, Option, Some, None, Ok, MatchOption}
+use Rattle.std.specs.Prelude.{◌≡◌, ◌↔◌, ◌⊎◌, ℕ, true, false, IsTrue, List, [], ◌∷◌, ◌++◌, All, Contains, codes, flat_map, None, Ok, MatchOption}
 use Rattle.std.specs.List.{last_or}
 use Rattle.gix_validate.specs.{declared.path.ComponentOptions.ComponentOptions, Pieces.pieces}
 use Rattle.cli.specs.Arguments.{Check, request_of}
@@ -56,7 +56,7 @@ pub record IsAskedFor (words : List (List ℕ)) (options : Options) : Type 0 whe
   pub lists : All (λ list. (on : ComponentOptions) × TurnsOn on list) (flat_map list_of asked)
   pub protections : MatchOption (last_or None (flat_map list_of asked)) (IsAllOn options.protections) (TurnsOn options.protections)
   pub accepted :
-    MatchOption (last_or None (flat_map names_of asked)) (options.accepted ≡ pieces []) (λ names. options.accepted ≡ pieces names)
+      MatchOption (last_or None (flat_map names_of asked)) (options.accepted ≡ pieces []) (λ names. options.accepted ≡ pieces names)
   pub modules : IsTrue options.modules ↔ Contains asked Modules
   pub end : IsTrue options.needs_end ↔ Contains asked End
 

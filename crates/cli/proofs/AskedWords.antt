@@ -1,5 +1,5 @@
 -- Whether a word is among words, computed, and what words ask for.
-use Rattle.std.proofs.Common.{◌≡◌, ◌↔◌, ℕ, zero, suc, ◌||◌, Bool, true, IsTrue, List, [], ◌∷◌, All, Contains, Result, Ok, arith, ap, sym, ◌∙◌}
+use Rattle.std.proofs.Common.{◌≡◌, ◌↔◌, ℕ, zero, suc, Bool, true, IsTrue, List, [], ◌∷◌, All, Contains, Result, Ok, arith, ap, sym, ◌∙◌}
 use Rattle.std.proofs.lemmas.{Map.Views.Contains-from_any, List.Elements.{All-head, All-tail}, Slice.Eq.bytes_eq-Decides}
 use Rattle.std.specs.{List.{AllByRecursion, list_any}, Str.bytes_eq}
 use Rattle.cli.specs.Arguments.{Task, Check, WrongArgument}

@@ -3,7 +3,7 @@
 ghost use Rattle.std.specs.Prelude.{◌≡◌, Some, IfOk, IfSome};
 ghost use Rattle.git_input.specs.{Ends.Gives, Promises.Runs, Reports.{IsCleanIff, PrintsAtMost}};
 ghost use Rattle.check_refs.specs.Spelled.{IsAcceptedInput, IsReportedInOrder, IsWellFormedOnlyIfSpelled};
-ghost use Rattle.check_refs.specs.{Private.update_leaves, Refs.{refs_report, update_rule}};
+ghost use Rattle.check_refs.specs.{Options.AreByWords, Private.update_leaves, Refs.{refs_report, update_rule}};
 
 use crate::options::Options;
 use crate::report::push_line;
@@ -44,6 +44,7 @@ impl Check<'_> for Options {
         ensures spelled { IsReportedInOrder self }
         ensures well_formed { IsWellFormedOnlyIfSpelled self }
         ensures linear { PrintsAtMost 4 (refs_report self) }
+        ensures options { AreByWords }
     {
         lines::run(alloc, self, Ending::AfterALine, input, output)
     }

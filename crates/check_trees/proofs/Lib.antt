@@ -6,4 +6,6 @@ pub mod SpelledTrees
 pub mod AcceptedTrees
 pub mod LinearReports
 pub mod ArgumentWords
+pub mod AskedLists
+pub mod AskedOptions
 mod Rows

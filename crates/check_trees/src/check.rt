@@ -9,7 +9,7 @@ ghost use Rattle.gix_validate.specs.{Component.fault_of, Pieces.pieces};
 ghost use Rattle.check_trees.specs.Report.{finding_by, finding_of, finding_said, is_gitmodules_fault, report};
 ghost use Rattle.check_trees.specs.{Report.tree_rule, Spelled.{IsAcceptedStream, IsReadAsItems}};
 ghost use Rattle.check_trees.specs.Private.{EntryGives, EntryReads, PassesId, Says, as_front, tree_report};
-ghost use Rattle.check_trees.specs.Arguments.{as_options, protections_for};
+ghost use Rattle.check_trees.specs.{Arguments.{as_options, protections_for}, Options.AreByWords};
 
 use crate::entry::{ModeAndName, front_of};
 use crate::options::CheckOptions;
@@ -56,6 +56,7 @@ impl<'a> Check<'a> for CheckOptions<'a> {
         ensures whole { IsWholeStream (tree_rule (as_options self.entry)) self.entry.needs_end }
         ensures items { IsReadAsItems (as_options self.entry) }
         ensures linear { PrintsAtMost 32 (report (as_options self.entry)) }
+        ensures options { AreByWords }
     {
         objects::run(alloc, self, self.needs_end, input, output)
     }

@@ -1,1 +1,2 @@
 pub mod SplitTexts
+pub mod AskedWords

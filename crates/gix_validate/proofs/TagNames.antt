@@ -2,3 +2,4 @@
 pub mod FaultTable
 pub mod Grammar
 pub mod ClearTexts
+pub mod Laws

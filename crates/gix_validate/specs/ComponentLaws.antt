@@ -1,7 +1,9 @@
--- The laws of path components: what else holds of an accepted name, and what never changes an answer.
+-- The laws of path components: what else holds of an accepted name, what never changes an answer, and what
+-- forms and units are in other words.
 use Rattle.std.specs.{Prelude.{◌≡◌, ◌≢◌, ℕ, false, not, IsTrue, List, [], ◌∷◌, ◌++◌, codes, Option, None}, List.{concat, filter}, Str.byte}
+use Rattle.bstr.specs.Utf8.{decoded}
 use Rattle.gix_validate.specs.{declared.path.{ComponentMode.ComponentMode, ComponentOptions.ComponentOptions}, Bytes.lower}
-use Rattle.gix_validate.specs.{Pieces.has_no_slash, Units.units, Hfs.{hfs_form, is_ignored_unit}, Windows.is_device, Component.fault_of}
+use Rattle.gix_validate.specs.{Pieces.has_no_slash, Units.{first_unit_len, units}, Hfs.{hfs_form, is_ignored_unit}, Windows.is_device, Component.fault_of}
 
 -- every switch off
 abbrev pub no_protections : ComponentOptions
@@ -21,6 +23,11 @@ IsValidUnderFewerSwitches options mode x =
 -- the name and the same with small ASCII letters have the same fault, or both have none
 abbrev pub FaultIgnoresCase : ComponentOptions → Option ComponentMode → List ℕ → Type 0
 FaultIgnoresCase options mode x = fault_of options mode x ≡ fault_of options mode (lower x)
+
+-- The first unit of a text that isn't empty is as long as what `bstr` decodes first: a character, or what it
+-- replaces by U+FFFD.
+abbrev pub FirstUnitIsDecoded : List ℕ → Type 0
+FirstUnitIsDecoded x = x ≢ [] → first_unit_len x ≡ (decoded x).size
 
 -- the HFS form is the units without the ignored characters, put one after the other
 abbrev pub FormIsKeptUnits : List ℕ → Type 0

@@ -4,6 +4,7 @@ pub mod Faults
 pub mod Quoted
 pub mod Printed
 pub mod Tag
+pub mod TagLaws
 pub mod Reference
 pub mod Submodule
 pub mod Sanitized

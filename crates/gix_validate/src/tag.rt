@@ -3,6 +3,7 @@
 ghost use Rattle.std.specs.Prelude.{◌≡◌, ◌↔◌, ◌<◌, ◌≤◌, ◌+◌, ◌-◌, length, slice_index, codes, Some, IsNone, IfSome, option_map, IsOk, IfOk, IsTrue, MatchOption};
 ghost use Rattle.bstr.specs.BStr.{bstr_bytes};
 ghost use Rattle.gix_validate.specs.Tag.{Fault, ◌at◌, fault_at, fault_of, fault_offset_of, first_fault, is_tag_name, text_of};
+ghost use Rattle.gix_validate.specs.TagLaws.{HasAtMostOneFaultPerOffset, PiecesAreTheOnlySplit};
 ghost use Rattle.gix_validate.specs.{Bytes.ends, Faults.{Validates, at_first_offset}, Printed.printed};
 ghost use Rattle.gix_validate.specs.Private.Adjacent.{fault_of_byte, may_be_faulty};
 
@@ -100,11 +101,13 @@ impl Error for NameError {}
 ///
 /// The first fault in the order of docs/RULES.md, "Tag names", which is the source of this rule.
 #[inline(always)]
-#[tactic(auto, using(crate::proofs::TagNames::ClearTexts::clear_has_no_fault, crate::proofs::TagNames::Grammar::tag_grammar_law))]
+#[tactic(auto, using(crate::proofs::TagNames::ClearTexts::clear_has_no_fault, crate::proofs::TagNames::Grammar::tag_grammar_law, crate::proofs::TagNames::Laws::tag_laws))]
 pub fn name<'a>(input: BStr<'a>) -> Result<BStr<'a>, NameError>
     ensures answer { Validates fault_of (bstr_bytes input.entry) result }
     ensures grammar { IsOk result ↔ IsTrue (is_tag_name (bstr_bytes input.entry)) }
     ensures same { IfOk result (λ name. name ≡ input.entry) }
+    ensures one_fault { HasAtMostOneFaultPerOffset (bstr_bytes input.entry) }
+    ensures pieces { PiecesAreTheOnlySplit (bstr_bytes input.entry) }
 {
     if is_clear(input.as_bytes()) {
         Ok(input)

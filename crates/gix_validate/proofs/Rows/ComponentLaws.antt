@@ -1,8 +1,14 @@
 -- The words of the laws on path components, at literal names and options.
-use Rattle.gix_validate.{proofs.Common.{arith, true, false, [], ◌∷◌, ◌++◌, refl, codes, false≢true}, specs.Private.Classes.switches}
+use Rattle.gix_validate.{proofs.Common.{◌≡◌, arith, true, false, [], ◌∷◌, ◌++◌, refl, codes, false≢true}, specs.Private.Classes.switches}
 use Rattle.gix_validate.specs.ComponentLaws.{no_protections, HasOnlySwitchesOf, FormIsKeptUnits, IsBasicName, DeviceIgnoresCase}
 use Rattle.gix_validate.specs.{Bytes.lower_byte, Units.{units_within, first_unit_len, whole_sequences}, Hfs.{is_ignored, hfs_form}}
 use Rattle.gix_validate.specs.{Windows.{device_form, is_device, is_device_form, devices}, Component.all_protections}
+
+every_switch : all_protections ≡ switches true true true
+every_switch = refl
+
+no_switch : no_protections ≡ switches false false false
+no_switch = refl
 
 fewer_switches : HasOnlySwitchesOf no_protections all_protections × HasOnlySwitchesOf all_protections all_protections
     × HasOnlySwitchesOf (switches false true false) (switches false true true)

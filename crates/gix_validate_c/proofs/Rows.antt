@@ -1,0 +1,86 @@
+-- The definitions of the calls, computed on literals.
+use Rattle.gix_validate.proofs.{Common.{◌≡◌, refl, true, false, List, [], ◌∷◌, ◌++◌, map, range_with_len, Some, None, codes}, Rows.Tables.Gives}
+use Rattle.gix_validate.specs.declared.tag.NameError.TheVariants as tag
+use Rattle.gix_validate.specs.declared.reference.NameError.TheVariants as reference
+use Rattle.gix_validate.specs.declared.submodule.NameError.TheVariants as submodule
+use Rattle.gix_validate.specs.declared.path.ComponentError.TheVariants as path
+use Rattle.gix_validate.specs.declared.{tag.NameError.NameError as TagError, path.ComponentError.ComponentError, path.ComponentMode.TheVariants.Symlink}
+use Rattle.gix_validate.specs.{Component.all_protections, Reference.{carried, reserved}, Private.Classes.switches}
+use Rattle.gix_validate_c.specs.Numbers.{tag_number, reference_number, submodule_number, component_number, code_by, invalid_byte_of, offset_or, version_number}
+use Rattle.gix_validate_c.specs.{Flags.{options_of, mode_of}, Texts.{text_by, with_text}}
+
+-- The faults of tag names in the order of their numbers, which never change.
+abbrev tag_faults : List TagError
+tag_faults =
+    tag.InvalidByte 0x20 ∷ tag.StartsWithSlash ∷ tag.RepeatedSlash ∷ tag.RepeatedDot ∷ tag.LockFileSuffix ∷ tag.ReflogPortion
+    ∷ tag.Asterisk ∷ tag.StartsWithDot ∷ tag.EndsWithDot ∷ tag.EndsWithSlash ∷ tag.Empty ∷ []
+
+-- Those that path components alone have, in the order of their numbers.
+abbrev component_faults : List ComponentError
+component_faults =
+    path.PathSeparator ∷ path.WindowsPathPrefix ∷ path.WindowsReservedName ∷ path.WindowsIllegalCharacter ∷ path.DotGitDir
+    ∷ path.SymlinkedGitModules ∷ path.Relative ∷ []
+
+-- numbers from 1 on, in this order: a fault that several types share has one number
+numbers_of_tags : map tag_number tag_faults ≡ range_with_len 1 11
+numbers_of_tags = refl
+
+numbers_of_references : map reference_number (map carried tag_faults ++ reference.SomeLowercase ∷ reserved (codes "@") ∷ []) ≡ range_with_len 1 13
+numbers_of_references = refl
+
+numbers_of_submodules : map submodule_number (submodule.Empty ∷ submodule.ParentComponent ∷ []) ≡ 11 ∷ 14 ∷ []
+numbers_of_submodules = refl
+
+numbers_of_components : map component_number (path.Empty ∷ component_faults) ≡ 11 ∷ range_with_len 15 7
+numbers_of_components = refl
+
+-- what else is a number
+no_fault : code_by tag_number None ≡ 0
+no_fault = refl
+
+invalid_bytes : Gives invalid_byte_of
+    ((Some (tag.InvalidByte 0xFF), 0xFF)
+    ∷ (Some tag.Asterisk, 256)  -- another fault
+    ∷ (None, 256)  -- no fault
+    ∷ [])
+invalid_bytes = refl
+
+offsets : Gives (offset_or 5)
+    ((Some 3, 3)
+    ∷ (Some 0, 0)
+    ∷ (None, 5)  -- the length
+    ∷ [])
+offsets = refl
+
+version : version_number 2 1 3 ≡ 2001003
+version = refl
+
+-- flags, and the switches that are on
+switches_of_flags : Gives options_of
+    ((0, switches false false false)
+    ∷ (1, switches true false false)  -- Windows
+    ∷ (2, switches false true false)  -- HFS+
+    ∷ (4, switches false false true)  -- NTFS
+    ∷ (7, all_protections)
+    ∷ (0xFFFFFFF8, switches false false false)  -- other bits
+    ∷ [])
+switches_of_flags = refl
+
+modes_of_flags : Gives mode_of
+    ((8, Some Symlink)
+    ∷ (15, Some Symlink)
+    ∷ (7, None)
+    ∷ (0xFFFFFFF0, None)  -- other bits
+    ∷ [])
+modes_of_flags = refl
+
+-- buffers in which the text `abc` is written, and what is in them then
+buffers : Gives (with_text (codes "abc"))
+    ((codes "12", codes "12")  -- too short
+    ∷ (codes "123", codes "abc")  -- as long
+    ∷ (codes "12345", codes "abc45")  -- longer
+    ∷ [])
+buffers = refl
+
+no_text : text_by (λ (fault : TagError). codes "abc") None ≡ []
+no_text = refl

@@ -1,4 +1,0 @@
-pub mod Version1
-pub mod Version2
-pub mod Decoded
-pub mod TagNames

@@ -1,7 +1,7 @@
 //! The report of an input, line by line.
 
-ghost use Rattle.std.specs.Prelude.{◌≡◌, Some, IfOk, IfSome};
-ghost use Rattle.git_input.specs.{Ends.Gives, Promises.Runs, Reports.{IsCleanIff, PrintsAtMost}};
+ghost use Rattle.std.specs.Prelude.{◌≡◌, ℕ, List, Option, Some, IfOk, IfSome};
+ghost use Rattle.git_input.specs.{Ends.{Gives, Ran}, Promises.Runs, Reports.{IsCleanIff, PrintsAtMost}};
 ghost use Rattle.check_refs.specs.Spelled.{IsAcceptedInput, IsReportedInOrder, IsWellFormedOnlyIfSpelled};
 ghost use Rattle.check_refs.specs.{Options.AreByWords, Private.update_leaves, Refs.{refs_report, update_rule}};
 
@@ -45,6 +45,8 @@ impl Check<'_> for Options {
         ensures well_formed { IsWellFormedOnlyIfSpelled self }
         ensures linear { PrintsAtMost 4 (refs_report self) }
         ensures options { AreByWords }
+        ensures gave { (read rest output written : Option (List ℕ)) (ran : Ran) → ⟦<Options as Check<'static>>⟧.gave self read rest output written ran
+            → Runs (refs_report self) (λ line. 0) read rest output written ran × IfOk ran (λ verdict. IfSome read (IsCleanIff (IsAcceptedInput self) verdict)) }
     {
         lines::run(alloc, self, Ending::AfterALine, input, output)
     }

@@ -3,9 +3,9 @@
 //! A file is held whole, since a section may begin anywhere in it. 16 MiB have room for some
 //! hundred thousand submodules. A larger file is refused, and skipped.
 
-ghost use Rattle.std.specs.Prelude.{◌≡◌, ℕ, List, false, true, IfOk, IfSome};
+ghost use Rattle.std.specs.Prelude.{◌≡◌, ℕ, List, Option, false, true, IfOk, IfSome};
 ghost use Rattle.std.proofs.Common.{ap, subst};
-ghost use Rattle.git_input.specs.{Ends.Gives, Objects.{IsWholeStream, object_reach}, Reports.{IsCleanIff, PrintsAtMost}};
+ghost use Rattle.git_input.specs.{Ends.{Gives, Ran}, Objects.{IsWholeStream, object_reach}, Reports.{IsCleanIff, PrintsAtMost}};
 ghost use Rattle.git_input.specs.{Promises.{ReadsExactly, Runs}, Spelled.{IsReportedInOrder, IsWellFormedOnlyIfSpelled}};
 ghost use Rattle.check_submodules.specs.Report.{object_lines, report, submodules_rule};
 ghost use Rattle.check_submodules.specs.Options.{AreByWords};
@@ -53,6 +53,8 @@ impl Check<'_> for Options {
         ensures sections { IsEachSectionReported }
         ensures linear { PrintsAtMost 17 (report self.needs_end) }
         ensures options { AreByWords }
+        ensures gave { (read rest output written : Option (List ℕ)) (ran : Ran) → ⟦<Options as Check<'static>>⟧.gave self read rest output written ran
+            → Runs (report self.needs_end) object_reach read rest output written ran × IfOk ran (λ verdict. IfSome read (IsCleanIff (IsAcceptedStream self.needs_end) verdict)) }
     {
         objects::run(alloc, self, self.needs_end, input, output)
     }

@@ -98,8 +98,7 @@ value_step name value words start options e =
           elim (bytes_eq name (codes "--accept")) as (λ b. bytes_eq name (codes "--accept") ≡ b → Next (Valued name) value start words options) [
             | true ↦ λ is.
                 let accept = (bytes_eq-Decides name (codes "--accept")).0 is in
-                let at : AsksFor (Some (codes "--accept")) start (value ∷ words) options = rw accept at e in
-                (
+                let at : AsksFor (Some (codes "--accept")) start (value ∷ words) options = rw accept at e in (
                   Accept value,
                   inr (accept, refl),
                   (record { protections = start.protections; modules = start.modules; needs_end = start.needs_end; accepted = pieces value }, refl, at),

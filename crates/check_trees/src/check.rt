@@ -1,8 +1,8 @@
 //! The report of a stream of objects.
 
-ghost use Rattle.std.specs.{Prelude.{◌≡◌, ◌<◌, ◌≤◌, Some, false, true, IfOk, IfSome}, List.list_any, Str.bytes_eq};
+ghost use Rattle.std.specs.{Prelude.{◌≡◌, ℕ, ◌<◌, ◌≤◌, List, Option, Some, false, true, IfOk, IfSome}, List.list_any, Str.bytes_eq};
 ghost use Rattle.std.proofs.Common.{ap, subst};
-ghost use Rattle.git_input.specs.{Ends.Gives, Spelled.{IsReportedInOrder, IsWellFormedOnlyIfSpelled}};
+ghost use Rattle.git_input.specs.{Ends.{Gives, Ran}, Spelled.{IsReportedInOrder, IsWellFormedOnlyIfSpelled}};
 ghost use Rattle.git_input.specs.{Reports.{IsCleanIff, PrintsAtMost}, Objects.{IsWholeStream, object_reach}};
 ghost use Rattle.git_input.specs.Promises.{Runs, FollowsRule, ReadsUpTo, as_object};
 ghost use Rattle.gix_validate.specs.{Component.fault_of, Pieces.pieces};
@@ -57,6 +57,8 @@ impl<'a> Check<'a> for CheckOptions<'a> {
         ensures items { IsReadAsItems (as_options self.entry) }
         ensures linear { PrintsAtMost 32 (report (as_options self.entry)) }
         ensures options { AreByWords }
+        ensures gave { (read rest output written : Option (List ℕ)) (ran : Ran) → ⟦<CheckOptions<'static> as Check<'static>>⟧.gave self.entry read rest output written ran
+            → Runs (report (as_options self.entry)) object_reach read rest output written ran × IfOk ran (λ verdict. IfSome read (IsCleanIff (IsAcceptedStream (as_options self.entry)) verdict)) }
     {
         objects::run(alloc, self, self.needs_end, input, output)
     }

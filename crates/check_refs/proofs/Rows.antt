@@ -1,8 +1,11 @@
 -- The definitions computed on lines: what is printed of each, or that it says no update.
-use Rattle.gix_validate.proofs.Common.{◌≡◌, ℕ, true, false, refl, List, [], ◌∷◌, ◌++◌, Option, Some, None, map, codes, option_map}
+use Rattle.gix_validate.proofs.Common.{◌≡◌, ℕ, Bool, true, false, refl, List, [], ◌∷◌, ◌++◌, Option, Some, None, Result, Ok, map, codes, option_map}
 use Rattle.gix_validate.specs.{Bytes.is_bad, Faults.at_first_offset}
 use Rattle.gix_validate.specs.{Reference.{partial_fault_of, full_fault_of, branch_fault_of}, Tag.{first_fault, fault_of, faults_at, fault_table}}
 use Rattle.git_input.specs.Texts.{is_id}
+use Rattle.cli.specs.Arguments.{Check, Task, WrongArgument, request_of}
+use Rattle.gix_validate.proofs.Rows.Tables.{Gives}
+use Rattle.check_refs.specs.{declared.options.Options.Options, Arguments.{no_options, rule}}
 use Rattle.check_refs.specs.Refs.{parsed_update, line_of}
 
 -- no id, an id of SHA-1, and one of SHA-256
@@ -62,3 +65,16 @@ printed_under_both : map (λ (row : Row). option_map (line_of (record { lists_id
     ≡ map (λ (row : Row). row.2) rows
 unfolding parsed_update is_id partial_fault_of full_fault_of branch_fault_of first_fault fault_of faults_at fault_table at_first_offset is_bad
 printed_under_both = refl
+
+abbrev asking : (ids replace : Bool) → Result (Task Options) WrongArgument
+asking ids replace = Ok (Check (record { lists_ids = ids; allows_replace = replace }))
+
+-- words, and what they ask for
+asked : Gives (λ words. request_of rule no_options words)
+    (([], asking false false)  -- the default
+    ∷ (codes "--ids" ∷ [], asking true false)  -- one
+    ∷ (codes "--replace" ∷ [], asking false true)  -- the other
+    ∷ (codes "--ids" ∷ codes "--replace" ∷ [], asking true true)  -- both
+    ∷ (codes "--replace" ∷ codes "--ids" ∷ [], asking true true)  -- both
+    ∷ [])
+asked = refl

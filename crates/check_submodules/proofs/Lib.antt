@@ -2,3 +2,4 @@ pub mod AcceptedFiles
 pub mod ReportedSections
 pub mod LinearReports
 pub mod AskedOptions
+mod Rows

@@ -1,11 +1,13 @@
 -- The definitions of a tree's entries, computed on literals.
-use Rattle.gix_validate.proofs.{Common.{refl, ℕ, List, [], ◌∷◌, ◌++◌, true, false, Some, None, codes, option_map}, Rows.Tables.Gives}
+use Rattle.gix_validate.proofs.{Common.{refl, ℕ, List, [], ◌∷◌, ◌++◌, true, false, Bool, Some, None, Result, Ok, codes, option_map}, Rows.Tables.Gives}
 use Rattle.gix_validate.proofs.OnLiterals.{components_on_literals}
 use Rattle.gix_validate.specs.declared.path.{ComponentError.TheVariants.{WindowsReservedName, DotGitDir}, ComponentMode.TheVariants.Symlink}
 use Rattle.gix_validate.specs.{declared.path.ComponentOptions.ComponentOptions, Component.all_protections, ComponentLaws.no_protections}
 use Rattle.gix_validate.specs.Pieces.{pieces}
 use Rattle.git_input.specs.Texts.{number_of}
+use Rattle.cli.specs.Arguments.{Check, Task, WrongArgument, request_of}
 use Rattle.check_trees.specs.{declared.check.Finding.TheVariants.{Accepted, Refused}, Arguments.{Options, protections_for}}
+use Rattle.check_trees.specs.Arguments.{no_options, protections_of, rule}
 use Rattle.check_trees.specs.{Entries.{mode_of, is_file, named}, Report.{finding_of, is_gitmodules}}
 
 -- the digits of a mode, and what it means for the name
@@ -82,3 +84,22 @@ modules : Gives (λ (row : ComponentOptions × List ℕ). is_gitmodules row.0 ro
     ∷ [])
 unfolding components_on_literals
 modules = refl
+
+abbrev asking : (windows hfs ntfs modules needs_end : Bool) (accepted : List ℕ) → Result (Task Options) WrongArgument
+asking windows hfs ntfs modules needs_end accepted =
+    let on : ComponentOptions = record { protect_windows = windows; protect_hfs = hfs; protect_ntfs = ntfs } in
+    Ok (Check (record { protections = on; modules = modules; needs_end = needs_end; accepted = pieces accepted }))
+
+-- words, and what they ask for
+asked : Gives (λ words. request_of rule no_options words)
+    (([], asking true true true false false [])  -- the default
+    ∷ (codes "--protect=hfs,ntfs,windows" ∷ [], asking true true true false false [])  -- in another order
+    ∷ (codes "--protect" ∷ codes "ntfs,hfs" ∷ [], asking false true true false false [])  -- a word of its own
+    ∷ (codes "--protect=none" ∷ [], asking false false false false false [])  -- none
+    ∷ (codes "--protect=hfs" ∷ codes "--protect=ntfs" ∷ [], asking false false true false false [])  -- the last
+    ∷ (codes "--accept=a/b" ∷ codes "--accept=c" ∷ [], asking true true true false false (codes "c"))  -- the last
+    ∷ (codes "--protect=hfs" ∷ codes "--end" ∷ codes "--modules" ∷ [], asking false true false true true [])  -- together
+    ∷ (codes "--modules" ∷ codes "--accept=a" ∷ codes "--end" ∷ [], asking true true true true true (codes "a"))  -- together
+    ∷ [])
+unfolding protections_of
+asked = refl

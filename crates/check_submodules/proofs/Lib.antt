@@ -1,3 +1,2 @@
 pub mod AcceptedFiles
 pub mod ReportedSections
-pub mod LinearReports

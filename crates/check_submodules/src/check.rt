@@ -5,7 +5,7 @@
 
 ghost use Rattle.std.specs.Prelude.{◌≡◌, ℕ, List, false, true, IfOk, IfSome};
 ghost use Rattle.std.proofs.Common.{ap, subst};
-ghost use Rattle.git_input.specs.{Ends.Gives, Objects.{IsWholeStream, object_reach}, Reports.{IsCleanIff, PrintsAtMost}};
+ghost use Rattle.git_input.specs.{Ends.Gives, Objects.{IsWholeStream, object_reach}, Reports.IsCleanIff};
 ghost use Rattle.git_input.specs.{Promises.{ReadsExactly, Runs}, Spelled.{IsReportedInOrder, IsWellFormedOnlyIfSpelled}};
 ghost use Rattle.check_submodules.specs.Report.{object_lines, report, submodules_rule};
 ghost use Rattle.check_submodules.specs.Spelled.{IsAcceptedStream, IsEachSectionReported};
@@ -50,7 +50,6 @@ impl Check<'_> for Options {
         ensures well_formed { IsWellFormedOnlyIfSpelled submodules_rule self.needs_end }
         ensures whole { IsWholeStream submodules_rule self.needs_end }
         ensures sections { IsEachSectionReported }
-        ensures linear { PrintsAtMost 17 (report self.needs_end) }
     {
         objects::run(alloc, self, self.needs_end, input, output)
     }

@@ -4,6 +4,5 @@ pub mod TreeEntries
 pub mod EntryReads
 pub mod SpelledTrees
 pub mod AcceptedTrees
-pub mod LinearReports
 pub mod ArgumentWords
 mod Rows

@@ -3,7 +3,7 @@
 ghost use Rattle.std.specs.{Prelude.{◌≡◌, ◌<◌, ◌≤◌, Some, false, true, IfOk, IfSome}, List.list_any, Str.bytes_eq};
 ghost use Rattle.std.proofs.Common.{ap, subst};
 ghost use Rattle.git_input.specs.{Ends.Gives, Spelled.{IsReportedInOrder, IsWellFormedOnlyIfSpelled}};
-ghost use Rattle.git_input.specs.{Reports.{IsCleanIff, PrintsAtMost}, Objects.{IsWholeStream, object_reach}};
+ghost use Rattle.git_input.specs.{Reports.IsCleanIff, Objects.{IsWholeStream, object_reach}};
 ghost use Rattle.git_input.specs.Promises.{Runs, FollowsRule, ReadsUpTo, as_object};
 ghost use Rattle.gix_validate.specs.{Component.fault_of, Pieces.pieces};
 ghost use Rattle.check_trees.specs.Report.{finding_by, finding_of, finding_said, is_gitmodules_fault, report};
@@ -55,7 +55,6 @@ impl<'a> Check<'a> for CheckOptions<'a> {
         ensures well_formed { IsWellFormedOnlyIfSpelled (tree_rule (as_options self.entry)) self.entry.needs_end }
         ensures whole { IsWholeStream (tree_rule (as_options self.entry)) self.entry.needs_end }
         ensures items { IsReadAsItems (as_options self.entry) }
-        ensures linear { PrintsAtMost 32 (report (as_options self.entry)) }
     {
         objects::run(alloc, self, self.needs_end, input, output)
     }

@@ -1,5 +1,5 @@
 use Rattle.git_input.proofs.WellFormedStreams.{clean_run}
-use Rattle.check_submodules.proofs.{AcceptedFiles.object_same, LinearReports.linear_report, ReportedSections.each_section_reported}
+use Rattle.check_submodules.proofs.{AcceptedFiles.object_same, ReportedSections.each_section_reported}
 use Rattle.check_submodules.specs.{Report.submodules_rule, Spelled.IsAcceptedObject}
 use Rattle.check_submodules.proofs.check.OptionsCheck.run.Goals as goal
 
@@ -9,6 +9,3 @@ returns-clause-clean g c =
 
 pub returns-clause-sections : goal.returns-clause-sections
 returns-clause-sections g c = each_section_reported
-
-pub returns-clause-linear : goal.returns-clause-linear
-returns-clause-linear g c = linear_report c.args.self.needs_end

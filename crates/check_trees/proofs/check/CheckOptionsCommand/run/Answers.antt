@@ -1,7 +1,7 @@
 use Rattle.git_input.proofs.WellFormedStreams.{clean_run}
 use Rattle.check_trees.specs.{Arguments.as_options, Report.tree_rule, Spelled.IsAcceptedObject}
 use Rattle.check_trees.proofs.{AcceptedTrees.object_same, SpelledTrees.read_as_items}
-use Rattle.check_trees.proofs.check.CheckOptionsCheck.run.Goals as goal
+use Rattle.check_trees.proofs.check.CheckOptionsCommand.run.Goals as goal
 
 pub returns-clause-clean : goal.returns-clause-clean
 returns-clause-clean g c =

@@ -1,7 +1,7 @@
 use Rattle.git_input.proofs.WellFormedStreams.{clean_run}
 use Rattle.check_submodules.proofs.{AcceptedFiles.object_same, ReportedSections.each_section_reported}
 use Rattle.check_submodules.specs.{Report.submodules_rule, Spelled.IsAcceptedObject}
-use Rattle.check_submodules.proofs.check.OptionsCheck.run.Goals as goal
+use Rattle.check_submodules.proofs.check.OptionsCommand.run.Goals as goal
 
 pub returns-clause-clean : goal.returns-clause-clean
 returns-clause-clean g c =

@@ -1,17 +1,13 @@
 -- What a run does, and how the program ends after it.
-use Rattle.std.specs.declared.process.ExitCode.{ExitCode}
-use Rattle.std.specs.Prelude.{◌≡◌, ◌≢◌, ℕ, List, [], Option, Some, Result, Ok, Err, IfSome, OnOk, IsOkUnless}
-use Rattle.std.specs.{Io.KnownBytes.{Appends, IsAtEnd}, Process.exit_status}
-use Rattle.cli.specs.declared.{messages.Messages.Messages, outcome.RunError.{RunError, TheVariants.{Read, Memory}}}
-use Rattle.cli.specs.Messages.{Says, message, stop_text_of}
-use Rattle.check_names.specs.{declared.TheConstants.NAME, Answers.answers}
-
--- how a run ends: it may fail
-abbrev pub Ran : Type 0
-Ran = Result (Unit {0}) RunError
+use Rattle.std.specs.Prelude.{◌≡◌, ◌≢◌, ℕ, List, [], Option, None, Some, Ok, Err, IfSome, OnOk, IsOkUnless}
+use Rattle.std.specs.Io.KnownBytes.{Appends, IsAtEnd}
+use Rattle.cli.specs.declared.outcome.RunError.TheVariants.{Read, Memory}
+use Rattle.cli.specs.{Command.{End, Ran}, Messages.stop_text_of}
+use Rattle.check_names.specs.Answers.{answers}
 
 -- What `run` ensures.
-pub record Runs {R W : Type 0} (remaining : R → Option (List ℕ)) (contents : W → Option (List ℕ)) (input rest : R) (output written : W) (ran : Ran) : Type 0 where
+pub record Runs {R W : Type 0} (remaining : R → Option (List ℕ)) (contents : W → Option (List ℕ)) (input rest : R) (output written : W)
+    (ran : Ran (Unit {0})) : Type 0 where
   pub ok : OnOk ran (IfSome (remaining input) (λ text. Appends (contents output) (contents written) (answers text)))
   pub end : ran ≢ Err Read → IsAtEnd (remaining rest)
   pub spent : ran ≢ Err Read → IfSome (remaining input) (λ _. remaining rest ≡ Some [])
@@ -19,11 +15,7 @@ pub record Runs {R W : Type 0} (remaining : R → Option (List ℕ)) (contents :
   pub memory : ran ≡ Err Memory → written ≡ output
   pub empty : remaining input ≡ Some [] → IsOkUnless ran Read × (written ≡ output)
 
--- The status and the message after a run: 0 and none, or 1 and why it failed.
-abbrev pub EndsBy : {E : Type 0} → (E → Option (List ℕ)) → (errors said : Messages E) → ExitCode → Ran → Type 0
-EndsBy contents errors said ended (Ok done) = (exit_status ended ≡ 0) × (said ≡ errors)
-EndsBy contents errors said ended (Err stop) = (exit_status ended ≡ 1) × Says contents errors said (message NAME.now (stop_text_of stop))
-
--- There was such a run, and the program ended by it.
-abbrev pub Checks : {E : Type 0} → (Ran → Type 0) → (E → Option (List ℕ)) → (errors said : Messages E) → ExitCode → Type 0
-Checks Gives contents errors said ended = (ran : Ran) × Gives ran × EndsBy contents errors said ended ran
+-- How the program ends after a run: with 0 and nothing said, or with 1 and why the run failed.
+abbrev pub end_of : Ran (Unit {0}) → End
+end_of (Ok done) = record { status = 0; said = None }
+end_of (Err stop) = record { status = 1; said = Some (stop_text_of stop) }

@@ -1,23 +1,26 @@
 //! The results for the lines of the input.
 
-ghost use Rattle.std.specs.Prelude.{◌≡◌, ◌≢◌, ◌+◌, ◌<◌, [], ◌∷◌, ◌++◌, ℕ, List, codes, length, vec_len, vec_capacity, Some, None, Err, IsOk, IsOkUnless, IfOk, OnOk, OnErr, IfSome, if◌then◌else◌, MatchOption, MatchResult};
+ghost use Rattle.std.specs.Prelude.{◌≡◌, ◌≢◌, ◌+◌, ◌<◌, [], ◌∷◌, ◌++◌, ℕ, List, Option, codes, length, vec_len, vec_capacity, Some, None, Err, IsOk, IsOkUnless, IfOk, OnOk, OnErr, IfSome, if◌then◌else◌, MatchOption, MatchResult};
 ghost use Rattle.std.specs.Io.KnownBytes.{Appends, IsAtEnd};
 ghost use Rattle.bstr.specs.BStr.{bstr_bytes};
 ghost use Rattle.gix_validate.specs.Component.{all_protections, fault_of, text_of as component_text};
 ghost use Rattle.gix_validate.specs.{Sanitized.sanitized, Windows.is_device};
 ghost use Rattle.check_names.specs.Answers.{answer_of, answers, lines, request_of, unknown_kind, verdict};
-ghost use Rattle.check_names.specs.Messages.{Runs};
+ghost use Rattle.cli.specs.Command.{EndsAs, Ran};
+ghost use Rattle.check_names.specs.Messages.{Runs, end_of};
 
 use crate::options::NoOptions;
-use crate::runs::Check;
 use bstr::BStr;
+use cli::command::Command;
+use cli::messages::Messages;
 pub use cli::outcome::RunError;
 use gix_validate::path::{ComponentMode, ComponentOptions};
 use gix_validate::{path, reference, submodule};
 use memchr::memchr;
 use std::alloc::{AllocError, Global};
 use std::fmt::{Display, Write as _};
-use std::io::{Read, Write};
+use std::io::{BufRead, Read, Write};
+use std::process::ExitCode;
 use std::{fmt, io};
 use typed_names::{Component, FullName, PartialName, TagName};
 
@@ -64,13 +67,38 @@ pub fn run<R: Read, W: Write>(alloc: Global, input: &mut R, output: &mut W) -> R
     write_once(&answers, output)
 }
 
-impl Check for NoOptions {
-    ghost gave = { λ R W remaining contents input rest output written ran. Runs remaining contents input rest output written ran };
+impl Command<'_> for NoOptions {
+    type Verdict = ();
 
-    fn run<R: Read, W: Write>(alloc: Global, input: &mut R, output: &mut W) -> Result<(), RunError>
+    ghost Runs = { λ options R W remaining contents input rest output written ran.
+        Runs remaining contents input rest output written ran };
+
+    ghost end_of = { end_of };
+
+    fn run<R: BufRead, W: Write>(
+        self,
+        alloc: Global,
+        input: &mut R,
+        output: &mut W,
+    ) -> Result<(), RunError>
         ensures runs { Runs R.remaining W.contents input.old input.new output.old output.new result }
+        ensures shown { (read rest output written : Option (List ℕ)) (ran : Ran (Unit {0}))
+            → ⟦<NoOptions as Command<'static>>⟧.Runs self _ _ (λ known. known) (λ known. known) read rest output written ran
+            → Runs (λ known. known) (λ known. known) read rest output written ran }
     {
         run(alloc, input, output)
+    }
+
+    fn end<E: Write>(name: &str, ran: Result<(), RunError>, errors: &mut Messages<E>) -> ExitCode
+        ensures { EndsAs E.contents name.now errors.old errors.new result (end_of ran) }
+    {
+        match ran {
+            Ok(()) => ExitCode::SUCCESS,
+            Err(stop) => {
+                errors.say(name, stop);
+                ExitCode::FAILURE
+            }
+        }
     }
 }
 

@@ -9,7 +9,7 @@ use Rattle.git_input.proofs.WrittenLines.{clean_by, all_good, if_clean}
 use Rattle.check_refs.specs.{declared.options.Options.Options, Spelled.{IsSpelled, spelling, IsAccepted, IsAcceptedInput}}
 use Rattle.check_refs.specs.declared.refusal.Refusal.TheVariants.{Name, Replacement}
 use Rattle.check_refs.specs.Refs.{ParsedUpdate, is_deletion, name_fault_of, refusal_of, update_refusal_of, said_of, refs_report}
-use Rattle.check_refs.proofs.{LinearReports.linear_report, SpelledInputs.{reported_in_order, updates_are_read, well_formed_only_if_spelled}}
+use Rattle.check_refs.proofs.SpelledInputs.{reported_in_order, updates_are_read, well_formed_only_if_spelled}
 
 -- ---- a name
 
@@ -81,4 +81,4 @@ clean_if_accepted options text verdict is = (
 )
 
 -- what the promises of `check::Options::run` need
-pub ruleset update_laws = (reported_in_order, well_formed_only_if_spelled, clean_if_accepted, linear_report)
+pub ruleset update_laws = (reported_in_order, well_formed_only_if_spelled, clean_if_accepted)

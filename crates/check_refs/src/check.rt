@@ -1,22 +1,30 @@
 //! The report of an input, line by line.
 
-ghost use Rattle.std.specs.Prelude.{◌≡◌, ℕ, List, Option, Some, IfOk, IfSome};
-ghost use Rattle.git_input.specs.{Ends.{Gives, Ran}, Promises.Runs, Reports.{IsCleanIff, PrintsAtMost}};
+ghost use Rattle.std.specs.Prelude.{◌≡◌, [], codes, ℕ, List, Option, Some, IfOk, IfSome};
+ghost use Rattle.cli.specs.Command.{EndsAs, Ran};
+ghost use Rattle.git_input.specs.{Ends.{Gives, end_of}, Promises.Runs, Reports.IsCleanIff};
 ghost use Rattle.check_refs.specs.Spelled.{IsAcceptedInput, IsReportedInOrder, IsWellFormedOnlyIfSpelled};
 ghost use Rattle.check_refs.specs.{Options.AreByWords, Private.update_leaves, Refs.{refs_report, update_rule}};
 
 use crate::options::Options;
 use crate::report::push_line;
 use crate::update::update_of;
+use cli::command::Command;
+use cli::messages::Messages;
 use cli::outcome::RunError;
 use git_input::lines::{self, Buffers, Ending, LineCheck};
-use git_input::outcome::{Malformation, Verdict};
-use git_input::runs::Check;
+use git_input::outcome::{self, Malformation, Naming, Verdict};
 use std::alloc::Global;
 use std::io::{BufRead, Write};
+use std::process::ExitCode;
 
-impl Check<'_> for Options {
-    ghost gave = { λ options. Gives (refs_report options) (λ line. 0) (IsAcceptedInput options) };
+impl Command<'_> for Options {
+    type Verdict = Verdict;
+
+    ghost Runs = { λ options R W remaining contents input rest output written ran. Gives (refs_report options) (λ line. 0) (IsAcceptedInput options)
+        (remaining input) (remaining rest) (contents output) (contents written) ran };
+
+    ghost end_of = { end_of (codes "line") [] };
 
     /// Reads all of `input`, the lines `OLD NEW REF` of a pre-receive hook. Writes a line to `output`
     /// for each reference whose name is refused and, if new ids are listed, for each new id
@@ -43,12 +51,28 @@ impl Check<'_> for Options {
         ensures clean { IfOk result (λ verdict. IfSome (R.remaining input.old) (IsCleanIff (IsAcceptedInput self) verdict)) }
         ensures spelled { IsReportedInOrder self }
         ensures well_formed { IsWellFormedOnlyIfSpelled self }
-        ensures linear { PrintsAtMost 4 (refs_report self) }
         ensures options { AreByWords }
-        ensures gave { (read rest output written : Option (List ℕ)) (ran : Ran) → ⟦<Options as Check<'static>>⟧.gave self read rest output written ran
-            → Runs (refs_report self) (λ line. 0) read rest output written ran × IfOk ran (λ verdict. IfSome read (IsCleanIff (IsAcceptedInput self) verdict)) }
+        ensures shown { (read rest output written : Option (List ℕ)) (ran : Ran Verdict)
+            → ⟦<Options as Command<'static>>⟧.Runs self _ _ (λ known. known) (λ known. known) read rest output written ran
+            → Runs (refs_report self) (λ line. 0) read rest output written ran
+            × IfOk ran (λ verdict. IfSome read (IsCleanIff (IsAcceptedInput self) verdict)) }
     {
         lines::run(alloc, self, Ending::AfterALine, input, output)
+    }
+
+    fn end<E: Write>(
+        name: &str,
+        ran: Result<Verdict, RunError>,
+        errors: &mut Messages<E>,
+    ) -> ExitCode
+        ensures { EndsAs E.contents name.now errors.old errors.new result (end_of (codes "line") [] ran) }
+    {
+        let naming = Naming {
+            name,
+            item: "line",
+            hint: "",
+        };
+        outcome::end(naming, ran, errors)
     }
 }
 

@@ -8,10 +8,11 @@ mod refusal;
 mod report;
 mod update;
 
-use git_input::run_program;
+use cli::command::Command;
+use cli::run_command;
 use options::{HELP, Options};
 use std::process::ExitCode;
 
 fn main(rt: HostRuntime) -> ExitCode {
-    run_program!(rt, Options, name: "check_refs", help: HELP, unit: "line", hint: "")
+    run_command!(rt, Options, name: "check_refs", help: HELP, hint: "")
 }

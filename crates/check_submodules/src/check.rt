@@ -3,28 +3,38 @@
 //! A file is held whole, since a section may begin anywhere in it. 16 MiB have room for some
 //! hundred thousand submodules. A larger file is refused, and skipped.
 
-ghost use Rattle.std.specs.Prelude.{◌≡◌, ℕ, List, Option, false, true, IfOk, IfSome};
+ghost use Rattle.std.specs.Prelude.{◌≡◌, [], codes, ℕ, List, Option, false, true, IfOk, IfSome};
 ghost use Rattle.std.proofs.Common.{ap, subst};
-ghost use Rattle.git_input.specs.{Ends.{Gives, Ran}, Objects.{IsWholeStream, object_reach}, Reports.{IsCleanIff, PrintsAtMost}};
+ghost use Rattle.cli.specs.Command.{EndsAs, Ran};
+ghost use Rattle.git_input.specs.{Ends.{Gives, end_of}, Objects.{IsWholeStream, object_reach}, Reports.IsCleanIff};
 ghost use Rattle.git_input.specs.{Promises.{ReadsExactly, Runs}, Spelled.{IsReportedInOrder, IsWellFormedOnlyIfSpelled}};
 ghost use Rattle.check_submodules.specs.Report.{object_lines, report, submodules_rule};
 ghost use Rattle.check_submodules.specs.Options.{AreByWords};
 ghost use Rattle.check_submodules.specs.Spelled.{IsAcceptedStream, IsEachSectionReported};
+ghost use Rattle.check_submodules.specs.declared.TheConstants.{HEADER_HINT as header_hint};
 
+use crate::HEADER_HINT;
 use crate::options::Options;
 use crate::report::{LARGEST, push_lines, push_too_large};
+use cli::command::Command;
+use cli::messages::Messages;
 use cli::outcome::RunError;
 use git_input::header::{Kind, Object};
 use git_input::input::{read_bytes, skip};
 use git_input::lines::Buffers;
 use git_input::objects::{self, ObjectCheck};
-use git_input::outcome::{Malformation, Verdict};
-use git_input::runs::Check;
+use git_input::outcome::{self, Malformation, Naming, Verdict};
 use std::alloc::Global;
 use std::io::{BufRead, Write};
+use std::process::ExitCode;
 
-impl Check<'_> for Options {
-    ghost gave = { λ options. Gives (report options.needs_end) object_reach (IsAcceptedStream options.needs_end) };
+impl Command<'_> for Options {
+    type Verdict = Verdict;
+
+    ghost Runs = { λ options R W remaining contents input rest output written ran. Gives (report options.needs_end) object_reach (IsAcceptedStream options.needs_end)
+        (remaining input) (remaining rest) (contents output) (contents written) ran };
+
+    ghost end_of = { end_of (codes "object") header_hint.now };
 
     /// Reads all of `input`, objects as `git cat-file --batch` prints them, and writes a line to
     /// `output` for each section of a submodule in a blob whose name is refused, and for each that
@@ -51,12 +61,28 @@ impl Check<'_> for Options {
         ensures well_formed { IsWellFormedOnlyIfSpelled submodules_rule self.needs_end }
         ensures whole { IsWholeStream submodules_rule self.needs_end }
         ensures sections { IsEachSectionReported }
-        ensures linear { PrintsAtMost 17 (report self.needs_end) }
         ensures options { AreByWords }
-        ensures gave { (read rest output written : Option (List ℕ)) (ran : Ran) → ⟦<Options as Check<'static>>⟧.gave self read rest output written ran
-            → Runs (report self.needs_end) object_reach read rest output written ran × IfOk ran (λ verdict. IfSome read (IsCleanIff (IsAcceptedStream self.needs_end) verdict)) }
+        ensures shown { (read rest output written : Option (List ℕ)) (ran : Ran Verdict)
+            → ⟦<Options as Command<'static>>⟧.Runs self _ _ (λ known. known) (λ known. known) read rest output written ran
+            → Runs (report self.needs_end) object_reach read rest output written ran
+            × IfOk ran (λ verdict. IfSome read (IsCleanIff (IsAcceptedStream self.needs_end) verdict)) }
     {
         objects::run(alloc, self, self.needs_end, input, output)
+    }
+
+    fn end<E: Write>(
+        name: &str,
+        ran: Result<Verdict, RunError>,
+        errors: &mut Messages<E>,
+    ) -> ExitCode
+        ensures { EndsAs E.contents name.now errors.old errors.new result (end_of (codes "object") header_hint.now ran) }
+    {
+        let naming = Naming {
+            name,
+            item: "object",
+            hint: HEADER_HINT,
+        };
+        outcome::end(naming, ran, errors)
     }
 }
 

@@ -6,14 +6,16 @@ mod check;
 mod options;
 mod report;
 
-use git_input::run_program;
+use cli::command::Command;
+use cli::run_command;
 use options::{HELP, Options};
 use std::process::ExitCode;
 
-const HINT: &str =
+/// What a message adds if the first line is not a header line.
+const HEADER_HINT: &str =
     "; if it says that a name is missing, Git has no such object; a file is passed as in: \
     echo HEAD:.gitmodules | git cat-file --batch | check_submodules";
 
 fn main(rt: HostRuntime) -> ExitCode {
-    run_program!(rt, Options, name: "check_submodules", help: HELP, unit: "object", hint: HINT)
+    run_command!(rt, Options, name: "check_submodules", help: HELP, hint: "")
 }

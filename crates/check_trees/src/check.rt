@@ -1,9 +1,10 @@
 //! The report of a stream of objects.
 
-ghost use Rattle.std.specs.{Prelude.{◌≡◌, ℕ, ◌<◌, ◌≤◌, List, Option, Some, false, true, IfOk, IfSome}, List.list_any, Str.bytes_eq};
+ghost use Rattle.std.specs.{Prelude.{◌≡◌, [], codes, ℕ, ◌<◌, ◌≤◌, List, Option, Some, false, true, IfOk, IfSome}, List.list_any, Str.bytes_eq};
 ghost use Rattle.std.proofs.Common.{ap, subst};
-ghost use Rattle.git_input.specs.{Ends.{Gives, Ran}, Spelled.{IsReportedInOrder, IsWellFormedOnlyIfSpelled}};
-ghost use Rattle.git_input.specs.{Reports.{IsCleanIff, PrintsAtMost}, Objects.{IsWholeStream, object_reach}};
+ghost use Rattle.cli.specs.Command.{EndsAs, Ran};
+ghost use Rattle.git_input.specs.{Ends.{Gives, end_of}, Spelled.{IsReportedInOrder, IsWellFormedOnlyIfSpelled}};
+ghost use Rattle.git_input.specs.{Reports.IsCleanIff, Objects.{IsWholeStream, object_reach}};
 ghost use Rattle.git_input.specs.Promises.{Runs, FollowsRule, ReadsUpTo, as_object};
 ghost use Rattle.gix_validate.specs.{Component.fault_of, Pieces.pieces};
 ghost use Rattle.check_trees.specs.Report.{finding_by, finding_of, finding_said, is_gitmodules_fault, report};
@@ -15,19 +16,26 @@ use crate::entry::{ModeAndName, front_of};
 use crate::options::CheckOptions;
 use crate::report::{set_modules, set_refused};
 use bstr::BStr;
+use cli::command::Command;
+use cli::messages::Messages;
 use cli::outcome::RunError;
 use git_input::header::{Kind, Object};
 use git_input::input::{Found, read_before, read_bytes, skip};
 use git_input::lines::{Buffers, MAX_LINE};
 use git_input::objects::{self, ObjectCheck};
-use git_input::outcome::{Malformation, Verdict};
-use git_input::runs::Check;
+use git_input::outcome::{self, Malformation, Naming, Verdict};
 use gix_validate::path::{self, ComponentError, ComponentMode, ComponentOptions};
 use std::alloc::Global;
 use std::io::{BufRead, Write};
+use std::process::ExitCode;
 
-impl<'a> Check<'a> for CheckOptions<'a> {
-    ghost gave = { λ options. Gives (report (as_options options)) object_reach (IsAcceptedStream (as_options options)) };
+impl<'a> Command<'a> for CheckOptions<'a> {
+    type Verdict = Verdict;
+
+    ghost Runs = { λ options R W remaining contents input rest output written ran. Gives (report (as_options options)) object_reach (IsAcceptedStream (as_options options))
+        (remaining input) (remaining rest) (contents output) (contents written) ran };
+
+    ghost end_of = { end_of (codes "object") [] };
 
     /// Reads all of `input`, objects as `git cat-file --batch` prints them, and writes a line to
     /// `output` for each entry of a tree whose name [`path::component`] refuses with these options, and
@@ -55,12 +63,28 @@ impl<'a> Check<'a> for CheckOptions<'a> {
         ensures well_formed { IsWellFormedOnlyIfSpelled (tree_rule (as_options self.entry)) self.entry.needs_end }
         ensures whole { IsWholeStream (tree_rule (as_options self.entry)) self.entry.needs_end }
         ensures items { IsReadAsItems (as_options self.entry) }
-        ensures linear { PrintsAtMost 32 (report (as_options self.entry)) }
         ensures options { AreByWords }
-        ensures gave { (read rest output written : Option (List ℕ)) (ran : Ran) → ⟦<CheckOptions<'static> as Check<'static>>⟧.gave self.entry read rest output written ran
-            → Runs (report (as_options self.entry)) object_reach read rest output written ran × IfOk ran (λ verdict. IfSome read (IsCleanIff (IsAcceptedStream (as_options self.entry)) verdict)) }
+        ensures shown { (read rest output written : Option (List ℕ)) (ran : Ran Verdict)
+            → ⟦<CheckOptions<'static> as Command<'static>>⟧.Runs self.entry _ _ (λ known. known) (λ known. known) read rest output written ran
+            → Runs (report (as_options self.entry)) object_reach read rest output written ran
+            × IfOk ran (λ verdict. IfSome read (IsCleanIff (IsAcceptedStream (as_options self.entry)) verdict)) }
     {
         objects::run(alloc, self, self.needs_end, input, output)
+    }
+
+    fn end<E: Write>(
+        name: &str,
+        ran: Result<Verdict, RunError>,
+        errors: &mut Messages<E>,
+    ) -> ExitCode
+        ensures { EndsAs E.contents name.now errors.old errors.new result (end_of (codes "object") [] ran) }
+    {
+        let naming = Naming {
+            name,
+            item: "object",
+            hint: "",
+        };
+        outcome::end(naming, ran, errors)
     }
 }
 

@@ -7,10 +7,11 @@ mod entry;
 mod options;
 mod report;
 
-use git_input::run_program;
+use cli::command::Command;
+use cli::run_command;
 use options::{CheckOptions, HELP};
 use std::process::ExitCode;
 
 fn main(rt: HostRuntime) -> ExitCode {
-    run_program!(rt, CheckOptions<'_>, name: "check_trees", help: HELP, unit: "object", hint: "")
+    run_command!(rt, CheckOptions<'_>, name: "check_trees", help: HELP, hint: "")
 }

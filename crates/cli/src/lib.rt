@@ -1,4 +1,5 @@
-//! What a program is: its arguments, the text and the message that it prints, and why a run fails.
+//! What a program is: its arguments, its run, the text and the message that it prints, and why a run
+//! fails. A program implements [`command::Command`], and [`command::execute`] does the rest.
 #![tactic(auto)]
 
 ghost use Rattle.std.specs.{Prelude.{◌≡◌, ◌++◌, codes, IfSome, OnOk}, Io.KnownBytes.Appends, Process.exit_status};
@@ -11,6 +12,7 @@ use std::io::{self, Write};
 use std::process::ExitCode;
 
 pub mod arguments;
+pub mod command;
 pub mod messages;
 pub mod outcome;
 

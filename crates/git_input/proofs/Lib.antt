@@ -8,5 +8,4 @@ pub mod WholeStreams
 pub mod SpelledHeaders
 pub mod SpelledStreams
 pub mod WellFormedStreams
-pub mod LinearReports
 mod Rows

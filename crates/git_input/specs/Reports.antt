@@ -1,7 +1,7 @@
 -- The report of a text that is read line by line: what each line and what belongs to it give, in order, up to the first
 -- that is malformed. `Spelled` says it from the other side, with no steps: what is reported of a stream that is written out,
 -- object by object, and that no other text is well-formed.
-use Rattle.std.specs.Prelude.{◌≡◌, ◌↔◌, ℕ, suc, ◌+◌, ◌*◌, ◌≤◌, Bool, true, false, ◌==◌, ◌||◌, nat_lt, if◌then◌else◌, List, [], ◌∷◌, ◌++◌}
+use Rattle.std.specs.Prelude.{◌≡◌, ◌↔◌, ℕ, suc, ◌+◌, Bool, true, false, ◌==◌, ◌||◌, nat_lt, if◌then◌else◌, List, [], ◌∷◌, ◌++◌}
 use Rattle.std.specs.Prelude.{length, take, drop, codes, Option, Some, None, Result, Ok, Err, IfOk, option_map}
 use Rattle.std.specs.{Option.option_map_or, Str.bytes_eq}
 use Rattle.gix_validate.specs.Faults.{when}
@@ -141,7 +141,3 @@ extent reach text =
 -- A text that has to end in the line for that is well-formed only if it does.
 abbrev pub IsWhole : LineRule → Type 0
 IsWhole rule = (text : List ℕ) → (report rule EndLine text).malformed ≡ None → EndsIn text end_line
-
--- For each byte of a text no more than so many are printed.
-abbrev pub PrintsAtMost : ℕ → (List ℕ → Report) → Type 0
-PrintsAtMost most report = (text : List ℕ) → length (report text).said.lines ≤ most * length text

@@ -69,12 +69,15 @@ pub trait LineCheck: Copy {
     ghost leaves: { (check : Self) → LeavesTheEnd (line_rule check) };
 }
 
-/// Does what [`Check::run`](crate::runs::Check::run) does, for what `check` reports for each line and
-/// the bytes that belong to it (docs/RULES.md, "Streams of objects" and "The report of references").
+/// Reads all of `input`, and writes what `check` reports for each line and the bytes that belong to it
+/// to `output`, each as it is found (docs/RULES.md, "Streams of objects" and "The report of
+/// references"). `output` is not flushed. A malformed part ends the run, and what was found before it
+/// is written.
 ///
 /// # Errors
 ///
-/// [`RunError`], as `Check::run` says.
+/// [`RunError`] says whether reading, memory or writing failed. If reading or memory did, what was
+/// written is the beginning of the report.
 ///
 /// # Memory
 ///

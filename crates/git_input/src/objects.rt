@@ -94,7 +94,7 @@ fn check_and_close<C: ObjectCheck, R: BufRead, W: Write>(
 ///
 /// # Errors
 ///
-/// [`RunError`], as `Check::run` says.
+/// [`RunError`], as there.
 ///
 /// # Memory
 ///

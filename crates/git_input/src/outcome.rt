@@ -1,9 +1,16 @@
 //! The outcome of a run. Malformed input is a verdict, and not an error: `run` fails only if reading,
 //! writing or an allocation does. So one clause says for every input what is written and returned.
 
-ghost use Rattle.std.specs.Prelude.{Some};
+ghost use Rattle.std.specs.{Prelude.{◌≡◌, Some}, Process.exit_status};
+ghost use Rattle.cli.specs.{Command.EndsAs, Messages.{Says, message}};
+ghost use Rattle.git_input.specs.Ends.{end_of, malformed_text};
 
+use cli::fail;
+use cli::messages::Messages;
+use cli::outcome::RunError;
 use std::fmt;
+use std::io::Write;
+use std::process::ExitCode;
 
 /// The result of a run that did not fail (docs/RULES.md, "Streams of objects").
 #[derive(Debug, Clone, Copy, PartialEq, Eq)]
@@ -62,4 +69,59 @@ impl fmt::Display for Malformation {
             Malformation::Empty => "the input is empty",
         })
     }
+}
+
+/// What messages call a program and a part of its input.
+#[derive(Clone, Copy)]
+pub struct Naming<'p> {
+    /// The program's name.
+    pub name: &'p str,
+    /// What a part of the input is, such as `object` or `line`.
+    pub item: &'p str,
+    /// What a message adds if the first line is not a header line.
+    pub hint: &'p str,
+}
+
+/// Says after a run what is malformed or why the run failed, if so, and returns the exit status: 0 if
+/// nothing is refused, 1 if something is, and 2 if the input is malformed or the run failed
+/// (docs/RULES.md, "Streams of objects"). It does not allocate.
+pub fn end<E: Write>(
+    naming: Naming<'_>,
+    ran: Result<Verdict, RunError>,
+    errors: &mut Messages<E>,
+) -> ExitCode
+    ensures { EndsAs E.contents naming.entry.name.now errors.old errors.new result
+        (end_of naming.entry.item.now naming.entry.hint.now ran) }
+{
+    match ran {
+        Ok(Verdict::Clean) => ExitCode::SUCCESS,
+        Ok(Verdict::Refused) => ExitCode::FAILURE,
+        Ok(
+            Verdict::Malformed {
+                number,
+                malformation,
+            },
+        ) => fail_malformed(naming, number, malformation, errors),
+        Err(stop) => fail(naming.name, stop, errors),
+    }
+}
+
+/// Says what is malformed, and returns the status 2.
+fn fail_malformed<E: Write>(
+    naming: Naming<'_>,
+    number: u64,
+    malformation: Malformation,
+    errors: &mut Messages<E>,
+) -> ExitCode
+    ensures status { exit_status result ≡ 2 }
+    ensures said { Says E.contents errors.old errors.new (message naming.entry.name.now
+        (malformed_text naming.entry.item.now naming.entry.hint.now number malformation)) }
+{
+    let item = naming.item;
+    let hint = match malformation {
+        Malformation::Header if number == 1 => naming.hint,
+        _ => "",
+    };
+    let what = format_args!("malformed input: {item} {number}: {malformation}{hint}");
+    fail(naming.name, what, errors)
 }

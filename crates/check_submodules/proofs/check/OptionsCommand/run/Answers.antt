@@ -1,7 +1,7 @@
 use Rattle.git_input.proofs.WellFormedStreams.{clean_run}
-use Rattle.check_submodules.proofs.{AcceptedFiles.object_same, AskedOptions.by_words, LinearReports.linear_report, ReportedSections.each_section_reported}
+use Rattle.check_submodules.proofs.{AcceptedFiles.object_same, AskedOptions.by_words, ReportedSections.each_section_reported}
 use Rattle.check_submodules.specs.{Report.submodules_rule, Spelled.IsAcceptedObject}
-use Rattle.check_submodules.proofs.check.OptionsCheck.run.Goals as goal
+use Rattle.check_submodules.proofs.check.OptionsCommand.run.Goals as goal
 
 pub returns-clause-clean : goal.returns-clause-clean
 returns-clause-clean g c =
@@ -9,9 +9,6 @@ returns-clause-clean g c =
 
 pub returns-clause-sections : goal.returns-clause-sections
 returns-clause-sections g c = each_section_reported
-
-pub returns-clause-linear : goal.returns-clause-linear
-returns-clause-linear g c = linear_report c.args.self.needs_end
 
 pub returns-clause-options : goal.returns-clause-options
 returns-clause-options g c = by_words

@@ -1,7 +1,7 @@
 use Rattle.git_input.proofs.WellFormedStreams.{clean_run}
 use Rattle.check_trees.specs.{Arguments.as_options, Report.tree_rule, Spelled.IsAcceptedObject}
-use Rattle.check_trees.proofs.{AcceptedTrees.object_same, AskedOptions.by_words, LinearReports.linear_report, SpelledTrees.read_as_items}
-use Rattle.check_trees.proofs.check.CheckOptionsCheck.run.Goals as goal
+use Rattle.check_trees.proofs.{AcceptedTrees.object_same, AskedOptions.by_words, SpelledTrees.read_as_items}
+use Rattle.check_trees.proofs.check.CheckOptionsCommand.run.Goals as goal
 
 pub returns-clause-clean : goal.returns-clause-clean
 returns-clause-clean g c =
@@ -10,9 +10,6 @@ returns-clause-clean g c =
 
 pub returns-clause-items : goal.returns-clause-items
 returns-clause-items g c = read_as_items (as_options c.args.self)
-
-pub returns-clause-linear : goal.returns-clause-linear
-returns-clause-linear g c = linear_report (as_options c.args.self)
 
 pub returns-clause-options : goal.returns-clause-options
 returns-clause-options g c = by_words

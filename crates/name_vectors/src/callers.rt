@@ -36,6 +36,32 @@ fn calls_succeed(rt: HostRuntime) -> Result<(), Fail> {
     Ok(())
 }
 
+#[test]
+fn looks_up_the_last_target_of_a_name(rt: HostRuntime) -> Result<(), Fail> {
+    let mut store = RefStore::new(rt.alloc());
+    for (name, target) in [("refs/a", 1), ("refs/A", 2), ("refs/a", 3)] {
+        let name = FullName::new(BStr::from(name))?;
+        store.set(name, ObjectId([target; 20]))?;
+    }
+    for (name, target) in [("refs/a", Some(3)), ("refs/A", Some(2)), ("refs/b", None)] {
+        let came = store.get(FullName::new(BStr::from(name))?);
+        assert_eq!(rt; came, target.map(|byte| ObjectId([byte; 20])));
+    }
+    Ok(())
+}
+
+#[test]
+fn path_has_the_names_that_were_not_left(rt: HostRuntime) -> Result<(), Fail> {
+    let mut place = Place::top(rt.alloc(), ComponentOptions::default());
+    place.enter(BStr::from("a"), None)?;
+    place.enter(BStr::from("b"), None)?;
+    place.leave();
+    place.enter(BStr::from("c"), None)?;
+    let path = place.path(rt.alloc())?;
+    expect(&rt, ("path", b""), b"a/c", path.as_bytes());
+    Ok(())
+}
+
 /// Panics if the call succeeded, or its error prints another text.
 fn expect_refused<T: Drop, E: Display + Drop>(
     rt: &impl Host,

@@ -193,8 +193,11 @@ fn checks_typed_names(rt: HostRuntime) -> Result<(), Fail> {
     let told = FullName::new(BStr::from("V1")).map(|name| name.as_bstr());
     let fault: Fault<'_> = (b"SomeLowercase", b"");
     expect_told(&rt, ("FullName", b"V1"), (OF_REFERENCES, fault), told)?;
+    let tag = TagName::from(PartialName::from(FullName::new(BStr::from("HEAD"))?));
+    let name = tag.as_bstr().as_bytes();
+    expect(&rt, ("FullName", b"HEAD"), b"HEAD", name);
     let tag = tag_of(BranchName::new(BStr::from("HEAD"))?);
-    expect(&rt, ("TagName", b"HEAD"), b"HEAD", tag.as_slice());
+    expect(&rt, ("BranchName", b"HEAD"), b"HEAD", tag.as_slice());
     let told = Component::new(BStr::from("CON"), None, options("whn-"));
     let told = told.map(|name| name.as_bstr());
     let fault: Fault<'_> = (b"WindowsReservedName", b"");

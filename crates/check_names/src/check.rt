@@ -15,14 +15,14 @@ use cli::command::Command;
 use cli::messages::Messages;
 pub use cli::outcome::RunError;
 use gix_validate::path::{ComponentMode, ComponentOptions};
-use gix_validate::{path, reference, submodule};
+use gix_validate::{path, reference};
 use memchr::memchr;
 use std::alloc::{AllocError, Global};
 use std::fmt::{Display, Write as _};
 use std::io::{BufRead, Read, Write};
 use std::process::ExitCode;
 use std::{fmt, io};
-use typed_names::{Component, FullName, PartialName, TagName};
+use typed_names::{BranchName, Component, FullName, PartialName, SubmoduleName, TagName};
 
 /// Reads all of `input`, builds a line of output for each of its lines, writes all of them to
 /// `output` at once, and flushes (docs/RULES.md, "The program's lines"). Reading is by std's
@@ -173,9 +173,9 @@ fn push_answer(alloc: Global, line: &[u8], answers: &mut Vec<u8>) -> Result<(), 
     } else if let Some(name) = name_after(b"partial ", line) {
         push_verdict(PartialName::new(name), answers)
     } else if let Some(name) = name_after(b"branch ", line) {
-        push_verdict(reference::branch_name(name), answers)
+        push_verdict(BranchName::new(name), answers)
     } else if let Some(name) = name_after(b"submodule ", line) {
-        push_verdict(submodule::name(name), answers)
+        push_verdict(SubmoduleName::new(name), answers)
     } else if let Some(name) = name_after(b"path ", line) {
         push_component(name, None, answers)
     } else if let Some(name) = name_after(b"symlink ", line) {

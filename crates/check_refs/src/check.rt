@@ -13,7 +13,7 @@ use cli::command::Command;
 use cli::messages::Messages;
 use cli::outcome::RunError;
 use git_input::lines::{self, Buffers, Ending, LineCheck};
-use git_input::outcome::{self, Malformation, Naming, Verdict};
+use git_input::outcome::{self, Malformation, Naming, Stop, Verdict};
 use std::alloc::Global;
 use std::io::{BufRead, Write};
 use std::process::ExitCode;
@@ -89,14 +89,14 @@ impl LineCheck for Options {
         input: &mut R,
         output: &mut W,
         buffers: &mut Buffers,
-    ) -> Result<Result<bool, Malformation>, RunError> {
+    ) -> Result<bool, Stop> {
         let Some(update) = update_of(line) else {
-            return Ok(Err(Malformation::Line));
+            return Err(Stop::Malformed(Malformation::Line));
         };
         let lines = &mut buffers.lines;
         lines.clear();
         let refused = push_line(self, update, lines).map_err(|_| RunError::Memory)?;
         output.write_all(lines).map_err(|_| RunError::Write)?;
-        Ok(Ok(refused))
+        Ok(refused)
     }
 }

@@ -23,7 +23,7 @@ use git_input::header::{Kind, Object};
 use git_input::input::{read_bytes, skip};
 use git_input::lines::Buffers;
 use git_input::objects::{self, ObjectCheck};
-use git_input::outcome::{self, Malformation, Naming, Verdict};
+use git_input::outcome::{self, Malformation, Naming, Stop, Verdict};
 use std::alloc::Global;
 use std::io::{BufRead, Write};
 use std::process::ExitCode;
@@ -95,14 +95,14 @@ impl ObjectCheck for Options {
         input: &mut R,
         output: &mut W,
         buffers: &mut Buffers,
-    ) -> Result<Result<bool, Malformation>, RunError> {
+    ) -> Result<bool, Stop> {
         if !read_object(object, input, buffers)? {
-            return Ok(Err(Malformation::Ended));
+            return Err(Stop::Malformed(Malformation::Ended));
         }
         output
             .write_all(&buffers.lines)
             .map_err(|_| RunError::Write)?;
-        Ok(Ok(!buffers.lines.is_empty()))
+        Ok(!buffers.lines.is_empty())
     }
 }
 

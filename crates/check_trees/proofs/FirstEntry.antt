@@ -11,6 +11,8 @@ use Rattle.git_input.proofs.SplitTexts.{take_after, take_past, drop_before, drop
 use Rattle.check_trees.specs.Entries.{nul, ParsedModeAndName, ParsedEntry, parsed_front, entry_at, entry_with, entry_of}
 use Rattle.check_trees.specs.{declared.check.{Checked.Checked, Finding.Finding}, Arguments.Options}
 use Rattle.check_trees.specs.{Report.{short_of, finding_of, finding_said, entry_said}, Private.{first_entry, EntryGives, PassesId}}
+use Rattle.git_input.specs.declared.outcome.Stop.{Stop}
+use Rattle.git_input.specs.declared.outcome.Stop.TheVariants as halt
 
 -- ---- an entry of these bytes
 
@@ -69,18 +71,18 @@ id_taken front id rest start width left at long room =
 module _ (options : Options) (tree : ParsedObject) (left : ℕ) (out : Option (List ℕ)) {old new : Option (List ℕ)} {limit : ℕ} {front : List ℕ}
     (is : limit ≡ min left longest) where
   pub gives_past : ReadsBefore nul limit old new front Limit → left < longest
-      → IfSome old (λ text. EntryGives options tree left text new out out (Ok (Err Entry)))
+      → IfSome old (λ text. EntryGives options tree left text new out out (Err (halt.Malformed Entry)))
   gives_past read few = grind (arith, append-nil, length-append, entry_cut, take_at)
 
   pub gives_long : ReadsBefore nul limit old new front Limit → longest ≤ left
-      → IfSome old (λ text. EntryGives options tree left text new out out (Ok (Err TooLong)))
+      → IfSome old (λ text. EntryGives options tree left text new out out (Err (halt.Malformed TooLong)))
   gives_long read many = grind (arith, append-nil, entry_long, take_after)
 
-  pub gives_cut : ReadsBefore nul limit old new front End → IfSome old (λ text. EntryGives options tree left text new out out (Ok (Err Ended)))
+  pub gives_cut : ReadsBefore nul limit old new front End → IfSome old (λ text. EntryGives options tree left text new out out (Err (halt.Malformed Ended)))
   gives_cut read = grind (arith, append-nil, first_cut)
 
   pub gives_malformed : ReadsBefore nul limit old new front Byte → None ≡ parsed_front front
-      → IfSome old (λ text. EntryGives options tree left text new out out (Ok (Err Entry)))
+      → IfSome old (λ text. EntryGives options tree left text new out out (Err (halt.Malformed Entry)))
   gives_malformed read bad = grind (arith, append-nil, append_assoc, first_found)
 
 -- the id that was passed, which is said only where it was kept
@@ -95,11 +97,11 @@ module _ (options : Options) (tree : ParsedObject) (left : ℕ) (new out : Optio
     {front : List ℕ} {named : ParsedModeAndName} (is : limit ≡ min left longest) (read : ReadsBefore nul limit old mid front Byte)
     (parsed : Some named ≡ parsed_front front)
     (least : count ≡ min (length tree.id / 2) (left - (length front + 1))) where
-  skipped_cut : (bytes : List ℕ) → ReadsExactly count mid new bytes false → IfSome old (λ text. EntryGives options tree left text new out out (Ok (Err Ended)))
+  skipped_cut : (bytes : List ℕ) → ReadsExactly count mid new bytes false → IfSome old (λ text. EntryGives options tree left text new out out (Err (halt.Malformed Ended)))
   skipped_cut bytes skips = grind (arith, append-nil, append_assoc, length-append, length-take, first_found)
 
   skipped_past : (bytes : List ℕ) → ReadsExactly count mid new bytes true → count < length tree.id / 2
-      → IfSome old (λ text. EntryGives options tree left text new out out (Ok (Err Entry)))
+      → IfSome old (λ text. EntryGives options tree left text new out out (Err (halt.Malformed Entry)))
   skipped_past bytes skips less = grind (arith, append-nil, append_assoc, length-append, length-take, first_found)
 
   first_whole : (bytes : List ℕ) (len : ℕ) → ReadsExactly count mid new bytes true → length tree.id / 2 ≤ count → len ≡ length front + 1 + length tree.id / 2
@@ -109,16 +111,16 @@ module _ (options : Options) (tree : ParsedObject) (left : ℕ) (new out : Optio
   first_whole bytes len skips more long = grind (arith, append_assoc, length-append, length-take, first_found, drop_before, drop_both, id_taken)
 
   module _ (finding : Finding) (kept : List ℕ) where
-    pub gives_id_cut : PassesId finding count mid new kept false → IfSome old (λ text. EntryGives options tree left text new out out (Ok (Err Ended)))
+    pub gives_id_cut : PassesId finding count mid new kept false → IfSome old (λ text. EntryGives options tree left text new out out (Err (halt.Malformed Ended)))
     gives_id_cut passes = let (bytes, skips, same) = passed finding count mid new kept false passes in skipped_cut bytes skips
 
     pub gives_id_past : PassesId finding count mid new kept true → count < length tree.id / 2
-        → IfSome old (λ text. EntryGives options tree left text new out out (Ok (Err Entry)))
+        → IfSome old (λ text. EntryGives options tree left text new out out (Err (halt.Malformed Entry)))
     gives_id_past passes less = let (bytes, skips, same) = passed finding count mid new kept true passes in skipped_past bytes skips less
 
-    pub gives_stop : (after : Option (List ℕ)) (stop : RunError) (r : Result (Result Checked Malformation) RunError) → finding ≡ finding_of options named
+    pub gives_stop : (after : Option (List ℕ)) (stop : RunError) (r : Result Checked Stop) → finding ≡ finding_of options named
         → PassesId finding count mid new kept true → length tree.id / 2 ≤ count
-        → r ≡ Err stop → (stop ≢ Write → AppendsPrefixOf out after (finding_said tree (record { front = named; id = kept }) finding).lines)
+        → r ≡ Err (halt.Run stop) → (stop ≢ Write → AppendsPrefixOf out after (finding_said tree (record { front = named; id = kept }) finding).lines)
         → IfSome old (λ text. EntryGives options tree left text new out after r)
     gives_stop after stop r found passes more is begins =
         let (bytes, skips, same) = passed finding count mid new kept true passes in
@@ -131,7 +133,7 @@ module _ (options : Options) (tree : ParsedObject) (left : ℕ) (new out : Optio
         → checked.len ≡ length front + 1 + length tree.id / 2
         → Appends out after (finding_said tree (record { front = named; id = kept }) finding).lines
         → checked.refused ≡ (finding_said tree (record { front = named; id = kept }) finding).refused
-        → IfSome old (λ text. EntryGives options tree left text new out after (Ok (Ok checked)))
+        → IfSome old (λ text. EntryGives options tree left text new out after (Ok checked))
     gives_entry after checked found passes more long appends refused =
         let (bytes, skips, same) = passed finding count mid new kept true passes in
         let entry : ParsedEntry = record { front = named; id = bytes } in

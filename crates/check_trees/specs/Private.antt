@@ -1,5 +1,5 @@
 -- What the private functions promise of one step, where the reader's and the writer's bytes are known.
-use Rattle.std.specs.Prelude.{◌≡◌, ◌≢◌, ℕ, ◌-◌, ◌/◌, ◌≤◌, nat_lt, Bool, List, [], length, take, drop, Option, Some, Result, Ok, Err}
+use Rattle.std.specs.Prelude.{◌≡◌, ◌≢◌, ℕ, ◌-◌, ◌/◌, ◌≤◌, nat_lt, Bool, List, [], length, take, drop, Option, Some, Result, Ok, Err, ⊤}
 use Rattle.std.specs.Io.KnownBytes.{Appends}
 use Rattle.git_input.specs.{declared.outcome.Malformation.Malformation, Promises.{ReadsUpTo, ReadsExactly, judged_step}}
 use Rattle.git_input.specs.{Headers.ParsedObject, Reports.{Said, nothing, Step}}
@@ -7,6 +7,8 @@ use Rattle.cli.specs.{declared.outcome.RunError.{RunError, TheVariants.Write}, M
 use Rattle.check_trees.specs.{declared.{check.Checked.Checked, entry.ModeAndName.ModeAndName}, Report.{entry_said, entries, short_of}}
 use Rattle.check_trees.specs.{declared.check.Finding.{Finding, TheVariants.Modules}, Entries.{ParsedModeAndName, ParsedEntry, entry_of}}
 use Rattle.check_trees.specs.Arguments.{Options}
+use Rattle.git_input.specs.declared.outcome.Stop.{Stop}
+use Rattle.git_input.specs.declared.outcome.Stop.TheVariants as halt
 
 -- what is before an entry's NUL, as the code has it
 abbrev pub as_front : ModeAndName → ParsedModeAndName
@@ -31,18 +33,19 @@ first_said options tree (Ok entry) = entry_said options tree entry.0
 first_said options tree (Err malformation) = nothing
 
 abbrev pub EntryGives : Options → ParsedObject → ℕ → List ℕ → Option (List ℕ) → Option (List ℕ) → Option (List ℕ)
-    → Result (Result Checked Malformation) RunError → Type 0
-EntryGives options tree left text new before after (Ok (Ok checked)) =
+    → Result Checked Stop → Type 0
+EntryGives options tree left text new before after (Ok checked) =
     (entry : ParsedEntry) × (first_entry tree left text ≡ Ok (entry, take (left - checked.len) (drop checked.len text)))
     × (new ≡ Some (drop checked.len text)) × (checked.len ≤ length text)
     × Appends before after (entry_said options tree entry).lines × (checked.refused ≡ (entry_said options tree entry).refused)
-EntryGives options tree left text new before after (Ok (Err malformation)) = (first_entry tree left text ≡ Err malformation) × Appends before after []
-EntryGives options tree left text new before after (Err stop) = stop ≢ Write → AppendsPrefixOf before after (first_said options tree (first_entry tree left text)).lines
+EntryGives options tree left text new before after (Err (halt.Malformed malformation)) = (first_entry tree left text ≡ Err malformation) × Appends before after []
+EntryGives options tree left text new before after (Err (halt.Run stop)) = stop ≢ Write → AppendsPrefixOf before after (first_said options tree (first_entry tree left text)).lines
 
--- no more was read than the entry, or than was left of the tree
-abbrev pub EntryReads : ℕ → Option (List ℕ) → Option (List ℕ) → Result Checked Malformation → Type 0
+-- no more was read than the entry, or than was left of the tree, or the run failed
+abbrev pub EntryReads : ℕ → Option (List ℕ) → Option (List ℕ) → Result Checked Stop → Type 0
 EntryReads left old new (Ok checked) = ReadsUpTo checked.len old new
-EntryReads left old new (Err malformation) = ReadsUpTo left old new
+EntryReads left old new (Err (halt.Malformed malformation)) = ReadsUpTo left old new
+EntryReads left old new (Err (halt.Run stop)) = ⊤
 
 -- the bytes of an id were passed, and kept where the entry is listed
 abbrev pub PassesId : Finding → ℕ → Option (List ℕ) → Option (List ℕ) → List ℕ → Bool → Type 0

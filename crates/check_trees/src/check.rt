@@ -5,7 +5,7 @@ ghost use Rattle.std.proofs.Common.{ap, subst};
 ghost use Rattle.cli.specs.Command.{EndsAs, Ran};
 ghost use Rattle.git_input.specs.{Ends.{Gives, end_of}, Spelled.{IsReportedInOrder, IsWellFormedOnlyIfSpelled}};
 ghost use Rattle.git_input.specs.{Reports.IsCleanIff, Objects.{IsWholeStream, object_reach}};
-ghost use Rattle.git_input.specs.Promises.{Runs, FollowsRule, ReadsUpTo, as_object};
+ghost use Rattle.git_input.specs.Promises.{Runs, FollowsRule, ReadsWithin, as_object};
 ghost use Rattle.gix_validate.specs.{Component.fault_of, Pieces.pieces};
 ghost use Rattle.check_trees.specs.Report.{finding_by, finding_of, finding_said, is_gitmodules_fault, report};
 ghost use Rattle.check_trees.specs.{Report.tree_rule, Spelled.{IsAcceptedStream, IsReadAsItems}};
@@ -23,7 +23,7 @@ use git_input::header::{Kind, Object};
 use git_input::input::{Found, read_before, read_bytes, skip};
 use git_input::lines::{Buffers, MAX_LINE};
 use git_input::objects::{self, ObjectCheck};
-use git_input::outcome::{self, Malformation, Naming, Verdict};
+use git_input::outcome::{self, Malformation, Naming, Stop, Verdict};
 use gix_validate::path::{self, ComponentError, ComponentMode, ComponentOptions};
 use std::alloc::Global;
 use std::io::{BufRead, Write};
@@ -98,15 +98,14 @@ impl ObjectCheck for CheckOptions<'_> {
         input: &mut R,
         output: &mut W,
         buffers: &mut Buffers,
-    ) -> Result<Result<bool, Malformation>, RunError> {
+    ) -> Result<bool, Stop> {
         if object.kind == Kind::Tree {
             return check_tree(self, object, input, output, buffers);
         }
-        if skip(input, object.size)? {
-            Ok(Ok(false))
-        } else {
-            Ok(Err(Malformation::Ended))
+        if !skip(input, object.size)? {
+            return Err(Stop::Malformed(Malformation::Ended));
         }
+        Ok(false)
     }
 }
 
@@ -117,22 +116,18 @@ fn check_tree<R: BufRead, W: Write>(
     input: &mut R,
     output: &mut W,
     buffers: &mut Buffers,
-) -> Result<Result<bool, Malformation>, RunError>
+) -> Result<bool, Stop>
     ensures gives { IfSome (R.remaining input.old) (λ text. FollowsRule (tree_report (as_options options.entry) (as_object tree.entry) tree.entry.size text)
         (R.remaining input.new) (W.contents output.old) (W.contents output.new) result) }
-    ensures within { IfOk result (λ _. ReadsUpTo tree.entry.size (R.remaining input.old) (R.remaining input.new)) }
+    ensures within { ReadsWithin tree.entry.size (R.remaining input.old) (R.remaining input.new) result }
 {
     let (mut left, mut refused) = (tree.size, false);
     while left > 0 {
-        match check_entry(options, tree, left, input, output, buffers)? {
-            Ok(entry) => {
-                left -= entry.len;
-                refused |= entry.refused;
-            }
-            Err(malformation) => return Ok(Err(malformation)),
-        }
+        let entry = check_entry(options, tree, left, input, output, buffers)?;
+        left -= entry.len;
+        refused |= entry.refused;
     }
-    Ok(Ok(refused))
+    Ok(refused)
 }
 
 /// The length of an entry in bytes, and whether it was refused.
@@ -150,33 +145,33 @@ fn check_entry<R: BufRead, W: Write>(
     input: &mut R,
     output: &mut W,
     buffers: &mut Buffers,
-) -> Result<Result<Checked, Malformation>, RunError>
+) -> Result<Checked, Stop>
     requires { 0 < left }
-    ensures bound { IfOk result (λ checked. IfOk checked (λ entry. (0 < entry.len) × (entry.len ≤ left))) }
+    ensures bound { IfOk result (λ entry. (0 < entry.len) × (entry.len ≤ left)) }
     ensures gives { IfSome (R.remaining input.old) (λ text.
         EntryGives (as_options options.entry) (as_object tree.entry) left text (R.remaining input.new)
         (W.contents output.old) (W.contents output.new) result) }
-    ensures within { IfOk result (EntryReads left (R.remaining input.old) (R.remaining input.new)) }
+    ensures within { EntryReads left (R.remaining input.old) (R.remaining input.new) result }
 {
     let limit = left.min(MAX_LINE);
     match read_before(input, 0, limit as usize, &mut buffers.read)? {
         Found::Byte => {}
-        Found::Limit if left < MAX_LINE => return Ok(Err(Malformation::Entry)),
-        Found::Limit => return Ok(Err(Malformation::TooLong)),
-        Found::End => return Ok(Err(Malformation::Ended)),
+        Found::Limit if left < MAX_LINE => return Err(Stop::Malformed(Malformation::Entry)),
+        Found::Limit => return Err(Stop::Malformed(Malformation::TooLong)),
+        Found::End => return Err(Stop::Malformed(Malformation::Ended)),
     }
     let Some(front) = front_of(&buffers.read) else {
-        return Ok(Err(Malformation::Entry));
+        return Err(Stop::Malformed(Malformation::Entry));
     };
     let finding = finding_of(options, front);
     let front_len = buffers.read.len() as u64 + 1;
     let id_len = tree.id.len() as u64 / 2;
     let id_left = id_len.min(left - front_len);
     if !pass_id(&finding, input, id_left, &mut buffers.part)? {
-        return Ok(Err(Malformation::Ended));
+        return Err(Stop::Malformed(Malformation::Ended));
     }
     if id_left < id_len {
-        return Ok(Err(Malformation::Entry));
+        return Err(Stop::Malformed(Malformation::Entry));
     }
     let refused = say(
         finding,
@@ -187,7 +182,7 @@ fn check_entry<R: BufRead, W: Write>(
         output,
     )?;
     let len = front_len + id_len;
-    Ok(Ok(Checked { len, refused }))
+    Ok(Checked { len, refused })
 }
 
 /// The result for an entry.

@@ -14,6 +14,8 @@ use Rattle.git_input.specs.declared.outcome.{Malformation.TheVariants.{TooLong, 
 use Rattle.cli.specs.{declared.outcome.RunError.{RunError, TheVariants.Write}, Messages.AppendsPrefixOf}
 use Rattle.git_input.proofs.SplitTexts.{IsCut, split_cuts, whole, drop_both, split_found, split_within, split_short, split_long}
 use Rattle.git_input.proofs.ReportSoFar.{SoFar, when_known, goes, stops, said_nothing}
+use Rattle.git_input.specs.declared.outcome.Stop.{Stop}
+use Rattle.git_input.specs.declared.outcome.Stop.TheVariants as halt
 
 -- ---- the first line of a text
 
@@ -63,19 +65,19 @@ not_end_long EndLine front rest long = grind (arith, length-append, end_length (
 -- ---- what the reads give
 
 -- a line that is there is read, and this step gives what the rule says of it
-pub record LineGives (rule : LineRule) (ending : Ending) (a b old new : Option (List ℕ)) (r : Result (Result Bool Malformation) RunError) : Type 0 where
+pub record LineGives (rule : LineRule) (ending : Ending) (a b old new : Option (List ℕ)) (r : Result Bool Stop) : Type 0 where
   pub known : IfSome a (λ text. (0 < length text) × (is_end ending text ≡ false) × FollowsRule (line_of rule text) b old new r)
 
 module _ {rule : LineRule} {ending : Ending} {front : List ℕ} {a b old : Option (List ℕ)} where
-  pub line_gives : (mid : Option (List ℕ)) {c new : Option (List ℕ)} {r : Result (Result Bool Malformation) RunError} → ReadsBefore line_end longest a b front Byte
+  pub line_gives : (mid : Option (List ℕ)) {c new : Option (List ℕ)} {r : Result Bool Stop} → ReadsBefore line_end longest a b front Byte
       → IfSome b (λ rest. false ≡ (is_end_word ending front && is_empty rest)) → Consumes b mid []
       → IfSome mid (λ text. FollowsRule (rule front text) c old new r) → LineGives rule ending a c old new r
   line_gives mid read other kept gives = record { known = grind (arith, append_assoc, length-append, line_found, not_end_line ending front) }
 
-  pub long_gives : ReadsBefore line_end longest a b front Limit → LineGives rule ending a None old old (Ok (Err TooLong))
+  pub long_gives : ReadsBefore line_end longest a b front Limit → LineGives rule ending a None old old (Err (halt.Malformed TooLong))
   long_gives read = record { known = grind (arith, append-nil, length-append, line_long, not_end_long) }
 
-  pub cut_gives : ReadsBefore line_end longest a b front End → 0 < length front → LineGives rule ending a None old old (Ok (Err Ended))
+  pub cut_gives : ReadsBefore line_end longest a b front End → 0 < length front → LineGives rule ending a None old old (Err (halt.Malformed Ended))
   cut_gives read some = record { known = grind (arith, append-nil, line_cut, not_end_cut) }
 
 -- ---- the lines of a text
@@ -150,13 +152,13 @@ marked_report rule how number rest (is, e) = rw (is, e) (ap (λ (all : Report). 
 
 module _ (rule : LineRule) (leaves : LeavesTheEnd rule) (ending : Ending) (number : ℕ) {a b old mid : Option (List ℕ)} {refused : Bool}
     (sofar : SoFar (lines_report rule ending 1) (lines_report rule ending number) a b old mid refused) where
-  pub stream_goes : {c new : Option (List ℕ)} {more : Bool} → LineGives rule ending b c mid new (Ok (Ok more))
+  pub stream_goes : {c new : Option (List ℕ)} {more : Bool} → LineGives rule ending b c mid new (Ok more)
       → SoFar (lines_report rule ending 1) (lines_report rule ending (number + 1)) a c old new (refused || more)
   stream_goes {c = c} {new = new} {more = more} gives =
       goes sofar _ c new more (IfSome_then b gives.known (λ rest (some, other, (appends, found, (after, left, is))).
       ((line_of rule rest).0, after, left, grind (arith, lines_first rule leaves ending number rest), appends, found)))
 
-  pub stream_malformed : {new : Option (List ℕ)} {malformation : Malformation} → LineGives rule ending b None mid new (Ok (Err malformation))
+  pub stream_malformed : {new : Option (List ℕ)} {malformation : Malformation} → LineGives rule ending b None mid new (Err (halt.Malformed malformation))
       → IfSome a (λ text. Appends old new (report rule ending text).said.lines × (Malformed number malformation ≡ verdict_of (report rule ending text)))
   unfolding report
   stream_malformed {new = new} {malformation = malformation} gives = grind (arith, lines_first, Appends-trans)
@@ -185,7 +187,7 @@ module _ (rule : LineRule) (leaves : LeavesTheEnd rule) (ending : Ending) (numbe
       → IfSome after (λ rest. true ≡ (is_end_word ending front && is_empty rest)) → Consumes after now [] → IfSome a (λ _. now ≡ Some [])
   stream_spent now read last kept = IfSome_then a sofar.known (λ text so. grind arith)
 
-  pub stream_stops : {new : Option (List ℕ)} {stop : RunError} → stop ≢ Write → LineGives rule ending b None mid new (Err stop)
+  pub stream_stops : {new : Option (List ℕ)} {stop : RunError} → stop ≢ Write → LineGives rule ending b None mid new (Err (halt.Run stop))
       → IfSome a (λ text. AppendsPrefixOf old new (report rule ending text).said.lines)
   unfolding report
   stream_stops {new = new} {stop = stop} other gives = IfSome_then a (stops sofar (stop ≢ Write) new (IfSome_then b gives.known (λ rest e read.

@@ -6,6 +6,7 @@ use Rattle.git_input.specs.{Texts.line_end, Reports.{longest, LineRule, LeavesTh
 use Rattle.git_input.specs.Promises.{ReadsBefore, ReadsUpTo, StopsWithin}
 use Rattle.git_input.proofs.{SplitTexts.{split_within, split_short, split_long}, ReportSoFar.SoFar}
 use Rattle.git_input.proofs.LinesRead.{LineGives, lines_report, lines_first, lines_none}
+use Rattle.git_input.specs.declared.outcome.Stop.TheVariants as halt
 
 -- ---- reads
 
@@ -53,7 +54,7 @@ module _ (reach : Reach) where
 
 module _ (rule : LineRule) (leaves : LeavesTheEnd rule) (ending : Ending) (number : ℕ) (reach : Reach) {a b old mid : Option (List ℕ)} {refused : Bool}
     (sofar : SoFar (lines_report rule ending 1) (lines_report rule ending number) a b old mid refused) where
-  pub malformed_within : {new : Option (List ℕ)} {malformation : Malformation} (c : Option (List ℕ)) → LineGives rule ending b None mid new (Ok (Err malformation))
+  pub malformed_within : {new : Option (List ℕ)} {malformation : Malformation} (c : Option (List ℕ)) → LineGives rule ending b None mid new (Err (halt.Malformed malformation))
       → IfSome b (λ rest. ReadsUpTo (extent reach rest) (Some rest) c) → IfSome a (λ text. StopsWithin reach (report rule ending text) c)
   unfolding report
   malformed_within c gives within = grind (arith, lines_first)

@@ -1,11 +1,13 @@
 -- What the functions promise of one step, where the reader's and the writer's bytes are known.
 use Rattle.std.specs.Prelude.{◌≡◌, ◌≢◌, ℕ, ◌<◌, ◌≤◌, nat_lt, if◌then◌else◌, Bool, true, false, List, [], ◌∷◌, ◌++◌, All, length, take, drop}
-use Rattle.std.specs.{Prelude.{Option, Some, None, Result, Ok, Err, IfOk, IfSome, OnErr, OnSome, option_map}, Str.bytes_eq}
+use Rattle.std.specs.{Prelude.{Option, Some, None, Result, Ok, Err, IfOk, IfSome, OnErr, OnSome, option_map, ⊤}, Str.bytes_eq}
 use Rattle.std.specs.Io.KnownBytes.{Appends, Consumes, IsAtEnd}
 use Rattle.git_input.specs.declared.{header.Header.Header, lines.Ending.{Ending, TheVariants.EndLine}, outcome.Verdict.Verdict}
 use Rattle.git_input.specs.declared.input.Found.{Found}
 use Rattle.git_input.specs.declared.{input.Found.TheVariants.{Byte, Limit, End}, outcome.Malformation.{Malformation, TheVariants.Ended}}
 use Rattle.cli.specs.{declared.outcome.RunError.{RunError, TheVariants.Write}, Messages.AppendsPrefixOf}
+use Rattle.git_input.specs.declared.outcome.Stop.{Stop}
+use Rattle.git_input.specs.declared.outcome.Stop.TheVariants as halt
 use Rattle.git_input.specs.declared.header.Header.TheVariants as header
 use Rattle.git_input.specs.{declared.header.Object.Object, Headers.{ParsedObject, ParsedHeader}}
 use Rattle.git_input.specs.Headers as parsed
@@ -54,6 +56,12 @@ ReadsNext old new None = Consumes old new [] × OnSome old (IsAtEnd new)
 abbrev pub ReadsUpTo : ℕ → Option (List ℕ) → Option (List ℕ) → Type 0
 ReadsUpTo most old new = (bytes : List ℕ) × Consumes old new bytes × (length bytes ≤ most)
 
+-- no more than so many bytes were read, or the run failed
+abbrev pub ReadsWithin : {T : Type 0} → ℕ → Option (List ℕ) → Option (List ℕ) → Result T Stop → Type 0
+ReadsWithin most old new (Ok found) = ReadsUpTo most old new
+ReadsWithin most old new (Err (halt.Malformed malformation)) = ReadsUpTo most old new
+ReadsWithin most old new (Err (halt.Run stop)) = ⊤
+
 -- of a text with this report, no more was read than what is before its first malformed line, and that line with what can belong to it
 abbrev pub StopsWithin : Reach → Report → Option (List ℕ) → Type 0
 StopsWithin reach report new = ReadsUpTo (extent reach report.rest) (Some report.rest) new
@@ -76,11 +84,11 @@ is_end_word EndLine line = bytes_eq line end_word
 is_end_word how line = false
 
 -- what a step found, and left, is what the rule says of it
-abbrev pub FollowsRule : Step → Option (List ℕ) → Option (List ℕ) → Option (List ℕ) → Result (Result Bool Malformation) RunError → Type 0
-FollowsRule wanted left old new (Ok (Ok refused)) =
+abbrev pub FollowsRule : Step → Option (List ℕ) → Option (List ℕ) → Option (List ℕ) → Result Bool Stop → Type 0
+FollowsRule wanted left old new (Ok refused) =
     Appends old new wanted.0.lines × (refused ≡ wanted.0.refused) × ((text : List ℕ) × (left ≡ Some text) × (wanted.1 ≡ Ok text))
-FollowsRule wanted left old new (Ok (Err malformation)) = Appends old new wanted.0.lines × (wanted.1 ≡ Err malformation)
-FollowsRule wanted left old new (Err stop) = stop ≢ Write → AppendsPrefixOf old new wanted.0.lines
+FollowsRule wanted left old new (Err (halt.Malformed malformation)) = Appends old new wanted.0.lines × (wanted.1 ≡ Err malformation)
+FollowsRule wanted left old new (Err (halt.Run stop)) = stop ≢ Write → AppendsPrefixOf old new wanted.0.lines
 
 -- what a rule judges of an object, and the text after it, which may have fewer bytes than the object: then the input ended within it
 abbrev pub judged_step : Bool → Judged → List ℕ → Step

@@ -9,9 +9,20 @@ use cli::outcome::RunError;
 use memchr::memchr;
 use std::io::{self, BufRead, ErrorKind};
 
-/// The most turns of a loop that reads until it is done. An interrupted call is made again, so nothing
-/// else bounds the loop. No run takes so many.
+/// The most turns of a loop that [`until_returned`] makes.
 pub(crate) const TURNS: u64 = u64::MAX;
+
+/// Repeats a block until it returns. Each loop has to be proved to end, and nothing bounds these: an
+/// interrupted read is made again, and an input may never end. So this makes [`TURNS`] turns at most,
+/// which no run lives to see, and fails then as a read does.
+macro_rules! until_returned {
+    ($turn:pat => $body:block) => {{
+        for $turn in 0..TURNS $body
+        Err(RunError::Read)
+    }};
+}
+
+pub(crate) use until_returned;
 
 /// Decides whether a read that failed is made again: only if it was interrupted.
 fn read_again(error: io::Error) -> Result<(), RunError>
@@ -65,7 +76,7 @@ pub fn read_before<R: BufRead>(
     ensures full { result ≡ Err RunError.Memory → vec_capacity front.old < limit }
 {
     front.clear();
-    for _ in 0..TURNS {
+    until_returned!(_ => {
         if front.len() >= limit {
             return Ok(Found::Limit);
         }
@@ -80,8 +91,7 @@ pub fn read_before<R: BufRead>(
         if let Some(found) = found {
             return Ok(found);
         }
-    }
-    Err(RunError::Read)
+    })
 }
 
 /// The bytes before the first such byte, how many bytes these are together with the byte itself,
@@ -111,7 +121,7 @@ pub fn read_bytes<R: BufRead>(
     ensures full { result ≡ Err RunError.Memory → vec_capacity bytes.old < count }
 {
     bytes.clear();
-    for _ in 0..TURNS {
+    until_returned!(_ => {
         if bytes.len() >= count {
             return Ok(true);
         }
@@ -123,8 +133,7 @@ pub fn read_bytes<R: BufRead>(
         bytes.extend_from_slice(part).map_err(|_| RunError::Memory)?;
         let used = part.len();
         input.consume(used);
-    }
-    Err(RunError::Read)
+    })
 }
 
 /// Skips `count` bytes, and returns whether the input had that many. It does not allocate.
@@ -138,7 +147,7 @@ pub fn skip<R: BufRead>(input: &mut R, count: u64) -> Result<bool, RunError>
     ensures stop { OnErr result (result ≡ Err RunError.Read) }
 {
     let mut left = count;
-    for _ in 0..TURNS {
+    until_returned!(_ => {
         if left == 0 {
             return Ok(true);
         }
@@ -149,8 +158,7 @@ pub fn skip<R: BufRead>(input: &mut R, count: u64) -> Result<bool, RunError>
         let skipped = (available.len() as u64).min(left);
         input.consume(skipped as usize);
         left -= skipped;
-    }
-    Err(RunError::Read)
+    })
 }
 
 /// Reads a byte, if one is left. It does not allocate.
@@ -162,15 +170,14 @@ pub fn read_byte<R: BufRead>(input: &mut R) -> Result<Option<u8>, RunError>
     ensures byte { IfOk result (λ byte. ReadsNext (R.remaining input.old) (R.remaining input.new) byte) }
     ensures stop { OnErr result (result ≡ Err RunError.Read) }
 {
-    for _ in 0..TURNS {
+    until_returned!(_ => {
         let byte = match filled!(input) {
             [] => return Ok(None),
             [byte, ..] => *byte,
         };
         input.consume(1);
         return Ok(Some(byte));
-    }
-    Err(RunError::Read)
+    })
 }
 
 /// Returns whether the input has ended. It consumes no byte, and does not allocate.
@@ -184,10 +191,9 @@ pub fn is_at_end<R: BufRead>(input: &mut R) -> Result<bool, RunError>
     ensures spent { IfOk result (λ ended. ended ≡ true → OnSome (R.remaining input.old) (IsAtEnd (R.remaining input.new))) }
     ensures stop { OnErr result (result ≡ Err RunError.Read) }
 {
-    for _ in 0..TURNS {
+    until_returned!(_ => {
         let ended = filled!(input).is_empty();
         input.consume(0);
         return Ok(ended);
-    }
-    Err(RunError::Read)
+    })
 }

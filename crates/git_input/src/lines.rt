@@ -10,10 +10,10 @@ ghost use Rattle.cli.specs.Messages.{AppendsPrefixOf};
 ghost use Rattle.gix_validate.specs.Bytes.{is_empty};
 ghost use Rattle.git_input.specs.Reports.{IsWhole, LeavesTheEnd, LineRule, Reach, malformation_at_end, is_malformed};
 ghost use Rattle.git_input.specs.Reports.{report, verdict_of};
-ghost use Rattle.git_input.specs.Promises.{FollowsRule, ReadsUpTo, StopsWithin, is_end_word};
+ghost use Rattle.git_input.specs.Promises.{FollowsRule, ReadsWithin, StopsWithin, is_end_word};
 
-use crate::input::{Found, TURNS, is_at_end, read_before};
-use crate::outcome::{Malformation, Verdict};
+use crate::input::{Found, TURNS, is_at_end, read_before, until_returned};
+use crate::outcome::{Malformation, Stop, Verdict};
 use cli::outcome::RunError;
 use std::alloc::Global;
 use std::io::{BufRead, Write};
@@ -61,10 +61,10 @@ pub trait LineCheck: Copy {
         input: &mut R,
         output: &mut W,
         buffers: &mut Buffers,
-    ) -> Result<Result<bool, Malformation>, RunError>
+    ) -> Result<bool, Stop>
         ensures gives { IfSome (R.remaining input.old) (λ text. FollowsRule (line_rule self line.now text)
             (R.remaining input.new) (W.contents output.old) (W.contents output.new) result) }
-        ensures within { IfOk result (λ _. ReadsUpTo (line_reach self line.now) (R.remaining input.old) (R.remaining input.new)) };
+        ensures within { ReadsWithin (line_reach self line.now) (R.remaining input.old) (R.remaining input.new) result };
 
     ghost leaves: { (check : Self) → LeavesTheEnd (line_rule check) };
 }
@@ -111,19 +111,20 @@ pub fn run<C: LineCheck, R: BufRead, W: Write>(
         lines: Vec::new(alloc),
     };
     let mut refused = false;
-    for before in 0..TURNS {
+    until_returned!(before => {
         let number = before + 1;
         let malformation = match read_before(input, b'\n', MAX_LINE as usize, &mut line)? {
             Found::Byte => {
                 if is_last(ending, &line, input)? {
                     return Ok(whole_input(refused));
                 }
-                match check.check_line(&line, input, output, &mut buffers)? {
+                match check.check_line(&line, input, output, &mut buffers) {
                     Ok(more) => {
                         refused |= more;
                         continue;
                     }
-                    Err(malformation) => malformation,
+                    Err(Stop::Malformed(malformation)) => malformation,
+                    Err(Stop::Run(stop)) => return Err(stop),
                 }
             }
             Found::Limit => Malformation::TooLong,
@@ -137,8 +138,7 @@ pub fn run<C: LineCheck, R: BufRead, W: Write>(
             number,
             malformation,
         });
-    }
-    Err(RunError::Read)
+    })
 }
 
 /// Whether the line is the one that has to end the input, and nothing follows it.

@@ -2,14 +2,14 @@
 
 ghost use Rattle.std.specs.Prelude.{◌≡◌, ◌+◌, Some, false, IfOk, IfSome};
 ghost use Rattle.git_input.specs.Objects.{IsWholeStream, ObjectRule, ending_of, object_reach, object_report, object_rule, object_step};
-ghost use Rattle.git_input.specs.Promises.{Runs, FollowsRule, ReadsUpTo, as_object, body_step};
+ghost use Rattle.git_input.specs.Promises.{Runs, FollowsRule, ReadsWithin, as_object, body_step};
 ghost use Rattle.git_input.specs.Spelled.{IsCleanStream, IsReportedInOrder, IsWellFormedOnlyIfSpelled};
 ghost use Rattle.git_input.specs.{Reports.IsCleanIff, Private.object_rule_leaves};
 
 use crate::header::{Header, Object, header_of};
 use crate::input::read_byte;
 use crate::lines::{self, Buffers, Ending, LineCheck};
-use crate::outcome::{Malformation, Verdict};
+use crate::outcome::{Malformation, Stop, Verdict};
 use cli::outcome::RunError;
 use std::alloc::Global;
 use std::io::{BufRead, Write};
@@ -26,10 +26,10 @@ pub trait ObjectCheck: Copy {
         input: &mut R,
         output: &mut W,
         buffers: &mut Buffers,
-    ) -> Result<Result<bool, Malformation>, RunError>
+    ) -> Result<bool, Stop>
         ensures gives { IfSome (R.remaining input.old) (λ text. FollowsRule (body_step (object_rule self) (as_object object.entry) text)
             (R.remaining input.new) (W.contents output.old) (W.contents output.new) result) }
-        ensures within { IfOk result (λ _. ReadsUpTo object.entry.size (R.remaining input.old) (R.remaining input.new)) };
+        ensures within { ReadsWithin object.entry.size (R.remaining input.old) (R.remaining input.new) result };
 }
 
 /// The rule by which each line is the header of an object.
@@ -52,11 +52,11 @@ impl<C: ObjectCheck> LineCheck for Objects<C> {
         input: &mut R,
         output: &mut W,
         buffers: &mut Buffers,
-    ) -> Result<Result<bool, Malformation>, RunError> {
+    ) -> Result<bool, Stop> {
         match header_of(line) {
-            None => Ok(Err(Malformation::Header)),
-            Some(Header::Missing) if self.needs_end => Ok(Err(Malformation::Absent)),
-            Some(Header::Missing) => Ok(Ok(false)),
+            None => Err(Stop::Malformed(Malformation::Header)),
+            Some(Header::Missing) if self.needs_end => Err(Stop::Malformed(Malformation::Absent)),
+            Some(Header::Missing) => Ok(false),
             Some(Header::Object(object)) => {
                 check_and_close(self.check, object, input, output, buffers)
             }
@@ -71,20 +71,17 @@ fn check_and_close<C: ObjectCheck, R: BufRead, W: Write>(
     input: &mut R,
     output: &mut W,
     buffers: &mut Buffers,
-) -> Result<Result<bool, Malformation>, RunError>
+) -> Result<bool, Stop>
     ensures gives { IfSome (R.remaining input.old) (λ text.
         FollowsRule (object_step (C.object_rule check) (as_object object.entry) text)
         (R.remaining input.new) (W.contents output.old) (W.contents output.new) result) }
-    ensures within { IfOk result (λ _. ReadsUpTo (object.entry.size + 1) (R.remaining input.old) (R.remaining input.new)) }
+    ensures within { ReadsWithin (object.entry.size + 1) (R.remaining input.old) (R.remaining input.new) result }
 {
-    let refused = match check.check_object(object, input, output, buffers)? {
-        Ok(refused) => refused,
-        Err(malformation) => return Ok(Err(malformation)),
-    };
+    let refused = check.check_object(object, input, output, buffers)?;
     match read_byte(input)? {
-        Some(b'\n') => Ok(Ok(refused)),
-        Some(_) => Ok(Err(Malformation::LineEnd)),
-        None => Ok(Err(Malformation::Ended)),
+        Some(b'\n') => Ok(refused),
+        Some(_) => Err(Stop::Malformed(Malformation::LineEnd)),
+        None => Err(Stop::Malformed(Malformation::Ended)),
     }
 }
 

@@ -49,6 +49,35 @@ pub enum Malformation {
     Empty,
 }
 
+/// Why a check of a part of the input ended early.
+#[derive(Debug, Drop)]
+pub enum Stop {
+    /// The part is malformed.
+    Malformed(Malformation),
+    /// The run failed.
+    Run(RunError),
+}
+
+impl From<Malformation> for Stop {
+    ghost use Rattle.git_input.specs.declared.outcome.Stop.TheVariants.{Malformed};
+
+    ghost from_gives = { λ malformation stop. stop ≡ Malformed malformation };
+
+    fn from(malformation: Malformation) -> Stop {
+        Stop::Malformed(malformation)
+    }
+}
+
+impl From<RunError> for Stop {
+    ghost use Rattle.git_input.specs.declared.outcome.Stop.TheVariants.{Run};
+
+    ghost from_gives = { λ error stop. stop ≡ Run error };
+
+    fn from(error: RunError) -> Stop {
+        Stop::Run(error)
+    }
+}
+
 impl fmt::Display for Malformation {
     ghost use Rattle.git_input.specs.Messages.{malformation_text_of};
 

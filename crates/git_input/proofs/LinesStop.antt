@@ -1,5 +1,5 @@
 -- A run reads no further than the first malformed line and what can belong to it.
-use Rattle.gix_validate.proofs.Common.{◌≡◌, ◌≢◌, ℕ, ◌+◌, ◌<◌, ◌≤◌, Bool, List, [], ◌∷◌, ◌++◌, All, Option, None, Some, Ok, Err, length, arith}
+use Rattle.gix_validate.proofs.Common.{◌≡◌, ◌≢◌, ℕ, ◌+◌, ◌<◌, ◌≤◌, Bool, List, [], ◌∷◌, ◌++◌, All, Option, None, Some, Err, length, arith}
 use Rattle.gix_validate.proofs.Common.{append-nil, append_assoc, length-append, IfSome, Consumes, Consumes-nil, Consumes-trans}
 use Rattle.git_input.specs.declared.{input.Found.TheVariants.{Byte, Limit, End}, lines.Ending.Ending, outcome.Malformation.Malformation}
 use Rattle.git_input.specs.{Texts.line_end, Reports.{longest, LineRule, LeavesTheEnd, Reach, report, extent}}

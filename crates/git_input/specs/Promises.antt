@@ -4,7 +4,7 @@ use Rattle.std.specs.{Prelude.{Option, Some, None, Result, Ok, Err, IfOk, IfSome
 use Rattle.std.specs.Io.KnownBytes.{Appends, Consumes, IsAtEnd}
 use Rattle.git_input.specs.declared.{header.Header.Header, lines.Ending.{Ending, TheVariants.EndLine}, outcome.Verdict.Verdict}
 use Rattle.git_input.specs.declared.input.Found.{Found}
-use Rattle.git_input.specs.declared.{input.Found.TheVariants.{Byte, Limit, End}, outcome.Malformation.{Malformation, TheVariants.Ended}}
+use Rattle.git_input.specs.declared.{input.Found.TheVariants.{Byte, Limit, End}, outcome.Malformation.{TheVariants.Ended}}
 use Rattle.cli.specs.{declared.outcome.RunError.{RunError, TheVariants.Write}, Messages.AppendsPrefixOf}
 use Rattle.git_input.specs.declared.outcome.Stop.{Stop}
 use Rattle.git_input.specs.declared.outcome.Stop.TheVariants as halt

@@ -9,7 +9,7 @@ ghost use Rattle.check_names.specs.Answers.{answer_of, answers, lines, request_o
 ghost use Rattle.cli.specs.Command.{EndsAs, Ran};
 ghost use Rattle.check_names.specs.Messages.{Runs, end_of};
 
-use crate::options::NoOptions;
+use crate::options::NamesOptions;
 use bstr::BStr;
 use cli::command::Command;
 use cli::messages::Messages;
@@ -67,7 +67,7 @@ pub fn run<R: Read, W: Write>(alloc: Global, input: &mut R, output: &mut W) -> R
     write_once(&answers, output)
 }
 
-impl Command<'_> for NoOptions {
+impl Command<'_> for NamesOptions {
     type Verdict = ();
 
     ghost Runs = { λ options R W remaining contents input rest output written ran.
@@ -83,7 +83,7 @@ impl Command<'_> for NoOptions {
     ) -> Result<(), RunError>
         ensures runs { Runs R.remaining W.contents input.old input.new output.old output.new result }
         ensures shown { (read rest output written : Option (List ℕ)) (ran : Ran (Unit {0}))
-            → ⟦<NoOptions as Command<'static>>⟧.Runs self _ _ (λ known. known) (λ known. known) read rest output written ran
+            → ⟦<NamesOptions as Command<'static>>⟧.Runs self _ _ (λ known. known) (λ known. known) read rest output written ran
             → Runs (λ known. known) (λ known. known) read rest output written ran }
     {
         run(alloc, input, output)

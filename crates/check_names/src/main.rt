@@ -10,7 +10,7 @@ mod tests;
 
 use cli::command::Command;
 use cli::run_command;
-use options::{HELP, NoOptions};
+use options::{HELP, NamesOptions};
 use std::process::ExitCode;
 
 /// What is said to whoever sits at a terminal.
@@ -18,5 +18,5 @@ const HINT: &str =
     "type lines such as 'tag v1.2.3', and then Ctrl-D; the results are printed at the end";
 
 fn main(rt: HostRuntime) -> ExitCode {
-    run_command!(rt, NoOptions, name: "check_names", help: HELP, hint: HINT)
+    run_command!(rt, NamesOptions, name: "check_names", help: HELP, hint: HINT)
 }

@@ -3,7 +3,7 @@
 ghost use Rattle.std.specs.Prelude.{⊤};
 ghost use Rattle.check_names.specs.Arguments.{rule};
 
-use cli::arguments::{Options, Setting};
+use cli::arguments::{ParseOptions, Setting};
 
 pub const HELP: &str = "\
 Validates Git names, one on each line of standard input, and prints a line for
@@ -36,9 +36,9 @@ is wrong or can't be read, or if this text or the version can't be printed.";
 
 /// The program has no options.
 #[derive(Clone, Copy)]
-pub struct NoOptions;
+pub struct NamesOptions;
 
-impl<'a> Options<'a> for NoOptions {
+impl<'a> ParseOptions<'a> for NamesOptions {
     ghost View = { ⊤ };
 
     ghost view = { λ _. tt };
@@ -48,7 +48,7 @@ impl<'a> Options<'a> for NoOptions {
     ghost rule = { rule };
 
     fn start() -> Self {
-        NoOptions
+        NamesOptions
     }
 
     fn set(self, _name: &str, _value: Option<&'a str>) -> Setting<'a, Self> {

@@ -4,33 +4,33 @@ use Rattle.std.proofs.lemmas.{Slice.Eq.bytes_eq-Decides, List.Elements.{All-from
 use Rattle.std.specs.{List.AllByRecursion, Prelude.None}
 use Rattle.cli.specs.Arguments.{Check, request_from}
 use Rattle.cli.proofs.AskedWords.{has, among, same_test, each_of, one_check}
-use Rattle.check_refs.specs.{declared.options.Options.Options, Arguments.{no_options, rule}, Options.{AreByWords}}
+use Rattle.check_refs.specs.{declared.options.RefsOptions.RefsOptions, Arguments.{no_options, rule}, RefsOptions.{AreByWords}}
 
 abbrev Known : List ℕ → Type 0
 Known word = (word ≡ codes "--ids") ⊎ (word ≡ codes "--replace")
 
 -- the options after these words
-abbrev after : Options → List (List ℕ) → Options
+abbrev after : RefsOptions → List (List ℕ) → RefsOptions
 after start words =
     record { lists_ids = start.lists_ids || has words (codes "--ids"); allows_replace = start.allows_replace || has words (codes "--replace") }
 
-one : (start : Options) (word : List ℕ) (words : List (List ℕ)) (options : Options)
+one : (start : RefsOptions) (word : List ℕ) (words : List (List ℕ)) (options : RefsOptions)
     → request_from rule None start (word ∷ words) ≡ Ok (Check options) → Known word
 one start word words options e = grind (arith, bytes_eq-Decides word (codes "--ids"), bytes_eq-Decides word (codes "--replace"))
 
-none_after : (start : Options) → after start [] ≡ start
+none_after : (start : RefsOptions) → after start [] ≡ start
 none_after start = grind arith
 
-ids_after : (start : Options) (words : List (List ℕ))
+ids_after : (start : RefsOptions) (words : List (List ℕ))
     → after (record { lists_ids = true; allows_replace = start.allows_replace }) words ≡ after start (codes "--ids" ∷ words)
 ids_after start words = grind arith
 
-replace_after : (start : Options) (words : List (List ℕ))
+replace_after : (start : RefsOptions) (words : List (List ℕ))
     → after (record { lists_ids = start.lists_ids; allows_replace = true }) words ≡ after start (codes "--replace" ∷ words)
 replace_after start words = grind arith
 
 -- words that are known ask for what they say
-asks : (words : List (List ℕ)) (start : Options) → AllByRecursion Known words → request_from rule None start words ≡ Ok (Check (after start words))
+asks : (words : List (List ℕ)) (start : RefsOptions) → AllByRecursion Known words → request_from rule None start words ≡ Ok (Check (after start words))
 asks [] start known = ap (λ on. Ok (Check on)) (sym (none_after start))
 asks (word ∷ words) start known =
     elim (known.0) as (λ _. request_from rule None start (word ∷ words) ≡ Ok (Check (after start (word ∷ words)))) [
@@ -39,7 +39,7 @@ asks (word ∷ words) start known =
     ]
 
 -- no others ask for a check
-known_each : (words : List (List ℕ)) (start options : Options) → request_from rule None start words ≡ Ok (Check options) → AllByRecursion Known words
+known_each : (words : List (List ℕ)) (start options : RefsOptions) → request_from rule None start words ≡ Ok (Check options) → AllByRecursion Known words
 known_each [] start options e = tt
 known_each (word ∷ words) start options e =
     elim (one start word words options e) as (λ _. AllByRecursion Known (word ∷ words)) [

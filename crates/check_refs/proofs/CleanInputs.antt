@@ -6,7 +6,7 @@ use Rattle.gix_validate.specs.Reference.{is_partial_name, is_full_name, is_branc
 use Rattle.gix_validate.specs.{declared.reference.NameError.NameError, Bytes.begins, Faults.{when, ◌orelse◌}}
 use Rattle.git_input.specs.{declared.outcome.Verdict.Verdict, Reports.{verdict_of, IsCleanIff}}
 use Rattle.git_input.proofs.WrittenLines.{clean_by, all_good, if_clean}
-use Rattle.check_refs.specs.{declared.options.Options.Options, Spelled.{IsSpelled, spelling, IsAccepted, IsAcceptedInput}}
+use Rattle.check_refs.specs.{declared.options.RefsOptions.RefsOptions, Spelled.{IsSpelled, spelling, IsAccepted, IsAcceptedInput}}
 use Rattle.check_refs.specs.declared.refusal.Refusal.TheVariants.{Name, Replacement}
 use Rattle.check_refs.specs.Refs.{ParsedUpdate, is_deletion, name_fault_of, refusal_of, update_refusal_of, said_of, refs_report}
 use Rattle.check_refs.proofs.SpelledInputs.{reported_in_order, updates_are_read, well_formed_only_if_spelled}
@@ -46,7 +46,7 @@ kept_by : {A : Type 0} (gone : Bool) (r : Option A) → is_some (cond gone None 
 kept_by gone r = grind arith
 
 -- whether an update is refused, by the grammar
-refused_law : (options : Options) (update : ParsedUpdate) → is_some (update_refusal_of options.allows_replace update)
+refused_law : (options : RefsOptions) (update : ParsedUpdate) → is_some (update_refusal_of options.allows_replace update)
     ≡ (not (is_deletion update) && not (is_branch_name update.name && (options.allows_replace || not (begins update.name (codes "refs/replace/")))))
 refused_law options update =
     kept_by (is_deletion update) (refusal_of options.allows_replace update.name)
@@ -57,7 +57,7 @@ same_by : (gone good allows under : Bool)
     → ((not gone && not (good && (allows || not under))) ≡ false) ↔ (IsTrue gone ⊎ (IsTrue good × (IsTrue under → IsTrue allows)))
 same_by gone good allows under = (λ e. grind arith, λ is. grind arith)
 
-update_same : (options : Options) (update : ParsedUpdate) → IsSpelled update → ((said_of options update).refused ≡ false) ↔ IsAccepted options update
+update_same : (options : RefsOptions) (update : ParsedUpdate) → IsSpelled update → ((said_of options update).refused ≡ false) ↔ IsAccepted options update
 update_same options update good = subst (λ refused. (refused ≡ false) ↔ IsAccepted options update) (sym (refused_law options update))
     (same_by (is_deletion update) (is_branch_name update.name) options.allows_replace (begins update.name (codes "refs/replace/")))
 
@@ -67,7 +67,7 @@ some_parts : (updates : List ParsedUpdate) → updates ≢ [] → 0 < length upd
 some_parts [] some = absurd (some refl)
 some_parts (update ∷ updates) some = omega arith
 
-pub clean_if_accepted : (options : Options) (text : List ℕ) (verdict : Verdict) → verdict ≡ verdict_of (refs_report options text)
+pub clean_if_accepted : (options : RefsOptions) (text : List ℕ) (verdict : Verdict) → verdict ≡ verdict_of (refs_report options text)
     → IsCleanIff (IsAcceptedInput options) verdict text
 clean_if_accepted options text verdict is = (
   λ e.

@@ -5,7 +5,7 @@ use Rattle.gix_validate.specs.{Reference.{partial_fault_of, full_fault_of, branc
 use Rattle.git_input.specs.Texts.{is_id}
 use Rattle.cli.specs.Arguments.{Check, Task, WrongArgument, request_of}
 use Rattle.gix_validate.proofs.Rows.Tables.{Gives}
-use Rattle.check_refs.specs.{declared.options.Options.Options, Arguments.{no_options, rule}}
+use Rattle.check_refs.specs.{declared.options.RefsOptions.RefsOptions, Arguments.{no_options, rule}}
 use Rattle.check_refs.specs.Refs.{parsed_update, line_of}
 
 -- no id, an id of SHA-1, and one of SHA-256
@@ -66,7 +66,7 @@ printed_under_both : map (λ (row : Row). option_map (line_of (record { lists_id
 unfolding parsed_update is_id partial_fault_of full_fault_of branch_fault_of first_fault fault_of faults_at fault_table at_first_offset is_bad
 printed_under_both = refl
 
-abbrev asking : (ids replace : Bool) → Result (Task Options) WrongArgument
+abbrev asking : (ids replace : Bool) → Result (Task RefsOptions) WrongArgument
 asking ids replace = Ok (Check (record { lists_ids = ids; allows_replace = replace }))
 
 -- words, and what they ask for

@@ -1,12 +1,12 @@
 -- What the options of the command do.
 use Rattle.std.specs.{Prelude.{true, false, if◌then◌else◌, codes, Some, None}, Str.bytes_eq}
 use Rattle.cli.specs.Arguments.{OptionRule, Unknown, Sets}
-use Rattle.check_refs.specs.declared.options.Options.{Options}
+use Rattle.check_refs.specs.declared.options.RefsOptions.{RefsOptions}
 
-abbrev pub no_options : Options
+abbrev pub no_options : RefsOptions
 no_options = record { lists_ids = false; allows_replace = false }
 
-abbrev pub rule : OptionRule Options
+abbrev pub rule : OptionRule RefsOptions
 rule name (Some value) options = Unknown
 rule name None options =
     if bytes_eq name (codes "--ids") then Sets (record { lists_ids = true; allows_replace = options.allows_replace }) else

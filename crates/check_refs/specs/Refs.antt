@@ -4,9 +4,9 @@ use Rattle.std.specs.Prelude.{ℕ, Bool, ◌==◌, ◌&&◌, not, if◌then◌el
 use Rattle.std.specs.{Option.{option_map, option_and_then, is_some}, List.list_all, Str.byte}
 use Rattle.gix_validate.specs.{declared.reference.NameError.NameError, Quoted.quoted, Reference.{full_fault_of, branch_fault_of, text_of}}
 use Rattle.gix_validate.specs.{Bytes.{is_empty, begins}, Faults.{when, ◌orelse◌}}
-use Rattle.git_input.specs.{Texts.{split_once, is_id}, declared.lines.Ending.TheVariants.AfterALine}
+use Rattle.git_input.specs.{Texts.{split_once, is_id}, declared.lines.Ending.TheVariants.NonEmpty}
 use Rattle.git_input.specs.{declared.outcome.Malformation.TheVariants.Line, Reports.{Said, nothing, Step, LineRule, Report, report}}
-use Rattle.check_refs.specs.declared.{options.Options.Options, refusal.Refusal.{Refusal, TheVariants.{Name, Replacement}}}
+use Rattle.check_refs.specs.declared.{options.RefsOptions.RefsOptions, refusal.Refusal.{Refusal, TheVariants.{Name, Replacement}}}
 use Rattle.check_refs.specs.declared.update.Update.{Update}
 
 -- an update: the id that the reference had, the id that it gets, and its name
@@ -59,27 +59,27 @@ abbrev pub refused_line : List ℕ → Refusal → List ℕ
 refused_line name refusal = codes "ref " ++ quoted name ++ codes " " ++ refusal_text_of refusal ++ codes "\n"
 
 -- the line of a name that is refused, or else of the new id, where there is one and it is asked for
-abbrev pub lines_by : Options → ParsedUpdate → Option Refusal → List ℕ
+abbrev pub lines_by : RefsOptions → ParsedUpdate → Option Refusal → List ℕ
 lines_by options update (Some refusal) = refused_line update.name refusal
 lines_by options update None = if options.lists_ids && not (is_deletion update) then update.new_id ++ codes "\n" else []
 
 -- the line of an update, if it has one
-abbrev pub line_of : Options → ParsedUpdate → List ℕ
+abbrev pub line_of : RefsOptions → ParsedUpdate → List ℕ
 line_of options update = lines_by options update (update_refusal_of options.allows_replace update)
 
 -- what is said of an update: its line, and whether it is refused
-abbrev pub said_of : Options → ParsedUpdate → Said
+abbrev pub said_of : RefsOptions → ParsedUpdate → Said
 said_of options update = record { lines = line_of options update; refused = is_some (update_refusal_of options.allows_replace update) }
 
 -- what a line that says this update gives; a line that says none is malformed
-abbrev pub step_of : Options → Option ParsedUpdate → List ℕ → Step
+abbrev pub step_of : RefsOptions → Option ParsedUpdate → List ℕ → Step
 step_of options None text = (nothing, Err Line)
 step_of options (Some update) text = (said_of options update, Ok text)
 
 -- what a line gives; nothing that follows it belongs to it
-abbrev pub update_rule : Options → LineRule
+abbrev pub update_rule : RefsOptions → LineRule
 update_rule options line text = step_of options (parsed_update line) text
 
 -- the report of an input, which has at least one line
-abbrev pub refs_report : Options → List ℕ → Report
-refs_report options text = report (update_rule options) AfterALine text
+abbrev pub refs_report : RefsOptions → List ℕ → Report
+refs_report options text = report (update_rule options) NonEmpty text

@@ -4,9 +4,9 @@ ghost use Rattle.std.specs.Prelude.{◌≡◌, [], codes, ℕ, List, Option, Som
 ghost use Rattle.cli.specs.Command.{EndsAs, Ran};
 ghost use Rattle.git_input.specs.{Ends.{Gives, end_of}, Promises.Runs, Reports.IsCleanIff};
 ghost use Rattle.check_refs.specs.Spelled.{IsAcceptedInput, IsReportedInOrder, IsWellFormedOnlyIfSpelled};
-ghost use Rattle.check_refs.specs.{Options.AreByWords, Private.update_leaves, Refs.{refs_report, update_rule}};
+ghost use Rattle.check_refs.specs.{RefsOptions.AreByWords, Private.update_leaves, Refs.{refs_report, update_rule}};
 
-use crate::options::Options;
+use crate::options::RefsOptions;
 use crate::report::push_line;
 use crate::update::update_of;
 use cli::command::Command;
@@ -18,7 +18,7 @@ use std::alloc::Global;
 use std::io::{BufRead, Write};
 use std::process::ExitCode;
 
-impl Command<'_> for Options {
+impl Command<'_> for RefsOptions {
     type Verdict = Verdict;
 
     ghost Runs = { λ options R W remaining contents input rest output written ran. Gives (refs_report options) (λ line. 0) (IsAcceptedInput options)
@@ -53,11 +53,11 @@ impl Command<'_> for Options {
         ensures well_formed { IsWellFormedOnlyIfSpelled self }
         ensures options { AreByWords }
         ensures shown { (read rest output written : Option (List ℕ)) (ran : Ran Verdict)
-            → ⟦<Options as Command<'static>>⟧.Runs self _ _ (λ known. known) (λ known. known) read rest output written ran
+            → ⟦<RefsOptions as Command<'static>>⟧.Runs self _ _ (λ known. known) (λ known. known) read rest output written ran
             → Runs (refs_report self) (λ line. 0) read rest output written ran
             × IfOk ran (λ verdict. IfSome read (IsCleanIff (IsAcceptedInput self) verdict)) }
     {
-        lines::run(alloc, self, Ending::AfterALine, input, output)
+        lines::run(alloc, self, Ending::NonEmpty, input, output)
     }
 
     fn end<E: Write>(
@@ -76,7 +76,7 @@ impl Command<'_> for Options {
     }
 }
 
-impl LineCheck for Options {
+impl LineCheck for RefsOptions {
     ghost line_rule = { λ options. update_rule options };
 
     ghost line_reach = { λ options line. 0 };

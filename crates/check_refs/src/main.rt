@@ -10,9 +10,9 @@ mod update;
 
 use cli::command::Command;
 use cli::run_command;
-use options::{HELP, Options};
+use options::{HELP, RefsOptions};
 use std::process::ExitCode;
 
 fn main(rt: HostRuntime) -> ExitCode {
-    run_command!(rt, Options, name: "check_refs", help: HELP, hint: "")
+    run_command!(rt, RefsOptions, name: "check_refs", help: HELP, hint: "")
 }

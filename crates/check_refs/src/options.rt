@@ -31,17 +31,17 @@ wrong.";
 
 /// The options of a run.
 #[derive(Clone, Copy)]
-pub struct Options {
+pub struct RefsOptions {
     /// Whether a line is printed for each new id.
     pub lists_ids: bool,
     /// Whether names under `refs/replace/` are allowed.
     pub allows_replace: bool,
 }
 
-impl<'a> arguments::Options<'a> for Options {
-    ghost use Rattle.check_refs.specs.declared.options.Options.{Options};
+impl<'a> arguments::ParseOptions<'a> for RefsOptions {
+    ghost use Rattle.check_refs.specs.declared.options.RefsOptions.{RefsOptions};
 
-    ghost View = { Options };
+    ghost View = { RefsOptions };
 
     ghost view = { λ options. options };
 
@@ -50,7 +50,7 @@ impl<'a> arguments::Options<'a> for Options {
     ghost rule = { rule };
 
     fn start() -> Self {
-        Options {
+        RefsOptions {
             lists_ids: false,
             allows_replace: false,
         }

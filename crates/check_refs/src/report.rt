@@ -6,7 +6,7 @@
 ghost use Rattle.std.specs.Prelude.{◌≡◌, ◌++◌, OnOk, IfOk};
 ghost use Rattle.check_refs.specs.Refs.{as_parsed, is_deletion, said_of};
 
-use crate::options::Options;
+use crate::options::RefsOptions;
 use crate::refusal::refusal_of;
 use crate::update::Update;
 use git_input::output::push_quoted;
@@ -15,7 +15,7 @@ use std::io::{self, Write};
 /// Appends the line of an update, if it has one, and returns whether its name is refused
 /// (docs/RULES.md, "The report of references").
 pub(crate) fn push_line(
-    options: Options,
+    options: RefsOptions,
     update: Update<'_>,
     lines: &mut Vec<u8>,
 ) -> io::Result<bool>

@@ -4,7 +4,7 @@ use Rattle.gix_validate.proofs.Common.{AllByRecursion, ◌↔◌}
 use Rattle.gix_validate.specs.Bytes.{is_empty}
 use Rattle.gitmodules.specs.Sections.{sections}
 use Rattle.git_input.specs.{declared.header.Kind.{Kind, TheVariants.Blob}, Spelled.{Spelled, IsSpelled, spelled_said}}
-use Rattle.check_submodules.specs.Report.{largest, line_of, lines_of, too_large_line, file_lines, object_lines, submodules_rule}
+use Rattle.check_submodules.specs.Report.{max_file, line_of, lines_of, too_large_line, file_lines, object_lines, submodules_rule}
 use Rattle.check_submodules.specs.Spelled.{IsAccepted, IsAcceptedFile, IsAcceptedObject}
 
 -- ---- lines
@@ -29,7 +29,7 @@ no_lines id (s ∷ all) (first, each) = grind (arith, no_lines id all each)
 
 -- ---- objects
 
-file_by : (id bytes : List ℕ) (large : Bool) (size : ℕ) → nat_lt largest size ≡ large → is_empty (file_lines id size bytes) ≡ true → IsAcceptedFile size bytes
+file_by : (id bytes : List ℕ) (large : Bool) (size : ℕ) → nat_lt max_file size ≡ large → is_empty (file_lines id size bytes) ≡ true → IsAcceptedFile size bytes
 file_by id bytes true size is e = absurd (let some : is_empty (too_large_line id) ≡ true = rw is at e in grind (arith, right_of _ (codes " bytes\n") some))
 file_by id bytes false size is e = (is, all_accept id (sections 0 bytes) (rw is at e))
 

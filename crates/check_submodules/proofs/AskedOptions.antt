@@ -4,32 +4,32 @@ use Rattle.std.proofs.lemmas.{Slice.Eq.bytes_eq-Decides, List.Elements.{All-from
 use Rattle.std.specs.{List.AllByRecursion, Prelude.None}
 use Rattle.cli.specs.Arguments.{Check, request_from}
 use Rattle.cli.proofs.AskedWords.{has, among, same_test, each_of, one_check}
-use Rattle.check_submodules.specs.{declared.options.Options.Options, Arguments.{no_options, rule}, Options.{AreByWords}}
+use Rattle.check_submodules.specs.{declared.options.SubmodulesOptions.SubmodulesOptions, Arguments.{no_options, rule}, SubmodulesOptions.{AreByWords}}
 
 abbrev Known : List ℕ → Type 0
 Known word = word ≡ codes "--end"
 
 -- the options after these words
-abbrev after : Options → List (List ℕ) → Options
+abbrev after : SubmodulesOptions → List (List ℕ) → SubmodulesOptions
 after start words = record { needs_end = start.needs_end || has words (codes "--end") }
 
-one : (start : Options) (word : List ℕ) (words : List (List ℕ)) (options : Options)
+one : (start : SubmodulesOptions) (word : List ℕ) (words : List (List ℕ)) (options : SubmodulesOptions)
     → request_from rule None start (word ∷ words) ≡ Ok (Check options) → Known word
 one start word words options e = grind (arith, bytes_eq-Decides word (codes "--end"))
 
-none_after : (start : Options) → after start [] ≡ start
+none_after : (start : SubmodulesOptions) → after start [] ≡ start
 none_after start = grind arith
 
-end_after : (start : Options) (words : List (List ℕ)) → after (record { needs_end = true }) words ≡ after start (codes "--end" ∷ words)
+end_after : (start : SubmodulesOptions) (words : List (List ℕ)) → after (record { needs_end = true }) words ≡ after start (codes "--end" ∷ words)
 end_after start words = grind arith
 
 -- words that are known ask for what they say
-asks : (words : List (List ℕ)) (start : Options) → AllByRecursion Known words → request_from rule None start words ≡ Ok (Check (after start words))
+asks : (words : List (List ℕ)) (start : SubmodulesOptions) → AllByRecursion Known words → request_from rule None start words ≡ Ok (Check (after start words))
 asks [] start known = ap (λ on. Ok (Check on)) (sym (none_after start))
 asks (word ∷ words) start known = rw (known.0) (asks words (record { needs_end = true }) known.1 ∙ ap (λ on. Ok (Check on)) (end_after start words))
 
 -- no others ask for a check
-known_each : (words : List (List ℕ)) (start options : Options) → request_from rule None start words ≡ Ok (Check options) → AllByRecursion Known words
+known_each : (words : List (List ℕ)) (start options : SubmodulesOptions) → request_from rule None start words ≡ Ok (Check options) → AllByRecursion Known words
 known_each [] start options e = tt
 known_each (word ∷ words) start options e =
     let is = one start word words options e in (is, known_each words (record { needs_end = true }) options (rw is at e))

@@ -1,9 +1,9 @@
 -- The options computed on words.
 use Rattle.gix_validate.proofs.{Common.{refl, Bool, true, false, [], ◌∷◌, Result, Ok, codes}, Rows.Tables.Gives}
 use Rattle.cli.specs.Arguments.{Check, Task, WrongArgument, request_of}
-use Rattle.check_submodules.specs.{declared.options.Options.Options, Arguments.{no_options, rule}}
+use Rattle.check_submodules.specs.{declared.options.SubmodulesOptions.SubmodulesOptions, Arguments.{no_options, rule}}
 
-abbrev asking : (needs_end : Bool) → Result (Task Options) WrongArgument
+abbrev asking : (needs_end : Bool) → Result (Task SubmodulesOptions) WrongArgument
 asking needs_end = Ok (Check (record { needs_end = needs_end }))
 
 -- words, and what they ask for

@@ -24,16 +24,16 @@ abbrev pub lines_of : List ℕ → List (ℕ × Option (List ℕ)) → List ℕ
 lines_of id sections = flat_map (line_of id) sections
 
 -- the most bytes of a file that is read
-abbrev pub largest : ℕ
-largest = 16777216
+abbrev pub max_file : ℕ
+max_file = 16777216
 
 -- the line of a file that is not read
 abbrev pub too_large_line : List ℕ → List ℕ
-too_large_line id = id ++ codes " the file is larger than " ++ decimal largest ++ codes " bytes\n"
+too_large_line id = id ++ codes " the file is larger than " ++ decimal max_file ++ codes " bytes\n"
 
 -- the lines of a file of this size
 abbrev pub file_lines : List ℕ → ℕ → List ℕ → List ℕ
-file_lines id size bytes = if nat_lt largest size then too_large_line id else lines_of id (sections 0 bytes)
+file_lines id size bytes = if nat_lt max_file size then too_large_line id else lines_of id (sections 0 bytes)
 
 -- the lines of an object: only a blob is a file
 abbrev pub object_lines : Kind → List ℕ → ℕ → List ℕ → List ℕ

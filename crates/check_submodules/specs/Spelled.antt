@@ -4,7 +4,7 @@ use Rattle.std.specs.List.{AllByRecursion, AllPairs}
 use Rattle.gix_validate.specs.{declared.submodule.NameError.NameError, Submodule.{fault_of, text_of}, Quoted.quoted}
 use Rattle.gitmodules.specs.{Sections.sections, Spelled.{SectionAt, HeaderAt}}
 use Rattle.git_input.specs.{declared.header.Kind.TheVariants.Blob, Spelled.{Spelled, Present, Absent, IsStreamOf}}
-use Rattle.check_submodules.specs.Report.{largest, line_start, lines_of, submodules_rule}
+use Rattle.check_submodules.specs.Report.{max_file, line_start, lines_of, submodules_rule}
 
 -- the line of what is at an offset of a file: of a section whose name has a fault, or of a header that isn't a section
 abbrev pub IsLineOf : (id file : List ℕ) → ℕ × List ℕ → Type 0
@@ -30,7 +30,7 @@ IsAccepted (offset, None) = ⊥
 
 -- the file is not too large, and each of its sections is accepted
 abbrev pub IsAcceptedFile : ℕ → List ℕ → Type 0
-IsAcceptedFile size bytes = (nat_lt largest size ≡ false) × AllByRecursion IsAccepted (sections 0 bytes)
+IsAcceptedFile size bytes = (nat_lt max_file size ≡ false) × AllByRecursion IsAccepted (sections 0 bytes)
 
 -- a blob is such a file; other objects are not read
 abbrev pub IsAcceptedObject : Spelled → Type 0

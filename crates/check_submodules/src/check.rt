@@ -9,13 +9,13 @@ ghost use Rattle.cli.specs.Command.{EndsAs, Ran};
 ghost use Rattle.git_input.specs.{Ends.{Gives, end_of}, Objects.{IsWholeStream, object_reach}, Reports.IsCleanIff};
 ghost use Rattle.git_input.specs.{Promises.{ReadsExactly, Runs}, Spelled.{IsReportedInOrder, IsWellFormedOnlyIfSpelled}};
 ghost use Rattle.check_submodules.specs.Report.{object_lines, report, submodules_rule};
-ghost use Rattle.check_submodules.specs.Options.{AreByWords};
+ghost use Rattle.check_submodules.specs.SubmodulesOptions.{AreByWords};
 ghost use Rattle.check_submodules.specs.Spelled.{IsAcceptedStream, IsEachSectionReported};
 ghost use Rattle.check_submodules.specs.declared.TheConstants.{HEADER_HINT as header_hint};
 
 use crate::HEADER_HINT;
-use crate::options::Options;
-use crate::report::{LARGEST, push_lines, push_too_large};
+use crate::options::SubmodulesOptions;
+use crate::report::{MAX_FILE, push_lines, push_too_large};
 use cli::command::Command;
 use cli::messages::Messages;
 use cli::outcome::RunError;
@@ -28,7 +28,7 @@ use std::alloc::Global;
 use std::io::{BufRead, Write};
 use std::process::ExitCode;
 
-impl Command<'_> for Options {
+impl Command<'_> for SubmodulesOptions {
     type Verdict = Verdict;
 
     ghost Runs = { λ options R W remaining contents input rest output written ran. Gives (report options.needs_end) object_reach (IsAcceptedStream options.needs_end)
@@ -63,7 +63,7 @@ impl Command<'_> for Options {
         ensures sections { IsEachSectionReported }
         ensures options { AreByWords }
         ensures shown { (read rest output written : Option (List ℕ)) (ran : Ran Verdict)
-            → ⟦<Options as Command<'static>>⟧.Runs self _ _ (λ known. known) (λ known. known) read rest output written ran
+            → ⟦<SubmodulesOptions as Command<'static>>⟧.Runs self _ _ (λ known. known) (λ known. known) read rest output written ran
             → Runs (report self.needs_end) object_reach read rest output written ran
             × IfOk ran (λ verdict. IfSome read (IsCleanIff (IsAcceptedStream self.needs_end) verdict)) }
     {
@@ -86,7 +86,7 @@ impl Command<'_> for Options {
     }
 }
 
-impl ObjectCheck for Options {
+impl ObjectCheck for SubmodulesOptions {
     ghost object_rule = { λ options. submodules_rule };
 
     fn check_object<R: BufRead, W: Write>(
@@ -120,7 +120,7 @@ fn read_object<R: BufRead>(
     if object.kind != Kind::Blob {
         return skip(input, object.size);
     }
-    if object.size > LARGEST {
+    if object.size > MAX_FILE {
         push_too_large(object.id, &mut buffers.lines).map_err(|_| RunError::Memory)?;
         return skip(input, object.size);
     }

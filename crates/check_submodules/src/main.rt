@@ -8,7 +8,7 @@ mod report;
 
 use cli::command::Command;
 use cli::run_command;
-use options::{HELP, Options};
+use options::{HELP, SubmodulesOptions};
 use std::process::ExitCode;
 
 /// What a message adds if the first line is not a header line.
@@ -17,5 +17,5 @@ const HEADER_HINT: &str =
     echo HEAD:.gitmodules | git cat-file --batch | check_submodules";
 
 fn main(rt: HostRuntime) -> ExitCode {
-    run_command!(rt, Options, name: "check_submodules", help: HELP, hint: "")
+    run_command!(rt, SubmodulesOptions, name: "check_submodules", help: HELP, hint: "")
 }

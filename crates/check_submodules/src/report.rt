@@ -11,7 +11,7 @@ use gix_validate::submodule;
 use std::io::{self, Write};
 
 /// The size in bytes of the largest file that is read.
-pub(crate) const LARGEST: u64 = 16_777_216;
+pub(crate) const MAX_FILE: u64 = 16_777_216;
 
 /// Appends the lines of a file: one for each section whose name [`submodule::name`] refuses, and
 /// one for each section that can't be read (docs/RULES.md, "The names in a .gitmodules file").
@@ -66,5 +66,5 @@ pub(crate) fn push_too_large(id: &[u8], lines: &mut Vec<u8>) -> io::Result<()>
     ensures { OnOk result (lines.new.items ≡ lines.old.items ++ too_large_line id.now) }
 {
     lines.extend_from_slice(id)?;
-    write!(lines, " the file is larger than {LARGEST} bytes\n")
+    write!(lines, " the file is larger than {MAX_FILE} bytes\n")
 }

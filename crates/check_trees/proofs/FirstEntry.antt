@@ -4,31 +4,31 @@ use Rattle.gix_validate.proofs.Common.{Some, None, Result, Ok, Err, [], length, 
 use Rattle.gix_validate.proofs.Common.{length-append, length-take, length-drop, take_all, take_at, drop_at, take-take, IfSome_then}
 use Rattle.gix_validate.proofs.Common.{nat_tests, IfSome, IfOk, Appends}
 use Rattle.git_input.specs.declared.{input.Found.TheVariants.{Byte, Limit, End}, outcome.Malformation.TheVariants.{Ended, TooLong, Entry}}
-use Rattle.git_input.specs.{declared.outcome.Malformation.Malformation, Reports.{longest, Said}, Promises.{ReadsBefore, ReadsExactly}}
+use Rattle.git_input.specs.{declared.outcome.Malformation.Malformation, Reports.{max_line, Said}, Promises.{ReadsBefore, ReadsExactly}}
 use Rattle.git_input.specs.{Texts.split_once, Headers.ParsedObject}
 use Rattle.cli.specs.{declared.outcome.RunError.{RunError, TheVariants.Write}, Messages.AppendsPrefixOf}
 use Rattle.git_input.proofs.SplitTexts.{take_after, take_past, drop_before, drop_both, split_within, split_short, split_long}
-use Rattle.check_trees.specs.Entries.{nul, ParsedModeAndName, ParsedEntry, parsed_front, entry_at, entry_with, entry_of}
+use Rattle.check_trees.specs.Entries.{nul, ParsedEntryHeader, ParsedEntry, parsed_entry_header, entry_at, entry_with, entry_of}
 use Rattle.check_trees.specs.{declared.check.{Checked.Checked, Finding.Finding}, Arguments.Options}
-use Rattle.check_trees.specs.{Report.{short_of, finding_of, finding_said, entry_said}, Private.{first_entry, EntryGives, PassesId}}
+use Rattle.check_trees.specs.{Report.{short_of, finding_of, finding_said, entry_said}, Private.{first_entry, EntryGives, ReadsOrSkipsId}}
 use Rattle.git_input.specs.declared.outcome.Stop.{Stop}
 use Rattle.git_input.specs.declared.outcome.Stop.TheVariants as halt
 
 -- ---- an entry of these bytes
 
 module _ (short : Malformation) (width : ℕ) where
-  entry_cut : (bytes : List ℕ) → All (λ b. b ≢ nul) bytes → length bytes < longest → entry_of short width bytes ≡ Err short
+  entry_cut : (bytes : List ℕ) → All (λ b. b ≢ nul) bytes → length bytes < max_line → entry_of short width bytes ≡ Err short
   unfolding entry_of
-  entry_cut bytes none few = grind (arith, nat_tests, split_short nul bytes longest none)
+  entry_cut bytes none few = grind (arith, nat_tests, split_short nul bytes max_line none)
 
-  entry_long : (front rest : List ℕ) → All (λ b. b ≢ nul) front → length front ≡ longest → entry_of short width (front ++ rest) ≡ Err TooLong
+  entry_long : (front rest : List ℕ) → All (λ b. b ≢ nul) front → length front ≡ max_line → entry_of short width (front ++ rest) ≡ Err TooLong
   unfolding entry_of
-  entry_long front rest none long = grind (arith, nat_tests, split_long nul front rest longest none long, length-append)
+  entry_long front rest none long = grind (arith, nat_tests, split_long nul front rest max_line none long, length-append)
 
-  pub entry_found : (front rest : List ℕ) → All (λ b. b ≢ nul) front → length front < longest
-      → entry_of short width (front ++ nul ∷ rest) ≡ entry_at short width (front ++ nul ∷ rest) (length front + 1) (parsed_front front)
+  pub entry_found : (front rest : List ℕ) → All (λ b. b ≢ nul) front → length front < max_line
+      → entry_of short width (front ++ nul ∷ rest) ≡ entry_at short width (front ++ nul ∷ rest) (length front + 1) (parsed_entry_header front)
   unfolding entry_of
-  entry_found front rest none few = grind (arith, split_within nul front rest longest none few)
+  entry_found front rest none few = grind (arith, split_within nul front rest max_line none few)
 
   -- what follows an entry is shorter
   with_shorter : (bytes : List ℕ) (parts : Option (List ℕ × List ℕ)) → IfOk (entry_with short width bytes parts) (λ entry. length entry.1 < length bytes)
@@ -36,17 +36,17 @@ module _ (short : Malformation) (width : ℕ) where
 
   pub entry_shorter : (bytes : List ℕ) → IfOk (entry_of short width bytes) (λ entry. length entry.1 < length bytes)
   unfolding entry_of
-  entry_shorter bytes = with_shorter bytes (split_once nul (take longest bytes))
+  entry_shorter bytes = with_shorter bytes (split_once nul (take max_line bytes))
 
 -- ---- the first entry of a text
 
 module _ (tree : ParsedObject) (front rest : List ℕ) (left : ℕ) (none : All (λ b. b ≢ nul) front) where
-  pub first_cut : length front < left → length front < longest → first_entry tree left front ≡ Err Ended
+  pub first_cut : length front < left → length front < max_line → first_entry tree left front ≡ Err Ended
   first_cut cut few = grind (arith, entry_cut, take_all)
 
-  first_found : length front < left → length front < longest → first_entry tree left (front ++ nul ∷ rest)
+  first_found : length front < left → length front < max_line → first_entry tree left (front ++ nul ∷ rest)
       ≡ entry_at (short_of (nat_lt (length (front ++ nul ∷ rest)) left)) (length tree.id / 2) (take left (front ++ nul ∷ rest)) (length front + 1)
-      (parsed_front front)
+      (parsed_entry_header front)
   first_found less few = grind (arith, entry_found, take_past)
 
 pub id_after : (front id rest : List ℕ) (start width : ℕ) → start ≡ length front + 1 → width ≡ length id
@@ -69,33 +69,33 @@ id_taken front id rest start width left at long room =
 
 -- up to the NUL
 module _ (options : Options) (tree : ParsedObject) (left : ℕ) (out : Option (List ℕ)) {old new : Option (List ℕ)} {limit : ℕ} {front : List ℕ}
-    (is : limit ≡ min left longest) where
-  pub gives_past : ReadsBefore nul limit old new front Limit → left < longest
+    (is : limit ≡ min left max_line) where
+  pub gives_past : ReadsBefore nul limit old new front Limit → left < max_line
       → IfSome old (λ text. EntryGives options tree left text new out out (Err (halt.Malformed Entry)))
   gives_past read few = grind (arith, append-nil, length-append, entry_cut, take_at)
 
-  pub gives_long : ReadsBefore nul limit old new front Limit → longest ≤ left
+  pub gives_long : ReadsBefore nul limit old new front Limit → max_line ≤ left
       → IfSome old (λ text. EntryGives options tree left text new out out (Err (halt.Malformed TooLong)))
   gives_long read many = grind (arith, append-nil, entry_long, take_after)
 
   pub gives_cut : ReadsBefore nul limit old new front End → IfSome old (λ text. EntryGives options tree left text new out out (Err (halt.Malformed Ended)))
   gives_cut read = grind (arith, append-nil, first_cut)
 
-  pub gives_malformed : ReadsBefore nul limit old new front Byte → None ≡ parsed_front front
+  pub gives_malformed : ReadsBefore nul limit old new front Byte → None ≡ parsed_entry_header front
       → IfSome old (λ text. EntryGives options tree left text new out out (Err (halt.Malformed Entry)))
   gives_malformed read bad = grind (arith, append-nil, append_assoc, first_found)
 
 -- the id that was passed, which is said only where it was kept
-passed : (finding : Finding) (count : ℕ) (a b : Option (List ℕ)) (kept : List ℕ) (whole : Bool) → PassesId finding count a b kept whole
+passed : (finding : Finding) (count : ℕ) (a b : Option (List ℕ)) (kept : List ℕ) (whole : Bool) → ReadsOrSkipsId finding count a b kept whole
     → (bytes : List ℕ) × ReadsExactly count a b bytes whole
-    × ((tree : ParsedObject) (front : ParsedModeAndName)
+    × ((tree : ParsedObject) (front : ParsedEntryHeader)
     → finding_said tree (record { front = front; id = kept }) finding ≡ finding_said tree (record { front = front; id = bytes }) finding)
 passed finding count a b kept whole skips = grind arith
 
 -- and for the id after a mode and a name, of which so many bytes are in the tree
 module _ (options : Options) (tree : ParsedObject) (left : ℕ) (new out : Option (List ℕ)) {old mid : Option (List ℕ)} {limit count : ℕ}
-    {front : List ℕ} {named : ParsedModeAndName} (is : limit ≡ min left longest) (read : ReadsBefore nul limit old mid front Byte)
-    (parsed : Some named ≡ parsed_front front)
+    {front : List ℕ} {named : ParsedEntryHeader} (is : limit ≡ min left max_line) (read : ReadsBefore nul limit old mid front Byte)
+    (parsed : Some named ≡ parsed_entry_header front)
     (least : count ≡ min (length tree.id / 2) (left - (length front + 1))) where
   skipped_cut : (bytes : List ℕ) → ReadsExactly count mid new bytes false → IfSome old (λ text. EntryGives options tree left text new out out (Err (halt.Malformed Ended)))
   skipped_cut bytes skips = grind (arith, append-nil, append_assoc, length-append, length-take, first_found)
@@ -111,15 +111,15 @@ module _ (options : Options) (tree : ParsedObject) (left : ℕ) (new out : Optio
   first_whole bytes len skips more long = grind (arith, append_assoc, length-append, length-take, first_found, drop_before, drop_both, id_taken)
 
   module _ (finding : Finding) (kept : List ℕ) where
-    pub gives_id_cut : PassesId finding count mid new kept false → IfSome old (λ text. EntryGives options tree left text new out out (Err (halt.Malformed Ended)))
+    pub gives_id_cut : ReadsOrSkipsId finding count mid new kept false → IfSome old (λ text. EntryGives options tree left text new out out (Err (halt.Malformed Ended)))
     gives_id_cut passes = let (bytes, skips, same) = passed finding count mid new kept false passes in skipped_cut bytes skips
 
-    pub gives_id_past : PassesId finding count mid new kept true → count < length tree.id / 2
+    pub gives_id_past : ReadsOrSkipsId finding count mid new kept true → count < length tree.id / 2
         → IfSome old (λ text. EntryGives options tree left text new out out (Err (halt.Malformed Entry)))
     gives_id_past passes less = let (bytes, skips, same) = passed finding count mid new kept true passes in skipped_past bytes skips less
 
     pub gives_stop : (after : Option (List ℕ)) (stop : RunError) (r : Result Checked Stop) → finding ≡ finding_of options named
-        → PassesId finding count mid new kept true → length tree.id / 2 ≤ count
+        → ReadsOrSkipsId finding count mid new kept true → length tree.id / 2 ≤ count
         → r ≡ Err (halt.Run stop) → (stop ≢ Write → AppendsPrefixOf out after (finding_said tree (record { front = named; id = kept }) finding).lines)
         → IfSome old (λ text. EntryGives options tree left text new out after r)
     gives_stop after stop r found passes more is begins =
@@ -129,7 +129,7 @@ module _ (options : Options) (tree : ParsedObject) (left : ℕ) (new out : Optio
         IfSome_then old (first_whole bytes (length front + 1 + length tree.id / 2) skips more refl) (λ text first. grind arith)
 
     pub gives_entry : (after : Option (List ℕ)) (checked : Checked) → finding ≡ finding_of options named
-        → PassesId finding count mid new kept true → length tree.id / 2 ≤ count
+        → ReadsOrSkipsId finding count mid new kept true → length tree.id / 2 ≤ count
         → checked.len ≡ length front + 1 + length tree.id / 2
         → Appends out after (finding_said tree (record { front = named; id = kept }) finding).lines
         → checked.refused ≡ (finding_said tree (record { front = named; id = kept }) finding).refused

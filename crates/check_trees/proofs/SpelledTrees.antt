@@ -7,11 +7,11 @@ use Rattle.gix_validate.proofs.Common.{All-cons, common_steps, byte, bytes_eq, b
 use Rattle.std.proofs.lemmas.Map.Views.{Contains-from_any}
 use Rattle.gix_validate.specs.declared.path.{ComponentMode.{ComponentMode, TheVariants.Symlink}, ComponentOptions.ComponentOptions}
 use Rattle.git_input.specs.{declared.{header.Kind.TheVariants.Tree, outcome.Malformation.{Malformation, TheVariants.Entry}}, Objects.Judged}
-use Rattle.git_input.specs.{Texts.{split_once, number_of}, Headers.ParsedObject, Reports.{longest, then_said, all_said}}
+use Rattle.git_input.specs.{Texts.{split_once, number_of}, Headers.ParsedObject, Reports.{max_line, then_said, all_said}}
 use Rattle.git_input.proofs.{SplitTexts.{split_found, drop_both, IsCut, split_cuts, whole}, SpelledHeaders.{without, number_high}}
 use Rattle.git_input.proofs.WellFormedStreams.{each_after}
 use Rattle.check_trees.specs.Arguments.{Options, protections_for}
-use Rattle.check_trees.specs.Entries.{nul, named, mode_of, is_file, ParsedModeAndName, ParsedEntry, parsed_front, entry_at, entry_with}
+use Rattle.check_trees.specs.Entries.{nul, named, mode_of, is_file, ParsedEntryHeader, ParsedEntry, parsed_entry_header, entry_at, entry_with}
 use Rattle.check_trees.specs.{Entries.entry_of, Spelled.{Item, IsItem, HasType, IsCheckedBy, item_bytes, item_said, IsTree, IsReadAsItems}}
 use Rattle.check_trees.specs.Report.{entry_said, entries_then, entries_within, entries, judged_by_kind, tree_rule}
 use Rattle.check_trees.proofs.{FirstEntry.{entry_found, id_after}, TreeEntries.{entries_first, entries_none}}
@@ -71,8 +71,8 @@ item_says options tree item by =
 -- ---- entries that are written out
 
 front_spelled : (mode name : List ℕ) (number : ℕ) → number_of 8 mode ≡ Some number
-    → parsed_front (mode ++ byte " " ∷ name) ≡ Some (named mode name number)
-unfolding parsed_front
+    → parsed_entry_header (mode ++ byte " " ∷ name) ≡ Some (named mode name number)
+unfolding parsed_entry_header
 front_spelled mode name number e =
     grind (arith, split_found (byte " ") mode name (without (byte "0") (byte " ") mode (omega arith) (number_high 8 mode number e)))
 
@@ -102,12 +102,12 @@ entries_spelled options short tree (item ∷ items) (first, each) (by, checked) 
 
 -- ---- an entry that is well-formed
 
-abbrev IsFront : List ℕ → ParsedModeAndName → Type 0
+abbrev IsFront : List ℕ → ParsedEntryHeader → Type 0
 IsFront front parsed = (number : ℕ) × (number_of 8 parsed.digits ≡ Some number) × (front ≡ parsed.digits ++ byte " " ∷ parsed.name)
     × (parsed ≡ named parsed.digits parsed.name number)
 
-front_is : (front : List ℕ) → IfSome (parsed_front front) (IsFront front)
-unfolding parsed_front
+front_is : (front : List ℕ) → IfSome (parsed_entry_header front) (IsFront front)
+unfolding parsed_entry_header
 front_is front = grind (arith, split_cuts (byte " ") front)
 
 abbrev pub IsFirst : Options → ℕ → List ℕ → ParsedEntry × List ℕ → Type 0
@@ -120,7 +120,7 @@ if_ok : {T : Type 0} (test : Bool) (why : Malformation) (x : T) (P : T → Type 
 if_ok test why x P holds = grind arith
 
 module _ (options : Options) (short : Malformation) (width : ℕ) where
-  item_at : (bytes front : List ℕ) (parsed : Option ParsedModeAndName) → bytes ≡ front ++ nul ∷ drop (length front + 1) bytes → length front < longest
+  item_at : (bytes front : List ℕ) (parsed : Option ParsedEntryHeader) → bytes ≡ front ++ nul ∷ drop (length front + 1) bytes → length front < max_line
       → AllByRecursion (λ b. b ≢ nul) front → IfSome parsed (IsFront front) → IfOk (entry_at short width bytes (length front + 1) parsed) (IsFirst options width bytes)
   item_at bytes front None cut few none is = tt
   item_at bytes front (Some parsed) cut few none (number, digits, spelled, same) = if_ok _ short _ (IsFirst options width bytes) (λ room.
@@ -133,18 +133,18 @@ module _ (options : Options) (short : Malformation) (width : ℕ) where
         (digits, All-from_recursion (λ b. b ≢ nul) parsed.name name_none, grind (arith, length-take, length-append), grind (arith, length-append)),
         checked_by options parsed.digits number parsed.name id,
         grind (arith, append_assoc),
-        ap (λ (front : ParsedModeAndName). record { front = front; id = id }) same,
+        ap (λ (front : ParsedEntryHeader). record { front = front; id = id }) same,
       ))
 
-  item_with : (bytes : List ℕ) (parts : Option (List ℕ × List ℕ)) → IfSome parts (IsCut nul (take longest bytes))
+  item_with : (bytes : List ℕ) (parts : Option (List ℕ × List ℕ)) → IfSome parts (IsCut nul (take max_line bytes))
       → IfOk (entry_with short width bytes parts) (IsFirst options width bytes)
   item_with bytes None cut = tt
   item_with bytes (Some parts) cut =
-      let all = whole nul bytes parts.0 parts.1 longest cut.0 in item_at bytes parts.0 (parsed_front parts.0) all.0 all.1 cut.1 (front_is parts.0)
+      let all = whole nul bytes parts.0 parts.1 max_line cut.0 in item_at bytes parts.0 (parsed_entry_header parts.0) all.0 all.1 cut.1 (front_is parts.0)
 
   pub item_first : (bytes : List ℕ) → IfOk (entry_of short width bytes) (IsFirst options width bytes)
   unfolding entry_of
-  item_first bytes = item_with bytes (split_once nul (take longest bytes)) (split_cuts nul (take longest bytes))
+  item_first bytes = item_with bytes (split_once nul (take max_line bytes)) (split_cuts nul (take max_line bytes))
 
 -- ---- a tree that is well-formed
 

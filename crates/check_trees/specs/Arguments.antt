@@ -4,7 +4,7 @@ use Rattle.std.specs.{List.{slice_split, list_any}, Str.{byte, bytes_eq}}
 use Rattle.gix_validate.specs.{declared.path.ComponentOptions.ComponentOptions, Component.all_protections, ComponentLaws.no_protections}
 use Rattle.gix_validate.specs.Pieces.{pieces}
 use Rattle.cli.specs.Arguments.{OptionRule, Effect, Unknown, Sets, NeedsValue, Invalid}
-use Rattle.check_trees.specs.declared.options.CheckOptions.{CheckOptions}
+use Rattle.check_trees.specs.declared.options.TreesOptions.{TreesOptions}
 
 -- the options, with the names to which the rules of Windows do not apply
 pub record Options : Type 0 where
@@ -14,7 +14,7 @@ pub record Options : Type 0 where
   pub accepted : List (List ℕ)
 
 -- the options as the code has them: the names are the texts between the slashes of one text
-abbrev pub as_options : CheckOptions → Options
+abbrev pub as_options : TreesOptions → Options
 as_options options =
     let accepted = pieces options.accepted.now in
     record { protections = options.protections; modules = options.modules; needs_end = options.needs_end; accepted = accepted }

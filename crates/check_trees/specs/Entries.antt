@@ -3,7 +3,7 @@ use Rattle.std.specs.Prelude.{ℕ, ◌+◌, ◌/◌, ◌%◌, Bool, ◌==◌, na
 use Rattle.std.specs.{Prelude.{Err, option_map, option_and_then}, Str.byte}
 use Rattle.gix_validate.specs.{declared.path.ComponentMode.{ComponentMode, TheVariants.Symlink}, Faults.when}
 use Rattle.git_input.specs.{declared.outcome.Malformation.{Malformation, TheVariants.{TooLong, Entry}}, Texts.{split_once, number_of}}
-use Rattle.git_input.specs.Reports.{longest}
+use Rattle.git_input.specs.Reports.{max_line}
 
 -- the byte that ends an entry's name
 abbrev pub nul : ℕ
@@ -18,7 +18,7 @@ abbrev pub is_file : ℕ → Bool
 is_file number = number / 4096 % 16 == 8
 
 -- the digits of an entry's mode, what it means for the name, whether it is that of a file, and the name
-pub record ParsedModeAndName : Type 0 where
+pub record ParsedEntryHeader : Type 0 where
   pub digits : List ℕ
   pub mode : Option ComponentMode
   pub is_file : Bool
@@ -26,20 +26,20 @@ pub record ParsedModeAndName : Type 0 where
 
 -- the same, and the bytes of the id of what the entry names
 pub record ParsedEntry : Type 0 where
-  pub front : ParsedModeAndName
+  pub front : ParsedEntryHeader
   pub id : List ℕ
 
-abbrev pub named : List ℕ → List ℕ → ℕ → ParsedModeAndName
+abbrev pub named : List ℕ → List ℕ → ℕ → ParsedEntryHeader
 named digits name number = record { digits = digits; mode = mode_of number; is_file = is_file number; name = name }
 
 -- what is before the NUL of an entry: a mode in octal digits, a space and a name
-unfoldable pub parsed_front : List ℕ → Option ParsedModeAndName
-parsed_front front =
+unfoldable pub parsed_entry_header : List ℕ → Option ParsedEntryHeader
+parsed_entry_header front =
     option_and_then (λ (parts : List ℕ × List ℕ). option_map (named parts.0 parts.1) (number_of 8 parts.0))
     (split_once (byte " ") front)
 
 -- an entry of these bytes, whose id has `width` bytes and begins after so many; `short` is what it means that the bytes end before
-abbrev pub entry_at : Malformation → ℕ → List ℕ → ℕ → Option ParsedModeAndName → Result (ParsedEntry × List ℕ) Malformation
+abbrev pub entry_at : Malformation → ℕ → List ℕ → ℕ → Option ParsedEntryHeader → Result (ParsedEntry × List ℕ) Malformation
 entry_at short width bytes start None = Err Entry
 entry_at short width bytes start (Some front) =
     if nat_lt (length bytes) (start + width) then Err short
@@ -47,9 +47,9 @@ entry_at short width bytes start (Some front) =
 
 -- the same, where it is known what is before the NUL, if there is one within the limit
 abbrev pub entry_with : Malformation → ℕ → List ℕ → Option (List ℕ × List ℕ) → Result (ParsedEntry × List ℕ) Malformation
-entry_with short width bytes None = Err (if nat_lt (length bytes) longest then short else TooLong)
-entry_with short width bytes (Some parts) = entry_at short width bytes (length parts.0 + 1) (parsed_front parts.0)
+entry_with short width bytes None = Err (if nat_lt (length bytes) max_line then short else TooLong)
+entry_with short width bytes (Some parts) = entry_at short width bytes (length parts.0 + 1) (parsed_entry_header parts.0)
 
 -- The entry at the front of what is left of a tree, and what follows it, or what is wrong with it.
 unfoldable pub entry_of : Malformation → ℕ → List ℕ → Result (ParsedEntry × List ℕ) Malformation
-entry_of short width bytes = entry_with short width bytes (split_once nul (take longest bytes))
+entry_of short width bytes = entry_with short width bytes (split_once nul (take max_line bytes))

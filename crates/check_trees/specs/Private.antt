@@ -4,15 +4,15 @@ use Rattle.std.specs.Io.KnownBytes.{Appends}
 use Rattle.git_input.specs.{declared.outcome.Malformation.Malformation, Promises.{ReadsUpTo, ReadsExactly, judged_step}}
 use Rattle.git_input.specs.{Headers.ParsedObject, Reports.{Said, nothing, Step}}
 use Rattle.cli.specs.{declared.outcome.RunError.{RunError, TheVariants.Write}, Messages.AppendsPrefixOf}
-use Rattle.check_trees.specs.{declared.{check.Checked.Checked, entry.ModeAndName.ModeAndName}, Report.{entry_said, entries, short_of}}
-use Rattle.check_trees.specs.{declared.check.Finding.{Finding, TheVariants.Modules}, Entries.{ParsedModeAndName, ParsedEntry, entry_of}}
+use Rattle.check_trees.specs.{declared.{check.Checked.Checked, entry.EntryHeader.EntryHeader}, Report.{entry_said, entries, short_of}}
+use Rattle.check_trees.specs.{declared.check.Finding.{Finding, TheVariants.Modules}, Entries.{ParsedEntryHeader, ParsedEntry, entry_of}}
 use Rattle.check_trees.specs.Arguments.{Options}
 use Rattle.git_input.specs.declared.outcome.Stop.{Stop}
 use Rattle.git_input.specs.declared.outcome.Stop.TheVariants as halt
 
 -- what is before an entry's NUL, as the code has it
-abbrev pub as_front : ModeAndName → ParsedModeAndName
-as_front front = record { digits = front.digits.now; mode = front.mode; is_file = front.is_file; name = front.name.now }
+abbrev pub as_entry_header : EntryHeader → ParsedEntryHeader
+as_entry_header front = record { digits = front.digits.now; mode = front.mode; is_file = front.is_file; name = front.name.now }
 
 -- this was said, or its lines were begun, except that nothing is said of a failed write
 abbrev pub Says : Said → Option (List ℕ) → Option (List ℕ) → Result Bool RunError → Type 0
@@ -48,6 +48,6 @@ EntryReads left old new (Err (halt.Malformed malformation)) = ReadsUpTo left old
 EntryReads left old new (Err (halt.Run stop)) = ⊤
 
 -- the bytes of an id were passed, and kept where the entry is listed
-abbrev pub PassesId : Finding → ℕ → Option (List ℕ) → Option (List ℕ) → List ℕ → Bool → Type 0
-PassesId Modules count old new id whole = ReadsExactly count old new id whole
-PassesId finding count old new id whole = (bytes : List ℕ) × ReadsExactly count old new bytes whole
+abbrev pub ReadsOrSkipsId : Finding → ℕ → Option (List ℕ) → Option (List ℕ) → List ℕ → Bool → Type 0
+ReadsOrSkipsId Modules count old new id whole = ReadsExactly count old new id whole
+ReadsOrSkipsId finding count old new id whole = (bytes : List ℕ) × ReadsExactly count old new bytes whole

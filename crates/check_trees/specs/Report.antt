@@ -9,16 +9,16 @@ use Rattle.git_input.specs.declared.{header.Kind.{Kind, TheVariants.Tree}, outco
 use Rattle.git_input.specs.{Texts.{line_end, hex_pair}, Headers.ParsedObject}
 use Rattle.git_input.specs.Reports as stream
 use Rattle.git_input.specs.{Reports.{Said, nothing, then_said}, Objects.{Judged, ObjectRule, object_report}}
-use Rattle.check_trees.specs.{declared.check.Finding.Finding, Entries.{ParsedModeAndName, ParsedEntry, entry_of}}
+use Rattle.check_trees.specs.{declared.check.Finding.Finding, Entries.{ParsedEntryHeader, ParsedEntry, entry_of}}
 use Rattle.check_trees.specs.{declared.check.Finding.TheVariants.{Accepted, Modules, Refused}, Arguments.{Options, protections_for}}
 
 -- the most bytes of a path that are shown
-abbrev pub longest_path : ℕ
-longest_path = 128
+abbrev pub max_path : ℕ
+max_path = 128
 
 -- a quoted path; of a longer one its first bytes, and dots after the quotes
 abbrev pub shown_path : List ℕ → List ℕ
-shown_path path = if nat_lt longest_path (length path) then quoted (take longest_path path) ++ codes "..." else quoted path
+shown_path path = if nat_lt max_path (length path) then quoted (take max_path path) ++ codes "..." else quoted path
 
 -- where a tree is, if that is known: its path as Git gives it
 abbrev pub in_path : Option (List ℕ) → List ℕ
@@ -26,15 +26,15 @@ in_path (Some (b ∷ path)) = codes " (in " ++ shown_path (b ∷ path) ++ codes 
 in_path path = []
 
 -- the tree's id, the mode and the quoted name
-abbrev pub place : ParsedObject → ParsedModeAndName → List ℕ
+abbrev pub place : ParsedObject → ParsedEntryHeader → List ℕ
 place tree front = tree.id ++ codes " " ++ front.digits ++ codes " " ++ quoted front.name
 
 -- the line of an entry with this fault
-abbrev pub refused_line : ParsedObject → ParsedModeAndName → ComponentError → List ℕ
+abbrev pub refused_line : ParsedObject → ParsedEntryHeader → ComponentError → List ℕ
 refused_line tree front fault = place tree front ++ codes " " ++ text_of fault ++ in_path tree.rest ++ line_end ∷ []
 
 -- the line of a file that is read as `.gitmodules`, with its id in bytes
-abbrev pub modules_line : ParsedObject → ParsedModeAndName → List ℕ → List ℕ
+abbrev pub modules_line : ParsedObject → ParsedEntryHeader → List ℕ → List ℕ
 modules_line tree front id = codes "modules " ++ flat_map hex_pair id ++ codes " " ++ place tree front ++ in_path tree.rest ++ line_end ∷ []
 
 abbrev pub is_gitmodules_fault : Option ComponentError → Bool
@@ -50,7 +50,7 @@ finding_by modules (Some fault) = Refused fault
 finding_by modules None = if modules then Modules else Accepted
 
 -- what an entry is: refused, a file that is read as `.gitmodules`, if these are asked for, or neither
-abbrev pub finding_of : Options → ParsedModeAndName → Finding
+abbrev pub finding_of : Options → ParsedEntryHeader → Finding
 finding_of options front =
     let protections = protections_for options front.name in
     finding_by (options.modules && front.is_file && is_gitmodules protections front.name) (fault_of protections front.mode front.name)

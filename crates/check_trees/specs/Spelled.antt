@@ -5,7 +5,7 @@ use Rattle.std.specs.{Prelude.{flat_map, Contains, Option, Some, None, ⊤}, Lis
 use Rattle.gix_validate.specs.declared.path.{ComponentMode.{ComponentMode, TheVariants.Symlink}, ComponentOptions.ComponentOptions}
 use Rattle.gix_validate.specs.Component.{fault_of}
 use Rattle.git_input.specs.{declared.header.Kind.TheVariants.Tree, Headers.ParsedObject, Spelled.{Spelled, Present, Absent, IsStreamOf}}
-use Rattle.git_input.specs.{Texts.number_of, Reports.{longest, Said, all_said}}
+use Rattle.git_input.specs.{Texts.number_of, Reports.{max_line, Said, all_said}}
 use Rattle.check_trees.specs.{Arguments.Options, Entries.{nul, ParsedEntry}, Report.{finding_by, finding_said, is_gitmodules, tree_rule}}
 
 -- an entry of a tree: its mode and that as a number, its name, the id of what it names, the switches for its name, what the mode means for
@@ -22,7 +22,7 @@ pub record Item : Type 0 where
 abbrev pub IsItem : ℕ → Item → Type 0
 IsItem width item =
     (number_of 8 item.digits ≡ Some item.number) × All (λ b. b ≢ nul) item.name × (length item.id ≡ width)
-    × (length item.digits + length item.name + 2 ≤ longest)
+    × (length item.digits + length item.name + 2 ≤ max_line)
 
 -- the bits 12 to 15 of a number, whatever the others are
 abbrev pub HasType : ℕ → ℕ → Type 0

@@ -9,11 +9,11 @@ ghost use Rattle.git_input.specs.Promises.{Runs, FollowsRule, ReadsWithin, as_ob
 ghost use Rattle.gix_validate.specs.{Component.fault_of, Pieces.pieces};
 ghost use Rattle.check_trees.specs.Report.{finding_by, finding_of, finding_said, is_gitmodules_fault, report};
 ghost use Rattle.check_trees.specs.{Report.tree_rule, Spelled.{IsAcceptedStream, IsReadAsItems}};
-ghost use Rattle.check_trees.specs.Private.{EntryGives, EntryReads, PassesId, Says, as_front, tree_report};
+ghost use Rattle.check_trees.specs.Private.{EntryGives, EntryReads, ReadsOrSkipsId, Says, as_entry_header, tree_report};
 ghost use Rattle.check_trees.specs.{Arguments.{as_options, protections_for}, Options.AreByWords};
 
-use crate::entry::{ModeAndName, front_of};
-use crate::options::CheckOptions;
+use crate::entry::{EntryHeader, parse_entry_header};
+use crate::options::TreesOptions;
 use crate::report::{set_modules, set_refused};
 use bstr::BStr;
 use cli::command::Command;
@@ -29,7 +29,7 @@ use std::alloc::Global;
 use std::io::{BufRead, Write};
 use std::process::ExitCode;
 
-impl<'a> Command<'a> for CheckOptions<'a> {
+impl<'a> Command<'a> for TreesOptions<'a> {
     type Verdict = Verdict;
 
     ghost Runs = { λ options R W remaining contents input rest output written ran. Gives (report (as_options options)) object_reach (IsAcceptedStream (as_options options))
@@ -65,7 +65,7 @@ impl<'a> Command<'a> for CheckOptions<'a> {
         ensures items { IsReadAsItems (as_options self.entry) }
         ensures options { AreByWords }
         ensures shown { (read rest output written : Option (List ℕ)) (ran : Ran Verdict)
-            → ⟦<CheckOptions<'static> as Command<'static>>⟧.Runs self.entry _ _ (λ known. known) (λ known. known) read rest output written ran
+            → ⟦<TreesOptions<'static> as Command<'static>>⟧.Runs self.entry _ _ (λ known. known) (λ known. known) read rest output written ran
             → Runs (report (as_options self.entry)) object_reach read rest output written ran
             × IfOk ran (λ verdict. IfSome read (IsCleanIff (IsAcceptedStream (as_options self.entry)) verdict)) }
     {
@@ -89,7 +89,7 @@ impl<'a> Command<'a> for CheckOptions<'a> {
 }
 
 /// Trees are checked, and other objects are skipped.
-impl ObjectCheck for CheckOptions<'_> {
+impl ObjectCheck for TreesOptions<'_> {
     ghost object_rule = { λ options. tree_rule (as_options options) };
 
     fn check_object<R: BufRead, W: Write>(
@@ -111,7 +111,7 @@ impl ObjectCheck for CheckOptions<'_> {
 
 /// Checks a tree, and returns whether an entry was refused.
 fn check_tree<R: BufRead, W: Write>(
-    options: CheckOptions<'_>,
+    options: TreesOptions<'_>,
     tree: Object<'_>,
     input: &mut R,
     output: &mut W,
@@ -139,7 +139,7 @@ struct Checked {
 
 /// Checks the first entry of the last `left` bytes of a tree.
 fn check_entry<R: BufRead, W: Write>(
-    options: CheckOptions<'_>,
+    options: TreesOptions<'_>,
     tree: Object<'_>,
     left: u64,
     input: &mut R,
@@ -160,20 +160,20 @@ fn check_entry<R: BufRead, W: Write>(
         Found::Limit => return Err(Stop::Malformed(Malformation::TooLong)),
         Found::End => return Err(Stop::Malformed(Malformation::Ended)),
     }
-    let Some(front) = front_of(&buffers.read) else {
+    let Some(front) = parse_entry_header(&buffers.read) else {
         return Err(Stop::Malformed(Malformation::Entry));
     };
     let finding = finding_of(options, front);
     let front_len = buffers.read.len() as u64 + 1;
     let id_len = tree.id.len() as u64 / 2;
     let id_left = id_len.min(left - front_len);
-    if !pass_id(&finding, input, id_left, &mut buffers.part)? {
+    if !read_or_skip_id(&finding, input, id_left, &mut buffers.part)? {
         return Err(Stop::Malformed(Malformation::Ended));
     }
     if id_left < id_len {
         return Err(Stop::Malformed(Malformation::Entry));
     }
-    let refused = say(
+    let refused = write_finding(
         finding,
         tree,
         front,
@@ -197,8 +197,8 @@ enum Finding {
 }
 
 /// The result for an entry with these options.
-fn finding_of(options: CheckOptions<'_>, front: ModeAndName<'_>) -> Finding
-    ensures { result ≡ finding_of (as_options options.entry) (as_front front.entry) }
+fn finding_of(options: TreesOptions<'_>, front: EntryHeader<'_>) -> Finding
+    ensures { result ≡ finding_of (as_options options.entry) (as_entry_header front.entry) }
 {
     let protections = protections_for(options, front.name);
     let may_be_listed = options.modules && front.is_file;
@@ -210,13 +210,13 @@ fn finding_of(options: CheckOptions<'_>, front: ModeAndName<'_>) -> Finding
     };
     match path::component(BStr::new(front.name), mode, protections) {
         Ok(_) => Finding::Accepted,
-        Err(fault) if may_be_listed => finding_of_file(protections, front, fault),
+        Err(fault) if may_be_listed => classify_file(protections, front, fault),
         Err(fault) => Finding::Refused(fault),
     }
 }
 
 /// The switches for a name.
-fn protections_for(options: CheckOptions<'_>, name: &[u8]) -> ComponentOptions
+fn protections_for(options: TreesOptions<'_>, name: &[u8]) -> ComponentOptions
     ensures { result ≡ protections_for (as_options options.entry) name.now }
 {
     if is_piece(name, options.accepted) {
@@ -241,9 +241,9 @@ fn is_piece(name: &[u8], names: &str) -> bool
 /// `as_symlink`.
 #[cold]
 #[inline(never)]
-fn finding_of_file(
+fn classify_file(
     protections: ComponentOptions,
-    front: ModeAndName<'_>,
+    front: EntryHeader<'_>,
     as_symlink: ComponentError,
 ) -> Finding
     ensures { result ≡ finding_by (is_gitmodules_fault (Some as_symlink)) (fault_of protections front.entry.mode front.entry.name.now) }
@@ -257,13 +257,13 @@ fn finding_of_file(
 
 /// Reads or skips the bytes of an entry's id, and returns whether the input had them. They are kept
 /// if the entry is listed.
-fn pass_id<R: BufRead>(
+fn read_or_skip_id<R: BufRead>(
     finding: &Finding,
     input: &mut R,
     count: u64,
     id: &mut Vec<u8>,
 ) -> Result<bool, RunError>
-    ensures { IfOk result (λ whole. PassesId finding.now count (R.remaining input.old) (R.remaining input.new) id.new.items whole) }
+    ensures { IfOk result (λ whole. ReadsOrSkipsId finding.now count (R.remaining input.old) (R.remaining input.new) id.new.items whole) }
 {
     match finding {
         Finding::Modules => read_bytes(input, count as usize, id),
@@ -272,15 +272,15 @@ fn pass_id<R: BufRead>(
 }
 
 /// Writes the line of an entry, if it has one, and returns whether it is refused.
-fn say<W: Write>(
+fn write_finding<W: Write>(
     finding: Finding,
     tree: Object<'_>,
-    front: ModeAndName<'_>,
+    front: EntryHeader<'_>,
     id: &[u8],
     line: &mut Vec<u8>,
     output: &mut W,
 ) -> Result<bool, RunError>
-    ensures { Says (finding_said (as_object tree.entry) (record { front = as_front front.entry; id = id.now }) finding)
+    ensures { Says (finding_said (as_object tree.entry) (record { front = as_entry_header front.entry; id = id.now }) finding)
         (W.contents output.old) (W.contents output.new) result }
 {
     match finding {

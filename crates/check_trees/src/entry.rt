@@ -1,14 +1,14 @@
 //! The part of a tree's entry that is before the NUL.
 
 ghost use Rattle.std.specs.{Prelude.◌≡◌, Option.option_map, Str.bytes_eq};
-ghost use Rattle.check_trees.specs.{Entries.parsed_front, Private.as_front};
+ghost use Rattle.check_trees.specs.{Entries.parsed_entry_header, Private.as_entry_header};
 
 use git_input::text::{number_of, split_once};
 use gix_validate::path::ComponentMode;
 
 /// The part of an entry that is before the NUL. `mode` is what the mode means for the name.
 #[derive(Clone, Copy)]
-pub(crate) struct ModeAndName<'a> {
+pub(crate) struct EntryHeader<'a> {
     pub(crate) digits: &'a [u8],
     pub(crate) mode: Option<ComponentMode>,
     pub(crate) is_file: bool,
@@ -16,13 +16,13 @@ pub(crate) struct ModeAndName<'a> {
 }
 
 /// Reads the part of an entry that is before the NUL.
-#[tactic(auto, unfolding(crate::specs::Entries::parsed_front))]
-pub(crate) fn front_of(front: &[u8]) -> Option<ModeAndName<'_>>
-    ensures { option_map as_front result ≡ parsed_front front.now }
+#[tactic(auto, unfolding(crate::specs::Entries::parsed_entry_header))]
+pub(crate) fn parse_entry_header(front: &[u8]) -> Option<EntryHeader<'_>>
+    ensures { option_map as_entry_header result ≡ parsed_entry_header front.now }
 {
     // Most entries are files that are not executable.
     if front.len() >= 7 && is_word(&front[..7], b"100644 ") {
-        return Some(ModeAndName {
+        return Some(EntryHeader {
             digits: &front[..6],
             mode: None,
             is_file: true,
@@ -32,7 +32,7 @@ pub(crate) fn front_of(front: &[u8]) -> Option<ModeAndName<'_>>
     let (digits, name) = split_once(b' ', front)?;
     // The file type is in the bits from 12 on of the mode.
     let kind = number_of(8, digits)? / 0o10000 % 16;
-    Some(ModeAndName {
+    Some(EntryHeader {
         digits,
         mode: (kind == 0o12).then_some(ComponentMode::Symlink),
         is_file: kind == 0o10,

@@ -9,9 +9,9 @@ mod report;
 
 use cli::command::Command;
 use cli::run_command;
-use options::{CheckOptions, HELP};
+use options::{TreesOptions, HELP};
 use std::process::ExitCode;
 
 fn main(rt: HostRuntime) -> ExitCode {
-    run_command!(rt, CheckOptions<'_>, name: "check_trees", help: HELP, hint: "")
+    run_command!(rt, TreesOptions<'_>, name: "check_trees", help: HELP, hint: "")
 }

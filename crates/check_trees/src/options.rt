@@ -3,7 +3,7 @@
 ghost use Rattle.std.specs.Prelude.{◌≡◌};
 ghost use Rattle.check_trees.specs.Arguments.{no_options, protections_of, rule, switched_on, Options, as_options};
 
-use cli::arguments::{Options, Setting};
+use cli::arguments::{ParseOptions, Setting};
 use gix_validate::path::ComponentOptions;
 use memchr::memchr;
 
@@ -42,7 +42,7 @@ reads as a path, and which `git fsck` refuses.";
 
 /// How the input is checked.
 #[derive(Clone, Copy)]
-pub struct CheckOptions<'a> {
+pub struct TreesOptions<'a> {
     /// The file systems to protect.
     pub protections: ComponentOptions,
     /// Whether files that a checkout reads as `.gitmodules` are listed too (`--modules`).
@@ -55,7 +55,7 @@ pub struct CheckOptions<'a> {
 }
 
 /// If there are several lists of protections or of names, the last one counts.
-impl<'a> Options<'a> for CheckOptions<'a> {
+impl<'a> ParseOptions<'a> for TreesOptions<'a> {
     ghost View = { Options };
 
     ghost view = { λ options. as_options options };
@@ -65,7 +65,7 @@ impl<'a> Options<'a> for CheckOptions<'a> {
     ghost rule = { rule };
 
     fn start() -> Self {
-        CheckOptions {
+        TreesOptions {
             protections: ComponentOptions::default(),
             modules: false,
             needs_end: false,

@@ -10,9 +10,9 @@
 ghost use Rattle.std.specs.{Prelude.{◌≡◌, ◌++◌, OnOk, codes}, Option.option_map};
 ghost use Rattle.git_input.specs.Promises.{as_object};
 ghost use Rattle.check_trees.specs.Report.{in_path, modules_line, place, refused_line, shown_path};
-ghost use Rattle.check_trees.specs.Private.{as_front};
+ghost use Rattle.check_trees.specs.Private.{as_entry_header};
 
-use crate::entry::ModeAndName;
+use crate::entry::EntryHeader;
 use git_input::header::Object;
 use git_input::output::{push_hex, push_quoted};
 use gix_validate::path::ComponentError;
@@ -28,10 +28,10 @@ const MAX_PATH: usize = 128;
 pub(crate) fn set_refused(
     line: &mut Vec<u8>,
     tree: Object<'_>,
-    front: ModeAndName<'_>,
+    front: EntryHeader<'_>,
     fault: ComponentError,
 ) -> Result<(), AllocError>
-    ensures { OnOk result (line.new.items ≡ refused_line (as_object tree.entry) (as_front front.entry) fault) }
+    ensures { OnOk result (line.new.items ≡ refused_line (as_object tree.entry) (as_entry_header front.entry) fault) }
 {
     line.clear();
     push_place(line, tree, front)?;
@@ -45,10 +45,10 @@ pub(crate) fn set_refused(
 pub(crate) fn set_modules(
     line: &mut Vec<u8>,
     tree: Object<'_>,
-    front: ModeAndName<'_>,
+    front: EntryHeader<'_>,
     id: &[u8],
 ) -> Result<(), AllocError>
-    ensures { OnOk result (line.new.items ≡ modules_line (as_object tree.entry) (as_front front.entry) id.now) }
+    ensures { OnOk result (line.new.items ≡ modules_line (as_object tree.entry) (as_entry_header front.entry) id.now) }
 {
     line.clear();
     line.extend_from_slice(b"modules ")?;
@@ -62,9 +62,9 @@ pub(crate) fn set_modules(
 fn push_place(
     line: &mut Vec<u8>,
     tree: Object<'_>,
-    front: ModeAndName<'_>,
+    front: EntryHeader<'_>,
 ) -> Result<(), AllocError>
-    ensures { OnOk result (line.new.items ≡ line.old.items ++ place (as_object tree.entry) (as_front front.entry)) }
+    ensures { OnOk result (line.new.items ≡ line.old.items ++ place (as_object tree.entry) (as_entry_header front.entry)) }
 {
     line.extend_from_slice(tree.id)?;
     line.push(b' ')?;

@@ -39,7 +39,7 @@ pub enum Setting<'a, O> {
 }
 
 /// The options of a program.
-pub trait Options<'a>: Copy {
+pub trait ParseOptions<'a>: Copy {
     ghost View: { Type 0 };
 
     ghost view: { Self → View };
@@ -128,7 +128,7 @@ pub fn arguments<E: Write>(
 /// # Errors
 ///
 /// [`ArgumentError`] with the first argument that is wrong.
-pub fn request_of<'a, O: Options<'a>>(
+pub fn request_of<'a, O: ParseOptions<'a>>(
     arguments: &'a [String],
 ) -> Result<Request<O>, ArgumentError<'a>>
     ensures request { result_map_both (task_of O.view) wrong_argument result
@@ -155,7 +155,7 @@ pub fn request_of<'a, O: Options<'a>>(
 
 /// The options after a word, and the option that needs a value then. The word is the value of
 /// `option`, if that is one.
-fn set_by<'a, O: Options<'a>>(
+fn set_by<'a, O: ParseOptions<'a>>(
     options: O,
     option: Option<&'a str>,
     word: &'a str,
@@ -163,7 +163,7 @@ fn set_by<'a, O: Options<'a>>(
     ensures { result_map_both (λ next. (O.view next.0, option_map text_of next.1)) wrong_argument result
         ≡ set_by O.rule (O.view options) (option_map text_of option.entry) word.now }
 {
-    let (name, value) = match (option, cut(word)) {
+    let (name, value) = match (option, split_assignment(word)) {
         (Some(name), _) => (name, Some(word)),
         (None, Some((name, value))) => (name, Some(value)),
         (None, None) => (word, None),
@@ -177,7 +177,7 @@ fn set_by<'a, O: Options<'a>>(
 }
 
 /// The parts around the first `=`, if there is one.
-fn cut(word: &str) -> Option<(&str, &str)>
+fn split_assignment(word: &str) -> Option<(&str, &str)>
     ensures { option_map (λ parts. (parts.0.now, parts.1.now)) result ≡ split_once (byte "=") word.now }
 {
     word.split_once('=')

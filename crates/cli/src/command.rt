@@ -7,7 +7,7 @@ ghost use Rattle.cli.specs.Arguments.{request_of};
 ghost use Rattle.cli.specs.Command.{Checks, End, EndsAs, Finishes, Ran};
 ghost use Rattle.cli.specs.Messages.{Does};
 
-use crate::arguments::{Options, Request, fail_arguments, request_of};
+use crate::arguments::{ParseOptions, Request, fail_arguments, request_of};
 use crate::messages::Messages;
 use crate::outcome::RunError;
 use crate::{VERSION, print};
@@ -33,7 +33,7 @@ pub struct Program<'p> {
 /// What a program does under its options, which are the values of the type that implements this:
 /// `run`, and how it ends then. `Runs` is abstract in [`execute`], so that only a call of `run` shows
 /// it of a result.
-pub trait Command<'a>: Options<'a> {
+pub trait Command<'a>: ParseOptions<'a> {
     /// What a run says of the input, if it doesn't fail.
     type Verdict: Drop;
 

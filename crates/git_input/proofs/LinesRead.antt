@@ -5,9 +5,9 @@ use Rattle.gix_validate.proofs.Common.{append_assoc, length-append, length-take,
 use Rattle.gix_validate.proofs.Common.{bytes_eq, bytes_eq-Decides, Appends, Consumes, Appends-nil, Appends-trans, AllByRecursion}
 use Rattle.gix_validate.proofs.Common.{IfOk-weaker}
 use Rattle.gix_validate.specs.Bytes.{is_empty}
-use Rattle.git_input.specs.Reports.{longest, Said, nothing, Step, LineRule, LeavesTheEnd, line_with, line_of, Report, lines_then, end_word}
+use Rattle.git_input.specs.Reports.{max_line, Said, nothing, Step, LineRule, LeavesTheEnd, line_with, line_of, Report, lines_then, end_word}
 use Rattle.git_input.specs.Reports.{end_line, is_end, malformation_at_end, at_end, at_end_line, lines_within, lines_from, report}
-use Rattle.git_input.specs.{Reports.{verdict_of, EndsIn}, declared.lines.Ending.{Ending, TheVariants.{Anywhere, EndLine, AfterALine}}}
+use Rattle.git_input.specs.{Reports.{verdict_of, EndsIn}, declared.lines.Ending.{Ending, TheVariants.{Anywhere, EndLine, NonEmpty}}}
 use Rattle.git_input.specs.{declared.input.Found.TheVariants.{Byte, Limit, End}, Promises.{FollowsRule, ReadsBefore, is_end_word}}
 use Rattle.git_input.specs.{declared.outcome.Malformation.Malformation, Texts.{line_end, split_once}}
 use Rattle.git_input.specs.declared.outcome.{Malformation.TheVariants.{TooLong, Ended}, Verdict.TheVariants.{Clean, Refused, Malformed}}
@@ -20,18 +20,18 @@ use Rattle.git_input.specs.declared.outcome.Stop.TheVariants as halt
 -- ---- the first line of a text
 
 module _ (rule : LineRule) where
-  pub line_found : (front rest : List ℕ) → All (λ b. b ≢ line_end) front → length front < longest
+  pub line_found : (front rest : List ℕ) → All (λ b. b ≢ line_end) front → length front < max_line
       → line_of rule (front ++ line_end ∷ rest) ≡ rule front rest
   unfolding line_of
-  line_found front rest none few = grind (arith, split_within line_end front rest longest none few, drop_both front (line_end ∷ []) rest)
+  line_found front rest none few = grind (arith, split_within line_end front rest max_line none few, drop_both front (line_end ∷ []) rest)
 
-  line_long : (front rest : List ℕ) → All (λ b. b ≢ line_end) front → length front ≡ longest → line_of rule (front ++ rest) ≡ (nothing, Err TooLong)
+  line_long : (front rest : List ℕ) → All (λ b. b ≢ line_end) front → length front ≡ max_line → line_of rule (front ++ rest) ≡ (nothing, Err TooLong)
   unfolding line_of
-  line_long front rest none long = grind (arith, nat_tests, length-append, split_long line_end front rest longest none long)
+  line_long front rest none long = grind (arith, nat_tests, length-append, split_long line_end front rest max_line none long)
 
-  line_cut : (text : List ℕ) → All (λ b. b ≢ line_end) text → length text < longest → line_of rule text ≡ (nothing, Err Ended)
+  line_cut : (text : List ℕ) → All (λ b. b ≢ line_end) text → length text < max_line → line_of rule text ≡ (nothing, Err Ended)
   unfolding line_of
-  line_cut text none few = grind (arith, nat_tests, split_short line_end text longest none)
+  line_cut text none few = grind (arith, nat_tests, split_short line_end text max_line none)
 
 -- ---- the line that ends a text
 
@@ -46,20 +46,20 @@ end_alone front rest none e = grind (arith, bytes_eq-Decides (front ++ line_end 
 not_end_line : (ending : Ending) (front rest : List ℕ) → All (λ b. b ≢ line_end) front → (is_end_word ending front && is_empty rest) ≡ false
     → is_end ending (front ++ line_end ∷ rest) ≡ false
 not_end_line Anywhere front rest none other = refl
-not_end_line AfterALine front rest none other = refl
+not_end_line NonEmpty front rest none other = refl
 not_end_line EndLine front rest none other = grind (arith, end_alone front rest none)
 
 not_end_without : (ending : Ending) (text : List ℕ) → split_once line_end text ≡ None → is_end ending text ≡ false
 not_end_without Anywhere text none = refl
-not_end_without AfterALine text none = refl
+not_end_without NonEmpty text none = refl
 not_end_without EndLine text none = grind (arith, bytes_eq-Decides)
 
 not_end_cut : (ending : Ending) (text : List ℕ) → All (λ b. b ≢ line_end) text → is_end ending text ≡ false
 not_end_cut ending text none = not_end_without ending text (grind (arith, split_short line_end text (length text) none, take_all))
 
-not_end_long : (ending : Ending) (front rest : List ℕ) → length front ≡ longest → is_end ending (front ++ rest) ≡ false
+not_end_long : (ending : Ending) (front rest : List ℕ) → length front ≡ max_line → is_end ending (front ++ rest) ≡ false
 not_end_long Anywhere front rest long = refl
-not_end_long AfterALine front rest long = refl
+not_end_long NonEmpty front rest long = refl
 not_end_long EndLine front rest long = grind (arith, length-append, end_length (front ++ rest))
 
 -- ---- what the reads give
@@ -69,30 +69,30 @@ pub record LineGives (rule : LineRule) (ending : Ending) (a b old new : Option (
   pub known : IfSome a (λ text. (0 < length text) × (is_end ending text ≡ false) × FollowsRule (line_of rule text) b old new r)
 
 module _ {rule : LineRule} {ending : Ending} {front : List ℕ} {a b old : Option (List ℕ)} where
-  pub line_gives : (mid : Option (List ℕ)) {c new : Option (List ℕ)} {r : Result Bool Stop} → ReadsBefore line_end longest a b front Byte
+  pub line_gives : (mid : Option (List ℕ)) {c new : Option (List ℕ)} {r : Result Bool Stop} → ReadsBefore line_end max_line a b front Byte
       → IfSome b (λ rest. false ≡ (is_end_word ending front && is_empty rest)) → Consumes b mid []
       → IfSome mid (λ text. FollowsRule (rule front text) c old new r) → LineGives rule ending a c old new r
   line_gives mid read other kept gives = record { known = grind (arith, append_assoc, length-append, line_found, not_end_line ending front) }
 
-  pub long_gives : ReadsBefore line_end longest a b front Limit → LineGives rule ending a None old old (Err (halt.Malformed TooLong))
+  pub long_gives : ReadsBefore line_end max_line a b front Limit → LineGives rule ending a None old old (Err (halt.Malformed TooLong))
   long_gives read = record { known = grind (arith, append-nil, length-append, line_long, not_end_long) }
 
-  pub cut_gives : ReadsBefore line_end longest a b front End → 0 < length front → LineGives rule ending a None old old (Err (halt.Malformed Ended))
+  pub cut_gives : ReadsBefore line_end max_line a b front End → 0 < length front → LineGives rule ending a None old old (Err (halt.Malformed Ended))
   cut_gives read some = record { known = grind (arith, append-nil, line_cut, not_end_cut) }
 
 -- ---- the lines of a text
 
 -- what holds of each line and what belongs to it holds of the first of a text
-module _ (rule : LineRule) (Q : List ℕ → Said → List ℕ → Type 0) (each : (line text : List ℕ) → length line < longest
+module _ (rule : LineRule) (Q : List ℕ → Said → List ℕ → Type 0) (each : (line text : List ℕ) → length line < max_line
     → AllByRecursion (λ b. b ≢ line_end) line → IfOk (rule line text).1 (Q (line ++ line_end ∷ text) (rule line text).0)) where
-  by_parts : (text : List ℕ) (parts : Option (List ℕ × List ℕ)) → IfSome parts (IsCut line_end (take longest text))
+  by_parts : (text : List ℕ) (parts : Option (List ℕ × List ℕ)) → IfSome parts (IsCut line_end (take max_line text))
       → IfOk (line_with rule text parts).1 (Q text (line_with rule text parts).0)
   by_parts text None cut = grind arith
-  by_parts text (Some parts) cut = grind (arith, whole line_end text parts.0 parts.1 longest cut.0)
+  by_parts text (Some parts) cut = grind (arith, whole line_end text parts.0 parts.1 max_line cut.0)
 
   pub by_line : (text : List ℕ) → IfOk (line_of rule text).1 (Q text (line_of rule text).0)
   unfolding line_of
-  by_line text = by_parts text (split_once line_end (take longest text)) (split_cuts line_end (take longest text))
+  by_line text = by_parts text (split_once line_end (take max_line text)) (split_cuts line_end (take max_line text))
 
 module _ (rule : LineRule) (leaves : LeavesTheEnd rule) where
   pub line_ends : (text : List ℕ) → IfOk (line_of rule text).1 (EndsIn text)
@@ -143,7 +143,7 @@ lines_report rule ending number text = let all = lines_from rule ending number t
 is_marked : (ending : Ending) (front rest : List ℕ) → true ≡ (is_end_word ending front && is_empty rest)
     → (ending ≡ EndLine) × (front ++ line_end ∷ rest ≡ end_line)
 is_marked Anywhere front rest last = grind arith
-is_marked AfterALine front rest last = grind arith
+is_marked NonEmpty front rest last = grind arith
 is_marked EndLine front rest last = grind (arith, bytes_eq-Decides)
 
 marked_report : (rule : LineRule) (how : Ending) (number : ℕ) (rest : List ℕ) → (how ≡ EndLine) × (rest ≡ end_line)
@@ -164,26 +164,26 @@ module _ (rule : LineRule) (leaves : LeavesTheEnd rule) (ending : Ending) (numbe
   stream_malformed {new = new} {malformation = malformation} gives = grind (arith, lines_first, Appends-trans)
 
   -- nothing is left, and nothing has to be
-  pub stream_ends : {front : List ℕ} {now : Option (List ℕ)} → ReadsBefore line_end longest b now front End → front ≡ [] → None ≡ malformation_at_end ending number
+  pub stream_ends : {front : List ℕ} {now : Option (List ℕ)} → ReadsBefore line_end max_line b now front End → front ≡ [] → None ≡ malformation_at_end ending number
       → IfSome a (λ text. Appends old mid (report rule ending text).said.lines × (cond refused Refused Clean ≡ verdict_of (report rule ending text)))
   unfolding report
   stream_ends read none other = IfSome_then a sofar.known (λ text so. grind (arith, append-nil, lines_none))
 
   -- nothing is left, and something has to be
-  pub stream_breaks : {front : List ℕ} {now : Option (List ℕ)} {malformation : Malformation} → ReadsBefore line_end longest b now front End → front ≡ []
+  pub stream_breaks : {front : List ℕ} {now : Option (List ℕ)} {malformation : Malformation} → ReadsBefore line_end max_line b now front End → front ≡ []
       → Some malformation ≡ malformation_at_end ending number
       → IfSome a (λ text. Appends old mid (report rule ending text).said.lines × (Malformed number malformation ≡ verdict_of (report rule ending text)))
   unfolding report
   stream_breaks read none asked = IfSome_then a sofar.known (λ text so. grind (arith, append-nil, lines_none))
 
   -- the line that ends the text is all that is left
-  pub stream_marked : {front : List ℕ} {after : Option (List ℕ)} → ReadsBefore line_end longest b after front Byte
+  pub stream_marked : {front : List ℕ} {after : Option (List ℕ)} → ReadsBefore line_end max_line b after front Byte
       → IfSome after (λ rest. true ≡ (is_end_word ending front && is_empty rest))
       → IfSome a (λ text. Appends old mid (report rule ending text).said.lines × (cond refused Refused Clean ≡ verdict_of (report rule ending text)))
   unfolding report
   stream_marked read last = grind (arith, IfSome_then, is_marked, said_nothing, marked_report)
 
-  pub stream_spent : (now : Option (List ℕ)) {front : List ℕ} {after : Option (List ℕ)} → ReadsBefore line_end longest b after front Byte
+  pub stream_spent : (now : Option (List ℕ)) {front : List ℕ} {after : Option (List ℕ)} → ReadsBefore line_end max_line b after front Byte
       → IfSome after (λ rest. true ≡ (is_end_word ending front && is_empty rest)) → Consumes after now [] → IfSome a (λ _. now ≡ Some [])
   stream_spent now read last kept = IfSome_then a sofar.known (λ text so. grind arith)
 

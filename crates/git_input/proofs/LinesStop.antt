@@ -2,7 +2,7 @@
 use Rattle.gix_validate.proofs.Common.{◌≡◌, ◌≢◌, ℕ, ◌+◌, ◌<◌, ◌≤◌, Bool, List, [], ◌∷◌, ◌++◌, All, Option, None, Some, Err, length, arith}
 use Rattle.gix_validate.proofs.Common.{append-nil, append_assoc, length-append, IfSome, Consumes, Consumes-nil, Consumes-trans}
 use Rattle.git_input.specs.declared.{input.Found.TheVariants.{Byte, Limit, End}, lines.Ending.Ending, outcome.Malformation.Malformation}
-use Rattle.git_input.specs.{Texts.line_end, Reports.{longest, LineRule, LeavesTheEnd, Reach, report, extent}}
+use Rattle.git_input.specs.{Texts.line_end, Reports.{max_line, LineRule, LeavesTheEnd, Reach, report, extent}}
 use Rattle.git_input.specs.Promises.{ReadsBefore, ReadsUpTo, StopsWithin}
 use Rattle.git_input.proofs.{SplitTexts.{split_within, split_short, split_long}, ReportSoFar.SoFar}
 use Rattle.git_input.proofs.LinesRead.{LineGives, lines_report, lines_first, lines_none}
@@ -23,30 +23,30 @@ byte_within n a b c byte first read = up_to_more n 1 (n + 1) a b c first (byte �
 -- ---- a line and what is read for it
 
 module _ (reach : Reach) where
-  extent_found : (front rest : List ℕ) → All (λ b. b ≢ line_end) front → length front < longest
+  extent_found : (front rest : List ℕ) → All (λ b. b ≢ line_end) front → length front < max_line
       → extent reach (front ++ line_end ∷ rest) ≡ length front + 1 + reach front
   unfolding extent
-  extent_found front rest none few = grind (arith, split_within line_end front rest longest none few)
+  extent_found front rest none few = grind (arith, split_within line_end front rest max_line none few)
 
-  extent_long : (front rest : List ℕ) → All (λ b. b ≢ line_end) front → length front ≡ longest → extent reach (front ++ rest) ≡ longest
+  extent_long : (front rest : List ℕ) → All (λ b. b ≢ line_end) front → length front ≡ max_line → extent reach (front ++ rest) ≡ max_line
   unfolding extent
-  extent_long front rest none long = grind (arith, split_long line_end front rest longest none long)
+  extent_long front rest none long = grind (arith, split_long line_end front rest max_line none long)
 
-  extent_cut : (text : List ℕ) → All (λ b. b ≢ line_end) text → length text < longest → extent reach text ≡ longest
+  extent_cut : (text : List ℕ) → All (λ b. b ≢ line_end) text → length text < max_line → extent reach text ≡ max_line
   unfolding extent
-  extent_cut text none few = grind (arith, split_short line_end text longest none)
+  extent_cut text none few = grind (arith, split_short line_end text max_line none)
 
   -- a line that is found, and what is read for it
-  pub line_within : (front : List ℕ) (a b mid c : Option (List ℕ)) → ReadsBefore line_end longest a b front Byte → Consumes b mid []
+  pub line_within : (front : List ℕ) (a b mid c : Option (List ℕ)) → ReadsBefore line_end max_line a b front Byte → Consumes b mid []
       → ReadsUpTo (reach front) mid c
       → IfSome a (λ text. ReadsUpTo (extent reach text) (Some text) c)
   line_within front a b mid c given known held = grind (arith, Consumes-trans, append_assoc, length-append, extent_found)
 
-  pub long_within : (front : List ℕ) (a b : Option (List ℕ)) → ReadsBefore line_end longest a b front Limit
+  pub long_within : (front : List ℕ) (a b : Option (List ℕ)) → ReadsBefore line_end max_line a b front Limit
       → IfSome a (λ text. ReadsUpTo (extent reach text) (Some text) b)
   long_within front a b given = grind (arith, extent_long)
 
-  pub cut_within : (front : List ℕ) (a b : Option (List ℕ)) → ReadsBefore line_end longest a b front End
+  pub cut_within : (front : List ℕ) (a b : Option (List ℕ)) → ReadsBefore line_end max_line a b front End
       → IfSome a (λ text. ReadsUpTo (extent reach text) (Some text) b)
   cut_within front a b given = grind (arith, append-nil, extent_cut)
 
@@ -60,7 +60,7 @@ module _ (rule : LineRule) (leaves : LeavesTheEnd rule) (ending : Ending) (numbe
   malformed_within c gives within = grind (arith, lines_first)
 
   -- nothing is left
-  pub ends_within : (front : List ℕ) (c : Option (List ℕ)) → ReadsBefore line_end longest b c front End → front ≡ []
+  pub ends_within : (front : List ℕ) (c : Option (List ℕ)) → ReadsBefore line_end max_line b c front End → front ≡ []
       → IfSome a (λ text. StopsWithin reach (report rule ending text) c)
   unfolding report
   ends_within front c read none = grind (arith, lines_none)

@@ -3,7 +3,7 @@ use Rattle.gix_validate.proofs.{Common.{refl, ℕ, Bool, List, [], ◌∷◌, �
 use Rattle.git_input.specs.{Texts.{split_once, number_of, is_id, hex_pair}, Headers.{ParsedHeader, Missing, Object, parsed_header}}
 use Rattle.git_input.specs.{Objects.object_reach, Reports.{extent, malformation_at_end, verdict_by}}
 use Rattle.git_input.specs.declared.header.Kind.{Kind, TheVariants.{Blob, Tree, Commit, Tag}}
-use Rattle.git_input.specs.declared.lines.Ending.{Ending, TheVariants.{Anywhere, EndLine, AfterALine}}
+use Rattle.git_input.specs.declared.lines.Ending.{Ending, TheVariants.{Anywhere, EndLine, NonEmpty}}
 use Rattle.git_input.specs.declared.outcome.Malformation.{Malformation, TheVariants.{NoEnd, Line, Empty}}
 use Rattle.git_input.specs.declared.outcome.Verdict.TheVariants.{Clean, Refused, Malformed}
 
@@ -97,8 +97,8 @@ ends : Gives (λ (end : Ending × ℕ). malformation_at_end end.0 end.1)
     ∷ ((Anywhere, 2), None)
     ∷ ((EndLine, 1), Some NoEnd)
     ∷ ((EndLine, 2), Some NoEnd)
-    ∷ ((AfterALine, 1), Some Empty)
-    ∷ ((AfterALine, 2), None)
+    ∷ ((NonEmpty, 1), Some Empty)
+    ∷ ((NonEmpty, 2), None)
     ∷ [])
 ends = refl
 

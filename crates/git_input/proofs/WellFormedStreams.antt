@@ -8,7 +8,7 @@ use Rattle.git_input.specs.Headers.{ParsedObject, ParsedHeader, Missing, Object,
 use Rattle.git_input.specs.{Spelled.{spelling, spelled_said, IsWellFormedOnlyIfSpelled}, Private.{object_rule_leaves, closed_is}}
 use Rattle.git_input.specs.{declared.header.Kind.Kind, Objects.{ending_of, object_report, ObjectRule, closed, header_rule, object_rule}}
 use Rattle.git_input.specs.{declared.outcome.Verdict.Verdict, Promises.Runs}
-use Rattle.git_input.specs.{Reports.{Reach, verdict_of, IsCleanIff, longest, Said}, Texts.{line_end, split_once, number_of, is_id}}
+use Rattle.git_input.specs.{Reports.{Reach, verdict_of, IsCleanIff, max_line, Said}, Texts.{line_end, split_once, number_of, is_id}}
 use Rattle.cli.specs.declared.outcome.RunError.{RunError}
 use Rattle.git_input.proofs.{SpelledStreams.{line_spelled, some_bytes, not_end}, WholeStreams.whole_stream, LinesRead.by_line}
 use Rattle.git_input.proofs.{WrittenLines.{AreRead, in_order, well_formed, only_clean, if_clean}, SplitTexts.split_cuts}
@@ -59,7 +59,7 @@ content_is : (size : ℕ) (text rest : List ℕ) → drop size text ≡ line_end
 content_is size text rest e = grind (arith, length-take, length-drop size text, take-append-drop size text)
 
 module _ (rule : ObjectRule) where
-  header_next : (all : Bool) (line : List ℕ) (header : Option ParsedHeader) (text : List ℕ) → length line < longest
+  header_next : (all : Bool) (line : List ℕ) (header : Option ParsedHeader) (text : List ℕ) → length line < max_line
       → AllByRecursion (λ b. b ≢ line_end) line → IfSome header (IsHeader line)
       → IfOk (header_rule rule all header text).1 (IsNext rule all (line ++ line_end ∷ text) (header_rule rule all header text).0)
   header_next all line None text few none is = tt

@@ -4,7 +4,7 @@ use Rattle.gix_validate.proofs.Common.{◌∙◌, arith, append_assoc, IfOk, fla
 use Rattle.git_input.specs.Reports.{Said, all_said, Step, LineRule, LeavesTheEnd, line_of, Report, before_report, lines_then, end_of, is_end, at_end}
 use Rattle.git_input.specs.Reports.{at_end_line}
 use Rattle.git_input.specs.Reports.{lines_within, lines_from, report, verdict_of}
-use Rattle.git_input.specs.declared.{lines.Ending.{Ending, TheVariants.AfterALine}, outcome.Malformation.Malformation}
+use Rattle.git_input.specs.declared.{lines.Ending.{Ending, TheVariants.NonEmpty}, outcome.Malformation.Malformation}
 use Rattle.git_input.specs.declared.outcome.Verdict.TheVariants.{Clean}
 use Rattle.git_input.proofs.LinesRead.{line_shorter, lines_first, lines_none, lines_end}
 
@@ -106,7 +106,7 @@ module _ {X : Type 0} {rule : LineRule} {ending : Ending} {IsPart : X → Type 0
 
     pub if_clean : (text : List ℕ) (parts : List X) → AllByRecursion IsPart parts → AllByRecursion IsGood parts
         → text ≡ flat_map spelling parts ++ end_of ending
-        → (ending ≡ AfterALine → 0 < length parts) → verdict_of (report rule ending text) ≡ Clean
+        → (ending ≡ NonEmpty → 0 < length parts) → verdict_of (report rule ending text) ≡ Clean
     unfolding report
     if_clean text parts each good is some = grind (
       arith,

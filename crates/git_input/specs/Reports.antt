@@ -5,13 +5,13 @@ use Rattle.std.specs.Prelude.{◌≡◌, ◌↔◌, ℕ, suc, ◌+◌, Bool, tru
 use Rattle.std.specs.Prelude.{length, take, drop, codes, Option, Some, None, Result, Ok, Err, IfOk, option_map}
 use Rattle.std.specs.{Option.option_map_or, Str.bytes_eq}
 use Rattle.gix_validate.specs.Faults.{when}
-use Rattle.git_input.specs.{declared.lines.Ending.{Ending, TheVariants.{Anywhere, EndLine, AfterALine}}, Texts.{line_end, split_once}}
+use Rattle.git_input.specs.{declared.lines.Ending.{Ending, TheVariants.{Anywhere, EndLine, NonEmpty}}, Texts.{line_end, split_once}}
 use Rattle.git_input.specs.declared.outcome.{Malformation.{Malformation, TheVariants.{TooLong, Ended, NoEnd, Empty}}, Verdict.Verdict}
 use Rattle.git_input.specs.declared.outcome.Verdict.TheVariants.{Clean, Refused, Malformed}
 
 -- the most bytes of a line with its end
-abbrev pub longest : ℕ
-longest = 65536
+abbrev pub max_line : ℕ
+max_line = 65536
 
 -- the lines that are printed, and whether something is refused
 pub record Said : Type 0 where
@@ -47,12 +47,12 @@ LeavesTheEnd rule = (line text : List ℕ) → IfOk (rule line text).1 (EndsIn t
 
 -- the first line of a text, where it is known what is before its end, if there is one within the limit
 abbrev pub line_with : LineRule → List ℕ → Option (List ℕ × List ℕ) → Step
-line_with rule text None = (nothing, Err (if nat_lt (length text) longest then Ended else TooLong))
+line_with rule text None = (nothing, Err (if nat_lt (length text) max_line then Ended else TooLong))
 line_with rule text (Some parts) = rule parts.0 (drop (length parts.0 + 1) text)
 
 -- the first line of a text
 unfoldable pub line_of : LineRule → List ℕ → Step
-line_of rule text = line_with rule text (split_once line_end (take longest text))
+line_of rule text = line_with rule text (split_once line_end (take max_line text))
 
 -- what is said, the first line that is malformed, counted from 1, if one is, and the text from that line on
 pub record Report : Type 0 where
@@ -90,7 +90,7 @@ is_end how text = false
 abbrev pub malformation_at_end : Ending → ℕ → Option Malformation
 malformation_at_end Anywhere number = None
 malformation_at_end EndLine number = Some NoEnd
-malformation_at_end AfterALine number = when (number == 1) Empty
+malformation_at_end NonEmpty number = when (number == 1) Empty
 
 -- nothing is left
 abbrev pub at_end : Ending → ℕ → Report
@@ -136,7 +136,7 @@ Reach = List ℕ → ℕ
 -- the most bytes of the first line of a text with its end and what can belong to it
 unfoldable pub extent : Reach → List ℕ → ℕ
 extent reach text =
-    option_map_or (λ (parts : List ℕ × List ℕ). length parts.0 + 1 + reach parts.0) (split_once line_end (take longest text)) longest
+    option_map_or (λ (parts : List ℕ × List ℕ). length parts.0 + 1 + reach parts.0) (split_once line_end (take max_line text)) max_line
 
 -- A text that has to end in the line for that is well-formed only if it does.
 abbrev pub IsWhole : LineRule → Type 0

@@ -3,7 +3,7 @@ use Rattle.std.specs.Prelude.{◌≡◌, ◌≢◌, ℕ, ◌+◌, ◌<◌, Bool,
 use Rattle.std.specs.{Prelude.{None, Some, IfSome}, List.AllByRecursion, Str.byte}
 use Rattle.git_input.specs.{Texts.{line_end, number_of, is_id}, Objects.{ObjectRule, object_rule, ending_of, object_report}}
 use Rattle.git_input.specs.Headers.{ParsedObject, kind_word}
-use Rattle.git_input.specs.Reports.{Said, nothing, all_said, longest, end_of, before_report, lines_from}
+use Rattle.git_input.specs.Reports.{Said, nothing, all_said, max_line, end_of, before_report, lines_from}
 
 -- an object with the digits of its size and its bytes, or the id of one that is missing
 pub data Spelled : Type 0 where
@@ -23,7 +23,7 @@ header_line object digits = object.id ++ (byte " " ∷ (kind_word object.kind ++
 abbrev pub IsSpelled : ObjectRule → Bool → Spelled → Type 0
 IsSpelled rule needs_end (Present object digits content) =
     (is_id object.id ≡ true) × (number_of 10 digits ≡ Some object.size) × (length content ≡ object.size)
-    × IfSome object.rest (λ rest. All (λ b. b ≢ line_end) rest) × (length (header_line object digits) < longest)
+    × IfSome object.rest (λ rest. All (λ b. b ≢ line_end) rest) × (length (header_line object digits) < max_line)
     × ((rule false object content).1 ≡ None)
 IsSpelled rule needs_end (Absent id) = (is_id id ≡ true) × (needs_end ≡ false)
 

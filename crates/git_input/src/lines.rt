@@ -12,7 +12,7 @@ ghost use Rattle.git_input.specs.Reports.{IsWhole, LeavesTheEnd, LineRule, Reach
 ghost use Rattle.git_input.specs.Reports.{report, verdict_of};
 ghost use Rattle.git_input.specs.Promises.{FollowsRule, ReadsWithin, StopsWithin, is_end_word};
 
-use crate::input::{Found, TURNS, is_at_end, read_before, until_returned};
+use crate::input::{Found, MAX_ITERATIONS, is_at_end, read_before, until_returned};
 use crate::outcome::{Malformation, Stop, Verdict};
 use cli::outcome::RunError;
 use std::alloc::Global;
@@ -33,7 +33,7 @@ pub enum Ending {
     /// With the line `..end missing`.
     EndLine,
     /// After at least one line.
-    AfterALine,
+    NonEmpty,
 }
 
 /// The buffers for the parts of an input that are read, and for the lines of the report.
@@ -160,8 +160,8 @@ fn malformation_at_end(ending: Ending, number: u64) -> Option<Malformation>
 {
     match ending {
         Ending::EndLine => Some(Malformation::NoEnd),
-        Ending::AfterALine if number == 1 => Some(Malformation::Empty),
-        Ending::Anywhere | Ending::AfterALine => None,
+        Ending::NonEmpty if number == 1 => Some(Malformation::Empty),
+        Ending::Anywhere | Ending::NonEmpty => None,
     }
 }
 

@@ -23,7 +23,7 @@ pub(crate) fn halves(text: &[u8], first: usize, second: usize) -> u8x16
 
 /// The first four bytes and the last four, and the same again.
 #[inline(always)]
-pub(crate) fn quarters(text: &[u8]) -> u8x16
+pub(crate) fn first_and_last_four(text: &[u8]) -> u8x16
     requires { 4 ≤ length text.now }
     ensures { HasParts 4 0 (length text.now - 4) text.now result }
 {
@@ -34,7 +34,7 @@ pub(crate) fn quarters(text: &[u8]) -> u8x16
 
 /// The first two bytes and the last two, again and again.
 #[inline(always)]
-pub(crate) fn pairs(text: &[u8]) -> u8x16
+pub(crate) fn first_and_last_two(text: &[u8]) -> u8x16
     requires { 2 ≤ length text.now }
     ensures { HasParts 2 0 (length text.now - 2) text.now result }
 {

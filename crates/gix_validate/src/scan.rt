@@ -6,7 +6,7 @@ ghost use Rattle.std.specs.Prelude.{◌≡◌, ◌<◌, ◌≤◌, ◌+◌, ◌-
 ghost use Rattle.std.specs.{Int.bit_at, List.list_any, Simd.Lanes.chunk};
 ghost use Rattle.gix_validate.specs.Private.Scan.{Finds, HasParts, NoneBelow, at_both};
 
-use crate::lanes::{LANES, first_lane, halves, pairs, quarters};
+use crate::lanes::{LANES, first_lane, halves, first_and_last_two, first_and_last_four};
 use std::simd::prelude::*;
 
 pub(crate) const FOUR_BLOCKS: usize = 4 * LANES;
@@ -47,10 +47,10 @@ pub(crate) fn first<P: Pattern>(front: &[u8], back: &[u8]) -> Option<usize>
         return first_of_parts::<P>(front, back, 8, halves(front, 0, at), halves(back, 0, at));
     }
     if len >= 4 {
-        return first_of_parts::<P>(front, back, 4, quarters(front), quarters(back));
+        return first_of_parts::<P>(front, back, 4, first_and_last_four(front), first_and_last_four(back));
     }
     if len >= 2 {
-        return first_of_parts::<P>(front, back, 2, pairs(front), pairs(back));
+        return first_of_parts::<P>(front, back, 2, first_and_last_two(front), first_and_last_two(back));
     }
     if len == 0 {
         return None;

@@ -5,7 +5,7 @@ use Rattle.gix_validate.proofs.Common.{same_from_bits, le_or_l, length-chunk, le
 use Rattle.gix_validate.proofs.Blocks.Parts.{AreAll, parts_cover, AreShort, both_cover, either_among, any_overlap, any_two_chunks, whole_chunk}
 use Rattle.gix_validate.{proofs.Blocks.Lanes.same_bytes, specs.Private.Classes.{class_of, any_class, has_class, HaveClassesOf, is_classed}}
 use lib.Lanes.{chunk, zip2, Each1}
-use Rattle.gix_validate.specs.declared.path.classes.TheConstants.{BY_LOW_NIBBLE, BY_HIGH_NIBBLE, SLASH, SEPARATORS, ILLEGAL, ANY}
+use Rattle.gix_validate.specs.declared.path.classes.TheConstants.{BY_LOW_NIBBLE, BY_HIGH_NIBBLE, SLASH, SEPARATORS, ILLEGAL, ALL_CLASSES}
 use Rattle.gix_validate.specs.{Private.Scan.{HasParts, is_nonzero}, Windows.is_illegal_byte, Bytes.is_among}
 
 pub classes_by_tables : (v : List ℕ) → Each1 (Fits w8) v
@@ -102,14 +102,14 @@ tells mask q classes x fit have same =
 
 -- what the classes of a name say of it
 pub record Tell (classes x : List ℕ) : Type 0 where
-  pub classed : any_class ANY classes ≡ list_any is_classed x
+  pub classed : any_class ALL_CLASSES classes ≡ list_any is_classed x
   pub slash : any_class SLASH classes ≡ is_among x (byte "/")
   pub separator : any_class SEPARATORS classes ≡ (is_among x (byte "/") || is_among x (byte "\\"))
 
 pub classes_tell : (classes x : List ℕ) → ((i : ℕ) → Fits w8 (get_or x i 0)) → HaveClassesOf classes x → Tell classes x
 unfolding class_of is_illegal_byte is_classed
 classes_tell classes x fit have = record {
-  classed = tells ANY _ classes x fit have refl;
+  classed = tells ALL_CLASSES _ classes x fit have refl;
   slash = tells SLASH _ classes x fit have refl;
   separator = tells SEPARATORS (λ b. eqb b (byte "/") || eqb b (byte "\\")) classes x fit have refl ∙ either_among (byte "/") (byte "\\") x;
 }

@@ -1,7 +1,7 @@
 -- The classes of the bytes of a name, a bit for each, and what they say about the name.
 use Rattle.std.specs.Prelude.{◌≡◌, ℕ, Bool, ◌==◌, ◌&&◌, ◌||◌, not, nat_lt, if◌then◌else◌, List, codes, map, bit_and}
 use Rattle.std.specs.{List.list_any, Str.byte}
-use Rattle.gix_validate.specs.declared.path.classes.TheConstants.{CONTROL, QUOTE_OR_STAR, COLON_ANGLE_OR_MARK, BACKSLASH, PIPE, LEAD, SLASH, TILDE}
+use Rattle.gix_validate.specs.declared.path.classes.TheConstants.{CONTROL, QUOTE_OR_STAR, COLON_ANGLE_OR_MARK, BACKSLASH, PIPE, IGNORABLE_LEAD, SLASH, TILDE}
 use Rattle.gix_validate.specs.{declared.path.ComponentOptions.ComponentOptions, Bytes.{is_among, is_empty, ends}, Windows.is_illegal_byte}
 
 -- the options with these three switches
@@ -18,7 +18,7 @@ class_of b =
     else if b == byte "\\" then BACKSLASH
     else if b == byte "/" then SLASH
     else if b == byte "~" then TILDE
-    else if b == 0xE2 || b == 0xEF then LEAD
+    else if b == 0xE2 || b == 0xEF then IGNORABLE_LEAD
     else 0
 
 -- the class of the byte has a bit of the mask

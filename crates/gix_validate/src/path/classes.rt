@@ -6,13 +6,13 @@ ghost use Rattle.std.specs.{Str.byte, List.list_any, Simd.Lanes.chunk};
 ghost use Rattle.gix_validate.specs.Private.Classes.{has_class, any_class, class_of, HaveClassesOf};
 ghost use Rattle.gix_validate.specs.{declared.path.classes.TheConstants.ILLEGAL, Bytes.is_among, Windows.is_illegal_byte};
 
-use crate::lanes::{LANES, classify, halves, has_nonzero, nonzero_lanes, pairs, quarters};
+use crate::lanes::{LANES, classify, halves, has_nonzero, nonzero_lanes, first_and_last_two, first_and_last_four};
 use crate::pieces::Slash;
 use crate::scan::{self, FOUR_BLOCKS, Pattern};
 use std::simd::prelude::*;
 
 /// The length of four blocks. A name of at most this length is checked in one go.
-pub(super) const SHORT: usize = FOUR_BLOCKS;
+pub(super) const MAX_SHORT: usize = FOUR_BLOCKS;
 
 const TWO_BLOCKS: usize = 2 * LANES;
 
@@ -30,7 +30,7 @@ const BACKSLASH: u8 = 0x08;
 /// `|`.
 const PIPE: u8 = 0x10;
 /// 0xE2 or 0xEF.
-const LEAD: u8 = 0x20;
+const IGNORABLE_LEAD: u8 = 0x20;
 /// A slash.
 pub(super) const SLASH: u8 = 0x40;
 /// `~`.
@@ -41,20 +41,20 @@ const ILLEGAL: u8 = CONTROL | QUOTE_OR_STAR | COLON_ANGLE_OR_MARK | PIPE;
 /// The two classes that part components.
 pub(super) const SEPARATORS: u8 = SLASH | BACKSLASH;
 /// All classes.
-pub(super) const ANY: u8 = 0xFF;
+pub(super) const ALL_CLASSES: u8 = 0xFF;
 
 /// The classes that a byte with this low nibble may have.
 #[rattlefmt::skip]
 const BY_LOW_NIBBLE: [u8; 16] = [
     CONTROL, CONTROL, // 0, 1
-    CONTROL | QUOTE_OR_STAR | LEAD, // 2: `"`, 0xE2
+    CONTROL | QUOTE_OR_STAR | IGNORABLE_LEAD, // 2: `"`, 0xE2
     CONTROL, CONTROL, CONTROL, CONTROL, CONTROL, CONTROL, CONTROL, // 3 to 9
     CONTROL | QUOTE_OR_STAR | COLON_ANGLE_OR_MARK, // A: `*`, `:`
     CONTROL, // B
     CONTROL | COLON_ANGLE_OR_MARK | BACKSLASH | PIPE, // C: `<`, `\`, `|`
     CONTROL, // D
     CONTROL | COLON_ANGLE_OR_MARK | TILDE, // E: `>`, `~`
-    CONTROL | COLON_ANGLE_OR_MARK | LEAD | SLASH, // F: `?`, 0xEF, `/`
+    CONTROL | COLON_ANGLE_OR_MARK | IGNORABLE_LEAD | SLASH, // F: `?`, 0xEF, `/`
 ];
 
 /// The classes that a byte with this high nibble may have. What both tables have for a byte is its
@@ -64,7 +64,7 @@ const BY_HIGH_NIBBLE: [u8; 16] = [
     CONTROL, CONTROL, QUOTE_OR_STAR | SLASH, COLON_ANGLE_OR_MARK, // 0 to 3
     0, BACKSLASH, 0, PIPE | TILDE, // 4 to 7
     0, 0, 0, 0, // 8 to B
-    0, 0, LEAD, 0, // C to F
+    0, 0, IGNORABLE_LEAD, 0, // C to F
 ];
 
 enum Illegal {}
@@ -83,7 +83,7 @@ pub(super) fn has_illegal_byte(name: &[u8]) -> bool
     requires { 1 ≤ length name.now }
     ensures { result ≡ list_any is_illegal_byte name.now }
 {
-    if name.len() > SHORT {
+    if name.len() > MAX_SHORT {
         scan::has::<Illegal>(name)
     } else {
         has_class(classes_of(name), ILLEGAL)
@@ -106,7 +106,7 @@ impl Pattern for Separator {
 #[inline(always)]
 #[tactic(auto, using(crate::proofs::Blocks::Parts::none_of_empty))]
 pub(super) fn has_separator(name: &[u8], windows: bool) -> bool
-    requires { 1 ≤ length name.now → SHORT < length name.now }
+    requires { 1 ≤ length name.now → MAX_SHORT < length name.now }
     ensures { result ≡ (is_among name.now (byte "/") || (windows && is_among name.now (byte "\\"))) }
 {
     if name.is_empty() {
@@ -123,7 +123,7 @@ pub(super) fn has_separator(name: &[u8], windows: bool) -> bool
 #[inline(always)]
 pub(super) fn classes_of(name: &[u8]) -> u8x16
     requires some { 1 ≤ length name.now }
-    requires short { length name.now ≤ SHORT }
+    requires short { length name.now ≤ MAX_SHORT }
     ensures { HaveClassesOf result name.now }
 {
     if name.len() >= 8 && name.len() <= TWO_BLOCKS {
@@ -140,10 +140,10 @@ pub(super) fn classes_of(name: &[u8]) -> u8x16
             | classes_at(name, last + LANES);
     }
     if name.len() >= 4 {
-        return classes_in(quarters(name));
+        return classes_in(first_and_last_four(name));
     }
     if name.len() >= 2 {
-        return classes_in(pairs(name));
+        return classes_in(first_and_last_two(name));
     }
     classes_in(u8x16::splat(name[0]))
 }

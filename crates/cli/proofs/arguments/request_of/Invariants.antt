@@ -6,9 +6,9 @@ use Rattle.cli.proofs.arguments.request_of.Given as goal
 
 abbrev pub invariant-loop-rest : goal.invariant-loop-rest
 invariant-loop-rest g l =
-    let rule = g.O.Options.rule in
-    request_from rule (option_map text_of l.option) (g.O.Options.view l.options) (map string_bytes l.rest)
-    ≡ request_of rule g.O.Options.start (map string_bytes l.fn.arguments)
+    let rule = g.O.ParseOptions.rule in
+    request_from rule (option_map text_of l.option) (g.O.ParseOptions.view l.options) (map string_bytes l.rest)
+    ≡ request_of rule g.O.ParseOptions.start (map string_bytes l.fn.arguments)
 
 abbrev pub decreases-loop-rest : goal.decreases-loop-rest
 decreases-loop-rest g l = length l.rest

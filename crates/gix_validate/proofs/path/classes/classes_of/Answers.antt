@@ -14,10 +14,10 @@ returns-then-name-le-TWO_BLOCKS c =
     c.classes_in.ensures c.classes_in-then-name-le-TWO_BLOCKS.ensures
 
 pub returns-then-name-ge4 : goal.returns-then-name-ge4
-returns-then-name-ge4 c = classes_of_parts 4 (length c.args.name.now - 4) _ _ _ (omega arith) c.quarters.ensures c.classes_in-then-name-ge4.ensures
+returns-then-name-ge4 c = classes_of_parts 4 (length c.args.name.now - 4) _ _ _ (omega arith) c.first_and_last_four.ensures c.classes_in-then-name-ge4.ensures
 
 pub returns-then-name-ge2 : goal.returns-then-name-ge2
-returns-then-name-ge2 c = classes_of_parts 2 (length c.args.name.now - 2) _ _ _ (omega arith) c.pairs.ensures c.classes_in-then-name-ge2.ensures
+returns-then-name-ge2 c = classes_of_parts 2 (length c.args.name.now - 2) _ _ _ (omega arith) c.first_and_last_two.ensures c.classes_in-then-name-ge2.ensures
 
 pub returns : goal.returns
 returns c = classes_of_parts 1 0 (replicate 16 (get_or c.args.name.now 0 0)) _ _ (omega arith) (one_covers c.args.name.now (omega arith)) c.classes_in-2.ensures

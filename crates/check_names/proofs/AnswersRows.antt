@@ -1,5 +1,6 @@
 -- The lines of a text and their answers, computed on literals.
-use Rattle.gix_validate.proofs.{Common.{refl, [], ◌∷◌, ◌++◌, Some, None, codes}, OnLiterals.{names_on_literals, components_on_literals}}
+use Rattle.gix_validate.proofs.Common.{refl, [], ◌∷◌, ◌++◌, Some, None, codes}
+use Rattle.gix_validate.proofs.OnLiterals.{names_on_literals, components_on_literals}
 use Rattle.gix_validate.proofs.Rows.Tables.{Gives}
 use Rattle.gix_validate.specs.Pieces.{names_in}
 use Rattle.check_names.specs.Answers.{answer_of, answers, kinds, request_of}
@@ -16,15 +17,24 @@ requests = refl
 
 -- lines, and their answers
 answers_on_tags : Gives answer_of
-    ((codes "tag a\r", codes "error: A ref must not contain invalid bytes or ascii control characters: \"\\r\"")  -- tag with carriage return
+    ((
+      codes "tag a\r",
+      codes "error: A ref must not contain invalid bytes or ascii control characters: \"\\r\"",
+    )  -- tag with carriage return
     ∷ (codes "tag ", codes "error: A ref must not be empty")  -- tag without name
     ∷ [])
 unfolding kinds answer_of names_on_literals
 answers_on_tags = refl
 
 answers_of_other_kinds : Gives answer_of
-    ((codes "partial @", codes "error: Reference name is reserved and cannot be used: \"@\"")  -- reserved name
-    ∷ (codes "ref V1", codes "error: Standalone references must be all uppercased, like 'HEAD'")  -- standalone name
+    ((
+      codes "partial @",
+      codes "error: Reference name is reserved and cannot be used: \"@\"",
+    )  -- reserved name
+    ∷ (
+      codes "ref V1",
+      codes "error: Standalone references must be all uppercased, like 'HEAD'",
+    )  -- standalone name
     ∷ (codes "branch refs/heads/main", codes "ok")  -- branch
     ∷ (codes "submodule a/..", codes "error: Submodules names must not contains '..'")  -- parent part
     ∷ (codes "device nul.txt", codes "yes")  -- device
@@ -41,7 +51,10 @@ answers_of_own_kind : Gives answer_of
     ∷ (codes "partial a/../b", codes "error: Reference name cannot start with a dot")
     ∷ (codes "ref refs/heads/HEAD", codes "ok")  -- no branch
     ∷ (codes "ref main", codes "error: Standalone references must be all uppercased, like 'HEAD'")
-    ∷ (codes "branch refs/heads/HEAD", codes "error: Reference name is reserved and cannot be used: \"refs/heads/HEAD\"")
+    ∷ (
+      codes "branch refs/heads/HEAD",
+      codes "error: Reference name is reserved and cannot be used: \"refs/heads/HEAD\"",
+    )
     ∷ (codes "branch main", codes "error: Standalone references must be all uppercased, like 'HEAD'")
     ∷ (codes "submodule a\\b", codes "ok")  -- no component
     ∷ (codes "submodule a/../b", codes "error: Submodules names must not contains '..'")
@@ -54,9 +67,15 @@ answers_of_own_kind = refl
 -- lines that would be answered otherwise without one of the protections
 answers_of_paths : Gives answer_of
     ((codes "path a\\b", codes "error: Path separators like / or \\ are not allowed")  -- Windows
-    ∷ (codes "path .g" ++ 0xE2 ∷ 0x80 ∷ 0x8C ∷ codes "it", codes "error: The .git name may never be used")  -- HFS
+    ∷ (
+      codes "path .g" ++ 0xE2 ∷ 0x80 ∷ 0x8C ∷ codes "it",
+      codes "error: The .git name may never be used",
+    )  -- HFS
     ∷ (codes "path git~1", codes "error: The .git name may never be used")  -- NTFS
-    ∷ (codes "path nul", codes "error: Windows device-names may have side-effects and are not allowed")  -- Windows and NTFS
+    ∷ (
+      codes "path nul",
+      codes "error: Windows device-names may have side-effects and are not allowed",
+    )  -- Windows and NTFS
     ∷ (codes "path .gitmodules", codes "ok")  -- no symlink
     ∷ [])
 unfolding kinds answer_of components_on_literals
@@ -64,11 +83,20 @@ answers_of_paths = refl
 
 answers_of_symlinks : Gives answer_of
     ((codes "symlink a\\b", codes "error: Path separators like / or \\ are not allowed")  -- Windows
-    ∷ (codes "symlink .g" ++ 0xE2 ∷ 0x80 ∷ 0x8C ∷ codes "it", codes "error: The .git name may never be used")  -- HFS
-    ∷ (codes "symlink .gitmodules" ++ 0xE2 ∷ 0x80 ∷ 0x8D ∷ [], codes "error: The .gitmodules file must not be a symlink")  -- HFS and mode
+    ∷ (
+      codes "symlink .g" ++ 0xE2 ∷ 0x80 ∷ 0x8C ∷ codes "it",
+      codes "error: The .git name may never be used",
+    )  -- HFS
+    ∷ (
+      codes "symlink .gitmodules" ++ 0xE2 ∷ 0x80 ∷ 0x8D ∷ [],
+      codes "error: The .gitmodules file must not be a symlink",
+    )  -- HFS and mode
     ∷ (codes "symlink git~1", codes "error: The .git name may never be used")  -- NTFS
     ∷ (codes "symlink gitmod~1", codes "error: The .gitmodules file must not be a symlink")  -- NTFS and mode
-    ∷ (codes "symlink nul", codes "error: Windows device-names may have side-effects and are not allowed")  -- Windows and NTFS
+    ∷ (
+      codes "symlink nul",
+      codes "error: Windows device-names may have side-effects and are not allowed",
+    )  -- Windows and NTFS
     ∷ (codes "symlink .gitmodules", codes "error: The .gitmodules file must not be a symlink")  -- mode
     ∷ [])
 unfolding kinds answer_of components_on_literals

@@ -1,12 +1,17 @@
 -- What the program answers: one line for each line of its input. A text and a line are lists of bytes.
-use Rattle.std.specs.{Prelude.{ℕ, if◌then◌else◌, List, [], ◌∷◌, ◌++◌, codes, flat_map, Option, Some, None}, Str.{byte, bytes_eq}}
+use Rattle.std.specs.Prelude.{ℕ, if◌then◌else◌, List, [], ◌∷◌, ◌++◌, codes, flat_map, Option, Some}
+use Rattle.std.specs.Prelude.{None}
+use Rattle.std.specs.Str.{byte, bytes_eq}
 use Rattle.cli.specs.Lines.{line_end, split_once}
 use Rattle.gix_validate.specs.Tag
 use Rattle.gix_validate.specs.Reference
 use Rattle.gix_validate.specs.Submodule
 use Rattle.gix_validate.specs.declared.path.ComponentMode.TheVariants.{Symlink}
 use Rattle.gix_validate.specs.Component
-use Rattle.gix_validate.specs.{Component.all_protections, Pieces.names_in, Windows.is_device, Sanitized.sanitized}
+use Rattle.gix_validate.specs.Component.{all_protections}
+use Rattle.gix_validate.specs.Pieces.{names_in}
+use Rattle.gix_validate.specs.Windows.{is_device}
+use Rattle.gix_validate.specs.Sanitized.{sanitized}
 
 -- the texts that a line end ends, and then what follows the last line end, if that isn't empty
 abbrev pub lines : List ℕ → List (List ℕ)
@@ -16,7 +21,8 @@ lines text = names_in line_end text
 abbrev pub request_of : List ℕ → Option (List ℕ × List ℕ)
 request_of line = split_once (byte " ") line
 
--- the answer where a rule of faults is asked: `ok` where it finds no fault, and otherwise the text of the fault
+-- the answer where a rule of faults is asked: `ok` where it finds no fault,
+-- and otherwise the text of the fault
 abbrev pub verdict : {E : Type 0} → Option E → (E → List ℕ) → List ℕ
 verdict None text_of = codes "ok"
 verdict (Some fault) text_of = codes "error: " ++ text_of fault
@@ -30,7 +36,10 @@ kinds =
     ∷ (codes "branch", λ name. verdict (Reference.branch_fault_of name) Reference.text_of)
     ∷ (codes "submodule", λ name. verdict (Submodule.fault_of name) Submodule.text_of)
     ∷ (codes "path", λ name. verdict (Component.fault_of all_protections None name) Component.text_of)
-    ∷ (codes "symlink", λ name. verdict (Component.fault_of all_protections (Some Symlink) name) Component.text_of)
+    ∷ (
+      codes "symlink",
+      λ name. verdict (Component.fault_of all_protections (Some Symlink) name) Component.text_of,
+    )
     ∷ (codes "device", λ name. if is_device name then codes "yes" else codes "no")
     ∷ (codes "sanitize", λ name. sanitized name)
     ∷ []

@@ -1,14 +1,18 @@
 -- What a run does, and how the program ends after it.
-use Rattle.std.specs.Prelude.{◌≡◌, ◌≢◌, ℕ, List, [], Option, None, Some, Ok, Err, IfSome, OnOk, IsOkUnless}
+use Rattle.std.specs.Prelude.{◌≡◌, ◌≢◌, ℕ, List, [], Option, None, Some, Ok, Err, IfSome, OnOk}
+use Rattle.std.specs.Prelude.{IsOkUnless}
 use Rattle.std.specs.Io.KnownBytes.{Appends, IsAtEnd}
 use Rattle.cli.specs.declared.outcome.RunError.TheVariants.{Read, Memory}
-use Rattle.cli.specs.{Command.{End, Ran}, Messages.stop_text_of}
+use Rattle.cli.specs.Command.{End, Ran}
+use Rattle.cli.specs.Messages.{stop_text_of}
 use Rattle.check_names.specs.Answers.{answers}
 
 -- What `run` ensures.
-pub record Runs {R W : Type 0} (remaining : R → Option (List ℕ)) (contents : W → Option (List ℕ)) (input rest : R) (output written : W)
+pub record Runs {R W : Type 0} (remaining : R → Option (List ℕ))
+    (contents : W → Option (List ℕ)) (input rest : R) (output written : W)
     (ran : Ran (Unit {0})) : Type 0 where
-  pub ok : OnOk ran (IfSome (remaining input) (λ text. Appends (contents output) (contents written) (answers text)))
+  pub ok : OnOk ran
+      (IfSome (remaining input) (λ text. Appends (contents output) (contents written) (answers text)))
   pub end : ran ≢ Err Read → IsAtEnd (remaining rest)
   pub spent : ran ≢ Err Read → IfSome (remaining input) (λ _. remaining rest ≡ Some [])
   pub read : ran ≡ Err Read → written ≡ output

@@ -1,11 +1,17 @@
 //! The results for the lines of the input.
 
-ghost use Rattle.std.specs.Prelude.{◌≡◌, ◌≢◌, ◌+◌, ◌<◌, [], ◌∷◌, ◌++◌, ℕ, List, Option, codes, length, vec_len, vec_capacity, Some, None, Err, IsOk, IsOkUnless, IfOk, OnOk, OnErr, IfSome, if◌then◌else◌, MatchOption, MatchResult};
+ghost use Rattle.std.specs.Prelude.{◌≡◌, ◌≢◌, ◌+◌, ◌<◌, [], ◌∷◌, ◌++◌, ℕ, List, Option, codes};
+ghost use Rattle.std.specs.Prelude.{length, vec_len, vec_capacity, Some, None, Err, IsOk};
+ghost use Rattle.std.specs.Prelude.{IsOkUnless, IfOk, OnOk, OnErr, IfSome, if◌then◌else◌};
+ghost use Rattle.std.specs.Prelude.{MatchOption, MatchResult};
 ghost use Rattle.std.specs.Io.KnownBytes.{Appends, IsAtEnd};
 ghost use Rattle.bstr.specs.BStr.{bstr_bytes};
-ghost use Rattle.gix_validate.specs.Component.{all_protections, fault_of, text_of as component_text};
-ghost use Rattle.gix_validate.specs.{Sanitized.sanitized, Windows.is_device};
-ghost use Rattle.check_names.specs.Answers.{answer_of, answers, lines, request_of, unknown_kind, verdict};
+ghost use Rattle.gix_validate.specs.Component.{all_protections, fault_of};
+ghost use Rattle.gix_validate.specs.Component.{text_of as component_text};
+ghost use Rattle.gix_validate.specs.Sanitized.{sanitized};
+ghost use Rattle.gix_validate.specs.Windows.{is_device};
+ghost use Rattle.check_names.specs.Answers.{answer_of, answers, lines, request_of, unknown_kind};
+ghost use Rattle.check_names.specs.Answers.{verdict};
 ghost use Rattle.cli.specs.Command.{EndsAs, Ran};
 ghost use Rattle.check_names.specs.Messages.{Runs, end_of};
 
@@ -83,7 +89,8 @@ impl Command<'_> for NamesOptions {
     ) -> Result<(), RunError>
         ensures runs { Runs R.remaining W.contents input.old input.new output.old output.new result }
         ensures shown { (read rest output written : Option (List ℕ)) (ran : Ran (Unit {0}))
-            → ⟦<NamesOptions as Command<'static>>⟧.Runs self _ _ (λ known. known) (λ known. known) read rest output written ran
+            → ⟦<NamesOptions as Command<'static>>⟧.Runs self _ _
+            (λ known. known) (λ known. known) read rest output written ran
             → Runs (λ known. known) (λ known. known) read rest output written ran }
     {
         run(alloc, input, output)

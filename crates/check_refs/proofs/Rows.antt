@@ -1,11 +1,15 @@
 -- The definitions computed on lines: what is printed of each, or that it says no update.
-use Rattle.gix_validate.proofs.Common.{◌≡◌, ℕ, Bool, true, false, refl, List, [], ◌∷◌, ◌++◌, Option, Some, None, Result, Ok, map, codes, option_map}
-use Rattle.gix_validate.specs.{Bytes.is_bad, Faults.at_first_offset}
-use Rattle.gix_validate.specs.{Reference.{partial_fault_of, full_fault_of, branch_fault_of}, Tag.{first_fault, fault_of, faults_at, fault_table}}
+use Rattle.gix_validate.proofs.Common.{◌≡◌, ℕ, Bool, true, false, refl, List, [], ◌∷◌, ◌++◌, Option}
+use Rattle.gix_validate.proofs.Common.{Some, None, Result, Ok, map, codes, option_map}
+use Rattle.gix_validate.specs.Bytes.{is_bad}
+use Rattle.gix_validate.specs.Faults.{at_first_offset}
+use Rattle.gix_validate.specs.Reference.{partial_fault_of, full_fault_of, branch_fault_of}
+use Rattle.gix_validate.specs.Tag.{first_fault, fault_of, faults_at, fault_table}
 use Rattle.git_input.specs.Texts.{is_id}
 use Rattle.cli.specs.Arguments.{Check, Task, WrongArgument, request_of}
 use Rattle.gix_validate.proofs.Rows.Tables.{Gives}
-use Rattle.check_refs.specs.{declared.options.RefsOptions.RefsOptions, Arguments.{no_options, rule}}
+use Rattle.check_refs.specs.declared.options.RefsOptions.{RefsOptions}
+use Rattle.check_refs.specs.Arguments.{no_options, rule}
 use Rattle.check_refs.specs.Refs.{parsed_update, line_of}
 
 -- no id, an id of SHA-1, and one of SHA-256
@@ -51,19 +55,27 @@ rows = (
     ∷ (line none short [], None, None)  -- no name
     ∷ (line none (codes " " ++ short) (codes " refs/heads/main"), None, None)  -- two spaces
     ∷ (line none long (codes " refs/heads/main"), None, None)  -- two lengths
-    ∷ (line none (codes "4B825DC642CB6EB9A060E54BF8D69288FBEE4904") (codes " refs/heads/main"), None, None)  -- capitals
+    ∷ (
+      line none (codes "4B825DC642CB6EB9A060E54BF8D69288FBEE4904") (codes " refs/heads/main"),
+      None,
+      None,
+    )  -- capitals
     ∷ (line (codes "4b825dc") (codes "4b825dc") (codes " refs/heads/main"), None, None)  -- ids cut short
     ∷ ([], None, None)  -- an empty line
     ∷ []
 
-printed_without : map (λ (row : Row). option_map (line_of (record { lists_ids = false; allows_replace = false })) (parsed_update row.0)) rows
+printed_without : map (λ (row : Row).
+    option_map (line_of (record { lists_ids = false; allows_replace = false })) (parsed_update row.0)) rows
     ≡ map (λ (row : Row). row.1) rows
-unfolding parsed_update is_id partial_fault_of full_fault_of branch_fault_of first_fault fault_of faults_at fault_table at_first_offset is_bad
+unfolding parsed_update is_id partial_fault_of full_fault_of branch_fault_of
+    first_fault fault_of faults_at fault_table at_first_offset is_bad
 printed_without = refl
 
-printed_under_both : map (λ (row : Row). option_map (line_of (record { lists_ids = true; allows_replace = true })) (parsed_update row.0)) rows
+printed_under_both : map (λ (row : Row).
+    option_map (line_of (record { lists_ids = true; allows_replace = true })) (parsed_update row.0)) rows
     ≡ map (λ (row : Row). row.2) rows
-unfolding parsed_update is_id partial_fault_of full_fault_of branch_fault_of first_fault fault_of faults_at fault_table at_first_offset is_bad
+unfolding parsed_update is_id partial_fault_of full_fault_of branch_fault_of
+    first_fault fault_of faults_at fault_table at_first_offset is_bad
 printed_under_both = refl
 
 abbrev asking : (ids replace : Bool) → Result (Task RefsOptions) WrongArgument

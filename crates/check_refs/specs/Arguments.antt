@@ -1,5 +1,6 @@
 -- What the options of the command do.
-use Rattle.std.specs.{Prelude.{true, false, if◌then◌else◌, codes, Some, None}, Str.bytes_eq}
+use Rattle.std.specs.Prelude.{true, false, if◌then◌else◌, codes, Some, None}
+use Rattle.std.specs.Str.{bytes_eq}
 use Rattle.cli.specs.Arguments.{OptionRule, Unknown, Sets}
 use Rattle.check_refs.specs.declared.options.RefsOptions.{RefsOptions}
 
@@ -9,6 +10,8 @@ no_options = record { lists_ids = false; allows_replace = false }
 abbrev pub rule : OptionRule RefsOptions
 rule name (Some value) options = Unknown
 rule name None options =
-    if bytes_eq name (codes "--ids") then Sets (record { lists_ids = true; allows_replace = options.allows_replace }) else
-    if bytes_eq name (codes "--replace") then Sets (record { lists_ids = options.lists_ids; allows_replace = true }) else
-    Unknown
+    if bytes_eq name (codes "--ids")
+    then Sets (record { lists_ids = true; allows_replace = options.allows_replace })
+    else if bytes_eq name (codes "--replace")
+    then Sets (record { lists_ids = options.lists_ids; allows_replace = true })
+    else Unknown

@@ -1,12 +1,22 @@
--- The updates of references that Git tells a pre-receive hook of, a line each: what a line says, which names are refused,
--- and what is printed. Texts are lists of bytes.
-use Rattle.std.specs.Prelude.{ℕ, Bool, ◌==◌, ◌&&◌, not, if◌then◌else◌, List, [], ◌++◌, length, codes, Option, Some, None, Ok, Err}
-use Rattle.std.specs.{Option.{option_map, option_and_then, is_some}, List.list_all, Str.byte}
-use Rattle.gix_validate.specs.{declared.reference.NameError.NameError, Quoted.quoted, Reference.{full_fault_of, branch_fault_of, text_of}}
-use Rattle.gix_validate.specs.{Bytes.{is_empty, begins}, Faults.{when, ◌orelse◌}}
-use Rattle.git_input.specs.{Texts.{split_once, is_id}, declared.lines.Ending.TheVariants.NonEmpty}
-use Rattle.git_input.specs.{declared.outcome.Malformation.TheVariants.Line, Reports.{Said, nothing, Step, LineRule, Report, report}}
-use Rattle.check_refs.specs.declared.{options.RefsOptions.RefsOptions, refusal.Refusal.{Refusal, TheVariants.{Name, Replacement}}}
+-- The updates of references that Git tells a pre-receive hook of, a line each: what a line says,
+-- which names are refused, and what is printed. Texts are lists of bytes.
+use Rattle.std.specs.Prelude.{ℕ, Bool, ◌==◌, ◌&&◌, not, if◌then◌else◌, List, [], ◌++◌, length}
+use Rattle.std.specs.Prelude.{codes, Option, Some, None, Ok, Err}
+use Rattle.std.specs.Option.{option_map, option_and_then, is_some}
+use Rattle.std.specs.List.{list_all}
+use Rattle.std.specs.Str.{byte}
+use Rattle.gix_validate.specs.declared.reference.NameError.{NameError}
+use Rattle.gix_validate.specs.Quoted.{quoted}
+use Rattle.gix_validate.specs.Reference.{full_fault_of, branch_fault_of, text_of}
+use Rattle.gix_validate.specs.Bytes.{is_empty, begins}
+use Rattle.gix_validate.specs.Faults.{when, ◌orelse◌}
+use Rattle.git_input.specs.Texts.{split_once, is_id}
+use Rattle.git_input.specs.declared.lines.Ending.TheVariants.{NonEmpty}
+use Rattle.git_input.specs.declared.outcome.Malformation.TheVariants.{Line}
+use Rattle.git_input.specs.Reports.{Said, nothing, Step, LineRule, Report, report}
+use Rattle.check_refs.specs.declared.options.RefsOptions.{RefsOptions}
+use Rattle.check_refs.specs.declared.refusal.Refusal.{Refusal}
+use Rattle.check_refs.specs.declared.refusal.Refusal.TheVariants.{Name, Replacement}
 use Rattle.check_refs.specs.declared.update.Update.{Update}
 
 -- an update: the id that the reference had, the id that it gets, and its name
@@ -21,14 +31,18 @@ as_parsed update = record { old_id = update.old_id.now; new_id = update.new_id.n
 
 -- two ids of one length, and a name of at least one byte
 abbrev pub is_update : ParsedUpdate → Bool
-is_update update = is_id update.old_id && is_id update.new_id && length update.old_id == length update.new_id && not (is_empty update.name)
+is_update update =
+    is_id update.old_id && is_id update.new_id
+    && length update.old_id == length update.new_id && not (is_empty update.name)
 
--- what a line says, without its newline: an id, a space, an id of the same length, a space and the name, which is all the rest
+-- what a line says, without its newline: an id, a space, an id of the same length,
+-- a space and the name, which is all the rest
 unfoldable pub parsed_update : List ℕ → Option ParsedUpdate
 parsed_update line =
     option_and_then (λ (old : List ℕ × List ℕ).
     option_and_then (λ (new : List ℕ × List ℕ).
-    let update : ParsedUpdate = record { old_id = old.0; new_id = new.0; name = new.1 } in when (is_update update) update)
+    let update : ParsedUpdate = record { old_id = old.0; new_id = new.0; name = new.1 } in
+    when (is_update update) update)
     (split_once (byte " ") old.1))
     (split_once (byte " ") line)
 
@@ -39,7 +53,8 @@ name_fault_of name = if begins name (codes "refs/heads/") then branch_fault_of n
 -- Why a name is refused: for its fault, or else as a replacement, unless these are allowed.
 abbrev pub refusal_of : Bool → List ℕ → Option Refusal
 refusal_of allows_replace name =
-    option_map Name (name_fault_of name) orelse when (not allows_replace && begins name (codes "refs/replace/")) Replacement
+    option_map Name (name_fault_of name)
+    orelse when (not allows_replace && begins name (codes "refs/replace/")) Replacement
 
 -- The reference is deleted: the id that it gets is all zeros.
 abbrev pub is_deletion : ParsedUpdate → Bool
@@ -47,7 +62,8 @@ is_deletion update = list_all (λ b. b == byte "0") update.new_id
 
 -- why an update is refused; a deletion never is
 abbrev pub update_refusal_of : Bool → ParsedUpdate → Option Refusal
-update_refusal_of allows_replace update = if is_deletion update then None else refusal_of allows_replace update.name
+update_refusal_of allows_replace update =
+    if is_deletion update then None else refusal_of allows_replace update.name
 
 -- what a refusal prints
 abbrev pub refusal_text_of : Refusal → List ℕ
@@ -61,7 +77,8 @@ refused_line name refusal = codes "ref " ++ quoted name ++ codes " " ++ refusal_
 -- the line of a name that is refused, or else of the new id, where there is one and it is asked for
 abbrev pub lines_by : RefsOptions → ParsedUpdate → Option Refusal → List ℕ
 lines_by options update (Some refusal) = refused_line update.name refusal
-lines_by options update None = if options.lists_ids && not (is_deletion update) then update.new_id ++ codes "\n" else []
+lines_by options update None =
+    if options.lists_ids && not (is_deletion update) then update.new_id ++ codes "\n" else []
 
 -- the line of an update, if it has one
 abbrev pub line_of : RefsOptions → ParsedUpdate → List ℕ
@@ -69,7 +86,10 @@ line_of options update = lines_by options update (update_refusal_of options.allo
 
 -- what is said of an update: its line, and whether it is refused
 abbrev pub said_of : RefsOptions → ParsedUpdate → Said
-said_of options update = record { lines = line_of options update; refused = is_some (update_refusal_of options.allows_replace update) }
+said_of options update = record {
+  lines = line_of options update;
+  refused = is_some (update_refusal_of options.allows_replace update);
+}
 
 -- what a line that says this update gives; a line that says none is malformed
 abbrev pub step_of : RefsOptions → Option ParsedUpdate → List ℕ → Step

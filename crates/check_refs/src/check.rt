@@ -2,9 +2,14 @@
 
 ghost use Rattle.std.specs.Prelude.{◌≡◌, [], codes, ℕ, List, Option, Some, IfOk, IfSome};
 ghost use Rattle.cli.specs.Command.{EndsAs, Ran};
-ghost use Rattle.git_input.specs.{Ends.{Gives, end_of}, Promises.Runs, Reports.IsCleanIff};
-ghost use Rattle.check_refs.specs.Spelled.{IsAcceptedInput, IsReportedInOrder, IsWellFormedOnlyIfSpelled};
-ghost use Rattle.check_refs.specs.{RefsOptions.AreByWords, Private.update_leaves, Refs.{refs_report, update_rule}};
+ghost use Rattle.git_input.specs.Ends.{Gives, end_of};
+ghost use Rattle.git_input.specs.Promises.{Runs};
+ghost use Rattle.git_input.specs.Reports.{IsCleanIff};
+ghost use Rattle.check_refs.specs.Spelled.{IsAcceptedInput, IsReportedInOrder};
+ghost use Rattle.check_refs.specs.Spelled.{IsWellFormedOnlyIfSpelled};
+ghost use Rattle.check_refs.specs.RefsOptions.{AreByWords};
+ghost use Rattle.check_refs.specs.Private.{update_leaves};
+ghost use Rattle.check_refs.specs.Refs.{refs_report, update_rule};
 
 use crate::options::RefsOptions;
 use crate::report::push_line;
@@ -21,7 +26,8 @@ use std::process::ExitCode;
 impl Command<'_> for RefsOptions {
     type Verdict = Verdict;
 
-    ghost Runs = { λ options R W remaining contents input rest output written ran. Gives (refs_report options) (λ line. 0) (IsAcceptedInput options)
+    ghost Runs = { λ options R W remaining contents input rest output written ran.
+        Gives (refs_report options) (λ line. 0) (IsAcceptedInput options)
         (remaining input) (remaining rest) (contents output) (contents written) ran };
 
     ghost end_of = { end_of (codes "line") [] };
@@ -48,12 +54,14 @@ impl Command<'_> for RefsOptions {
     ) -> Result<Verdict, RunError>
         ensures runs { Runs (refs_report self) (λ line. 0) (R.remaining input.old) (R.remaining input.new)
             (W.contents output.old) (W.contents output.new) result }
-        ensures clean { IfOk result (λ verdict. IfSome (R.remaining input.old) (IsCleanIff (IsAcceptedInput self) verdict)) }
+        ensures clean { IfOk result (λ verdict.
+            IfSome (R.remaining input.old) (IsCleanIff (IsAcceptedInput self) verdict)) }
         ensures spelled { IsReportedInOrder self }
         ensures well_formed { IsWellFormedOnlyIfSpelled self }
         ensures options { AreByWords }
         ensures shown { (read rest output written : Option (List ℕ)) (ran : Ran Verdict)
-            → ⟦<RefsOptions as Command<'static>>⟧.Runs self _ _ (λ known. known) (λ known. known) read rest output written ran
+            → ⟦<RefsOptions as Command<'static>>⟧.Runs self _ _
+            (λ known. known) (λ known. known) read rest output written ran
             → Runs (refs_report self) (λ line. 0) read rest output written ran
             × IfOk ran (λ verdict. IfSome read (IsCleanIff (IsAcceptedInput self) verdict)) }
     {

@@ -19,7 +19,8 @@ pub(crate) fn push_line(
     update: Update<'_>,
     lines: &mut Vec<u8>,
 ) -> io::Result<bool>
-    ensures lines { OnOk result (lines.new.items ≡ lines.old.items ++ (said_of options (as_parsed update.entry)).lines) }
+    ensures lines { OnOk result
+        (lines.new.items ≡ lines.old.items ++ (said_of options (as_parsed update.entry)).lines) }
     ensures refused { IfOk result (λ refused. refused ≡ (said_of options (as_parsed update.entry)).refused) }
 {
     if is_deletion(update) {

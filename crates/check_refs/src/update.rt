@@ -1,7 +1,9 @@
 //! A line of the input: a reference, the id that it had and the id that it gets.
 
-ghost use Rattle.std.specs.{Prelude.◌≡◌, Option.option_map};
-ghost use Rattle.check_refs.specs.{Refs.{as_parsed, parsed_update}, Spelled.IsReadAsSpelled};
+ghost use Rattle.std.specs.Prelude.{◌≡◌};
+ghost use Rattle.std.specs.Option.{option_map};
+ghost use Rattle.check_refs.specs.Refs.{as_parsed, parsed_update};
+ghost use Rattle.check_refs.specs.Spelled.{IsReadAsSpelled};
 
 use git_input::text::{is_id, split_once};
 

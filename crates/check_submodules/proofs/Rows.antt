@@ -1,7 +1,9 @@
 -- The options computed on words.
-use Rattle.gix_validate.proofs.{Common.{refl, Bool, true, false, [], ◌∷◌, Result, Ok, codes}, Rows.Tables.Gives}
+use Rattle.gix_validate.proofs.Common.{refl, Bool, true, false, [], ◌∷◌, Result, Ok, codes}
+use Rattle.gix_validate.proofs.Rows.Tables.{Gives}
 use Rattle.cli.specs.Arguments.{Check, Task, WrongArgument, request_of}
-use Rattle.check_submodules.specs.{declared.options.SubmodulesOptions.SubmodulesOptions, Arguments.{no_options, rule}}
+use Rattle.check_submodules.specs.declared.options.SubmodulesOptions.{SubmodulesOptions}
+use Rattle.check_submodules.specs.Arguments.{no_options, rule}
 
 abbrev asking : (needs_end : Bool) → Result (Task SubmodulesOptions) WrongArgument
 asking needs_end = Ok (Check (record { needs_end = needs_end }))

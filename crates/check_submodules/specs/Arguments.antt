@@ -1,5 +1,6 @@
 -- What the options of the command do.
-use Rattle.std.specs.{Prelude.{true, false, if◌then◌else◌, codes, Some, None}, Str.bytes_eq}
+use Rattle.std.specs.Prelude.{true, false, if◌then◌else◌, codes, Some, None}
+use Rattle.std.specs.Str.{bytes_eq}
 use Rattle.cli.specs.Arguments.{OptionRule, Unknown, Sets}
 use Rattle.check_submodules.specs.declared.options.SubmodulesOptions.{SubmodulesOptions}
 

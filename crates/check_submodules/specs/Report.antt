@@ -1,8 +1,15 @@
 -- What is reported of a stream of `.gitmodules` files: the lines of each, in order.
-use Rattle.std.specs.{Prelude.{ℕ, Bool, not, nat_lt, if◌then◌else◌, List, [], None, ◌++◌, codes, flat_map, Option, Some}, Fmt.decimal}
-use Rattle.gix_validate.specs.{Bytes.is_empty, declared.submodule.NameError.NameError, Submodule.{fault_of, text_of}, Quoted.quoted}
+use Rattle.std.specs.Prelude.{ℕ, Bool, not, nat_lt, if◌then◌else◌, List, [], None, ◌++◌, codes}
+use Rattle.std.specs.Prelude.{flat_map, Option, Some}
+use Rattle.std.specs.Fmt.{decimal}
+use Rattle.gix_validate.specs.Bytes.{is_empty}
+use Rattle.gix_validate.specs.declared.submodule.NameError.{NameError}
+use Rattle.gix_validate.specs.Submodule.{fault_of, text_of}
+use Rattle.gix_validate.specs.Quoted.{quoted}
 use Rattle.git_input.specs.declared.header.Kind.{Kind}
-use Rattle.git_input.specs.{declared.header.Kind.TheVariants.Blob, Reports.{Said, nothing, Report}, Objects.{ObjectRule, object_report}}
+use Rattle.git_input.specs.declared.header.Kind.TheVariants.{Blob}
+use Rattle.git_input.specs.Reports.{Said, nothing, Report}
+use Rattle.git_input.specs.Objects.{ObjectRule, object_report}
 use Rattle.gitmodules.specs.Sections.{sections}
 
 -- how a line begins: the file's id, and the offset of the section's `[` in decimal digits
@@ -12,7 +19,8 @@ line_start id offset = id ++ codes " " ++ decimal offset ++ codes " "
 -- the line of a name with this fault: the quoted name and the fault's text
 abbrev pub line_if : List ℕ → ℕ → List ℕ → Option NameError → List ℕ
 line_if id offset name None = []
-line_if id offset name (Some fault) = line_start id offset ++ quoted name ++ codes " " ++ text_of fault ++ codes "\n"
+line_if id offset name (Some fault) =
+    line_start id offset ++ quoted name ++ codes " " ++ text_of fault ++ codes "\n"
 
 -- the line of a section, if it has one
 abbrev pub line_of : List ℕ → ℕ × Option (List ℕ) → List ℕ
@@ -46,7 +54,8 @@ said_of lines = record { lines = lines; refused = not (is_empty lines) }
 
 -- what is said of an object; nothing is said of one that the input cuts
 abbrev pub submodules_rule : ObjectRule
-submodules_rule cut object bytes = (if cut then nothing else said_of (object_lines object.kind object.id object.size bytes), None)
+submodules_rule cut object bytes =
+    (if cut then nothing else said_of (object_lines object.kind object.id object.size bytes), None)
 
 abbrev pub report : Bool → List ℕ → Report
 report needs_end text = object_report submodules_rule needs_end text

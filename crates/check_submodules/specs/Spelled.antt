@@ -1,17 +1,24 @@
 -- The lines of a file, by how its sections are spelled, and the streams of which nothing is refused.
-use Rattle.std.specs.Prelude.{◌≡◌, ◌↔◌, ◌⊎◌, ℕ, ◌<◌, Bool, false, nat_lt, List, ◌++◌, codes, flat_map, Contains, Option, Some, None, ⊤}
+use Rattle.std.specs.Prelude.{◌≡◌, ◌↔◌, ◌⊎◌, ℕ, ◌<◌, Bool, false, nat_lt, List, ◌++◌, codes}
+use Rattle.std.specs.Prelude.{flat_map, Contains, Option, Some, None, ⊤}
 use Rattle.std.specs.List.{AllByRecursion, AllPairs}
-use Rattle.gix_validate.specs.{declared.submodule.NameError.NameError, Submodule.{fault_of, text_of}, Quoted.quoted}
-use Rattle.gitmodules.specs.{Sections.sections, Spelled.{SectionAt, HeaderAt}}
-use Rattle.git_input.specs.{declared.header.Kind.TheVariants.Blob, Spelled.{Spelled, Present, Absent, IsStreamOf}}
+use Rattle.gix_validate.specs.declared.submodule.NameError.{NameError}
+use Rattle.gix_validate.specs.Submodule.{fault_of, text_of}
+use Rattle.gix_validate.specs.Quoted.{quoted}
+use Rattle.gitmodules.specs.Sections.{sections}
+use Rattle.gitmodules.specs.Spelled.{SectionAt, HeaderAt}
+use Rattle.git_input.specs.declared.header.Kind.TheVariants.{Blob}
+use Rattle.git_input.specs.Spelled.{Spelled, Present, Absent, IsStreamOf}
 use Rattle.check_submodules.specs.Report.{max_file, line_start, lines_of, submodules_rule}
 
--- the line of what is at an offset of a file: of a section whose name has a fault, or of a header that isn't a section
+-- the line of what is at an offset of a file: of a section whose name has a fault,
+-- or of a header that isn't a section
 abbrev pub IsLineOf : (id file : List ℕ) → ℕ × List ℕ → Type 0
 IsLineOf id file (offset, line) =
     ((name : List ℕ) × (fault : NameError) × SectionAt file offset name × (fault_of name ≡ Some fault)
     × (line ≡ line_start id offset ++ quoted name ++ codes " " ++ text_of fault ++ codes "\n"))
-    ⊎ (HeaderAt file offset × ((name : List ℕ) → SectionAt file offset name → ⊥) × (line ≡ line_start id offset ++ codes "a section can't be read\n"))
+    ⊎ (HeaderAt file offset × ((name : List ℕ) → SectionAt file offset name → ⊥)
+    × (line ≡ line_start id offset ++ codes "a section can't be read\n"))
 
 -- the lines of a file, each with its offset: all these and no others, each once, in the order of the offsets
 pub record HasLines (id file lines : List ℕ) : Type 0 where

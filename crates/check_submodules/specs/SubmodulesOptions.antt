@@ -1,7 +1,8 @@
 -- What a command line asks for, by its words, whatever their order.
 use Rattle.std.specs.Prelude.{◌≡◌, ◌↔◌, ℕ, IsTrue, List, All, Contains, codes, Ok}
 use Rattle.cli.specs.Arguments.{Check, request_of}
-use Rattle.check_submodules.specs.{declared.options.SubmodulesOptions.SubmodulesOptions, Arguments.{no_options, rule}}
+use Rattle.check_submodules.specs.declared.options.SubmodulesOptions.{SubmodulesOptions}
+use Rattle.check_submodules.specs.Arguments.{no_options, rule}
 
 -- Each word is `--end`. The input needs its end line if and only if there is one.
 pub record IsAskedFor (words : List (List ℕ)) (options : SubmodulesOptions) : Type 0 where
@@ -10,4 +11,6 @@ pub record IsAskedFor (words : List (List ℕ)) (options : SubmodulesOptions) : 
 
 -- A command line asks for a check under these options if and only if its words say so.
 abbrev pub AreByWords : Type 0
-AreByWords = (words : List (List ℕ)) (options : SubmodulesOptions) → (request_of rule no_options words ≡ Ok (Check options)) ↔ IsAskedFor words options
+AreByWords =
+    (words : List (List ℕ)) (options : SubmodulesOptions)
+    → (request_of rule no_options words ≡ Ok (Check options)) ↔ IsAskedFor words options

@@ -6,8 +6,11 @@
 ghost use Rattle.std.specs.Prelude.{◌≡◌, [], codes, ℕ, List, Option, false, true, IfOk, IfSome};
 ghost use Rattle.std.proofs.Common.{ap, subst};
 ghost use Rattle.cli.specs.Command.{EndsAs, Ran};
-ghost use Rattle.git_input.specs.{Ends.{Gives, end_of}, Objects.{IsWholeStream, object_reach}, Reports.IsCleanIff};
-ghost use Rattle.git_input.specs.{Promises.{ReadsExactly, Runs}, Spelled.{IsReportedInOrder, IsWellFormedOnlyIfSpelled}};
+ghost use Rattle.git_input.specs.Ends.{Gives, end_of};
+ghost use Rattle.git_input.specs.Objects.{IsWholeStream, object_reach};
+ghost use Rattle.git_input.specs.Reports.{IsCleanIff};
+ghost use Rattle.git_input.specs.Promises.{ReadsExactly, Runs};
+ghost use Rattle.git_input.specs.Spelled.{IsReportedInOrder, IsWellFormedOnlyIfSpelled};
 ghost use Rattle.check_submodules.specs.Report.{object_lines, report, submodules_rule};
 ghost use Rattle.check_submodules.specs.SubmodulesOptions.{AreByWords};
 ghost use Rattle.check_submodules.specs.Spelled.{IsAcceptedStream, IsEachSectionReported};
@@ -31,7 +34,8 @@ use std::process::ExitCode;
 impl Command<'_> for SubmodulesOptions {
     type Verdict = Verdict;
 
-    ghost Runs = { λ options R W remaining contents input rest output written ran. Gives (report options.needs_end) object_reach (IsAcceptedStream options.needs_end)
+    ghost Runs = { λ options R W remaining contents input rest output written ran.
+        Gives (report options.needs_end) object_reach (IsAcceptedStream options.needs_end)
         (remaining input) (remaining rest) (contents output) (contents written) ran };
 
     ghost end_of = { end_of (codes "object") header_hint.now };
@@ -54,16 +58,19 @@ impl Command<'_> for SubmodulesOptions {
         input: &mut R,
         output: &mut W,
     ) -> Result<Verdict, RunError>
-        ensures runs { Runs (report self.needs_end) object_reach (R.remaining input.old) (R.remaining input.new)
+        ensures runs { Runs (report self.needs_end) object_reach
+            (R.remaining input.old) (R.remaining input.new)
             (W.contents output.old) (W.contents output.new) result }
-        ensures clean { IfOk result (λ verdict. IfSome (R.remaining input.old) (IsCleanIff (IsAcceptedStream self.needs_end) verdict)) }
+        ensures clean { IfOk result (λ verdict.
+            IfSome (R.remaining input.old) (IsCleanIff (IsAcceptedStream self.needs_end) verdict)) }
         ensures spelled { IsReportedInOrder submodules_rule self.needs_end }
         ensures well_formed { IsWellFormedOnlyIfSpelled submodules_rule self.needs_end }
         ensures whole { IsWholeStream submodules_rule self.needs_end }
         ensures sections { IsEachSectionReported }
         ensures options { AreByWords }
         ensures shown { (read rest output written : Option (List ℕ)) (ran : Ran Verdict)
-            → ⟦<SubmodulesOptions as Command<'static>>⟧.Runs self _ _ (λ known. known) (λ known. known) read rest output written ran
+            → ⟦<SubmodulesOptions as Command<'static>>⟧.Runs self _ _
+            (λ known. known) (λ known. known) read rest output written ran
             → Runs (report self.needs_end) object_reach read rest output written ran
             × IfOk ran (λ verdict. IfSome read (IsCleanIff (IsAcceptedStream self.needs_end) verdict)) }
     {
@@ -75,7 +82,8 @@ impl Command<'_> for SubmodulesOptions {
         ran: Result<Verdict, RunError>,
         errors: &mut Messages<E>,
     ) -> ExitCode
-        ensures { EndsAs E.contents name.now errors.old errors.new result (end_of (codes "object") header_hint.now ran) }
+        ensures { EndsAs E.contents name.now errors.old errors.new result
+            (end_of (codes "object") header_hint.now ran) }
     {
         let naming = Naming {
             name,
@@ -113,8 +121,10 @@ fn read_object<R: BufRead>(
     input: &mut R,
     buffers: &mut Buffers,
 ) -> Result<bool, RunError>
-    ensures { IfOk result (λ whole. (bytes : List ℕ) × ReadsExactly object.entry.size (R.remaining input.old) (R.remaining input.new) bytes whole
-        × (whole ≡ true → buffers.new.lines.items ≡ object_lines object.entry.kind object.entry.id.now object.entry.size bytes)) }
+    ensures { IfOk result (λ whole. (bytes : List ℕ)
+        × ReadsExactly object.entry.size (R.remaining input.old) (R.remaining input.new) bytes whole
+        × (whole ≡ true → buffers.new.lines.items
+        ≡ object_lines object.entry.kind object.entry.id.now object.entry.size bytes)) }
 {
     buffers.lines.clear();
     if object.kind != Kind::Blob {

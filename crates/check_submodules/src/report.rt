@@ -1,7 +1,8 @@
 //! What is printed for a `.gitmodules` file.
 
 ghost use Rattle.std.specs.Prelude.{◌≡◌, ◌++◌, OnOk};
-ghost use Rattle.gitmodules.specs.{Sections.sections, Headers.section_pair};
+ghost use Rattle.gitmodules.specs.Sections.{sections};
+ghost use Rattle.gitmodules.specs.Headers.{section_pair};
 ghost use Rattle.check_submodules.specs.Report.{line_of, lines_of, line_start, too_large_line};
 
 use bstr::BStr;

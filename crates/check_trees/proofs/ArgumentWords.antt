@@ -1,5 +1,6 @@
 -- The parts of a list between its commas.
-use Rattle.gix_validate.proofs.Common.{◌≡◌, ℕ, ◌+◌, List, [], ◌∷◌, Option, Some, None, take, drop, refl, arith, take_rest, byte}
+use Rattle.gix_validate.proofs.Common.{◌≡◌, ℕ, ◌+◌, List, [], ◌∷◌, Option, Some, None, take, drop}
+use Rattle.gix_validate.proofs.Common.{refl, arith, take_rest, byte}
 use Rattle.memchr.specs.Find.{is_byte, IsFirstByte}
 use Rattle.git_input.specs.Texts.{split_once}
 use Rattle.check_trees.specs.Arguments.{comma_parts}
@@ -17,7 +18,8 @@ comma_parts_split (b ∷ text) = grind (arith, comma_parts_split text)
 pub last_part : (text : List ℕ) → IsFirstByte (is_byte (byte ",")) text None → comma_parts text ≡ text ∷ []
 last_part text nowhere = grind (arith, comma_parts_split, split_searched (byte ",") text None nowhere)
 
-pub first_part : (text : List ℕ) (k : ℕ) → IsFirstByte (is_byte (byte ",")) text (Some k) → comma_parts text ≡ take k text ∷ comma_parts (drop (k + 1) text)
+pub first_part : (text : List ℕ) (k : ℕ) → IsFirstByte (is_byte (byte ",")) text (Some k)
+    → comma_parts text ≡ take k text ∷ comma_parts (drop (k + 1) text)
 first_part text k found = grind (arith, comma_parts_split, split_searched (byte ",") text (Some k) found)
 
 pub ruleset comma_searched = (last_part, first_part, take_rest)

@@ -1,14 +1,21 @@
 -- The definitions of a tree's entries, computed on literals.
-use Rattle.gix_validate.proofs.{Common.{refl, ℕ, List, [], ◌∷◌, ◌++◌, true, false, Bool, Some, None, Result, Ok, codes, option_map}, Rows.Tables.Gives}
+use Rattle.gix_validate.proofs.Common.{refl, ℕ, List, [], ◌∷◌, ◌++◌, true, false, Bool, Some, None}
+use Rattle.gix_validate.proofs.Common.{Result, Ok, codes, option_map}
+use Rattle.gix_validate.proofs.Rows.Tables.{Gives}
 use Rattle.gix_validate.proofs.OnLiterals.{components_on_literals}
-use Rattle.gix_validate.specs.declared.path.{ComponentError.TheVariants.{WindowsReservedName, DotGitDir}, ComponentMode.TheVariants.Symlink}
-use Rattle.gix_validate.specs.{declared.path.ComponentOptions.ComponentOptions, Component.all_protections, ComponentLaws.no_protections}
+use Rattle.gix_validate.specs.declared.path.ComponentError.TheVariants.{WindowsReservedName}
+use Rattle.gix_validate.specs.declared.path.ComponentError.TheVariants.{DotGitDir}
+use Rattle.gix_validate.specs.declared.path.ComponentMode.TheVariants.{Symlink}
+use Rattle.gix_validate.specs.declared.path.ComponentOptions.{ComponentOptions}
+use Rattle.gix_validate.specs.Component.{all_protections}
+use Rattle.gix_validate.specs.ComponentLaws.{no_protections}
 use Rattle.gix_validate.specs.Pieces.{pieces}
 use Rattle.git_input.specs.Texts.{number_of}
 use Rattle.cli.specs.Arguments.{Check, Task, WrongArgument, request_of}
-use Rattle.check_trees.specs.{declared.check.Finding.TheVariants.{Accepted, Refused}, Arguments.{Options, protections_for}}
-use Rattle.check_trees.specs.Arguments.{no_options, protections_of, rule}
-use Rattle.check_trees.specs.{Entries.{mode_of, is_file, named}, Report.{finding_of, is_gitmodules}}
+use Rattle.check_trees.specs.declared.check.Finding.TheVariants.{Accepted, Refused}
+use Rattle.check_trees.specs.Arguments.{Options, protections_for, no_options, protections_of, rule}
+use Rattle.check_trees.specs.Entries.{mode_of, is_file, named}
+use Rattle.check_trees.specs.Report.{finding_of, is_gitmodules}
 
 -- the digits of a mode, and what it means for the name
 modes : Gives (λ digits. option_map mode_of (number_of 8 digits))
@@ -43,7 +50,8 @@ files = refl
 
 -- the options with these accepted names, separated by slashes
 abbrev accepting : List ℕ → Options
-accepting names = record { protections = all_protections; modules = false; needs_end = false; accepted = pieces names }
+accepting names =
+    record { protections = all_protections; modules = false; needs_end = false; accepted = pieces names }
 
 abbrev without_windows : ComponentOptions
 without_windows = record { protect_windows = false; protect_hfs = true; protect_ntfs = true }
@@ -60,11 +68,15 @@ switches : Gives (λ (row : List ℕ × List ℕ). protections_for (accepting ro
 switches = refl
 
 -- accepted names and the name of a file, and the result for it
-findings : Gives (λ (row : List ℕ × List ℕ). finding_of (accepting row.0) (named (codes "100644") row.1 0x81A4))
+findings : Gives
+    (λ (row : List ℕ × List ℕ). finding_of (accepting row.0) (named (codes "100644") row.1 0x81A4))
     (((codes "aux.c/con.h", codes "con.h"), Accepted)  -- a device
     ∷ ((codes "aux.c/con.h", codes "con.c"), Refused WindowsReservedName)  -- another device
     ∷ ((codes "git~1", codes "git~1"), Refused DotGitDir)  -- refused with NTFS
-    ∷ ((codes ".g" ++ 0xE2 ∷ 0x80 ∷ 0x8C ∷ codes "it", codes ".g" ++ 0xE2 ∷ 0x80 ∷ 0x8C ∷ codes "it"), Refused DotGitDir)  -- refused with HFS
+    ∷ (
+      (codes ".g" ++ 0xE2 ∷ 0x80 ∷ 0x8C ∷ codes "it", codes ".g" ++ 0xE2 ∷ 0x80 ∷ 0x8C ∷ codes "it"),
+      Refused DotGitDir,
+    )  -- refused with HFS
     ∷ [])
 unfolding components_on_literals
 findings = refl
@@ -85,10 +97,17 @@ modules : Gives (λ (row : ComponentOptions × List ℕ). is_gitmodules row.0 ro
 unfolding components_on_literals
 modules = refl
 
-abbrev asking : (windows hfs ntfs modules needs_end : Bool) (accepted : List ℕ) → Result (Task Options) WrongArgument
+abbrev asking : (windows hfs ntfs modules needs_end : Bool) (accepted : List ℕ)
+    → Result (Task Options) WrongArgument
 asking windows hfs ntfs modules needs_end accepted =
-    let on : ComponentOptions = record { protect_windows = windows; protect_hfs = hfs; protect_ntfs = ntfs } in
-    Ok (Check (record { protections = on; modules = modules; needs_end = needs_end; accepted = pieces accepted }))
+    let on : ComponentOptions =
+    record { protect_windows = windows; protect_hfs = hfs; protect_ntfs = ntfs } in
+    Ok (Check (record {
+      protections = on;
+      modules = modules;
+      needs_end = needs_end;
+      accepted = pieces accepted;
+    }))
 
 -- words, and what they ask for
 asked : Gives (λ words. request_of rule no_options words)
@@ -96,10 +115,22 @@ asked : Gives (λ words. request_of rule no_options words)
     ∷ (codes "--protect=hfs,ntfs,windows" ∷ [], asking true true true false false [])  -- in another order
     ∷ (codes "--protect" ∷ codes "ntfs,hfs" ∷ [], asking false true true false false [])  -- a word of its own
     ∷ (codes "--protect=none" ∷ [], asking false false false false false [])  -- none
-    ∷ (codes "--protect=hfs" ∷ codes "--protect=ntfs" ∷ [], asking false false true false false [])  -- the last
-    ∷ (codes "--accept=a/b" ∷ codes "--accept=c" ∷ [], asking true true true false false (codes "c"))  -- the last
-    ∷ (codes "--protect=hfs" ∷ codes "--end" ∷ codes "--modules" ∷ [], asking false true false true true [])  -- together
-    ∷ (codes "--modules" ∷ codes "--accept=a" ∷ codes "--end" ∷ [], asking true true true true true (codes "a"))  -- together
+    ∷ (
+      codes "--protect=hfs" ∷ codes "--protect=ntfs" ∷ [],
+      asking false false true false false [],
+    )  -- the last
+    ∷ (
+      codes "--accept=a/b" ∷ codes "--accept=c" ∷ [],
+      asking true true true false false (codes "c"),
+    )  -- the last
+    ∷ (
+      codes "--protect=hfs" ∷ codes "--end" ∷ codes "--modules" ∷ [],
+      asking false true false true true [],
+    )  -- together
+    ∷ (
+      codes "--modules" ∷ codes "--accept=a" ∷ codes "--end" ∷ [],
+      asking true true true true true (codes "a"),
+    )  -- together
     ∷ [])
 unfolding protections_of
 asked = refl

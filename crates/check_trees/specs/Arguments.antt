@@ -1,7 +1,11 @@
 -- How the input is checked, which rules hold for a name, and what the options of the command do.
-use Rattle.std.specs.Prelude.{ℕ, true, false, ◌==◌, ◌||◌, if◌then◌else◌, List, [], ◌∷◌, codes, Option, Some, None, option_and_then, Bool}
-use Rattle.std.specs.{List.{slice_split, list_any}, Str.{byte, bytes_eq}}
-use Rattle.gix_validate.specs.{declared.path.ComponentOptions.ComponentOptions, Component.all_protections, ComponentLaws.no_protections}
+use Rattle.std.specs.Prelude.{ℕ, true, false, ◌==◌, ◌||◌, if◌then◌else◌, List, [], ◌∷◌, codes}
+use Rattle.std.specs.Prelude.{Option, Some, None, option_and_then, Bool}
+use Rattle.std.specs.List.{slice_split, list_any}
+use Rattle.std.specs.Str.{byte, bytes_eq}
+use Rattle.gix_validate.specs.declared.path.ComponentOptions.{ComponentOptions}
+use Rattle.gix_validate.specs.Component.{all_protections}
+use Rattle.gix_validate.specs.ComponentLaws.{no_protections}
 use Rattle.gix_validate.specs.Pieces.{pieces}
 use Rattle.cli.specs.Arguments.{OptionRule, Effect, Unknown, Sets, NeedsValue, Invalid}
 use Rattle.check_trees.specs.declared.options.TreesOptions.{TreesOptions}
@@ -17,14 +21,20 @@ pub record Options : Type 0 where
 abbrev pub as_options : TreesOptions → Options
 as_options options =
     let accepted = pieces options.accepted.now in
-    record { protections = options.protections; modules = options.modules; needs_end = options.needs_end; accepted = accepted }
+    record {
+      protections = options.protections;
+      modules = options.modules;
+      needs_end = options.needs_end;
+      accepted = accepted;
+    }
 
 -- the switches for a name
 abbrev pub protections_for : Options → List ℕ → ComponentOptions
 protections_for options name =
     let on = options.protections in
     if list_any (λ accepted. bytes_eq accepted name) options.accepted
-    then record { protect_windows = false; protect_hfs = on.protect_hfs; protect_ntfs = on.protect_ntfs } else on
+    then record { protect_windows = false; protect_hfs = on.protect_hfs; protect_ntfs = on.protect_ntfs }
+    else on
 
 -- the texts between the commas of a text, in order
 abbrev pub comma_parts : List ℕ → List (List ℕ)
@@ -33,42 +43,82 @@ comma_parts text = slice_split (λ b. b == byte ",") text
 -- the switch that a word turns on, beside those that are on
 abbrev pub switched_on : List ℕ → ComponentOptions → Option ComponentOptions
 switched_on word options =
-    if bytes_eq word (codes "windows") then Some
-    (record { protect_windows = true; protect_hfs = options.protect_hfs; protect_ntfs = options.protect_ntfs }) else
-    if bytes_eq word (codes "hfs") then Some
-    (record { protect_windows = options.protect_windows; protect_hfs = true; protect_ntfs = options.protect_ntfs }) else
-    if bytes_eq word (codes "ntfs") then Some
-    (record { protect_windows = options.protect_windows; protect_hfs = options.protect_hfs; protect_ntfs = true }) else
-    None
+    if bytes_eq word (codes "windows")
+    then Some
+    (record {
+      protect_windows = true;
+      protect_hfs = options.protect_hfs;
+      protect_ntfs = options.protect_ntfs;
+    })
+    else if bytes_eq word (codes "hfs")
+    then Some
+    (record {
+      protect_windows = options.protect_windows;
+      protect_hfs = true;
+      protect_ntfs = options.protect_ntfs;
+    })
+    else if bytes_eq word (codes "ntfs")
+    then Some
+    (record {
+      protect_windows = options.protect_windows;
+      protect_hfs = options.protect_hfs;
+      protect_ntfs = true;
+    })
+    else None
 
 abbrev pub all_switched_on : List (List ℕ) → ComponentOptions → Option ComponentOptions
 all_switched_on [] options = Some options
-all_switched_on (word ∷ words) options = option_and_then (λ (on : ComponentOptions). all_switched_on words on) (switched_on word options)
+all_switched_on (word ∷ words) options =
+    option_and_then (λ (on : ComponentOptions). all_switched_on words on) (switched_on word options)
 
--- the switches that a list asks for: none by the word `none`, or those of its words, each of which must be one
+-- the switches that a list asks for: none by the word `none`,
+-- or those of its words, each of which must be one
 unfoldable pub protections_of : List ℕ → Option ComponentOptions
-protections_of list = if bytes_eq list (codes "none") then Some no_protections else all_switched_on (comma_parts list) no_protections
+protections_of list =
+    if bytes_eq list (codes "none") then Some no_protections
+    else all_switched_on (comma_parts list) no_protections
 
 -- without options every switch is on, and nothing more
 abbrev pub no_options : Options
-no_options = record { protections = all_protections; modules = false; needs_end = false; accepted = pieces [] }
+no_options =
+    record { protections = all_protections; modules = false; needs_end = false; accepted = pieces [] }
 
 -- the options with the switches that a list asks for
 abbrev pub protected_by : List ℕ → Options → Option ComponentOptions → Effect Options
 protected_by list options None = Invalid list (codes "windows, hfs or ntfs, separated by commas, or none")
-protected_by list options (Some on) = Sets (record { protections = on; modules = options.modules; needs_end = options.needs_end; accepted = options.accepted })
+protected_by list options (Some on) = Sets (record {
+  protections = on;
+  modules = options.modules;
+  needs_end = options.needs_end;
+  accepted = options.accepted;
+})
 
 -- What an option does. The names of `--accept` are between the slashes of its value.
 abbrev pub rule : OptionRule Options
 rule name None options =
     if bytes_eq name (codes "--modules")
-    then Sets (record { protections = options.protections; modules = true; needs_end = options.needs_end; accepted = options.accepted }) else
-    if bytes_eq name (codes "--end")
-    then Sets (record { protections = options.protections; modules = options.modules; needs_end = true; accepted = options.accepted }) else
-    if bytes_eq name (codes "--protect") || bytes_eq name (codes "--accept") then NeedsValue else
-    Unknown
+    then Sets (record {
+      protections = options.protections;
+      modules = true;
+      needs_end = options.needs_end;
+      accepted = options.accepted;
+    })
+    else if bytes_eq name (codes "--end")
+    then Sets (record {
+      protections = options.protections;
+      modules = options.modules;
+      needs_end = true;
+      accepted = options.accepted;
+    })
+    else if bytes_eq name (codes "--protect") || bytes_eq name (codes "--accept") then NeedsValue
+    else Unknown
 rule name (Some value) options =
-    if bytes_eq name (codes "--protect") then protected_by value options (protections_of value) else
-    if bytes_eq name (codes "--accept")
-    then Sets (record { protections = options.protections; modules = options.modules; needs_end = options.needs_end; accepted = pieces value }) else
-    Unknown
+    if bytes_eq name (codes "--protect") then protected_by value options (protections_of value)
+    else if bytes_eq name (codes "--accept")
+    then Sets (record {
+      protections = options.protections;
+      modules = options.modules;
+      needs_end = options.needs_end;
+      accepted = pieces value;
+    })
+    else Unknown

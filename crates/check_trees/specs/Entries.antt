@@ -1,8 +1,14 @@
 -- The entries of a tree, as Git's documentation has them. Texts are lists of bytes.
-use Rattle.std.specs.Prelude.{ℕ, ◌+◌, ◌/◌, ◌%◌, Bool, ◌==◌, nat_lt, if◌then◌else◌, List, length, take, drop, Option, Some, None, Result, Ok}
-use Rattle.std.specs.{Prelude.{Err, option_map, option_and_then}, Str.byte}
-use Rattle.gix_validate.specs.{declared.path.ComponentMode.{ComponentMode, TheVariants.Symlink}, Faults.when}
-use Rattle.git_input.specs.{declared.outcome.Malformation.{Malformation, TheVariants.{TooLong, Entry}}, Texts.{split_once, number_of}}
+use Rattle.std.specs.Prelude.{ℕ, ◌+◌, ◌/◌, ◌%◌, Bool, ◌==◌, nat_lt, if◌then◌else◌, List, length}
+use Rattle.std.specs.Prelude.{take, drop, Option, Some, None, Result, Ok, Err, option_map}
+use Rattle.std.specs.Prelude.{option_and_then}
+use Rattle.std.specs.Str.{byte}
+use Rattle.gix_validate.specs.declared.path.ComponentMode.{ComponentMode}
+use Rattle.gix_validate.specs.declared.path.ComponentMode.TheVariants.{Symlink}
+use Rattle.gix_validate.specs.Faults.{when}
+use Rattle.git_input.specs.declared.outcome.Malformation.{Malformation}
+use Rattle.git_input.specs.declared.outcome.Malformation.TheVariants.{TooLong, Entry}
+use Rattle.git_input.specs.Texts.{split_once, number_of}
 use Rattle.git_input.specs.Reports.{max_line}
 
 -- the byte that ends an entry's name
@@ -30,7 +36,8 @@ pub record ParsedEntry : Type 0 where
   pub id : List ℕ
 
 abbrev pub named : List ℕ → List ℕ → ℕ → ParsedEntryHeader
-named digits name number = record { digits = digits; mode = mode_of number; is_file = is_file number; name = name }
+named digits name number =
+    record { digits = digits; mode = mode_of number; is_file = is_file number; name = name }
 
 -- what is before the NUL of an entry: a mode in octal digits, a space and a name
 unfoldable pub parsed_entry_header : List ℕ → Option ParsedEntryHeader
@@ -38,17 +45,21 @@ parsed_entry_header front =
     option_and_then (λ (parts : List ℕ × List ℕ). option_map (named parts.0 parts.1) (number_of 8 parts.0))
     (split_once (byte " ") front)
 
--- an entry of these bytes, whose id has `width` bytes and begins after so many; `short` is what it means that the bytes end before
-abbrev pub entry_at : Malformation → ℕ → List ℕ → ℕ → Option ParsedEntryHeader → Result (ParsedEntry × List ℕ) Malformation
+-- an entry of these bytes, whose id has `width` bytes and begins after so many;
+-- `short` is what it means that the bytes end before
+abbrev pub entry_at : Malformation → ℕ → List ℕ → ℕ → Option ParsedEntryHeader
+    → Result (ParsedEntry × List ℕ) Malformation
 entry_at short width bytes start None = Err Entry
 entry_at short width bytes start (Some front) =
     if nat_lt (length bytes) (start + width) then Err short
     else Ok (record { front = front; id = take width (drop start bytes) }, drop (start + width) bytes)
 
 -- the same, where it is known what is before the NUL, if there is one within the limit
-abbrev pub entry_with : Malformation → ℕ → List ℕ → Option (List ℕ × List ℕ) → Result (ParsedEntry × List ℕ) Malformation
+abbrev pub entry_with : Malformation → ℕ → List ℕ → Option (List ℕ × List ℕ)
+    → Result (ParsedEntry × List ℕ) Malformation
 entry_with short width bytes None = Err (if nat_lt (length bytes) max_line then short else TooLong)
-entry_with short width bytes (Some parts) = entry_at short width bytes (length parts.0 + 1) (parsed_entry_header parts.0)
+entry_with short width bytes (Some parts) =
+    entry_at short width bytes (length parts.0 + 1) (parsed_entry_header parts.0)
 
 -- The entry at the front of what is left of a tree, and what follows it, or what is wrong with it.
 unfoldable pub entry_of : Malformation → ℕ → List ℕ → Result (ParsedEntry × List ℕ) Malformation

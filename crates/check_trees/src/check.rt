@@ -1,16 +1,25 @@
 //! The report of a stream of objects.
 
-ghost use Rattle.std.specs.{Prelude.{◌≡◌, [], codes, ℕ, ◌<◌, ◌≤◌, List, Option, Some, false, true, IfOk, IfSome}, List.list_any, Str.bytes_eq};
+ghost use Rattle.std.specs.Prelude.{◌≡◌, [], codes, ℕ, ◌<◌, ◌≤◌, List, Option, Some, false, true};
+ghost use Rattle.std.specs.Prelude.{IfOk, IfSome};
+ghost use Rattle.std.specs.List.{list_any};
+ghost use Rattle.std.specs.Str.{bytes_eq};
 ghost use Rattle.std.proofs.Common.{ap, subst};
 ghost use Rattle.cli.specs.Command.{EndsAs, Ran};
-ghost use Rattle.git_input.specs.{Ends.{Gives, end_of}, Spelled.{IsReportedInOrder, IsWellFormedOnlyIfSpelled}};
-ghost use Rattle.git_input.specs.{Reports.IsCleanIff, Objects.{IsWholeStream, object_reach}};
+ghost use Rattle.git_input.specs.Ends.{Gives, end_of};
+ghost use Rattle.git_input.specs.Spelled.{IsReportedInOrder, IsWellFormedOnlyIfSpelled};
+ghost use Rattle.git_input.specs.Reports.{IsCleanIff};
+ghost use Rattle.git_input.specs.Objects.{IsWholeStream, object_reach};
 ghost use Rattle.git_input.specs.Promises.{Runs, FollowsRule, ReadsWithin, as_object};
-ghost use Rattle.gix_validate.specs.{Component.fault_of, Pieces.pieces};
-ghost use Rattle.check_trees.specs.Report.{finding_by, finding_of, finding_said, is_gitmodules_fault, report};
-ghost use Rattle.check_trees.specs.{Report.tree_rule, Spelled.{IsAcceptedStream, IsReadAsItems}};
-ghost use Rattle.check_trees.specs.Private.{EntryGives, EntryReads, ReadsOrSkipsId, Says, as_entry_header, tree_report};
-ghost use Rattle.check_trees.specs.{Arguments.{as_options, protections_for}, Options.AreByWords};
+ghost use Rattle.gix_validate.specs.Component.{fault_of};
+ghost use Rattle.gix_validate.specs.Pieces.{pieces};
+ghost use Rattle.check_trees.specs.Report.{finding_by, finding_of, finding_said};
+ghost use Rattle.check_trees.specs.Report.{is_gitmodules_fault, report, tree_rule};
+ghost use Rattle.check_trees.specs.Spelled.{IsAcceptedStream, IsReadAsItems};
+ghost use Rattle.check_trees.specs.Private.{EntryGives, EntryReads, ReadsOrSkipsId, Says};
+ghost use Rattle.check_trees.specs.Private.{as_entry_header, tree_report};
+ghost use Rattle.check_trees.specs.Arguments.{as_options, protections_for};
+ghost use Rattle.check_trees.specs.Options.{AreByWords};
 
 use crate::entry::{EntryHeader, parse_entry_header};
 use crate::options::TreesOptions;
@@ -32,7 +41,8 @@ use std::process::ExitCode;
 impl<'a> Command<'a> for TreesOptions<'a> {
     type Verdict = Verdict;
 
-    ghost Runs = { λ options R W remaining contents input rest output written ran. Gives (report (as_options options)) object_reach (IsAcceptedStream (as_options options))
+    ghost Runs = { λ options R W remaining contents input rest output written ran.
+        Gives (report (as_options options)) object_reach (IsAcceptedStream (as_options options))
         (remaining input) (remaining rest) (contents output) (contents written) ran };
 
     ghost end_of = { end_of (codes "object") [] };
@@ -56,18 +66,23 @@ impl<'a> Command<'a> for TreesOptions<'a> {
         input: &mut R,
         output: &mut W,
     ) -> Result<Verdict, RunError>
-        ensures runs { Runs (report (as_options self.entry)) object_reach (R.remaining input.old) (R.remaining input.new)
+        ensures runs { Runs (report (as_options self.entry)) object_reach
+            (R.remaining input.old) (R.remaining input.new)
             (W.contents output.old) (W.contents output.new) result }
-        ensures clean { IfOk result (λ verdict. IfSome (R.remaining input.old) (IsCleanIff (IsAcceptedStream (as_options self.entry)) verdict)) }
+        ensures clean { IfOk result (λ verdict.
+            IfSome (R.remaining input.old) (IsCleanIff (IsAcceptedStream (as_options self.entry)) verdict)) }
         ensures spelled { IsReportedInOrder (tree_rule (as_options self.entry)) self.entry.needs_end }
-        ensures well_formed { IsWellFormedOnlyIfSpelled (tree_rule (as_options self.entry)) self.entry.needs_end }
+        ensures well_formed { IsWellFormedOnlyIfSpelled
+            (tree_rule (as_options self.entry)) self.entry.needs_end }
         ensures whole { IsWholeStream (tree_rule (as_options self.entry)) self.entry.needs_end }
         ensures items { IsReadAsItems (as_options self.entry) }
         ensures options { AreByWords }
         ensures shown { (read rest output written : Option (List ℕ)) (ran : Ran Verdict)
-            → ⟦<TreesOptions<'static> as Command<'static>>⟧.Runs self.entry _ _ (λ known. known) (λ known. known) read rest output written ran
+            → ⟦<TreesOptions<'static> as Command<'static>>⟧.Runs self.entry _ _
+            (λ known. known) (λ known. known) read rest output written ran
             → Runs (report (as_options self.entry)) object_reach read rest output written ran
-            × IfOk ran (λ verdict. IfSome read (IsCleanIff (IsAcceptedStream (as_options self.entry)) verdict)) }
+            × IfOk ran (λ verdict.
+            IfSome read (IsCleanIff (IsAcceptedStream (as_options self.entry)) verdict)) }
     {
         objects::run(alloc, self, self.needs_end, input, output)
     }
@@ -117,7 +132,8 @@ fn check_tree<R: BufRead, W: Write>(
     output: &mut W,
     buffers: &mut Buffers,
 ) -> Result<bool, Stop>
-    ensures gives { IfSome (R.remaining input.old) (λ text. FollowsRule (tree_report (as_options options.entry) (as_object tree.entry) tree.entry.size text)
+    ensures gives { IfSome (R.remaining input.old) (λ text.
+        FollowsRule (tree_report (as_options options.entry) (as_object tree.entry) tree.entry.size text)
         (R.remaining input.new) (W.contents output.old) (W.contents output.new) result) }
     ensures within { ReadsWithin tree.entry.size (R.remaining input.old) (R.remaining input.new) result }
 {
@@ -246,7 +262,8 @@ fn classify_file(
     front: EntryHeader<'_>,
     as_symlink: ComponentError,
 ) -> Finding
-    ensures { result ≡ finding_by (is_gitmodules_fault (Some as_symlink)) (fault_of protections front.entry.mode front.entry.name.now) }
+    ensures { result ≡ finding_by (is_gitmodules_fault (Some as_symlink))
+        (fault_of protections front.entry.mode front.entry.name.now) }
 {
     match path::component(BStr::new(front.name), front.mode, protections) {
         Err(fault) => Finding::Refused(fault),
@@ -263,7 +280,8 @@ fn read_or_skip_id<R: BufRead>(
     count: u64,
     id: &mut Vec<u8>,
 ) -> Result<bool, RunError>
-    ensures { IfOk result (λ whole. ReadsOrSkipsId finding.now count (R.remaining input.old) (R.remaining input.new) id.new.items whole) }
+    ensures { IfOk result (λ whole.
+        ReadsOrSkipsId finding.now count (R.remaining input.old) (R.remaining input.new) id.new.items whole) }
 {
     match finding {
         Finding::Modules => read_bytes(input, count as usize, id),
@@ -280,7 +298,8 @@ fn write_finding<W: Write>(
     line: &mut Vec<u8>,
     output: &mut W,
 ) -> Result<bool, RunError>
-    ensures { Says (finding_said (as_object tree.entry) (record { front = as_entry_header front.entry; id = id.now }) finding)
+    ensures { Says (finding_said (as_object tree.entry)
+        (record { front = as_entry_header front.entry; id = id.now }) finding)
         (W.contents output.old) (W.contents output.new) result }
 {
     match finding {

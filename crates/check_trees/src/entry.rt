@@ -1,7 +1,10 @@
 //! The part of a tree's entry that is before the NUL.
 
-ghost use Rattle.std.specs.{Prelude.◌≡◌, Option.option_map, Str.bytes_eq};
-ghost use Rattle.check_trees.specs.{Entries.parsed_entry_header, Private.as_entry_header};
+ghost use Rattle.std.specs.Prelude.{◌≡◌};
+ghost use Rattle.std.specs.Option.{option_map};
+ghost use Rattle.std.specs.Str.{bytes_eq};
+ghost use Rattle.check_trees.specs.Entries.{parsed_entry_header};
+ghost use Rattle.check_trees.specs.Private.{as_entry_header};
 
 use git_input::text::{number_of, split_once};
 use gix_validate::path::ComponentMode;

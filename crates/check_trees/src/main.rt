@@ -9,7 +9,7 @@ mod report;
 
 use cli::command::Command;
 use cli::run_command;
-use options::{TreesOptions, HELP};
+use options::{HELP, TreesOptions};
 use std::process::ExitCode;
 
 fn main(rt: HostRuntime) -> ExitCode {

@@ -1,7 +1,8 @@
 //! The program's options (docs/RULES.md, "The report of trees").
 
 ghost use Rattle.std.specs.Prelude.{◌≡◌};
-ghost use Rattle.check_trees.specs.Arguments.{no_options, protections_of, rule, switched_on, Options, as_options};
+ghost use Rattle.check_trees.specs.Arguments.{no_options, protections_of, rule, switched_on};
+ghost use Rattle.check_trees.specs.Arguments.{Options, as_options};
 
 use cli::arguments::{ParseOptions, Setting};
 use gix_validate::path::ComponentOptions;

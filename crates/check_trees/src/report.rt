@@ -7,7 +7,8 @@
 //! A `modules` line refuses nothing: `check_submodules` checks the file's contents. No other line
 //! begins with that word, since the others begin with an id.
 
-ghost use Rattle.std.specs.{Prelude.{◌≡◌, ◌++◌, OnOk, codes}, Option.option_map};
+ghost use Rattle.std.specs.Prelude.{◌≡◌, ◌++◌, OnOk, codes};
+ghost use Rattle.std.specs.Option.{option_map};
 ghost use Rattle.git_input.specs.Promises.{as_object};
 ghost use Rattle.check_trees.specs.Report.{in_path, modules_line, place, refused_line, shown_path};
 ghost use Rattle.check_trees.specs.Private.{as_entry_header};
@@ -31,7 +32,8 @@ pub(crate) fn set_refused(
     front: EntryHeader<'_>,
     fault: ComponentError,
 ) -> Result<(), AllocError>
-    ensures { OnOk result (line.new.items ≡ refused_line (as_object tree.entry) (as_entry_header front.entry) fault) }
+    ensures { OnOk result
+        (line.new.items ≡ refused_line (as_object tree.entry) (as_entry_header front.entry) fault) }
 {
     line.clear();
     push_place(line, tree, front)?;
@@ -48,7 +50,8 @@ pub(crate) fn set_modules(
     front: EntryHeader<'_>,
     id: &[u8],
 ) -> Result<(), AllocError>
-    ensures { OnOk result (line.new.items ≡ modules_line (as_object tree.entry) (as_entry_header front.entry) id.now) }
+    ensures { OnOk result
+        (line.new.items ≡ modules_line (as_object tree.entry) (as_entry_header front.entry) id.now) }
 {
     line.clear();
     line.extend_from_slice(b"modules ")?;
@@ -64,7 +67,8 @@ fn push_place(
     tree: Object<'_>,
     front: EntryHeader<'_>,
 ) -> Result<(), AllocError>
-    ensures { OnOk result (line.new.items ≡ line.old.items ++ place (as_object tree.entry) (as_entry_header front.entry)) }
+    ensures { OnOk result
+        (line.new.items ≡ line.old.items ++ place (as_object tree.entry) (as_entry_header front.entry)) }
 {
     line.extend_from_slice(tree.id)?;
     line.push(b' ')?;

@@ -1,7 +1,11 @@
 -- Whether a word is among words, computed, and what words ask for.
-use Rattle.std.proofs.Common.{◌≡◌, ◌↔◌, ℕ, zero, suc, Bool, true, IsTrue, List, [], ◌∷◌, All, Contains, Result, Ok, arith, ap, sym, ◌∙◌}
-use Rattle.std.proofs.lemmas.{Map.Views.Contains-from_any, List.Elements.{All-head, All-tail}, Slice.Eq.bytes_eq-Decides}
-use Rattle.std.specs.{List.{AllByRecursion, list_any}, Str.bytes_eq}
+use Rattle.std.proofs.Common.{◌≡◌, ◌↔◌, ℕ, zero, suc, Bool, true, IsTrue, List, [], ◌∷◌, All}
+use Rattle.std.proofs.Common.{Contains, Result, Ok, arith, ap, sym, ◌∙◌}
+use Rattle.std.proofs.lemmas.Map.Views.{Contains-from_any}
+use Rattle.std.proofs.lemmas.List.Elements.{All-head, All-tail}
+use Rattle.std.proofs.lemmas.Slice.Eq.{bytes_eq-Decides}
+use Rattle.std.specs.List.{AllByRecursion, list_any}
+use Rattle.std.specs.Str.{bytes_eq}
 use Rattle.cli.specs.Arguments.{Task, Check, WrongArgument}
 
 abbrev pub has : List (List ℕ) → List ℕ → Bool
@@ -14,7 +18,9 @@ has_one (first ∷ words) word (suc k, below, is) = grind (arith, has_one words 
 
 pub among : (words : List (List ℕ)) (word : List ℕ) → IsTrue (has words word) ↔ Contains words word
 among words word = (
-  λ any. Contains-from_any {eq = λ a b. bytes_eq b a} (λ a b same. sym ((bytes_eq-Decides b a).0 same)) word words any,
+  λ any.
+      Contains-from_any {eq = λ a b. bytes_eq b a}
+      (λ a b same. sym ((bytes_eq-Decides b a).0 same)) word words any,
   λ one. has_one words word one,
 )
 
@@ -31,5 +37,6 @@ checked other (Ok (Check options)) = options
 checked other asked = other
 
 -- words ask for a check under one kind of options
-pub one_check : {V : Type 0} (asked : Result (Task V) WrongArgument) (a b : V) → asked ≡ Ok (Check a) → asked ≡ Ok (Check b) → a ≡ b
+pub one_check : {V : Type 0} (asked : Result (Task V) WrongArgument) (a b : V)
+    → asked ≡ Ok (Check a) → asked ≡ Ok (Check b) → a ≡ b
 one_check asked a b e f = ap (checked a) (sym e ∙ f)

@@ -1,19 +1,27 @@
 -- What the arguments of a program ask for.
-use Rattle.std.specs.Prelude.{ℕ, ◌||◌, if◌then◌else◌, List, [], ◌∷◌, codes, Option, Some, None, Result, Ok, Err}
-use Rattle.cli.specs.{declared.arguments.{ArgumentError.ArgumentError, Request.Request, Setting.Setting}, Lines.split_once}
-use Rattle.std.specs.{Borrow.Bor, Option.option_map_or, Str.{byte, bytes_eq}}
+use Rattle.std.specs.Prelude.{ℕ, ◌||◌, if◌then◌else◌, List, [], ◌∷◌, codes, Option, Some, None}
+use Rattle.std.specs.Prelude.{Result, Ok, Err}
+use Rattle.cli.specs.declared.arguments.ArgumentError.{ArgumentError}
+use Rattle.cli.specs.declared.arguments.Request.{Request}
+use Rattle.cli.specs.declared.arguments.Setting.{Setting}
+use Rattle.cli.specs.Lines.{split_once}
+use Rattle.std.specs.Borrow.{Bor}
+use Rattle.std.specs.Option.{option_map_or}
+use Rattle.std.specs.Str.{byte, bytes_eq}
 use Rattle.cli.specs.declared.arguments.Request.TheVariants as request
 use Rattle.cli.specs.declared.arguments.Setting.TheVariants as setting
 use Rattle.cli.specs.declared.arguments.ArgumentError.TheVariants as error
 
--- what an option does: there is none of this name, the options are these from now on, it needs a value, or it can't have this one, and needs one as the second text says
+-- what an option does: there is none of this name, the options are these from now on, it needs a value,
+-- or it can't have this one, and needs one as the second text says
 pub data Effect (V : Type 0) : Type 0 where
   Unknown : Effect V
   Sets : (options : V) → Effect V
   NeedsValue : Effect V
   Invalid : (value valid : List ℕ) → Effect V
 
--- a rule of options: what the one of this name does with this value or none, where these are the options so far
+-- a rule of options: what the one of this name does with this value or none,
+-- where these are the options so far
 abbrev pub OptionRule : Type 0 → Type 0
 OptionRule V = List ℕ → Option (List ℕ) → V → Effect V
 
@@ -36,7 +44,8 @@ task_of view (request.Check options) = Check (view options)
 task_of view request.Help = Help
 task_of view request.Version = Version
 
--- what is wrong with the arguments: an unknown word, an option that has no value and needs one, or an option's value, which is not as the last text says
+-- what is wrong with the arguments: an unknown word, an option that has no value and needs one,
+-- or an option's value, which is not as the last text says
 pub data WrongArgument : Type 0 where
   UnknownWord : (word : List ℕ) → WrongArgument
   NoValue : (name : List ℕ) → WrongArgument
@@ -52,26 +61,32 @@ abbrev pub text_of : Bor (List ℕ) → List ℕ
 text_of text = text.now
 
 -- the options after an option, and the option that needs a value then
-abbrev pub after_effect : {V : Type 0} → V → (word name : List ℕ) → Effect V → Result (V × Option (List ℕ)) WrongArgument
+abbrev pub after_effect : {V : Type 0} → V → (word name : List ℕ) → Effect V
+    → Result (V × Option (List ℕ)) WrongArgument
 after_effect options word name Unknown = Err (UnknownWord word)
 after_effect options word name (Sets set) = Ok (set, None)
 after_effect options word name NeedsValue = Ok (options, Some name)
 after_effect options word name (Invalid value valid) = Err (WrongValue name value valid)
 
--- the options after a word, which is a value, or NAME=VALUE, or the name of an option, and the option that needs a value then
-abbrev pub set_by : {V : Type 0} → OptionRule V → V → Option (List ℕ) → List ℕ → Result (V × Option (List ℕ)) WrongArgument
+-- the options after a word, which is a value, or NAME=VALUE, or the name of an option,
+-- and the option that needs a value then
+abbrev pub set_by : {V : Type 0} → OptionRule V → V → Option (List ℕ) → List ℕ
+    → Result (V × Option (List ℕ)) WrongArgument
 set_by rule options (Some name) word = after_effect options word name (rule name (Some word) options)
 set_by rule options None word =
-    option_map_or (λ (parts : List ℕ × List ℕ). after_effect options word parts.0 (rule parts.0 (Some parts.1) options))
+    option_map_or
+    (λ (parts : List ℕ × List ℕ). after_effect options word parts.0 (rule parts.0 (Some parts.1) options))
     (split_once (byte "=") word) (after_effect options word word (rule word None options))
 
-abbrev pub after_set : {V : Type 0} → Result (V × Option (List ℕ)) WrongArgument → (V → Option (List ℕ) → Result (Task V) WrongArgument)
-    → Result (Task V) WrongArgument
+abbrev pub after_set : {V : Type 0} → Result (V × Option (List ℕ)) WrongArgument
+    → (V → Option (List ℕ) → Result (Task V) WrongArgument) → Result (Task V) WrongArgument
 after_set (Err wrong) more = Err wrong
 after_set (Ok (options, option)) more = more options option
 
--- what words ask for, read from the first, where a check would have these options so far, and this option needs a value
-abbrev pub request_from : {V : Type 0} → OptionRule V → Option (List ℕ) → V → List (List ℕ) → Result (Task V) WrongArgument
+-- what words ask for, read from the first, where a check would have these options so far,
+-- and this option needs a value
+abbrev pub request_from : {V : Type 0} → OptionRule V → Option (List ℕ) → V → List (List ℕ)
+    → Result (Task V) WrongArgument
 request_from rule None options [] = Ok (Check options)
 request_from rule (Some name) options [] = Err (NoValue name)
 request_from rule (Some name) options (word ∷ words) =

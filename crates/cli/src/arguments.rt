@@ -1,10 +1,17 @@
 //! The arguments of a program.
 
-ghost use Rattle.std.specs.Prelude.{◌≡◌, ◌⊎◌, ℕ, List, codes, IfErr, IfOk, IfSome, IsErr, IsOk, OnErr, OnOk, drop, map};
-ghost use Rattle.std.specs.{Option.option_map, Process.exit_status, Result.result_map_both, Str.byte};
-ghost use Rattle.std.specs.{String.string_bytes, Vec.Iter.into_iter_items};
-ghost use Rattle.cli.specs.Arguments.{OptionRule, effect_of, request_of, set_by, task_of, text_of, wrong_argument};
-ghost use Rattle.cli.specs.{Lines.split_once, Messages.{Says, message, stop_text_of, wrong_text_of}};
+ghost use Rattle.std.specs.Prelude.{◌≡◌, ◌⊎◌, ℕ, List, codes, IfErr, IfOk, IfSome, IsErr, IsOk};
+ghost use Rattle.std.specs.Prelude.{OnErr, OnOk, drop, map};
+ghost use Rattle.std.specs.Option.{option_map};
+ghost use Rattle.std.specs.Process.{exit_status};
+ghost use Rattle.std.specs.Result.{result_map_both};
+ghost use Rattle.std.specs.Str.{byte};
+ghost use Rattle.std.specs.String.{string_bytes};
+ghost use Rattle.std.specs.Vec.Iter.{into_iter_items};
+ghost use Rattle.cli.specs.Arguments.{OptionRule, effect_of, request_of, set_by, task_of, text_of};
+ghost use Rattle.cli.specs.Arguments.{wrong_argument};
+ghost use Rattle.cli.specs.Lines.{split_once};
+ghost use Rattle.cli.specs.Messages.{Says, message, stop_text_of, wrong_text_of};
 
 use crate::fail;
 use crate::messages::Messages;
@@ -105,11 +112,14 @@ pub fn arguments<E: Write>(
     name: &str,
     errors: &mut Messages<E>,
 ) -> Result<Vec<String>, ExitCode>
-    ensures items { IfOk result (λ arguments. IfOk args (λ args. arguments.items ≡ drop 1 (into_iter_items args))) }
+    ensures items { IfOk result (λ arguments.
+        IfOk args (λ args. arguments.items ≡ drop 1 (into_iter_items args))) }
     ensures given { OnOk result (IsOk args × (errors.new ≡ errors.old)) }
     ensures status { IfErr result (λ status. exit_status status ≡ 2) }
-    ensures said { OnErr result (Says E.contents errors.old errors.new (message name.now (stop_text_of RunError.Memory))
-        ⊎ (Says E.contents errors.old errors.new (message name.now (codes "the arguments can't be read as UTF-8")) × IsErr args)) }
+    ensures said { OnErr result
+        (Says E.contents errors.old errors.new (message name.now (stop_text_of RunError.Memory))
+        ⊎ (Says E.contents errors.old errors.new
+        (message name.now (codes "the arguments can't be read as UTF-8")) × IsErr args)) }
 {
     match args {
         Ok(args) => match args.skip(1).collect(alloc) {

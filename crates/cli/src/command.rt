@@ -81,8 +81,10 @@ pub fn execute<'a, C: Command<'a>, R: BufRead, W: Write + Drop, E: Write>(
 ) -> ExitCode
     ensures { Does (λ asked. (options : C) × (C.view options ≡ asked)
         × Checks (C.Runs options _ _ R.remaining (writer_contents W.contents) input.old input.new output.old)
-        (writer_contents W.contents) output.new (writer_buffer output.new) C.end_of E.contents program.entry.name.now errors.old errors.new result)
-        (writer_contents W.contents) E.contents program.entry.name.now program.entry.help.now input.old input.new output.old output.new
+        (writer_contents W.contents) output.new
+        (writer_buffer output.new) C.end_of E.contents program.entry.name.now errors.old errors.new result)
+        (writer_contents W.contents) E.contents program.entry.name.now
+        program.entry.help.now input.old input.new output.old output.new
         errors.old errors.new result (request_of C.rule C.start (map string_bytes arguments.now)) }
 {
     let name = program.name;
@@ -104,7 +106,8 @@ fn run_flushed<'a, C: Command<'a>, R: BufRead, W: Write + Drop>(
     input: &mut R,
     output: &mut BufWriter<W>,
 ) -> Result<C::Verdict, RunError>
-    ensures { Finishes (C.Runs options _ _ R.remaining (writer_contents W.contents) input.old input.new output.old)
+    ensures { Finishes
+        (C.Runs options _ _ R.remaining (writer_contents W.contents) input.old input.new output.old)
         (writer_contents W.contents) output.new (writer_buffer output.new) result }
 {
     let ran = options.run(alloc, input, output);

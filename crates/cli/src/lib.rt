@@ -2,7 +2,9 @@
 //! fails. A program implements [`command::Command`], and [`command::execute`] does the rest.
 #![tactic(auto)]
 
-ghost use Rattle.std.specs.{Prelude.{◌≡◌, ◌++◌, codes, IfSome, OnOk}, Io.KnownBytes.Appends, Process.exit_status};
+ghost use Rattle.std.specs.Prelude.{◌≡◌, ◌++◌, codes, IfSome, OnOk};
+ghost use Rattle.std.specs.Io.KnownBytes.{Appends};
+ghost use Rattle.std.specs.Process.{exit_status};
 ghost use Rattle.cli.specs.Messages.{Prints, Says, message};
 
 use crate::messages::Messages;
@@ -22,7 +24,8 @@ pub const VERSION: &str = "3.0.0-dev";
 /// Says `what`, after the name of the program, and returns the status 2. It does not allocate.
 pub fn fail<D: Display + Drop, E: Write>(name: &str, what: D, errors: &mut Messages<E>) -> ExitCode
     ensures status { exit_status result ≡ 2 }
-    ensures said { IfSome (D.output what) (λ text. Says E.contents errors.old errors.new (message name.now text)) }
+    ensures said { IfSome (D.output what) (λ text.
+        Says E.contents errors.old errors.new (message name.now text)) }
 {
     errors.say(name, what);
     ExitCode::from(2)
@@ -37,7 +40,8 @@ pub fn print<D: Display + Drop, W: Write, E: Write>(
     errors: &mut Messages<E>,
 ) -> ExitCode
     ensures { IfSome (D.output text) (λ text.
-        Prints W.contents E.contents name.now (text ++ codes "\n") output.old output.new errors.old errors.new result) }
+        Prints W.contents E.contents name.now
+        (text ++ codes "\n") output.old output.new errors.old errors.new result) }
 {
     match write_line(text, output) {
         Ok(()) => ExitCode::SUCCESS,

@@ -1,9 +1,11 @@
 -- The full names that are made of a branch's short name, and why one is not made.
 use Rattle.std.specs.Prelude.{◌≡◌, ℕ, List, ◌++◌, codes, Some, None, ⊤}
-use Rattle.gix_validate.specs.{Reference.branch_fault_of, Tag.fault_of}
+use Rattle.gix_validate.specs.Reference.{branch_fault_of}
+use Rattle.gix_validate.specs.Tag.{fault_of}
 use Rattle.examples.specs.declared.branches.BranchError.{BranchError}
 use Rattle.examples.specs.declared.branches.BranchError.TheVariants as branch_error
-use Rattle.examples.specs.declared.branches.TrackingError.{TrackingError, TheVariants.{Remote, Branch, Memory}}
+use Rattle.examples.specs.declared.branches.TrackingError.{TrackingError}
+use Rattle.examples.specs.declared.branches.TrackingError.TheVariants.{Remote, Branch, Memory}
 
 -- the full name of the branch of this short name
 abbrev pub branch_name_of : List ℕ → List ℕ

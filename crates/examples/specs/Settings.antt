@@ -1,7 +1,8 @@
 -- The sections of a `.gitmodules` file that are accepted, and the first that is not.
 use Rattle.std.specs.Prelude.{◌≡◌, ℕ, List, ◌∷◌, ◌++◌, Option, Some, None, All, ⊤}
 use Rattle.gix_validate.specs.Submodule.{fault_of}
-use Rattle.examples.specs.declared.settings.SettingsError.{SettingsError, TheVariants.{Name, Unreadable, Memory}}
+use Rattle.examples.specs.declared.settings.SettingsError.{SettingsError}
+use Rattle.examples.specs.declared.settings.SettingsError.TheVariants.{Name, Unreadable, Memory}
 
 -- the section can be read, and its name is accepted
 abbrev pub IsAccepted : ℕ × Option (List ℕ) → Type 0

@@ -1,7 +1,9 @@
 -- What a ref store holds, and how a name is looked up in it.
-use Rattle.std.specs.{Prelude.{◌≢◌, ℕ, Bool, List, Option, bytes_eq, option_map}, List.{AllPairs, find}}
+use Rattle.std.specs.Prelude.{◌≢◌, ℕ, Bool, List, Option, bytes_eq, option_map}
+use Rattle.std.specs.List.{AllPairs, find}
 use Rattle.typed_names.specs.Names.{name_bytes}
-use Rattle.examples.specs.declared.ref_store.{ObjectId.ObjectId, Reference.Reference}
+use Rattle.examples.specs.declared.ref_store.ObjectId.{ObjectId}
+use Rattle.examples.specs.declared.ref_store.Reference.{Reference}
 
 -- the bytes of a reference's name, and its target
 abbrev pub entry_of : Reference → List ℕ × ObjectId

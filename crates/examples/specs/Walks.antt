@@ -1,7 +1,10 @@
 -- Where a checkout is, and why it doesn't enter a name.
 use Rattle.std.specs.Prelude.{◌≡◌, ℕ, List, Option, None, Some}
-use Rattle.gix_validate.specs.{declared.path.{ComponentMode.ComponentMode, ComponentOptions.ComponentOptions}, Component.fault_of}
-use Rattle.examples.specs.declared.checkout.EnterError.{EnterError, TheVariants.{Name, Memory}}
+use Rattle.gix_validate.specs.declared.path.ComponentMode.{ComponentMode}
+use Rattle.gix_validate.specs.declared.path.ComponentOptions.{ComponentOptions}
+use Rattle.gix_validate.specs.Component.{fault_of}
+use Rattle.examples.specs.declared.checkout.EnterError.{EnterError}
+use Rattle.examples.specs.declared.checkout.EnterError.TheVariants.{Name, Memory}
 
 -- the options by which names are checked, and the names on the way down
 pub record Walk : Type 0 where

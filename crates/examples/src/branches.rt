@@ -1,9 +1,11 @@
 //! Full names, made from the short name of a branch.
 
 ghost use Rattle.std.specs.Prelude.{◌≡◌, IsTrue, IfOk, IfErr};
-ghost use Rattle.bstr.specs.{BStr.bstr_bytes, Owned.bstring_bytes};
+ghost use Rattle.bstr.specs.BStr.{bstr_bytes};
+ghost use Rattle.bstr.specs.Owned.{bstring_bytes};
 ghost use Rattle.gix_validate.specs.Reference.{is_branch_name, is_full_name};
-ghost use Rattle.examples.specs.Branches.{IsBranchError, IsTrackingError, branch_name_of, tracking_name_of};
+ghost use Rattle.examples.specs.Branches.{IsBranchError, IsTrackingError, branch_name_of};
+ghost use Rattle.examples.specs.Branches.{tracking_name_of};
 
 use bstr::{BStr, BString};
 use gix_validate::{reference, tag};

@@ -1,8 +1,11 @@
 //! A walk down a working tree, and the path of a file.
 
-ghost use Rattle.std.specs.Prelude.{◌≡◌, ◌≢◌, ◌<◌, ◌-◌, [], ◌∷◌, ◌++◌, map, take, length, All, IfOk, OnOk, OnErr, IfErr, None, Some};
-ghost use Rattle.bstr.specs.{BStr.bstr_bytes, Owned.bstring_bytes};
-ghost use Rattle.gix_validate.specs.{Component.fault_of, ComponentLaws.{IsBasicName, IsValidUnderFewerSwitches}};
+ghost use Rattle.std.specs.Prelude.{◌≡◌, ◌≢◌, ◌<◌, ◌-◌, [], ◌∷◌, ◌++◌, map, take, length, All};
+ghost use Rattle.std.specs.Prelude.{IfOk, OnOk, OnErr, IfErr, None, Some};
+ghost use Rattle.bstr.specs.BStr.{bstr_bytes};
+ghost use Rattle.bstr.specs.Owned.{bstring_bytes};
+ghost use Rattle.gix_validate.specs.Component.{fault_of};
+ghost use Rattle.gix_validate.specs.ComponentLaws.{IsBasicName, IsValidUnderFewerSwitches};
 ghost use Rattle.gix_validate.specs.Pieces.{pieces};
 ghost use Rattle.examples.specs.Walks.{IsEnterError};
 

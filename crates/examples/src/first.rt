@@ -12,7 +12,8 @@ use gix_validate::reference;
 pub fn branch_to_push<'a>(asked: BStr<'a>) -> BStr<'a>
     ensures branch { IsTrue (is_branch_name (bstr_bytes result)) }
     ensures asked { IsTrue (is_branch_name (bstr_bytes asked.entry)) → result ≡ asked.entry }
-    ensures main { is_branch_name (bstr_bytes asked.entry) ≡ false → bstr_bytes result ≡ codes "refs/heads/main" }
+    ensures main { is_branch_name (bstr_bytes asked.entry) ≡ false
+        → bstr_bytes result ≡ codes "refs/heads/main" }
 {
     match reference::branch_name(asked) {
         Ok(name) => name,

@@ -1,8 +1,10 @@
 //! Paths from outside.
 
-ghost use Rattle.std.specs.{Prelude.{◌≡◌, None, not}, List.position};
+ghost use Rattle.std.specs.Prelude.{◌≡◌, None, not};
+ghost use Rattle.std.specs.List.{position};
 ghost use Rattle.bstr.specs.BStr.{bstr_bytes};
-ghost use Rattle.gix_validate.specs.{Component.is_component, Pieces.pieces};
+ghost use Rattle.gix_validate.specs.Component.{is_component};
+ghost use Rattle.gix_validate.specs.Pieces.{pieces};
 
 use bstr::BStr;
 use gix_validate::path::{ComponentOptions, component};

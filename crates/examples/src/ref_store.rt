@@ -1,6 +1,7 @@
 //! References and their targets, by full name.
 
-ghost use Rattle.std.specs.{Prelude.{◌≡◌, ◌≢◌, ℕ, List, [], None, Some, OnOk, OnErr, map}, List.position};
+ghost use Rattle.std.specs.Prelude.{◌≡◌, ◌≢◌, ℕ, List, [], None, Some, OnOk, OnErr, map};
+ghost use Rattle.std.specs.List.{position};
 ghost use Rattle.typed_names.specs.Names.{name_bytes};
 ghost use Rattle.examples.specs.Targets.{HasDistinctNames, entry_of, is_named, target_of};
 
@@ -63,7 +64,8 @@ impl<'a> RefStore<'a> {
     #[tactic(auto, using(crate::proofs::TargetLemmas::writes))]
     pub fn set(&mut self, name: FullName<'a>, target: ObjectId) -> Result<(), AllocError>
         ensures this { OnOk result (target_of self.new (name_bytes name.entry) ≡ Some target) }
-        ensures others { (x : List ℕ) → x ≢ name_bytes name.entry → target_of self.new x ≡ target_of self.old x }
+        ensures others { (x : List ℕ) → x ≢ name_bytes name.entry
+            → target_of self.new x ≡ target_of self.old x }
         ensures same { OnErr result (self.new ≡ self.old) }
         ensures memory { OnErr result (target_of self.old (name_bytes name.entry) ≡ None) }
     {

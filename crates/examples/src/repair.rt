@@ -1,7 +1,8 @@
 //! Names that are repaired in place.
 
 ghost use Rattle.std.specs.Prelude.{◌≡◌, ◌≢◌, ◌≤◌, [], length, take, IsOk, OnOk, OnErr, IsTrue};
-ghost use Rattle.gix_validate.specs.{Reference.is_partial_name, Sanitized.sanitized};
+ghost use Rattle.gix_validate.specs.Reference.{is_partial_name};
+ghost use Rattle.gix_validate.specs.Sanitized.{sanitized};
 ghost use Rattle.typed_names.specs.Names.{name_bytes};
 
 use bstr::BStr;

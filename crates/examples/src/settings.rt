@@ -2,7 +2,8 @@
 
 ghost use Rattle.std.specs.Prelude.{◌≡◌, Some, None, All, map, IfOk, IfErr};
 ghost use Rattle.bstr.specs.Owned.{bstring_bytes};
-ghost use Rattle.gitmodules.specs.{Headers.section_pair, Sections.sections};
+ghost use Rattle.gitmodules.specs.Headers.{section_pair};
+ghost use Rattle.gitmodules.specs.Sections.{sections};
 ghost use Rattle.gix_validate.specs.Submodule.{fault_of};
 ghost use Rattle.examples.specs.Settings.{IsErrorOf, IsFirstError};
 

@@ -1,17 +1,21 @@
 -- The number that digits spell, digit by digit.
-use Rattle.gix_validate.proofs.Common.{◌≡◌, ◌≢◌, ℕ, ◌+◌, ◌-◌, ◌*◌, ◌^◌, ◌<◌, ◌≤◌, ◌&&◌, nat_lt, List, [], ◌∷◌, Option, None, refl, arith, list_all, byte}
+use Rattle.gix_validate.proofs.Common.{◌≡◌, ◌≢◌, ℕ, ◌+◌, ◌-◌, ◌*◌, ◌^◌, ◌<◌, ◌≤◌, ◌&&◌, nat_lt}
+use Rattle.gix_validate.proofs.Common.{List, [], ◌∷◌, Option, None, refl, arith, list_all, byte}
 use Rattle.gix_validate.specs.Faults.{when}
 use Rattle.git_input.specs.Texts.{is_digit, number_with, number_of}
 
 -- what digits after a number give, if they are digits and the number fits
 abbrev pub number_on : ℕ → ℕ → List ℕ → Option ℕ
-number_on base n digits = when (list_all (is_digit base) digits && nat_lt (number_with base n digits) (2 ^ 64)) (number_with base n digits)
+number_on base n digits =
+    when (list_all (is_digit base) digits && nat_lt (number_with base n digits) (2 ^ 64))
+    (number_with base n digits)
 
 pub number_of_none : (base : ℕ) → number_of base [] ≡ None
 unfolding number_of
 number_of_none base = refl
 
-pub number_of_some : (base : ℕ) (digits : List ℕ) → digits ≢ [] → number_of base digits ≡ number_on base 0 digits
+pub number_of_some : (base : ℕ) (digits : List ℕ) → digits ≢ []
+    → number_of base digits ≡ number_on base 0 digits
 unfolding number_of
 number_of_some base digits some = grind arith
 

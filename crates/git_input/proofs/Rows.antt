@@ -1,10 +1,17 @@
 -- The definitions of numbers, ids, header lines and verdicts, computed on literals.
-use Rattle.gix_validate.proofs.{Common.{refl, ℕ, Bool, List, [], ◌∷◌, ◌++◌, true, false, Option, Some, None, codes}, Rows.Tables.Gives}
-use Rattle.git_input.specs.{Texts.{split_once, number_of, is_id, hex_pair}, Headers.{ParsedHeader, Missing, Object, parsed_header}}
-use Rattle.git_input.specs.{Objects.object_reach, Reports.{extent, malformation_at_end, verdict_by}}
-use Rattle.git_input.specs.declared.header.Kind.{Kind, TheVariants.{Blob, Tree, Commit, Tag}}
-use Rattle.git_input.specs.declared.lines.Ending.{Ending, TheVariants.{Anywhere, EndLine, NonEmpty}}
-use Rattle.git_input.specs.declared.outcome.Malformation.{Malformation, TheVariants.{NoEnd, Line, Empty}}
+use Rattle.gix_validate.proofs.Common.{refl, ℕ, Bool, List, [], ◌∷◌, ◌++◌, true, false, Option}
+use Rattle.gix_validate.proofs.Common.{Some, None, codes}
+use Rattle.gix_validate.proofs.Rows.Tables.{Gives}
+use Rattle.git_input.specs.Texts.{split_once, number_of, is_id, hex_pair}
+use Rattle.git_input.specs.Headers.{ParsedHeader, Missing, Object, parsed_header}
+use Rattle.git_input.specs.Objects.{object_reach}
+use Rattle.git_input.specs.Reports.{extent, malformation_at_end, verdict_by}
+use Rattle.git_input.specs.declared.header.Kind.{Kind}
+use Rattle.git_input.specs.declared.header.Kind.TheVariants.{Blob, Tree, Commit, Tag}
+use Rattle.git_input.specs.declared.lines.Ending.{Ending}
+use Rattle.git_input.specs.declared.lines.Ending.TheVariants.{Anywhere, EndLine, NonEmpty}
+use Rattle.git_input.specs.declared.outcome.Malformation.{Malformation}
+use Rattle.git_input.specs.declared.outcome.Malformation.TheVariants.{NoEnd, Line, Empty}
 use Rattle.git_input.specs.declared.outcome.Verdict.TheVariants.{Clean, Refused, Malformed}
 
 abbrev forty : List ℕ
@@ -57,7 +64,8 @@ octals = refl
 
 -- bytes, and their two hexadecimal digits
 pairs : Gives hex_pair
-    ((0x00, codes "00") ∷ (0x09, codes "09") ∷ (0x0A, codes "0a") ∷ (0x9F, codes "9f") ∷ (0xF0, codes "f0") ∷ (0xFF, codes "ff") ∷ [])
+    ((0x00, codes "00") ∷ (0x09, codes "09") ∷ (0x0A, codes "0a")
+    ∷ (0x9F, codes "9f") ∷ (0xF0, codes "f0") ∷ (0xFF, codes "ff") ∷ [])
 pairs = refl
 
 abbrev object : Kind → ℕ → Option (List ℕ) → Option ParsedHeader

@@ -1,7 +1,9 @@
 -- What is printed of an input that is malformed.
 use Rattle.std.specs.Prelude.{ℕ, List, codes}
 use Rattle.git_input.specs.declared.outcome.Malformation.{Malformation}
-use Rattle.git_input.specs.declared.outcome.Malformation.TheVariants.{Header, TooLong, Ended, Entry, LineEnd, Absent, NoEnd, Line, Empty}
+use Rattle.git_input.specs.declared.outcome.Malformation.TheVariants.{Header, TooLong, Ended, Entry}
+use Rattle.git_input.specs.declared.outcome.Malformation.TheVariants.{LineEnd, Absent, NoEnd, Line}
+use Rattle.git_input.specs.declared.outcome.Malformation.TheVariants.{Empty}
 
 abbrev pub malformation_text_of : Malformation → List ℕ
 malformation_text_of Header = codes "the header line is not 'OID TYPE SIZE' or 'OID missing'"

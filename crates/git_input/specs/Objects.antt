@@ -1,16 +1,22 @@
 -- A stream of objects as `git cat-file --batch` prints them: a header line, as many bytes as it says, and LF.
-use Rattle.std.specs.Prelude.{◌≡◌, ℕ, ◌+◌, Bool, true, false, ◌==◌, nat_lt, if◌then◌else◌, List, [], ◌∷◌, length, take, drop}
-use Rattle.std.specs.Prelude.{Option, Some, None, Result, Ok, Err}
-use Rattle.git_input.specs.declared.{lines.Ending.{Ending, TheVariants.{Anywhere, EndLine}}, outcome.Malformation.Malformation}
-use Rattle.git_input.specs.{declared.outcome.Malformation.TheVariants.{Header, Ended, LineEnd, Absent}, Texts.line_end}
+use Rattle.std.specs.Prelude.{◌≡◌, ℕ, ◌+◌, Bool, true, false, ◌==◌, nat_lt, if◌then◌else◌, List, []}
+use Rattle.std.specs.Prelude.{◌∷◌, length, take, drop, Option, Some, None, Result, Ok, Err}
+use Rattle.git_input.specs.declared.lines.Ending.{Ending}
+use Rattle.git_input.specs.declared.lines.Ending.TheVariants.{Anywhere, EndLine}
+use Rattle.git_input.specs.declared.outcome.Malformation.{Malformation}
+use Rattle.git_input.specs.declared.outcome.Malformation.TheVariants.{Header, Ended, LineEnd}
+use Rattle.git_input.specs.declared.outcome.Malformation.TheVariants.{Absent}
+use Rattle.git_input.specs.Texts.{line_end}
 use Rattle.git_input.specs.Headers.{ParsedObject, ParsedHeader, Missing, Object, parsed_header}
-use Rattle.git_input.specs.Reports.{Said, nothing, Step, LineRule, EndsIn, Reach, end_line, Report, report}
+use Rattle.git_input.specs.Reports.{Said, nothing, Step, LineRule, EndsIn, Reach, end_line, Report}
+use Rattle.git_input.specs.Reports.{report}
 
 -- what is said of a part of an object, and what is wrong with it, if something is
 abbrev pub Judged : Type 0
 Judged = Said × Option Malformation
 
--- A rule of objects: what is said of an object of these bytes, and what is wrong with them. (`cut`: the input ends before its last byte.)
+-- A rule of objects: what is said of an object of these bytes, and what is wrong with them.
+-- (`cut`: the input ends before its last byte.)
 abbrev pub ObjectRule : Type 0
 ObjectRule = (cut : Bool) → ParsedObject → List ℕ → Judged
 
@@ -26,7 +32,8 @@ closed (said, None) text = (said, after_end text)
 
 -- an object at the front of what follows its header line
 abbrev pub object_step : ObjectRule → ParsedObject → List ℕ → Step
-object_step rule object text = closed (rule (nat_lt (length text) object.size) object (take object.size text)) (drop object.size text)
+object_step rule object text =
+    closed (rule (nat_lt (length text) object.size) object (take object.size text)) (drop object.size text)
 
 -- what follows a header line; no object may be missing where the stream needs its end line
 abbrev pub header_rule : ObjectRule → Bool → Option ParsedHeader → List ℕ → Step
@@ -55,4 +62,5 @@ object_report rule needs_end text = report (object_rule rule needs_end) (ending_
 -- A stream that needs its end line is well-formed only if that line ends it.
 abbrev pub IsWholeStream : ObjectRule → Bool → Type 0
 IsWholeStream rule needs_end =
-    needs_end ≡ true → (text : List ℕ) → (object_report rule needs_end text).malformed ≡ None → EndsIn text end_line
+    needs_end ≡ true → (text : List ℕ)
+    → (object_report rule needs_end text).malformed ≡ None → EndsIn text end_line

@@ -1,12 +1,18 @@
--- The report of a text that is read line by line: what each line and what belongs to it give, in order, up to the first
--- that is malformed. `Spelled` says it from the other side, with no steps: what is reported of a stream that is written out,
--- object by object, and that no other text is well-formed.
-use Rattle.std.specs.Prelude.{◌≡◌, ◌↔◌, ℕ, suc, ◌+◌, Bool, true, false, ◌==◌, ◌||◌, nat_lt, if◌then◌else◌, List, [], ◌∷◌, ◌++◌}
-use Rattle.std.specs.Prelude.{length, take, drop, codes, Option, Some, None, Result, Ok, Err, IfOk, option_map}
-use Rattle.std.specs.{Option.option_map_or, Str.bytes_eq}
+-- The report of a text that is read line by line: what each line and what belongs to it give,
+-- in order, up to the first that is malformed. `Spelled` says it from the other side, with no steps:
+-- what is reported of a stream that is written out, object by object, and that no other text is well-formed.
+use Rattle.std.specs.Prelude.{◌≡◌, ◌↔◌, ℕ, suc, ◌+◌, Bool, true, false, ◌==◌, ◌||◌, nat_lt}
+use Rattle.std.specs.Prelude.{if◌then◌else◌, List, [], ◌∷◌, ◌++◌, length, take, drop, codes, Option}
+use Rattle.std.specs.Prelude.{Some, None, Result, Ok, Err, IfOk, option_map}
+use Rattle.std.specs.Option.{option_map_or}
+use Rattle.std.specs.Str.{bytes_eq}
 use Rattle.gix_validate.specs.Faults.{when}
-use Rattle.git_input.specs.{declared.lines.Ending.{Ending, TheVariants.{Anywhere, EndLine, NonEmpty}}, Texts.{line_end, split_once}}
-use Rattle.git_input.specs.declared.outcome.{Malformation.{Malformation, TheVariants.{TooLong, Ended, NoEnd, Empty}}, Verdict.Verdict}
+use Rattle.git_input.specs.declared.lines.Ending.{Ending}
+use Rattle.git_input.specs.declared.lines.Ending.TheVariants.{Anywhere, EndLine, NonEmpty}
+use Rattle.git_input.specs.Texts.{line_end, split_once}
+use Rattle.git_input.specs.declared.outcome.Malformation.{Malformation}
+use Rattle.git_input.specs.declared.outcome.Malformation.TheVariants.{TooLong, Ended, NoEnd, Empty}
+use Rattle.git_input.specs.declared.outcome.Verdict.{Verdict}
 use Rattle.git_input.specs.declared.outcome.Verdict.TheVariants.{Clean, Refused, Malformed}
 
 -- the most bytes of a line with its end
@@ -33,7 +39,8 @@ all_said (first ∷ more) = then_said first (all_said more)
 abbrev pub Step : Type 0
 Step = Said × Result (List ℕ) Malformation
 
--- A rule of lines: what it gives for a line without its end, and the text after it, whose front may belong to the line.
+-- A rule of lines: what it gives for a line without its end, and the text after it,
+-- whose front may belong to the line.
 abbrev pub LineRule : Type 0
 LineRule = (line text : List ℕ) → Step
 
@@ -61,15 +68,17 @@ pub record Report : Type 0 where
   pub rest : List ℕ
 
 abbrev pub before_report : Said → Report → Report
-before_report said report = record { said = then_said said report.said; malformed = report.malformed; rest = report.rest }
+before_report said report =
+    record { said = then_said said report.said; malformed = report.malformed; rest = report.rest }
 
 -- the first line of a text, which has this number, and what follows it
 abbrev pub lines_then : (List ℕ → Report) → ℕ → List ℕ → Step → Report
-lines_then more number text (said, Err malformation) = record { said = said; malformed = Some (number, malformation); rest = text }
+lines_then more number text (said, Err malformation) =
+    record { said = said; malformed = Some (number, malformation); rest = text }
 lines_then more number text (said, Ok rest) = before_report said (more rest)
 
--- The end line, without its newline and with it. Git prints it for the word `..end`, which no object, reference or path
--- can have as its name.
+-- The end line, without its newline and with it.
+-- Git prints it for the word `..end`, which no object, reference or path can have as its name.
 abbrev pub end_word : List ℕ
 end_word = codes "..end missing"
 
@@ -94,7 +103,11 @@ malformation_at_end NonEmpty number = when (number == 1) Empty
 
 -- nothing is left
 abbrev pub at_end : Ending → ℕ → Report
-at_end ending number = record { said = nothing; malformed = option_map (λ malformation. (number, malformation)) (malformation_at_end ending number); rest = [] }
+at_end ending number = record {
+  said = nothing;
+  malformed = option_map (λ malformation. (number, malformation)) (malformation_at_end ending number);
+  rest = [];
+}
 
 -- nothing more is said
 abbrev pub at_end_line : Report
@@ -136,7 +149,8 @@ Reach = List ℕ → ℕ
 -- the most bytes of the first line of a text with its end and what can belong to it
 unfoldable pub extent : Reach → List ℕ → ℕ
 extent reach text =
-    option_map_or (λ (parts : List ℕ × List ℕ). length parts.0 + 1 + reach parts.0) (split_once line_end (take max_line text)) max_line
+    option_map_or (λ (parts : List ℕ × List ℕ). length parts.0 + 1 + reach parts.0)
+    (split_once line_end (take max_line text)) max_line
 
 -- A text that has to end in the line for that is well-formed only if it does.
 abbrev pub IsWhole : LineRule → Type 0

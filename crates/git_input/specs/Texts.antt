@@ -1,7 +1,11 @@
 -- Texts as lists of bytes: a text cut at a byte, numbers in digits, and the ids of objects in hexadecimal.
-use Rattle.std.specs.Prelude.{ℕ, ◌+◌, ◌-◌, ◌*◌, ◌/◌, ◌%◌, ◌^◌, Bool, ◌==◌, ◌&&◌, ◌||◌, not, nat_lt, nat_le, List, [], ◌∷◌, length, Option}
-use Rattle.std.specs.{List.list_all, Str.byte}
-use Rattle.gix_validate.specs.{Bytes.is_empty, Faults.when, Quoted.hex_digit}
+use Rattle.std.specs.Prelude.{ℕ, ◌+◌, ◌-◌, ◌*◌, ◌/◌, ◌%◌, ◌^◌, Bool, ◌==◌, ◌&&◌, ◌||◌, not, nat_lt}
+use Rattle.std.specs.Prelude.{nat_le, List, [], ◌∷◌, length, Option}
+use Rattle.std.specs.List.{list_all}
+use Rattle.std.specs.Str.{byte}
+use Rattle.gix_validate.specs.Bytes.{is_empty}
+use Rattle.gix_validate.specs.Faults.{when}
+use Rattle.gix_validate.specs.Quoted.{hex_digit}
 pub use Rattle.cli.specs.Lines.{line_end, split_once}
 
 -- a digit of a base of at most ten
@@ -16,7 +20,8 @@ number_with base n (d ∷ digits) = number_with base (n * base + (d - byte "0"))
 -- the number that digits spell: at least one digit, and a number below 2 ^ 64 (zeros may lead)
 unfoldable pub number_of : ℕ → List ℕ → Option ℕ
 number_of base digits =
-    when (not (is_empty digits) && list_all (is_digit base) digits && nat_lt (number_with base 0 digits) (2 ^ 64))
+    when
+    (not (is_empty digits) && list_all (is_digit base) digits && nat_lt (number_with base 0 digits) (2 ^ 64))
     (number_with base 0 digits)
 
 -- a hexadecimal digit in lower case

@@ -1,7 +1,10 @@
 //! The header line of an object in the output of `git cat-file --batch`.
 
-ghost use Rattle.std.specs.{Prelude.◌≡◌, Option.option_map, Str.byte};
-ghost use Rattle.git_input.specs.{Headers.{kind_of_word, parsed_header, sized_parts}, Promises.as_parsed};
+ghost use Rattle.std.specs.Prelude.{◌≡◌};
+ghost use Rattle.std.specs.Option.{option_map};
+ghost use Rattle.std.specs.Str.{byte};
+ghost use Rattle.git_input.specs.Headers.{kind_of_word, parsed_header, sized_parts};
+ghost use Rattle.git_input.specs.Promises.{as_parsed};
 ghost use Rattle.git_input.specs.Texts.{split_once};
 
 use crate::text::{is_id, number_of, split_once};
@@ -57,7 +60,8 @@ pub fn header_of(line: &[u8]) -> Option<Header<'_>>
 
 /// What the part of a header line after its type says.
 fn object_of<'a>(id: &'a [u8], kind: Kind, sized: &'a [u8]) -> Option<Header<'a>>
-    ensures { option_map as_parsed result ≡ sized_parts id.now kind sized.now (split_once (byte " ") sized.now) }
+    ensures { option_map as_parsed result
+        ≡ sized_parts id.now kind sized.now (split_once (byte " ") sized.now) }
 {
     let (digits, rest) = match split_once(b' ', sized) {
         Some((digits, rest)) => (digits, Some(rest)),

@@ -1,7 +1,9 @@
 //! Bounded reads that say where the input ends.
 
-ghost use Rattle.std.specs.Prelude.{◌≡◌, ◌≢◌, ◌↔◌, ◌<◌, ℕ, true, List, [], vec_capacity, Err, IsOk, IfOk, IfSome, OnErr, OnSome, Some};
-ghost use Rattle.std.specs.{IoError.error_kind, Io.KnownBytes.{Consumes, IsAtEnd}};
+ghost use Rattle.std.specs.Prelude.{◌≡◌, ◌≢◌, ◌↔◌, ◌<◌, ℕ, true, List, [], vec_capacity, Err, IsOk};
+ghost use Rattle.std.specs.Prelude.{IfOk, IfSome, OnErr, OnSome, Some};
+ghost use Rattle.std.specs.IoError.{error_kind};
+ghost use Rattle.std.specs.Io.KnownBytes.{Consumes, IsAtEnd};
 ghost use Rattle.gix_validate.specs.Bytes.{is_empty};
 ghost use Rattle.git_input.specs.Promises.{IsCutAt, ReadsBefore, ReadsNext, ReadsExactly};
 
@@ -71,7 +73,8 @@ pub fn read_before<R: BufRead>(
     limit: usize,
     front: &mut Vec<u8>,
 ) -> Result<Found, RunError>
-    ensures read { IfOk result (ReadsBefore byte limit (R.remaining input.old) (R.remaining input.new) front.new.items) }
+    ensures read { IfOk result
+        (ReadsBefore byte limit (R.remaining input.old) (R.remaining input.new) front.new.items) }
     ensures stop { result ≢ Err RunError.Write }
     ensures full { result ≡ Err RunError.Memory → vec_capacity front.old < limit }
 {
@@ -116,7 +119,8 @@ pub fn read_bytes<R: BufRead>(
     count: usize,
     bytes: &mut Vec<u8>,
 ) -> Result<bool, RunError>
-    ensures read { IfOk result (ReadsExactly count (R.remaining input.old) (R.remaining input.new) bytes.new.items) }
+    ensures read { IfOk result
+        (ReadsExactly count (R.remaining input.old) (R.remaining input.new) bytes.new.items) }
     ensures stop { result ≢ Err RunError.Write }
     ensures full { result ≡ Err RunError.Memory → vec_capacity bytes.old < count }
 {
@@ -188,7 +192,8 @@ pub fn read_byte<R: BufRead>(input: &mut R) -> Result<Option<u8>, RunError>
 pub fn is_at_end<R: BufRead>(input: &mut R) -> Result<bool, RunError>
     ensures known { IfOk result (λ ended. IfSome (R.remaining input.old) (λ rest. ended ≡ is_empty rest)) }
     ensures kept { IfOk result (λ ended. Consumes (R.remaining input.old) (R.remaining input.new) []) }
-    ensures spent { IfOk result (λ ended. ended ≡ true → OnSome (R.remaining input.old) (IsAtEnd (R.remaining input.new))) }
+    ensures spent { IfOk result (λ ended.
+        ended ≡ true → OnSome (R.remaining input.old) (IsAtEnd (R.remaining input.new))) }
     ensures stop { OnErr result (result ≡ Err RunError.Read) }
 {
     until_returned!(_ => {

@@ -4,12 +4,13 @@
 //! `check_trees` and `check_refs` hold a bounded number of bytes, whatever their input is. No size
 //! that the input claims is trusted: bytes are read or skipped as they come.
 
-ghost use Rattle.std.specs.Prelude.{◌≡◌, ◌≢◌, ◌<◌, [], Some, Err, true, false, ◌&&◌, if◌then◌else◌, IfOk, OnErr};
-ghost use Rattle.std.specs.{Prelude.{IfSome, OnSome}, Io.KnownBytes.{Appends, Consumes, IsAtEnd}};
+ghost use Rattle.std.specs.Prelude.{◌≡◌, ◌≢◌, ◌<◌, [], Some, Err, true, false, ◌&&◌, if◌then◌else◌};
+ghost use Rattle.std.specs.Prelude.{IfOk, OnErr, IfSome, OnSome};
+ghost use Rattle.std.specs.Io.KnownBytes.{Appends, Consumes, IsAtEnd};
 ghost use Rattle.cli.specs.Messages.{AppendsPrefixOf};
 ghost use Rattle.gix_validate.specs.Bytes.{is_empty};
-ghost use Rattle.git_input.specs.Reports.{IsWhole, LeavesTheEnd, LineRule, Reach, malformation_at_end, is_malformed};
-ghost use Rattle.git_input.specs.Reports.{report, verdict_of};
+ghost use Rattle.git_input.specs.Reports.{IsWhole, LeavesTheEnd, LineRule, Reach};
+ghost use Rattle.git_input.specs.Reports.{malformation_at_end, is_malformed, report, verdict_of};
 ghost use Rattle.git_input.specs.Promises.{FollowsRule, ReadsWithin, StopsWithin, is_end_word};
 
 use crate::input::{Found, MAX_ITERATIONS, is_at_end, read_before, until_returned};
@@ -64,7 +65,8 @@ pub trait LineCheck: Copy {
     ) -> Result<bool, Stop>
         ensures gives { IfSome (R.remaining input.old) (λ text. FollowsRule (line_rule self line.now text)
             (R.remaining input.new) (W.contents output.old) (W.contents output.new) result) }
-        ensures within { ReadsWithin (line_reach self line.now) (R.remaining input.old) (R.remaining input.new) result };
+        ensures within { ReadsWithin (line_reach self line.now)
+            (R.remaining input.old) (R.remaining input.new) result };
 
     ghost leaves: { (check : Self) → LeavesTheEnd (line_rule check) };
 }
@@ -91,7 +93,8 @@ pub fn run<C: LineCheck, R: BufRead, W: Write>(
     output: &mut W,
 ) -> Result<Verdict, RunError>
     ensures verdict { IfOk result (λ verdict. IfSome (R.remaining input.old) (λ text.
-        Appends (W.contents output.old) (W.contents output.new) (report (C.line_rule check) ending text).said.lines
+        Appends (W.contents output.old) (W.contents output.new)
+        (report (C.line_rule check) ending text).said.lines
         × (verdict ≡ verdict_of (report (C.line_rule check) ending text)))) }
     ensures end { IfOk result (λ verdict. is_malformed verdict ≡ false
         → OnSome (R.remaining input.old) (IsAtEnd (R.remaining input.new))) }
@@ -100,8 +103,10 @@ pub fn run<C: LineCheck, R: BufRead, W: Write>(
     ensures within { IfOk result (λ verdict. is_malformed verdict ≡ true
         → IfSome (R.remaining input.old) (λ text.
         StopsWithin (C.line_reach check) (report (C.line_rule check) ending text) (R.remaining input.new))) }
-    ensures stopped { result ≢ Err RunError.Write → OnErr result (IfSome (R.remaining input.old) (λ text.
-        AppendsPrefixOf (W.contents output.old) (W.contents output.new) (report (C.line_rule check) ending text).said.lines)) }
+    ensures stopped { result ≢ Err RunError.Write
+        → OnErr result (IfSome (R.remaining input.old) (λ text.
+        AppendsPrefixOf (W.contents output.old) (W.contents output.new)
+        (report (C.line_rule check) ending text).said.lines)) }
     ensures whole { IsWhole (C.line_rule check) }
 {
     let mut line = Vec::new(alloc);
@@ -143,9 +148,11 @@ pub fn run<C: LineCheck, R: BufRead, W: Write>(
 
 /// Whether the line is the one that has to end the input, and nothing follows it.
 fn is_last<R: BufRead>(ending: Ending, line: &[u8], input: &mut R) -> Result<bool, RunError>
-    ensures known { IfOk result (λ last. IfSome (R.remaining input.old) (λ rest. last ≡ (is_end_word ending line.now && is_empty rest))) }
+    ensures known { IfOk result (λ last.
+        IfSome (R.remaining input.old) (λ rest. last ≡ (is_end_word ending line.now && is_empty rest))) }
     ensures kept { IfOk result (λ last. Consumes (R.remaining input.old) (R.remaining input.new) []) }
-    ensures spent { IfOk result (λ last. last ≡ true → OnSome (R.remaining input.old) (IsAtEnd (R.remaining input.new))) }
+    ensures spent { IfOk result (λ last.
+        last ≡ true → OnSome (R.remaining input.old) (IsAtEnd (R.remaining input.new))) }
 {
     if ending == Ending::EndLine && line == END.as_slice() {
         is_at_end(input)

@@ -1,10 +1,13 @@
 //! A stream of objects, as `git cat-file --batch` prints them.
 
 ghost use Rattle.std.specs.Prelude.{◌≡◌, ◌+◌, Some, false, IfOk, IfSome};
-ghost use Rattle.git_input.specs.Objects.{IsWholeStream, ObjectRule, ending_of, object_reach, object_report, object_rule, object_step};
+ghost use Rattle.git_input.specs.Objects.{IsWholeStream, ObjectRule, ending_of, object_reach};
+ghost use Rattle.git_input.specs.Objects.{object_report, object_rule, object_step};
 ghost use Rattle.git_input.specs.Promises.{Runs, FollowsRule, ReadsWithin, as_object, body_step};
-ghost use Rattle.git_input.specs.Spelled.{IsCleanStream, IsReportedInOrder, IsWellFormedOnlyIfSpelled};
-ghost use Rattle.git_input.specs.{Reports.IsCleanIff, Private.object_rule_leaves};
+ghost use Rattle.git_input.specs.Spelled.{IsCleanStream, IsReportedInOrder};
+ghost use Rattle.git_input.specs.Spelled.{IsWellFormedOnlyIfSpelled};
+ghost use Rattle.git_input.specs.Reports.{IsCleanIff};
+ghost use Rattle.git_input.specs.Private.{object_rule_leaves};
 
 use crate::header::{Header, Object, header_of};
 use crate::input::read_byte;
@@ -27,9 +30,11 @@ pub trait ObjectCheck: Copy {
         output: &mut W,
         buffers: &mut Buffers,
     ) -> Result<bool, Stop>
-        ensures gives { IfSome (R.remaining input.old) (λ text. FollowsRule (body_step (object_rule self) (as_object object.entry) text)
+        ensures gives { IfSome (R.remaining input.old) (λ text.
+            FollowsRule (body_step (object_rule self) (as_object object.entry) text)
             (R.remaining input.new) (W.contents output.old) (W.contents output.new) result) }
-        ensures within { ReadsWithin object.entry.size (R.remaining input.old) (R.remaining input.new) result };
+        ensures within { ReadsWithin object.entry.size
+            (R.remaining input.old) (R.remaining input.new) result };
 }
 
 /// The rule by which each line is the header of an object.
@@ -75,7 +80,8 @@ fn check_and_close<C: ObjectCheck, R: BufRead, W: Write>(
     ensures gives { IfSome (R.remaining input.old) (λ text.
         FollowsRule (object_step (C.object_rule check) (as_object object.entry) text)
         (R.remaining input.new) (W.contents output.old) (W.contents output.new) result) }
-    ensures within { ReadsWithin (object.entry.size + 1) (R.remaining input.old) (R.remaining input.new) result }
+    ensures within { ReadsWithin (object.entry.size + 1)
+        (R.remaining input.old) (R.remaining input.new) result }
 {
     let refused = check.check_object(object, input, output, buffers)?;
     match read_byte(input)? {
@@ -105,9 +111,11 @@ pub fn run<C: ObjectCheck, R: BufRead, W: Write>(
     input: &mut R,
     output: &mut W,
 ) -> Result<Verdict, RunError>
-    ensures runs { Runs (object_report (C.object_rule check) needs_end) object_reach (R.remaining input.old) (R.remaining input.new)
+    ensures runs { Runs (object_report (C.object_rule check) needs_end) object_reach
+        (R.remaining input.old) (R.remaining input.new)
         (W.contents output.old) (W.contents output.new) result }
-    ensures clean { IfOk result (λ verdict. IfSome (R.remaining input.old) (IsCleanIff (IsCleanStream (C.object_rule check) needs_end) verdict)) }
+    ensures clean { IfOk result (λ verdict.
+        IfSome (R.remaining input.old) (IsCleanIff (IsCleanStream (C.object_rule check) needs_end) verdict)) }
     ensures spelled { IsReportedInOrder (C.object_rule check) needs_end }
     ensures well_formed { IsWellFormedOnlyIfSpelled (C.object_rule check) needs_end }
     ensures whole { IsWholeStream (C.object_rule check) needs_end }

@@ -1,8 +1,10 @@
 //! The outcome of a run. Malformed input is a verdict, and not an error: `run` fails only if reading,
 //! writing or an allocation does. So one clause says for every input what is written and returned.
 
-ghost use Rattle.std.specs.{Prelude.{◌≡◌, Some}, Process.exit_status};
-ghost use Rattle.cli.specs.{Command.EndsAs, Messages.{Says, message}};
+ghost use Rattle.std.specs.Prelude.{◌≡◌, Some};
+ghost use Rattle.std.specs.Process.{exit_status};
+ghost use Rattle.cli.specs.Command.{EndsAs};
+ghost use Rattle.cli.specs.Messages.{Says, message};
 ghost use Rattle.git_input.specs.Ends.{end_of, malformed_text};
 
 use cli::fail;

@@ -1,6 +1,8 @@
 //! Parts of a line: the bytes before a separator, a number in digits, and the id of an object.
 
-ghost use Rattle.std.specs.{Prelude.◌≡◌, List.list_all, Option.option_map};
+ghost use Rattle.std.specs.Prelude.{◌≡◌};
+ghost use Rattle.std.specs.List.{list_all};
+ghost use Rattle.std.specs.Option.{option_map};
 ghost use Rattle.git_input.specs.Texts.{is_hex_digit, is_id, number_of, split_once};
 
 use memchr::memchr;

@@ -1,7 +1,10 @@
 -- What is found where a byte stands alone between the word and the name.
-use Rattle.std.proofs.Common.{◌≡◌, ℕ, ◌==◌, true, false, inl, inr, List, [], ◌∷◌, ◌++◌, Some, codes, arith}
-use Rattle.std.proofs.lemmas.{Bool.{cases_Bool, Decides.nat_tests}}
-use Rattle.std.specs.{Prelude.Contains, List.list_any}
+use Rattle.std.proofs.Common.{◌≡◌, ℕ, ◌==◌, true, false, inl, inr, List, [], ◌∷◌, ◌++◌, Some, codes}
+use Rattle.std.proofs.Common.{arith}
+use Rattle.std.proofs.lemmas.Bool.{cases_Bool}
+use Rattle.std.proofs.lemmas.Bool.Decides.{nat_tests}
+use Rattle.std.specs.Prelude.{Contains}
+use Rattle.std.specs.List.{list_any}
 use Rattle.gitmodules.specs.Sections.{is_blank, header_after_bracket, sections}
 use Rattle.gitmodules.specs.Spelled.{blanks, IsNamedAfterEachBlank}
 

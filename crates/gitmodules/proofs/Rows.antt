@@ -12,7 +12,8 @@ unreadable_at offset = (offset, None)
 
 -- names: of two sections, with escapes, and with brackets
 names_of_sections :
-    (sections 0 (codes "[submodule \"a/b\"]\n\tpath = x\n[submodule \"c\"]\n") ≡ name_at 0 (codes "a/b") ∷ name_at 28 (codes "c") ∷ [])
+    (sections 0 (codes "[submodule \"a/b\"]\n\tpath = x\n[submodule \"c\"]\n")
+    ≡ name_at 0 (codes "a/b") ∷ name_at 28 (codes "c") ∷ [])
     × (sections 0 (codes "[submodule \"a\\\"b\\\\c\"]") ≡ name_at 0 (codes "a\"b\\c") ∷ [])
     × (sections 0 (codes "[submodule \"a]b[c\"]") ≡ name_at 0 (codes "a]b[c") ∷ [])
 unfolding header_after_bracket
@@ -20,16 +21,21 @@ names_of_sections = (refl, refl, refl)
 
 -- the blanks, each alone and together, and words in other letters
 blanks_before_names :
-    (sections 0 (codes "[submodule\t\"a\"]\n[submodule\r\"b\"]") ≡ name_at 0 (codes "a") ∷ name_at 16 (codes "b") ∷ [])
-    × (sections 0 (codes "[Submodule \t\r\"a\"]\n[SUBMODULE\r\t \"b\"]") ≡ name_at 0 (codes "a") ∷ name_at 18 (codes "b") ∷ [])
+    (sections 0 (codes "[submodule\t\"a\"]\n[submodule\r\"b\"]")
+    ≡ name_at 0 (codes "a") ∷ name_at 16 (codes "b") ∷ [])
+    × (sections 0 (codes "[Submodule \t\r\"a\"]\n[SUBMODULE\r\t \"b\"]")
+    ≡ name_at 0 (codes "a") ∷ name_at 18 (codes "b") ∷ [])
 unfolding header_after_bracket
 blanks_before_names = (refl, refl)
 
 -- no blanks: NUL, a vertical tab, a form feed, DEL, and the blanks of other alphabets
 other_bytes_before_names :
-    (sections 0 (codes "[submodule" ++ 0x00 ∷ codes "\"a\"]\n[submodule \u{b}\"a\"]") ≡ unreadable_at 0 ∷ unreadable_at 16 ∷ [])
-    × (sections 0 (codes "[submodule\u{c}\"a\"]\n[submodule\u{7f}\"a\"]") ≡ unreadable_at 0 ∷ unreadable_at 16 ∷ [])
-    × (sections 0 (codes "[submodule" ++ 0x85 ∷ codes "\"a\"]\n[submodule" ++ 0xA0 ∷ codes "\"a\"]") ≡ unreadable_at 0 ∷ unreadable_at 16 ∷ [])
+    (sections 0 (codes "[submodule" ++ 0x00 ∷ codes "\"a\"]\n[submodule \u{b}\"a\"]")
+    ≡ unreadable_at 0 ∷ unreadable_at 16 ∷ [])
+    × (sections 0 (codes "[submodule\u{c}\"a\"]\n[submodule\u{7f}\"a\"]")
+    ≡ unreadable_at 0 ∷ unreadable_at 16 ∷ [])
+    × (sections 0 (codes "[submodule" ++ 0x85 ∷ codes "\"a\"]\n[submodule" ++ 0xA0 ∷ codes "\"a\"]")
+    ≡ unreadable_at 0 ∷ unreadable_at 16 ∷ [])
 unfolding header_after_bracket
 other_bytes_before_names = (refl, refl, refl)
 
@@ -50,9 +56,11 @@ other_sections = (refl, refl)
 -- sections that can't be read: the old form, no blank, no quotes, no end, and bytes that are in no name
 unreadable_sections :
     (sections 0 (codes "[submodule.a]\n[submodule") ≡ unreadable_at 0 ∷ unreadable_at 14 ∷ [])
-    × (sections 0 (codes "[submodule\"a\"]\n[submodule a]\n[submodule \n\"a\"]") ≡ unreadable_at 0 ∷ unreadable_at 15 ∷ unreadable_at 29 ∷ [])
+    × (sections 0 (codes "[submodule\"a\"]\n[submodule a]\n[submodule \n\"a\"]")
+    ≡ unreadable_at 0 ∷ unreadable_at 15 ∷ unreadable_at 29 ∷ [])
     × (sections 0 (codes "[submodule \"a\" ]\n[submodule \"a") ≡ unreadable_at 0 ∷ unreadable_at 17 ∷ [])
-    × (sections 0 (codes "[submodule \"a\nb\"]\n[submodule \"a\\\nb\"]") ≡ unreadable_at 0 ∷ unreadable_at 18 ∷ [])
+    × (sections 0 (codes "[submodule \"a\nb\"]\n[submodule \"a\\\nb\"]")
+    ≡ unreadable_at 0 ∷ unreadable_at 18 ∷ [])
     × (sections 0 (codes "[submodule \"a\\" ++ 0 ∷ codes "\"]") ≡ unreadable_at 0 ∷ [])
     × (sections 0 (codes "[submodule \"a" ++ 0xFF ∷ codes "\"]") ≡ unreadable_at 0 ∷ [])
 unfolding header_after_bracket

@@ -1,6 +1,7 @@
 -- What a header and a section of the program are in the terms of the rule.
 use Rattle.std.specs.Prelude.{ℕ, List, Option, Some, None}
-use Rattle.gitmodules.specs.declared.reader.{Header.Header, Section.Section}
+use Rattle.gitmodules.specs.declared.reader.Header.{Header}
+use Rattle.gitmodules.specs.declared.reader.Section.{Section}
 use Rattle.gitmodules.specs.declared.reader.Header.TheVariants as code
 use Rattle.gitmodules.specs.Sections as rule
 

@@ -1,9 +1,13 @@
--- The submodules' sections of a `.gitmodules` file: where each begins, and its name. Files and names are lists of bytes, and offsets are in
--- bytes. Each `[` that begins a submodule's section is one of them, wherever it is in the file, in a comment or a value too: what Git reads
--- from a `[` on depends on the bytes after it alone. So nothing else of the file has to be understood, and no section that Git sees is missed.
-use Rattle.std.specs.Prelude.{ℕ, ◌+◌, Bool, true, false, ◌==◌, ◌&&◌, ◌||◌, not, nat_le, if◌then◌else◌, List, [], ◌∷◌, ◌++◌, take, drop, codes, Option, Some}
+-- The submodules' sections of a `.gitmodules` file: where each begins, and its name.
+-- Files and names are lists of bytes, and offsets are in bytes.
+-- Each `[` that begins a submodule's section is one of them, wherever it is in the file,
+-- in a comment or a value too: what Git reads from a `[` on depends on the bytes after it alone.
+-- So nothing else of the file has to be understood, and no section that Git sees is missed.
+use Rattle.std.specs.Prelude.{ℕ, ◌+◌, Bool, true, false, ◌==◌, ◌&&◌, ◌||◌, not, nat_le}
+use Rattle.std.specs.Prelude.{if◌then◌else◌, List, [], ◌∷◌, ◌++◌, take, drop, codes, Option, Some}
 use Rattle.std.specs.Prelude.{None, option_map, map}
-use Rattle.std.specs.{Str.{byte, bytes_eq}, Char.to_ascii_lowercase}
+use Rattle.std.specs.Str.{byte, bytes_eq}
+use Rattle.std.specs.Char.{to_ascii_lowercase}
 
 -- ---- names
 
@@ -16,8 +20,9 @@ abbrev pub closed : List ℕ → Option (List ℕ)
 closed [] = None
 closed (b ∷ bytes) = if b == byte "]" then Some [] else None
 
--- The bytes before the `"]` that closes a name, with their backslashes, if a name that can be read begins here. A double quote after a
--- backslash does not close it. (`escaped`: the byte before is a backslash that escapes.)
+-- The bytes before the `"]` that closes a name, with their backslashes,
+-- if a name that can be read begins here. A double quote after a backslash does not close it.
+-- (`escaped`: the byte before is a backslash that escapes.)
 abbrev pub escaped_name : Bool → List ℕ → Option (List ℕ)
 escaped_name escaped [] = None
 escaped_name escaped (b ∷ bytes) =
@@ -28,7 +33,8 @@ escaped_name escaped (b ∷ bytes) =
 -- The name's own bytes: a backslash makes the byte after it one of them, and is none itself.
 abbrev pub unescaped : Bool → List ℕ → List ℕ
 unescaped escaped [] = []
-unescaped escaped (b ∷ bytes) = if not escaped && b == byte "\\" then unescaped true bytes else b ∷ unescaped false bytes
+unescaped escaped (b ∷ bytes) =
+    if not escaped && b == byte "\\" then unescaped true bytes else b ∷ unescaped false bytes
 
 -- ---- headers
 
@@ -73,7 +79,10 @@ header_after_word (b ∷ bytes) =
 
 -- What a `[` before these bytes begins. The word `submodule` may be in any letter case.
 unfoldable pub header_after_bracket : List ℕ → Header
-header_after_bracket bytes = if bytes_eq (map to_ascii_lowercase (take 9 bytes)) (codes "submodule") then header_after_word (drop 9 bytes) else Other
+header_after_bracket bytes =
+    if bytes_eq (map to_ascii_lowercase (take 9 bytes)) (codes "submodule")
+    then header_after_word (drop 9 bytes)
+    else Other
 
 -- ---- a file
 
@@ -83,7 +92,10 @@ begun offset (Named name) = (offset, Some name) ∷ []
 begun offset Unreadable = (offset, None) ∷ []
 begun offset Other = []
 
--- The submodules' sections of a file of which these bytes are left at this offset: of each `[` in them, in order.
+-- The submodules' sections of a file of which these bytes are left at this offset:
+-- of each `[` in them, in order.
 abbrev pub sections : ℕ → List ℕ → List (ℕ × Option (List ℕ))
 sections offset [] = []
-sections offset (b ∷ bytes) = if b == byte "[" then begun offset (header_after_bracket bytes) ++ sections (offset + 1) bytes else sections (offset + 1) bytes
+sections offset (b ∷ bytes) =
+    if b == byte "[" then begun offset (header_after_bracket bytes) ++ sections (offset + 1) bytes
+    else sections (offset + 1) bytes

@@ -1,7 +1,11 @@
--- How a section of a submodule is spelled in a file, and that the sections found are those that are spelled, whatever is before and after them.
+-- How a section of a submodule is spelled in a file,
+-- and that the sections found are those that are spelled, whatever is before and after them.
 -- What may be in a name, a blank and a word is said here again, so that a slip in one of the two shows.
-use Rattle.std.specs.Prelude.{◌≡◌, ◌≢◌, ◌↔◌, ◌⊎◌, ℕ, ◌<◌, Bool, true, false, ◌==◌, List, [], ◌∷◌, ◌++◌, codes, map, length, Option, Some, Contains}
-use Rattle.std.specs.{Char.to_ascii_lowercase, List.{AllByRecursion, AllPairs, list_any}, Str.byte}
+use Rattle.std.specs.Prelude.{◌≡◌, ◌≢◌, ◌↔◌, ◌⊎◌, ℕ, ◌<◌, Bool, true, false, ◌==◌, List, [], ◌∷◌}
+use Rattle.std.specs.Prelude.{◌++◌, codes, map, length, Option, Some, Contains}
+use Rattle.std.specs.Char.{to_ascii_lowercase}
+use Rattle.std.specs.List.{AllByRecursion, AllPairs, list_any}
+use Rattle.std.specs.Str.{byte}
 use Rattle.gitmodules.specs.Sections.{sections}
 
 -- a byte of a name, and whether a backslash is before it
@@ -55,7 +59,8 @@ pub record SectionAt (file : List ℕ) (offset : ℕ) (name : List ℕ) : Type 0
 abbrev pub ends_or_goes_on : List ℕ
 ends_or_goes_on = codes "]-0123456789ABCDEFGHIJKLMNOPQRSTUVWXYZabcdefghijklmnopqrstuvwxyz"
 
--- the bytes begin with one of these, so the word `submodule` before them is a section without a name, or part of another word
+-- the bytes begin with one of these,
+-- so the word `submodule` before them is a section without a name, or part of another word
 abbrev pub is_other : List ℕ → Bool
 is_other [] = false
 is_other (b ∷ bytes) = list_any (λ c. b == c) ends_or_goes_on
@@ -70,26 +75,35 @@ pub record HeaderAt (file : List ℕ) (offset : ℕ) : Type 0 where
   pub is_offset : length before ≡ offset
   pub is_not_other : is_other after ≡ false
 
--- a section that is spelled out is found: its name is among the sections of each file that has it, at its offset
+-- a section that is spelled out is found:
+-- its name is among the sections of each file that has it, at its offset
 abbrev pub IsEachSectionFound : Type 0
-IsEachSectionFound = (before after word blanks : List ℕ) (name : List SpelledByte) → IsSection word blanks name
-    → Contains (sections 0 (before ++ section_bytes word blanks name ++ after)) (length before, Some (name_of name))
+IsEachSectionFound =
+    (before after word blanks : List ℕ) (name : List SpelledByte) → IsSection word blanks name
+    → Contains (sections 0 (before ++ section_bytes word blanks name ++ after))
+    (length before, Some (name_of name))
 
 -- each name that is found is spelled out at its offset
 abbrev pub IsEachNameSpelled : Type 0
-IsEachNameSpelled = (file : List ℕ) (offset : ℕ) (name : List ℕ) → Contains (sections 0 file) (offset, Some name) → SectionAt file offset name
+IsEachNameSpelled =
+    (file : List ℕ) (offset : ℕ) (name : List ℕ)
+    → Contains (sections 0 file) (offset, Some name) → SectionAt file offset name
 
 -- the offsets that are given are those of the headers, whether they can be read or not
 abbrev pub IsEachHeaderGiven : Type 0
-IsEachHeaderGiven = (file : List ℕ) (offset : ℕ) → HeaderAt file offset ↔ ((name : Option (List ℕ)) × Contains (sections 0 file) (offset, name))
+IsEachHeaderGiven =
+    (file : List ℕ) (offset : ℕ)
+    → HeaderAt file offset ↔ ((name : Option (List ℕ)) × Contains (sections 0 file) (offset, name))
 
 -- the three blanks
 abbrev pub blanks : List ℕ
 blanks = 0x20 ∷ 0x09 ∷ 0x0D ∷ []
 
--- A byte alone between the word and the name is one of these, or else there is no section of the name: so Git reads each byte (tests/headers).
+-- A byte alone between the word and the name is one of these, or else there is no section of the name:
+-- so Git reads each byte (tests/headers).
 abbrev pub IsNamedAfterEachBlank : Type 0
-IsNamedAfterEachBlank = (b : ℕ) → Contains (sections 0 (codes "[submodule" ++ b ∷ codes "\"x\"]")) (0, Some (codes "x"))
+IsNamedAfterEachBlank =
+    (b : ℕ) → Contains (sections 0 (codes "[submodule" ++ b ∷ codes "\"x\"]")) (0, Some (codes "x"))
     ↔ (list_any (λ c. b == c) blanks ≡ true)
 
 -- each offset is given once, in order

@@ -1,9 +1,12 @@
 //! The sections of submodules, in the order of the file.
 
-ghost use Rattle.std.specs.Prelude.{◌≡◌, ◌+◌, ◌<◌, ◌≤◌, ◌++◌, [], ◌∷◌, MatchOption, drop, length, ⊤};
-ghost use Rattle.gitmodules.specs.Sections.{begun, header_after_bracket, header_after_word, sections, without_blanks};
+ghost use Rattle.std.specs.Prelude.{◌≡◌, ◌+◌, ◌<◌, ◌≤◌, ◌++◌, [], ◌∷◌, MatchOption, drop, length};
+ghost use Rattle.std.specs.Prelude.{⊤};
+ghost use Rattle.gitmodules.specs.Sections.{begun, header_after_bracket, header_after_word};
+ghost use Rattle.gitmodules.specs.Sections.{sections, without_blanks};
 ghost use Rattle.gitmodules.specs.Headers.{header_of};
-ghost use Rattle.gitmodules.specs.Spelled.{IsEachHeaderGiven, IsEachNameSpelled, IsEachSectionFound, IsInOrder, IsNamedAfterEachBlank};
+ghost use Rattle.gitmodules.specs.Spelled.{IsEachHeaderGiven, IsEachNameSpelled};
+ghost use Rattle.gitmodules.specs.Spelled.{IsEachSectionFound, IsInOrder, IsNamedAfterEachBlank};
 
 use crate::escaped::EscapedName;
 use memchr::memchr;
@@ -122,10 +125,12 @@ fn section_from(file: &[u8], start: usize) -> Option<Section<'_>>
 
 /// The offset of the first `[` from this offset on.
 fn bracket_from(file: &[u8], start: usize) -> Option<usize>
-    ensures { let left = sections start (drop start file.now) in MatchOption result
+    ensures { let left = sections start (drop start file.now) in
+        MatchOption result
         (left ≡ [])
         (λ offset. (start ≤ offset) × (offset < length file.now)
-        × (left ≡ begun offset (header_after_bracket (drop (offset + 1) file.now)) ++ sections (offset + 1) (drop (offset + 1) file.now))) }
+        × (left ≡ begun offset (header_after_bracket (drop (offset + 1) file.now))
+        ++ sections (offset + 1) (drop (offset + 1) file.now))) }
 {
     let count = memchr(b'[', file.get(start..)?)?;
     Some(start + count)

@@ -1,13 +1,15 @@
 -- Single bytes, and how a text begins, ends and what it holds. A text is a list of bytes.
-use Rattle.std.specs.Prelude.{ℕ, ◌+◌, Bool, true, false, ◌==◌, ◌&&◌, ◌||◌, nat_lt, nat_le, nat_eq, if◌then◌else◌, List, [], ◌∷◌, map, codes}
-use Rattle.std.specs.{List.{list_any, starts_with, ends_with}, Str.byte}
+use Rattle.std.specs.Prelude.{ℕ, ◌+◌, Bool, true, false, ◌==◌, ◌&&◌, ◌||◌, nat_lt, nat_le, nat_eq}
+use Rattle.std.specs.Prelude.{if◌then◌else◌, List, [], ◌∷◌, map, codes}
+use Rattle.std.specs.List.{list_any, starts_with, ends_with}
+use Rattle.std.specs.Str.{byte}
 
 -- the byte is one of the set
 abbrev pub is_among : List ℕ → ℕ → Bool
 is_among set b = list_any (λ c. b == c) set
 
--- A bad byte of reference names: a control byte, DEL, or one of these. (`*` has a fault of its own.) `scripts/bytes` writes
--- again what is derived from this.
+-- A bad byte of reference names: a control byte, DEL, or one of these. (`*` has a fault of its own.)
+-- `scripts/bytes` writes again what is derived from this.
 unfoldable pub is_bad : ℕ → Bool
 is_bad b = nat_lt b 0x20 || (b == 0x7F || is_among (codes " :?[\\^~") b)
 

@@ -1,18 +1,31 @@
 -- Path components: the twelve conditions under which a name is refused, in their order.
-use Rattle.std.specs.Prelude.{ℕ, Bool, true, ◌==◌, ◌&&◌, ◌||◌, not, is_none, is_some, List, [], ◌∷◌, slice_index, codes, Option}
-use Rattle.std.specs.{List.list_all, Str.{byte, bytes_eq}}
-use Rattle.gix_validate.specs.declared.path.ComponentError.TheVariants.{Empty, PathSeparator, WindowsPathPrefix, WindowsReservedName}
-use Rattle.gix_validate.specs.declared.path.ComponentError.TheVariants.{WindowsIllegalCharacter, DotGitDir, SymlinkedGitModules, Relative}
-use Rattle.gix_validate.specs.declared.path.{ComponentError.ComponentError, ComponentMode.ComponentMode, ComponentOptions.ComponentOptions}
-use Rattle.gix_validate.specs.{Bytes.{is_empty, is_among, lower}, Faults.{when, first_of}, Units.first_unit_len, Hfs.hfs_form}
-use Rattle.gix_validate.specs.{Ntfs.{ntfs_form, is_git_form, is_modules_form}, Windows.{is_device, is_illegal}}
+use Rattle.std.specs.Prelude.{ℕ, Bool, true, ◌==◌, ◌&&◌, ◌||◌, not, is_none, is_some, List, [], ◌∷◌}
+use Rattle.std.specs.Prelude.{slice_index, codes, Option}
+use Rattle.std.specs.List.{list_all}
+use Rattle.std.specs.Str.{byte, bytes_eq}
+use Rattle.gix_validate.specs.declared.path.ComponentError.TheVariants.{Empty, PathSeparator}
+use Rattle.gix_validate.specs.declared.path.ComponentError.TheVariants.{WindowsPathPrefix}
+use Rattle.gix_validate.specs.declared.path.ComponentError.TheVariants.{WindowsReservedName}
+use Rattle.gix_validate.specs.declared.path.ComponentError.TheVariants.{WindowsIllegalCharacter}
+use Rattle.gix_validate.specs.declared.path.ComponentError.TheVariants.{DotGitDir}
+use Rattle.gix_validate.specs.declared.path.ComponentError.TheVariants.{SymlinkedGitModules}
+use Rattle.gix_validate.specs.declared.path.ComponentError.TheVariants.{Relative}
+use Rattle.gix_validate.specs.declared.path.ComponentError.{ComponentError}
+use Rattle.gix_validate.specs.declared.path.ComponentMode.{ComponentMode}
+use Rattle.gix_validate.specs.declared.path.ComponentOptions.{ComponentOptions}
+use Rattle.gix_validate.specs.Bytes.{is_empty, is_among, lower}
+use Rattle.gix_validate.specs.Faults.{when, first_of}
+use Rattle.gix_validate.specs.Units.{first_unit_len}
+use Rattle.gix_validate.specs.Hfs.{hfs_form}
+use Rattle.gix_validate.specs.Ntfs.{ntfs_form, is_git_form, is_modules_form}
+use Rattle.gix_validate.specs.Windows.{is_device, is_illegal}
 
 -- every switch on, which is the default
 abbrev pub all_protections : ComponentOptions
 all_protections = record { protect_windows = true; protect_hfs = true; protect_ntfs = true }
 
--- The conditions, a line each, under options, and a mode if there is one. (The one mode is that of a symlink. After the
--- last byte `slice_index` finds 0, which is not a colon.)
+-- The conditions, a line each, under options, and a mode if there is one. (The one mode is that of a symlink.
+-- After the last byte `slice_index` finds 0, which is not a colon.)
 unfoldable pub conditions : ComponentOptions → Option ComponentMode → List ℕ → List (Option ComponentError)
 conditions options mode x =
     let windows = options.protect_windows in
@@ -30,7 +43,8 @@ conditions options mode x =
     ∷ when (windows && ntfs && is_device x) WindowsReservedName
     ∷ when (windows && ntfs && is_illegal x) WindowsIllegalCharacter
     ∷ when (not hfs && not ntfs && bytes_eq (lower x) (codes ".git")) DotGitDir
-    ∷ when (not hfs && not ntfs && symlink && bytes_eq (lower x) (codes ".gitmodules")) SymlinkedGitModules ∷ []
+    ∷ when (not hfs && not ntfs && symlink && bytes_eq (lower x) (codes ".gitmodules")) SymlinkedGitModules
+    ∷ []
 
 -- The fault of a component: the first condition that holds.
 unfoldable pub fault_of : ComponentOptions → Option ComponentMode → List ℕ → Option ComponentError

@@ -1,9 +1,18 @@
 -- The laws of path components: what else holds of an accepted name, what never changes an answer, and what
 -- forms and units are in other words.
-use Rattle.std.specs.{Prelude.{◌≡◌, ◌≢◌, ℕ, false, not, IsTrue, List, [], ◌∷◌, ◌++◌, codes, Option, None}, List.{concat, filter}, Str.byte}
+use Rattle.std.specs.Prelude.{◌≡◌, ◌≢◌, ℕ, false, not, IsTrue, List, [], ◌∷◌, ◌++◌, codes, Option}
+use Rattle.std.specs.Prelude.{None}
+use Rattle.std.specs.List.{concat, filter}
+use Rattle.std.specs.Str.{byte}
 use Rattle.bstr.specs.Utf8.{decoded}
-use Rattle.gix_validate.specs.{declared.path.{ComponentMode.ComponentMode, ComponentOptions.ComponentOptions}, Bytes.lower}
-use Rattle.gix_validate.specs.{Pieces.has_no_slash, Units.{first_unit_len, units}, Hfs.{hfs_form, is_ignored_unit}, Windows.is_device, Component.fault_of}
+use Rattle.gix_validate.specs.declared.path.ComponentMode.{ComponentMode}
+use Rattle.gix_validate.specs.declared.path.ComponentOptions.{ComponentOptions}
+use Rattle.gix_validate.specs.Bytes.{lower}
+use Rattle.gix_validate.specs.Pieces.{has_no_slash}
+use Rattle.gix_validate.specs.Units.{first_unit_len, units}
+use Rattle.gix_validate.specs.Hfs.{hfs_form, is_ignored_unit}
+use Rattle.gix_validate.specs.Windows.{is_device}
+use Rattle.gix_validate.specs.Component.{fault_of}
 
 -- every switch off
 abbrev pub no_protections : ComponentOptions
@@ -18,7 +27,8 @@ pub record HasOnlySwitchesOf (fewer options : ComponentOptions) : Type 0 where
 -- the name has no fault under any part of the switches, with the mode and without it
 abbrev pub IsValidUnderFewerSwitches : ComponentOptions → Option ComponentMode → List ℕ → Type 0
 IsValidUnderFewerSwitches options mode x =
-    (fewer : ComponentOptions) → HasOnlySwitchesOf fewer options → (fault_of fewer mode x ≡ None) × (fault_of fewer None x ≡ None)
+    (fewer : ComponentOptions) → HasOnlySwitchesOf fewer options
+    → (fault_of fewer mode x ≡ None) × (fault_of fewer None x ≡ None)
 
 -- the name and the same with small ASCII letters have the same fault, or both have none
 abbrev pub FaultIgnoresCase : ComponentOptions → Option ComponentMode → List ℕ → Type 0

@@ -1,6 +1,8 @@
 -- How a table of faults is read: which of its lines apply, and which of them comes first.
-use Rattle.std.specs.Prelude.{◌≡◌, ℕ, zero, suc, Bool, cond, List, [], ◌∷◌, Option, Some, None, Result, MatchResult}
-use Rattle.bstr.specs.{declared.bstr.BStr.BStr, BStr.bstr_bytes}
+use Rattle.std.specs.Prelude.{◌≡◌, ℕ, zero, suc, Bool, cond, List, [], ◌∷◌, Option, Some, None}
+use Rattle.std.specs.Prelude.{Result, MatchResult}
+use Rattle.bstr.specs.declared.bstr.BStr.{BStr}
+use Rattle.bstr.specs.BStr.{bstr_bytes}
 
 -- a line of a table: the fault, where the test passes
 abbrev pub when : {A : Type 0} → Bool → A → Option A

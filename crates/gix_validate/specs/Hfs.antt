@@ -11,8 +11,8 @@ is_ignored a b c =
     || a == 0xE2 && b == 0x81 && is_within (0xAA, 0xAF) c
     || a == 0xEF && b == 0xBB && c == 0xBF
 
--- The text without the ignored characters in it. All are deleted at once: a character that only the deletion makes
--- isn't deleted in turn.
+-- The text without the ignored characters in it.
+-- All are deleted at once: a character that only the deletion makes isn't deleted in turn.
 unfoldable pub hfs_form : List ℕ → List ℕ
 hfs_form [] = []
 hfs_form (a ∷ []) = a ∷ []

@@ -1,5 +1,7 @@
 -- The pieces of a text, which are the texts between its slashes, and the names in a buffer.
-use Rattle.std.specs.{Prelude.{ℕ, Bool, ◌==◌, not, if◌then◌else◌, List, [], ◌∷◌}, List.{slice_split, join_with_byte, list_all}, Str.byte}
+use Rattle.std.specs.Prelude.{ℕ, Bool, ◌==◌, not, if◌then◌else◌, List, [], ◌∷◌}
+use Rattle.std.specs.List.{slice_split, join_with_byte, list_all}
+use Rattle.std.specs.Str.{byte}
 use Rattle.gix_validate.specs.Bytes.{is_empty}
 
 abbrev pub is_slash : ℕ → Bool

@@ -1,6 +1,7 @@
 -- What an error prints.
 use Rattle.std.specs.Prelude.{ℕ, List, [], ◌++◌, Option, Some, None, option_map}
-use Rattle.gix_validate.specs.{declared.text.Text.Text, Quoted.quoted}
+use Rattle.gix_validate.specs.declared.text.Text.{Text}
+use Rattle.gix_validate.specs.Quoted.{quoted}
 
 -- bytes in quotes, if there are any
 abbrev pub quoted_if_any : Option (List ℕ) → List ℕ

@@ -1,12 +1,23 @@
 -- Reference names: which texts are a partial, a full or a branch name, and the fault of those that aren't.
-use Rattle.std.specs.Prelude.{ℕ, Bool, ◌==◌, ◌&&◌, ◌||◌, not, nat_le, List, [], ◌∷◌, ◌++◌, codes, Option, option_map}
-use Rattle.std.specs.{List.{list_all, list_any}, Str.{byte, bytes_eq}}
-use Rattle.gix_validate.specs.{declared.tag.NameError.{NameError as TagError}, Tag.{fault_of, is_tag_name}}
+use Rattle.std.specs.Prelude.{ℕ, Bool, ◌==◌, ◌&&◌, ◌||◌, not, nat_le, List, [], ◌∷◌, ◌++◌, codes}
+use Rattle.std.specs.Prelude.{Option, option_map}
+use Rattle.std.specs.List.{list_all, list_any}
+use Rattle.std.specs.Str.{byte, bytes_eq}
+use Rattle.gix_validate.specs.declared.tag.NameError.{NameError as TagError}
+use Rattle.gix_validate.specs.Tag.{fault_of, is_tag_name}
 use Rattle.gix_validate.specs.declared.tag.NameError.TheVariants as tag
-use Rattle.gix_validate.specs.declared.reference.NameError.TheVariants.{InvalidByte, StartsWithSlash, RepeatedSlash, RepeatedDot, LockFileSuffix}
-use Rattle.gix_validate.specs.declared.reference.NameError.TheVariants.{ReflogPortion, Asterisk, StartsWithDot, EndsWithDot, EndsWithSlash, Empty}
+use Rattle.gix_validate.specs.declared.reference.NameError.TheVariants.{InvalidByte}
+use Rattle.gix_validate.specs.declared.reference.NameError.TheVariants.{StartsWithSlash}
+use Rattle.gix_validate.specs.declared.reference.NameError.TheVariants.{RepeatedSlash, RepeatedDot}
+use Rattle.gix_validate.specs.declared.reference.NameError.TheVariants.{LockFileSuffix}
+use Rattle.gix_validate.specs.declared.reference.NameError.TheVariants.{ReflogPortion, Asterisk}
+use Rattle.gix_validate.specs.declared.reference.NameError.TheVariants.{StartsWithDot, EndsWithDot}
+use Rattle.gix_validate.specs.declared.reference.NameError.TheVariants.{EndsWithSlash, Empty}
 use Rattle.gix_validate.specs.declared.reference.NameError.TheVariants.{SomeLowercase, Reserved}
-use Rattle.gix_validate.specs.{declared.reference.NameError.NameError, Faults.{when, ◌orelse◌}, Pieces.is_slash, Quoted.quoted}
+use Rattle.gix_validate.specs.declared.reference.NameError.{NameError}
+use Rattle.gix_validate.specs.Faults.{when, ◌orelse◌}
+use Rattle.gix_validate.specs.Pieces.{is_slash}
+use Rattle.gix_validate.specs.Quoted.{quoted}
 
 -- a byte of a name that stands alone, as `HEAD` or `FETCH_HEAD` does
 abbrev pub is_standalone_byte : ℕ → Bool
@@ -48,15 +59,18 @@ carried tag.Empty = Empty
 
 -- The fault of a text as a partial name: that of the tag name, or else that it is `@`.
 unfoldable pub partial_fault_of : List ℕ → Option NameError
-partial_fault_of x = option_map carried (fault_of x) orelse when (bytes_eq x (codes "@")) (reserved (codes "@"))
+partial_fault_of x =
+    option_map carried (fault_of x) orelse when (bytes_eq x (codes "@")) (reserved (codes "@"))
 
--- The fault of a text as a full name: that of the partial name, or else that it has no slash and a byte that may not stand alone.
+-- The fault of a text as a full name: that of the partial name, or else that it has no slash
+-- and a byte that may not stand alone.
 unfoldable pub full_fault_of : List ℕ → Option NameError
 full_fault_of x = partial_fault_of x orelse when (not (has_slash_or_stands_alone x)) SomeLowercase
 
 -- The fault of a text as the name of a branch: that of the full name, or else that it is `refs/heads/HEAD`.
 unfoldable pub branch_fault_of : List ℕ → Option NameError
-branch_fault_of x = full_fault_of x orelse when (bytes_eq x (codes "refs/heads/HEAD")) (reserved (codes "refs/heads/HEAD"))
+branch_fault_of x =
+    full_fault_of x orelse when (bytes_eq x (codes "refs/heads/HEAD")) (reserved (codes "refs/heads/HEAD"))
 
 -- what an error prints
 abbrev pub text_of : NameError → List ℕ

@@ -1,7 +1,12 @@
 -- The sanitised text: what a text is repaired to, piece by piece, so that it is a partial name.
-use Rattle.std.specs.Prelude.{◌≡◌, ◌≢◌, ◌⊎◌, ℕ, ◌-◌, Bool, true, false, ◌==◌, ◌&&◌, ◌||◌, not, IsTrue, if◌then◌else◌, List, [], ◌∷◌, ◌++◌, length}
-use Rattle.std.specs.{Prelude.{take, map, filter, codes, Option, Some, None, ⊤}, List.list_all, Str.{byte, bytes_eq}}
-use Rattle.gix_validate.specs.{Bytes.{is_bad, is_empty, ends}, Pieces.{pieces, joined}, Tag.is_good_piece}
+use Rattle.std.specs.Prelude.{◌≡◌, ◌≢◌, ◌⊎◌, ℕ, ◌-◌, Bool, true, false, ◌==◌, ◌&&◌, ◌||◌, not}
+use Rattle.std.specs.Prelude.{IsTrue, if◌then◌else◌, List, [], ◌∷◌, ◌++◌, length, take, map, filter}
+use Rattle.std.specs.Prelude.{codes, Option, Some, None, ⊤}
+use Rattle.std.specs.List.{list_all}
+use Rattle.std.specs.Str.{byte, bytes_eq}
+use Rattle.gix_validate.specs.Bytes.{is_bad, is_empty, ends}
+use Rattle.gix_validate.specs.Pieces.{pieces, joined}
+use Rattle.gix_validate.specs.Tag.{is_good_piece}
 
 -- A run of a piece: all the dots in a row at one offset, or one other byte.
 pub data Run : Type 0 where
@@ -88,14 +93,15 @@ dash_last_of [] = []
 dash_last_of (p ∷ []) = dash_last p ∷ []
 dash_last_of (p ∷ q ∷ ps) = p ∷ dash_last_of (q ∷ ps)
 
--- Of the first pieces those that may be in a tag name are the second ones, one for one. Only the last may have a dash for its last byte.
+-- Of the first pieces those that may be in a tag name are the second ones, one for one.
+-- Only the last may have a dash for its last byte.
 abbrev pub KeepsGood : List (List ℕ) → List (List ℕ) → Type 0
 KeepsGood (p ∷ []) (t ∷ []) = IsTrue (is_good_piece p) → (t ≡ p) ⊎ (t ≡ dash_last p)
 KeepsGood (p ∷ q ∷ ps) (t ∷ ts) = (IsTrue (is_good_piece p) → t ≡ p) × KeepsGood (q ∷ ps) ts
 KeepsGood ps ts = ⊤
 
--- Each nonempty piece of x gives one nonempty piece of t, in order: the mended piece, and itself if it may be in a tag name. Only the
--- last byte of t may have become a dash besides.
+-- Each nonempty piece of x gives one nonempty piece of t, in order: the mended piece,
+-- and itself if it may be in a tag name. Only the last byte of t may have become a dash besides.
 pub record KeepsPieces (x t : List ℕ) : Type 0 where
   pub as_many : length (pieces t) ≡ length (nonempty_pieces x)
   pub none_empty : IsTrue (list_all (λ p. not (is_empty p)) (pieces t))

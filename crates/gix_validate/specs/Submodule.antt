@@ -1,7 +1,10 @@
 -- Submodule names: which texts are one, and the fault of those that aren't.
-use Rattle.std.specs.{Prelude.{ℕ, Bool, ◌==◌, ◌&&◌, ◌||◌, not, List, [], ◌∷◌, codes, Option}, List.{list_any, slice_split}}
+use Rattle.std.specs.Prelude.{ℕ, Bool, ◌==◌, ◌&&◌, ◌||◌, not, List, [], ◌∷◌, codes, Option}
+use Rattle.std.specs.List.{list_any, slice_split}
 use Rattle.std.specs.Str.{byte, bytes_eq}
-use Rattle.gix_validate.specs.{declared.submodule.NameError.{NameError, TheVariants.{Empty, ParentComponent}}, Bytes.is_empty}
+use Rattle.gix_validate.specs.declared.submodule.NameError.{NameError}
+use Rattle.gix_validate.specs.declared.submodule.NameError.TheVariants.{Empty, ParentComponent}
+use Rattle.gix_validate.specs.Bytes.{is_empty}
 use Rattle.gix_validate.specs.Faults.{when, first_of}
 
 -- a byte that ends a part: a slash of either kind

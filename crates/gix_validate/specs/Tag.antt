@@ -1,10 +1,18 @@
 -- Tag names: which texts are one, and the fault of those that aren't.
-use Rattle.std.specs.Prelude.{ℕ, ◌+◌, ◌-◌, Bool, ◌==◌, ◌&&◌, ◌||◌, not, List, [], ◌∷◌, ◌++◌, length, take, drop, slice_index, codes, Option, Some, None, option_map}
-use Rattle.std.specs.{List.{list_all, list_any}, Str.{byte, bytes_eq}}
-use Rattle.gix_validate.specs.declared.tag.NameError.TheVariants.{InvalidByte, StartsWithSlash, RepeatedSlash, RepeatedDot, LockFileSuffix}
-use Rattle.gix_validate.specs.declared.tag.NameError.TheVariants.{ReflogPortion, Asterisk, StartsWithDot, EndsWithDot, EndsWithSlash, Empty}
-use Rattle.gix_validate.specs.{declared.tag.NameError.NameError, Bytes.{is_bad, is_empty, begins, ends, holds}, Pieces.pieces}
-use Rattle.gix_validate.specs.{Faults.{when, first_of, at_first_offset}, Quoted.quoted}
+use Rattle.std.specs.Prelude.{ℕ, ◌+◌, ◌-◌, Bool, ◌==◌, ◌&&◌, ◌||◌, not, List, [], ◌∷◌, ◌++◌, length}
+use Rattle.std.specs.Prelude.{take, drop, slice_index, codes, Option, Some, None, option_map}
+use Rattle.std.specs.List.{list_all, list_any}
+use Rattle.std.specs.Str.{byte, bytes_eq}
+use Rattle.gix_validate.specs.declared.tag.NameError.TheVariants.{InvalidByte, StartsWithSlash}
+use Rattle.gix_validate.specs.declared.tag.NameError.TheVariants.{RepeatedSlash, RepeatedDot}
+use Rattle.gix_validate.specs.declared.tag.NameError.TheVariants.{LockFileSuffix, ReflogPortion}
+use Rattle.gix_validate.specs.declared.tag.NameError.TheVariants.{Asterisk, StartsWithDot}
+use Rattle.gix_validate.specs.declared.tag.NameError.TheVariants.{EndsWithDot, EndsWithSlash, Empty}
+use Rattle.gix_validate.specs.declared.tag.NameError.{NameError}
+use Rattle.gix_validate.specs.Bytes.{is_bad, is_empty, begins, ends, holds}
+use Rattle.gix_validate.specs.Pieces.{pieces}
+use Rattle.gix_validate.specs.Faults.{when, first_of, at_first_offset}
+use Rattle.gix_validate.specs.Quoted.{quoted}
 
 -- The piece may be in a tag name.
 unfoldable pub is_good_piece : List ℕ → Bool
@@ -31,7 +39,8 @@ fault_table before b after =
     ∷ when (b == byte "{" && ends before (codes "@")) ReflogPortion
     ∷ when (b == byte "/" && ends before (codes "/")) RepeatedSlash
     ∷ when (b == byte "/" && ends before (codes ".lock")) LockFileSuffix
-    ∷ when (is_empty after && ends (before ++ b ∷ []) (codes ".lock") && not (bytes_eq (before ++ b ∷ []) (codes ".lock"))) LockFileSuffix
+    ∷ when (is_empty after && ends (before ++ b ∷ []) (codes ".lock")
+    && not (bytes_eq (before ++ b ∷ []) (codes ".lock"))) LockFileSuffix
     ∷ []
 
 -- the lines of the table at offset i of x, where x has that offset
@@ -73,9 +82,11 @@ fault_offset_of x = option_map Fault.offset (first_fault x)
 
 -- What an error prints.
 abbrev pub text_of : NameError → List ℕ
-text_of (InvalidByte b) = codes "A ref must not contain invalid bytes or ascii control characters: " ++ quoted (b ∷ [])
+text_of (InvalidByte b) =
+    codes "A ref must not contain invalid bytes or ascii control characters: " ++ quoted (b ∷ [])
 text_of StartsWithSlash = codes "A reference name must not start with a slash '/'"
-text_of RepeatedSlash = codes "Multiple slashes in a row are not allowed as they may change the reference's meaning"
+text_of RepeatedSlash =
+    codes "Multiple slashes in a row are not allowed as they may change the reference's meaning"
 text_of RepeatedDot = codes "A ref must not contain '..' as it may be mistaken for a range"
 text_of LockFileSuffix = codes "A ref must not end with '.lock'"
 text_of ReflogPortion = codes "A ref must not contain '@{' which is a part of a ref-log"

@@ -1,11 +1,13 @@
--- The laws of tag names: their rule leaves nothing open. Faults at one offset need no order, and slashes split a
--- name in one way.
-use Rattle.std.specs.{Prelude.{◌≡◌, ◌≢◌, ℕ, ◌≤◌, ◌<◌, IsTrue, is_some, count_by, List, [], length}, List.list_all}
-use Rattle.gix_validate.specs.{Pieces.{pieces, joined, has_no_slash}, Tag.faults_at}
+-- The laws of tag names: their rule leaves nothing open.
+-- Faults at one offset need no order, and slashes split a name in one way.
+use Rattle.std.specs.Prelude.{◌≡◌, ◌≢◌, ℕ, ◌≤◌, ◌<◌, IsTrue, is_some, count_by, List, [], length}
+use Rattle.std.specs.List.{list_all}
+use Rattle.gix_validate.specs.Pieces.{pieces, joined, has_no_slash}
+use Rattle.gix_validate.specs.Tag.{faults_at}
 
--- At each offset of the text at most one line of the table of faults applies, so the order of its lines doesn't
--- matter. (A table without lines has this law too. That no line is missing is said by the clauses `answer` and
--- `grammar` of `tag::name` together.)
+-- At each offset of the text at most one line of the table of faults applies,
+-- so the order of its lines doesn't matter. (A table without lines has this law too.
+-- That no line is missing is said by the clauses `answer` and `grammar` of `tag::name` together.)
 abbrev pub HasAtMostOneFaultPerOffset : List ℕ → Type 0
 HasAtMostOneFaultPerOffset x = (i : ℕ) → i < length x → count_by is_some (faults_at x i) ≤ 1
 

@@ -1,5 +1,6 @@
 -- How bytes read as UTF-8: Unicode's Table 3-7 of the whole sequences, and the units of a text by it.
-use Rattle.std.specs.Prelude.{ℕ, zero, suc, ◌+◌, Bool, ◌==◌, ◌&&◌, nat_le, if◌then◌else◌, max, List, [], ◌∷◌, length, take, drop, Option, Some, None, unwrap_or}
+use Rattle.std.specs.Prelude.{ℕ, zero, suc, ◌+◌, Bool, ◌==◌, ◌&&◌, nat_le, if◌then◌else◌, max, List}
+use Rattle.std.specs.Prelude.{[], ◌∷◌, length, take, drop, Option, Some, None, unwrap_or}
 
 -- the byte is at least the first of the two and at most the second
 abbrev pub is_within : ℕ × ℕ → ℕ → Bool
@@ -43,7 +44,8 @@ first_unit_len x = unwrap_or (whole_len whole_sequences x) (max 1 (begun_len who
 unfoldable pub units_within : ℕ → List ℕ → List (List ℕ)
 units_within zero x = []
 units_within (suc n) [] = []
-units_within (suc n) (b ∷ x) = take (first_unit_len (b ∷ x)) (b ∷ x) ∷ units_within n (drop (first_unit_len (b ∷ x)) (b ∷ x))
+units_within (suc n) (b ∷ x) =
+    take (first_unit_len (b ∷ x)) (b ∷ x) ∷ units_within n (drop (first_unit_len (b ∷ x)) (b ∷ x))
 
 -- The units of a text: the first unit taken off until nothing is left.
 abbrev pub units : List ℕ → List (List ℕ)

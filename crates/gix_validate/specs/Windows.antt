@@ -1,9 +1,12 @@
 -- Devices, recognised by the device form of a name, and names that are illegal on Windows.
-use Rattle.std.specs.{Prelude.{ℕ, Bool, ◌==◌, ◌||◌, nat_lt, List, [], ◌∷◌, ◌++◌, map, codes}, List.{before_first, list_any}}
+use Rattle.std.specs.Prelude.{ℕ, Bool, ◌==◌, ◌||◌, nat_lt, List, [], ◌∷◌, ◌++◌, map, codes}
+use Rattle.std.specs.List.{before_first, list_any}
 use Rattle.std.specs.Str.{byte, bytes_eq}
-use Rattle.gix_validate.specs.{Bytes.{is_among, lower, ends}, Ntfs.without_end}
+use Rattle.gix_validate.specs.Bytes.{is_among, lower, ends}
+use Rattle.gix_validate.specs.Ntfs.{without_end}
 
--- The front before the first dot or colon, or the whole name where there is neither, without the spaces at its end.
+-- The front before the first dot or colon, or the whole name where there is neither,
+-- without the spaces at its end.
 unfoldable pub device_form : List ℕ → List ℕ
 device_form x = without_end (λ b. b == byte " ") (before_first (is_among (codes ".:")) x)
 

@@ -8,9 +8,12 @@
 //! `pack.1`.) The contract says exactly which names are clear: a test that rejects every name would
 //! be right, but slow.
 
-ghost use Rattle.std.specs.Prelude.{◌≡◌, ◌↔◌, ◌<◌, ◌≤◌, ◌+◌, ◌-◌, ◌^◌, ◌==◌, ◌||◌, ◌&&◌, ℕ, false, if◌then◌else◌, IsTrue, map, length, slice_index, codes};
-ghost use Rattle.std.specs.{Int.bit_at, Str.byte};
-ghost use Rattle.gix_validate.specs.{Bytes.{is_among, ends}, Private.Adjacent.{is_suspect, suspect_at, IsClear}};
+ghost use Rattle.std.specs.Prelude.{◌≡◌, ◌↔◌, ◌<◌, ◌≤◌, ◌+◌, ◌-◌, ◌^◌, ◌==◌, ◌||◌, ◌&&◌, ℕ, false};
+ghost use Rattle.std.specs.Prelude.{if◌then◌else◌, IsTrue, map, length, slice_index, codes};
+ghost use Rattle.std.specs.Int.{bit_at};
+ghost use Rattle.std.specs.Str.{byte};
+ghost use Rattle.gix_validate.specs.Bytes.{is_among, ends};
+ghost use Rattle.gix_validate.specs.Private.Adjacent.{is_suspect, suspect_at, IsClear};
 ghost use Rattle.gix_validate.specs.Private.Scan.{Finds, NoneBelow};
 
 use crate::bytes::may_be_faulty;
@@ -133,7 +136,8 @@ impl Pattern for Suspect {
 #[inline(always)]
 #[tactic(auto, using(crate::proofs::Blocks::Lanes::reaches_ok, crate::proofs::Blocks::Lanes::suspect_classes))]
 fn suspect_after(bytes: u8x16) -> u8x16
-    ensures { result ≡ map (λ b. if b == byte "." then AFTER_DOT else if b == byte "/" then AFTER_SLASH else ANYWHERE) bytes }
+    ensures { result ≡ map
+        (λ b. if b == byte "." then AFTER_DOT else if b == byte "/" then AFTER_SLASH else ANYWHERE) bytes }
 {
     // A dot becomes 0, and a slash 1.
     let from_dot = bytes ^ u8x16::splat(b'.');

@@ -1,8 +1,12 @@
 //! Functions on blocks, which are sixteen bytes that are checked together. The index of a byte in
 //! its block is its lane.
 
-ghost use Rattle.std.specs.Prelude.{◌≡◌, ◌≢◌, ◌↔◌, IsTrue, true, ℕ, ◌<◌, ◌≤◌, ◌+◌, ◌-◌, ◌/◌, ◌%◌, ◌^◌, ◌==◌, ◌||◌, map, length, slice_index};
-ghost use Rattle.std.specs.{Prelude.{bit_and, if◌then◌else◌}, Int.bit_at, List.list_any, Simd.Lanes.chunk};
+ghost use Rattle.std.specs.Prelude.{◌≡◌, ◌≢◌, ◌↔◌, IsTrue, true, ℕ, ◌<◌, ◌≤◌, ◌+◌, ◌-◌, ◌/◌, ◌%◌};
+ghost use Rattle.std.specs.Prelude.{◌^◌, ◌==◌, ◌||◌, map, length, slice_index, bit_and};
+ghost use Rattle.std.specs.Prelude.{if◌then◌else◌};
+ghost use Rattle.std.specs.Int.{bit_at};
+ghost use Rattle.std.specs.List.{list_any};
+ghost use Rattle.std.specs.Simd.Lanes.{chunk};
 ghost use Rattle.gix_validate.specs.Private.Scan.{HasParts, is_nonzero};
 
 use std::simd::prelude::*;
@@ -47,7 +51,8 @@ pub(crate) fn first_and_last_two(text: &[u8]) -> u8x16
 /// entry for its high nibble.
 #[inline(always)]
 pub(crate) fn classify(by_low_nibble: [u8; 16], by_high_nibble: [u8; 16], bytes: u8x16) -> u8x16
-    ensures { result ≡ map (λ b. bit_and (slice_index by_low_nibble (b % 16)) (slice_index by_high_nibble (b / 16))) bytes }
+    ensures { result ≡ map
+        (λ b. bit_and (slice_index by_low_nibble (b % 16)) (slice_index by_high_nibble (b / 16))) bytes }
 {
     let low = u8x16::from_array(by_low_nibble).swizzle_dyn(bytes & u8x16::splat(15));
     let high = u8x16::from_array(by_high_nibble).swizzle_dyn(bytes >> u8x16::splat(4));
@@ -65,7 +70,8 @@ pub(crate) fn has_nonzero(bytes: u8x16) -> bool
 #[inline(always)]
 pub(crate) fn nonzero_lanes(bytes: u8x16) -> u64
     ensures few { result < 2 ^ LANES }
-    ensures lanes { (k : ℕ) → k < LANES → bit_at result k ≡ (if is_nonzero (slice_index bytes k) then 1 else 0) }
+    ensures lanes { (k : ℕ) → k < LANES
+        → bit_at result k ≡ (if is_nonzero (slice_index bytes k) then 1 else 0) }
 {
     bytes.simd_ne(u8x16::splat(0)).to_bitmask()
 }

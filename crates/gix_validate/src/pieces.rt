@@ -1,8 +1,10 @@
 //! The slash, and the join of pieces with slashes.
 
-ghost use Rattle.std.specs.Prelude.{◌≡◌, ◌==◌, ◌+◌, ◌<◌, ◌^◌, ◌++◌, map, length, IsOk, IfOk, SomeIff, vec_len, vec_capacity};
+ghost use Rattle.std.specs.Prelude.{◌≡◌, ◌==◌, ◌+◌, ◌<◌, ◌^◌, ◌++◌, map, length, IsOk, IfOk};
+ghost use Rattle.std.specs.Prelude.{SomeIff, vec_len, vec_capacity};
 ghost use Rattle.std.specs.Str.{byte};
-ghost use Rattle.bstr.specs.{BStr.bstr_bytes, Owned.bstring_bytes};
+ghost use Rattle.bstr.specs.BStr.{bstr_bytes};
+ghost use Rattle.bstr.specs.Owned.{bstring_bytes};
 ghost use Rattle.gix_validate.specs.Pieces.{joined};
 
 use crate::scan::Pattern;

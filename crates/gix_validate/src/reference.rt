@@ -3,11 +3,21 @@
 //! Each full name is a partial name, and each branch name a full name. `name_partial`, `name` and
 //! `branch_name` don't allocate. On `Ok` each returns the value that it was passed.
 
-ghost use Rattle.std.specs.Prelude.{◌≡◌, ◌==◌, ◌≢◌, ◌↔◌, ◌⊎◌, ◌+◌, ◌≤◌, [], ◌∷◌, ◌++◌, length, codes, All, Contains, IsOk, IfOk, IsTrue, MatchResult, vec_len, vec_capacity, Some};
-ghost use Rattle.std.specs.{List.list_all, Str.byte};
-ghost use Rattle.bstr.specs.{BStr.bstr_bytes, Owned.bstring_bytes};
-ghost use Rattle.gix_validate.specs.Reference.{is_standalone_byte, has_slash_or_stands_alone, is_partial_name, is_full_name, is_branch_name, reserved as reserved_fault, partial_fault_of, full_fault_of, branch_fault_of, text_of};
-ghost use Rattle.gix_validate.specs.{Faults.Validates, Printed.printed, Pieces.joined, Tag.is_tag_name};
+ghost use Rattle.std.specs.Prelude.{◌≡◌, ◌==◌, ◌≢◌, ◌↔◌, ◌⊎◌, ◌+◌, ◌≤◌, [], ◌∷◌, ◌++◌, length};
+ghost use Rattle.std.specs.Prelude.{codes, All, Contains, IsOk, IfOk, IsTrue, MatchResult, vec_len};
+ghost use Rattle.std.specs.Prelude.{vec_capacity, Some};
+ghost use Rattle.std.specs.List.{list_all};
+ghost use Rattle.std.specs.Str.{byte};
+ghost use Rattle.bstr.specs.BStr.{bstr_bytes};
+ghost use Rattle.bstr.specs.Owned.{bstring_bytes};
+ghost use Rattle.gix_validate.specs.Reference.{is_standalone_byte, has_slash_or_stands_alone};
+ghost use Rattle.gix_validate.specs.Reference.{is_partial_name, is_full_name, is_branch_name};
+ghost use Rattle.gix_validate.specs.Reference.{reserved as reserved_fault, partial_fault_of};
+ghost use Rattle.gix_validate.specs.Reference.{full_fault_of, branch_fault_of, text_of};
+ghost use Rattle.gix_validate.specs.Faults.{Validates};
+ghost use Rattle.gix_validate.specs.Printed.{printed};
+ghost use Rattle.gix_validate.specs.Pieces.{joined};
+ghost use Rattle.gix_validate.specs.Tag.{is_tag_name};
 
 use crate::pieces::{Slash, joined};
 use crate::text::Text;
@@ -127,7 +137,8 @@ pub fn name_partial<'a>(path: BStr<'a>) -> Result<BStr<'a>, NameError>
     ensures grammar { IsOk result ↔ IsTrue (is_partial_name (bstr_bytes path.entry)) }
     ensures same { IfOk result (λ name. name ≡ path.entry) }
     // A tag name, but not `@`.
-    ensures tag_name { let x = bstr_bytes path.entry in IsOk result ↔ (IsTrue (is_tag_name x) × (x ≢ codes "@")) }
+    ensures tag_name { let x = bstr_bytes path.entry in
+        IsOk result ↔ (IsTrue (is_tag_name x) × (x ≢ codes "@")) }
 {
     unless_reserved(tag::name(path)?, b"@")
 }
@@ -150,8 +161,10 @@ pub fn name<'a>(path: BStr<'a>) -> Result<BStr<'a>, NameError>
     ensures grammar { IsOk result ↔ IsTrue (is_full_name (bstr_bytes path.entry)) }
     ensures same { IfOk result (λ name. name ≡ path.entry) }
     // A partial name that has a slash, or whose bytes may each stand alone.
-    ensures partial_name { let x = bstr_bytes path.entry in IsOk result
-        ↔ (IsTrue (is_partial_name x) × (Contains x (byte "/") ⊎ All (λ b. IsTrue (is_standalone_byte b)) x)) }
+    ensures partial_name { let x = bstr_bytes path.entry in
+        IsOk result
+        ↔ (IsTrue (is_partial_name x)
+        × (Contains x (byte "/") ⊎ All (λ b. IsTrue (is_standalone_byte b)) x)) }
 {
     let name = name_partial(path)?;
     if has_slash_or_stands_alone(name.as_bytes()) {
@@ -206,7 +219,8 @@ pub fn branch_name<'a>(path: BStr<'a>) -> Result<BStr<'a>, NameError>
 pub fn join(alloc: Global, a: BStr<'_>, b: BStr<'_>) -> Result<BString, AllocError>
     requires first { IsTrue (is_tag_name (bstr_bytes a)) }
     requires second { IsTrue (is_tag_name (bstr_bytes b)) }
-    ensures bytes { IfOk result (λ name. bstring_bytes name ≡ joined (bstr_bytes a.entry ∷ bstr_bytes b.entry ∷ [])) }
+    ensures bytes { IfOk result (λ name.
+        bstring_bytes name ≡ joined (bstr_bytes a.entry ∷ bstr_bytes b.entry ∷ [])) }
     ensures valid { IfOk result (λ name. IsTrue (is_full_name (bstring_bytes name))) }
 {
     joined(alloc, &[a, b])

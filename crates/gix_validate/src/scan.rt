@@ -2,11 +2,14 @@
 //! Sixteen offsets are checked at a time. The last block overlaps the one before it, and the offsets
 //! of a short name are one block.
 
-ghost use Rattle.std.specs.Prelude.{◌≡◌, ◌<◌, ◌≤◌, ◌+◌, ◌-◌, ◌^◌, ℕ, Bool, if◌then◌else◌, length, slice_index};
-ghost use Rattle.std.specs.{Int.bit_at, List.list_any, Simd.Lanes.chunk};
+ghost use Rattle.std.specs.Prelude.{◌≡◌, ◌<◌, ◌≤◌, ◌+◌, ◌-◌, ◌^◌, ℕ, Bool, if◌then◌else◌, length};
+ghost use Rattle.std.specs.Prelude.{slice_index};
+ghost use Rattle.std.specs.Int.{bit_at};
+ghost use Rattle.std.specs.List.{list_any};
+ghost use Rattle.std.specs.Simd.Lanes.{chunk};
 ghost use Rattle.gix_validate.specs.Private.Scan.{Finds, HasParts, NoneBelow, at_both};
 
-use crate::lanes::{LANES, first_lane, halves, first_and_last_two, first_and_last_four};
+use crate::lanes::{LANES, first_and_last_four, first_and_last_two, first_lane, halves};
 use std::simd::prelude::*;
 
 pub(crate) const FOUR_BLOCKS: usize = 4 * LANES;
@@ -18,7 +21,8 @@ pub(crate) trait Pattern {
     /// A bit for each lane whose two bytes are a hit. The lowest bit is for the first lane.
     fn hits(front: u8x16, back: u8x16) -> u64
         ensures few { result < 2 ^ LANES }
-        ensures lanes { (k : ℕ) → k < LANES → bit_at result k ≡ (if hit (slice_index front k) (slice_index back k) then 1 else 0) };
+        ensures lanes { (k : ℕ) → k < LANES
+            → bit_at result k ≡ (if hit (slice_index front k) (slice_index back k) then 1 else 0) };
 }
 
 /// The first offset whose byte and the next are a hit.
@@ -47,10 +51,22 @@ pub(crate) fn first<P: Pattern>(front: &[u8], back: &[u8]) -> Option<usize>
         return first_of_parts::<P>(front, back, 8, halves(front, 0, at), halves(back, 0, at));
     }
     if len >= 4 {
-        return first_of_parts::<P>(front, back, 4, first_and_last_four(front), first_and_last_four(back));
+        return first_of_parts::<P>(
+            front,
+            back,
+            4,
+            first_and_last_four(front),
+            first_and_last_four(back),
+        );
     }
     if len >= 2 {
-        return first_of_parts::<P>(front, back, 2, first_and_last_two(front), first_and_last_two(back));
+        return first_of_parts::<P>(
+            front,
+            back,
+            2,
+            first_and_last_two(front),
+            first_and_last_two(back),
+        );
     }
     if len == 0 {
         return None;

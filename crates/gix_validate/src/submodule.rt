@@ -1,11 +1,14 @@
 //! Submodule names: any nonempty name without a part `..`. Both `/` and `\` separate parts.
 //! Nothing else is refused: `/etc` is a submodule name.
 
-ghost use Rattle.std.specs.Prelude.{◌≡◌, ◌↔◌, ◌||◌, ◌&&◌, ◌==◌, ℕ, ◌+◌, ◌-◌, ◌≤◌, ◌<◌, false, length, slice_index, IsOk, IfOk, IsTrue, Some};
+ghost use Rattle.std.specs.Prelude.{◌≡◌, ◌↔◌, ◌||◌, ◌&&◌, ◌==◌, ℕ, ◌+◌, ◌-◌, ◌≤◌, ◌<◌, false};
+ghost use Rattle.std.specs.Prelude.{length, slice_index, IsOk, IfOk, IsTrue, Some};
 ghost use Rattle.std.specs.Str.{byte};
 ghost use Rattle.bstr.specs.BStr.{bstr_bytes};
-ghost use Rattle.gix_validate.specs.Submodule.{fault_of, has_parent_part, is_separator, is_submodule_name, text_of};
-ghost use Rattle.gix_validate.specs.{Faults.Validates, Printed.printed};
+ghost use Rattle.gix_validate.specs.Submodule.{fault_of, has_parent_part, is_separator};
+ghost use Rattle.gix_validate.specs.Submodule.{is_submodule_name, text_of};
+ghost use Rattle.gix_validate.specs.Faults.{Validates};
+ghost use Rattle.gix_validate.specs.Printed.{printed};
 
 use crate::scan::{self, Pattern};
 use crate::text::Text;

@@ -1,10 +1,14 @@
 //! Tag names, whose rule is part of that of every reference name.
 
-ghost use Rattle.std.specs.Prelude.{◌≡◌, ◌↔◌, ◌<◌, ◌≤◌, ◌+◌, ◌-◌, length, slice_index, codes, Some, IsNone, IfSome, option_map, IsOk, IfOk, IsTrue, MatchOption};
+ghost use Rattle.std.specs.Prelude.{◌≡◌, ◌↔◌, ◌<◌, ◌≤◌, ◌+◌, ◌-◌, length, slice_index, codes, Some};
+ghost use Rattle.std.specs.Prelude.{IsNone, IfSome, option_map, IsOk, IfOk, IsTrue, MatchOption};
 ghost use Rattle.bstr.specs.BStr.{bstr_bytes};
-ghost use Rattle.gix_validate.specs.Tag.{Fault, ◌at◌, fault_at, fault_of, fault_offset_of, first_fault, is_tag_name, text_of};
+ghost use Rattle.gix_validate.specs.Tag.{Fault, ◌at◌, fault_at, fault_of, fault_offset_of};
+ghost use Rattle.gix_validate.specs.Tag.{first_fault, is_tag_name, text_of};
 ghost use Rattle.gix_validate.specs.TagLaws.{HasAtMostOneFaultPerOffset, PiecesAreTheOnlySplit};
-ghost use Rattle.gix_validate.specs.{Bytes.ends, Faults.{Validates, at_first_offset}, Printed.printed};
+ghost use Rattle.gix_validate.specs.Bytes.{ends};
+ghost use Rattle.gix_validate.specs.Faults.{Validates, at_first_offset};
+ghost use Rattle.gix_validate.specs.Printed.{printed};
 ghost use Rattle.gix_validate.specs.Private.Adjacent.{fault_of_byte, may_be_faulty};
 
 use crate::adjacent::{clear_front, is_clear};
@@ -141,7 +145,8 @@ fn name_on_walk<'a>(input: BStr<'a>) -> Result<BStr<'a>, NameError>
 pub fn fault_offset(input: BStr<'_>) -> Option<usize>
     ensures offset { result ≡ fault_offset_of (bstr_bytes input.entry) }
     // The error that `name` returns is at this offset.
-    ensures error { IfSome result (λ i. first_fault (bstr_bytes input.entry) ≡ (fault_of (bstr_bytes input.entry) at i)) }
+    ensures error { IfSome result (λ i.
+        first_fault (bstr_bytes input.entry) ≡ (fault_of (bstr_bytes input.entry) at i)) }
     ensures grammar { IsNone result ↔ IsTrue (is_tag_name (bstr_bytes input.entry)) }
     ensures within { IfSome result (λ i. i ≤ length (bstr_bytes input.entry) - 1) }
 {

@@ -1,7 +1,9 @@
 //! What an error prints: words, and then bytes of the name in quotes, if it shows any.
 
-ghost use Rattle.std.specs.{Prelude.{◌≡◌, ◌+◌, ◌*◌, ◌<◌, ◌≤◌, length, Some}, Option.ForSome};
-ghost use Rattle.gix_validate.specs.{declared.text.TheConstants.MAX_TEXT, Quoted.{escape_of, hex_digit}};
+ghost use Rattle.std.specs.Prelude.{◌≡◌, ◌+◌, ◌*◌, ◌<◌, ◌≤◌, length, Some};
+ghost use Rattle.std.specs.Option.{ForSome};
+ghost use Rattle.gix_validate.specs.declared.text.TheConstants.{MAX_TEXT};
+ghost use Rattle.gix_validate.specs.Quoted.{escape_of, hex_digit};
 
 use arrayvec::ArrayString;
 use std::fmt;

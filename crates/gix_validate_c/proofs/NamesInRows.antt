@@ -1,5 +1,6 @@
 -- The names in buffers, computed on literals.
-use Rattle.gix_validate.proofs.{Common.{refl, [], ◌∷◌, codes, byte}, Rows.Tables.Gives}
+use Rattle.gix_validate.proofs.Common.{refl, [], ◌∷◌, codes, byte}
+use Rattle.gix_validate.proofs.Rows.Tables.{Gives}
 use Rattle.gix_validate.specs.Pieces.{names_in}
 
 -- buffers whose names end at a newline, and their names

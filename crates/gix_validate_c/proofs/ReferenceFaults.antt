@@ -1,4 +1,5 @@
--- What the calls on reference names unfold: the faults of each kind are those of the kind before it, and then its own.
+-- What the calls on reference names unfold:
+-- the faults of each kind are those of the kind before it, and then its own.
 use Rattle.gix_validate.proofs.Common.{⊤}
 use Rattle.gix_validate.specs.Reference.{partial_fault_of, full_fault_of, branch_fault_of}
 

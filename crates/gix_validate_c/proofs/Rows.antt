@@ -1,31 +1,43 @@
 -- The definitions of the calls, computed on literals.
-use Rattle.gix_validate.proofs.{Common.{◌≡◌, refl, true, false, List, [], ◌∷◌, ◌++◌, map, range_with_len, Some, None, codes}, Rows.Tables.Gives}
+use Rattle.gix_validate.proofs.Common.{◌≡◌, refl, true, false, List, [], ◌∷◌, ◌++◌, map}
+use Rattle.gix_validate.proofs.Common.{range_with_len, Some, None, codes}
+use Rattle.gix_validate.proofs.Rows.Tables.{Gives}
 use Rattle.gix_validate.specs.declared.tag.NameError.TheVariants as tag
 use Rattle.gix_validate.specs.declared.reference.NameError.TheVariants as reference
 use Rattle.gix_validate.specs.declared.submodule.NameError.TheVariants as submodule
 use Rattle.gix_validate.specs.declared.path.ComponentError.TheVariants as path
-use Rattle.gix_validate.specs.declared.{tag.NameError.NameError as TagError, path.ComponentError.ComponentError, path.ComponentMode.TheVariants.Symlink}
-use Rattle.gix_validate.specs.{Component.all_protections, Reference.{carried, reserved}, Private.Classes.switches}
-use Rattle.gix_validate_c.specs.Numbers.{tag_number, reference_number, submodule_number, component_number, code_by, invalid_byte_of, offset_or, version_number}
-use Rattle.gix_validate_c.specs.{Flags.{options_of, mode_of}, Texts.{text_by, with_text}}
+use Rattle.gix_validate.specs.declared.tag.NameError.{NameError as TagError}
+use Rattle.gix_validate.specs.declared.path.ComponentError.{ComponentError}
+use Rattle.gix_validate.specs.declared.path.ComponentMode.TheVariants.{Symlink}
+use Rattle.gix_validate.specs.Component.{all_protections}
+use Rattle.gix_validate.specs.Reference.{carried, reserved}
+use Rattle.gix_validate.specs.Private.Classes.{switches}
+use Rattle.gix_validate_c.specs.Numbers.{tag_number, reference_number, submodule_number}
+use Rattle.gix_validate_c.specs.Numbers.{component_number, code_by, invalid_byte_of, offset_or}
+use Rattle.gix_validate_c.specs.Numbers.{version_number}
+use Rattle.gix_validate_c.specs.Flags.{options_of, mode_of}
+use Rattle.gix_validate_c.specs.Texts.{text_by, with_text}
 
 -- The faults of tag names in the order of their numbers, which never change.
 abbrev tag_faults : List TagError
 tag_faults =
-    tag.InvalidByte 0x20 ∷ tag.StartsWithSlash ∷ tag.RepeatedSlash ∷ tag.RepeatedDot ∷ tag.LockFileSuffix ∷ tag.ReflogPortion
+    tag.InvalidByte 0x20 ∷ tag.StartsWithSlash ∷ tag.RepeatedSlash
+    ∷ tag.RepeatedDot ∷ tag.LockFileSuffix ∷ tag.ReflogPortion
     ∷ tag.Asterisk ∷ tag.StartsWithDot ∷ tag.EndsWithDot ∷ tag.EndsWithSlash ∷ tag.Empty ∷ []
 
 -- Those that path components alone have, in the order of their numbers.
 abbrev component_faults : List ComponentError
 component_faults =
-    path.PathSeparator ∷ path.WindowsPathPrefix ∷ path.WindowsReservedName ∷ path.WindowsIllegalCharacter ∷ path.DotGitDir
+    path.PathSeparator ∷ path.WindowsPathPrefix ∷ path.WindowsReservedName
+    ∷ path.WindowsIllegalCharacter ∷ path.DotGitDir
     ∷ path.SymlinkedGitModules ∷ path.Relative ∷ []
 
 -- numbers from 1 on, in this order: a fault that several types share has one number
 numbers_of_tags : map tag_number tag_faults ≡ range_with_len 1 11
 numbers_of_tags = refl
 
-numbers_of_references : map reference_number (map carried tag_faults ++ reference.SomeLowercase ∷ reserved (codes "@") ∷ []) ≡ range_with_len 1 13
+numbers_of_references : map reference_number
+    (map carried tag_faults ++ reference.SomeLowercase ∷ reserved (codes "@") ∷ []) ≡ range_with_len 1 13
 numbers_of_references = refl
 
 numbers_of_submodules : map submodule_number (submodule.Empty ∷ submodule.ParentComponent ∷ []) ≡ 11 ∷ 14 ∷ []

@@ -1,7 +1,10 @@
--- The numbers that C sees: those of the faults of all four types, the byte of an invalid byte, and the version.
+-- The numbers that C sees: those of the faults of all four types,
+-- the byte of an invalid byte, and the version.
 use Rattle.std.specs.Prelude.{ℕ, ◌+◌, ◌*◌, Option, Some, None}
-use Rattle.gix_validate.specs.declared.{path.ComponentError.ComponentError, reference.NameError.NameError as ReferenceError}
-use Rattle.gix_validate.specs.declared.{submodule.NameError.NameError as SubmoduleError, tag.NameError.NameError as TagError}
+use Rattle.gix_validate.specs.declared.path.ComponentError.{ComponentError}
+use Rattle.gix_validate.specs.declared.reference.NameError.{NameError as ReferenceError}
+use Rattle.gix_validate.specs.declared.submodule.NameError.{NameError as SubmoduleError}
+use Rattle.gix_validate.specs.declared.tag.NameError.{NameError as TagError}
 use Rattle.gix_validate.specs.declared.tag.NameError.TheVariants as tag
 use Rattle.gix_validate.specs.declared.reference.NameError.TheVariants as reference
 use Rattle.gix_validate.specs.declared.submodule.NameError.TheVariants as submodule

@@ -1,7 +1,8 @@
 //! The number of a fault.
 
 ghost use Rattle.std.specs.Prelude.{◌≡◌, ◌↔◌, ◌≤◌, ℕ, IsOk, MatchResult};
-ghost use Rattle.gix_validate_c.specs.Numbers.{tag_number, reference_number, submodule_number, component_number};
+ghost use Rattle.gix_validate_c.specs.Numbers.{tag_number, reference_number, submodule_number};
+ghost use Rattle.gix_validate_c.specs.Numbers.{component_number};
 
 use bstr::BStr;
 use gix_validate::path::ComponentError;

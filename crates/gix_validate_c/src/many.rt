@@ -9,11 +9,13 @@
 //! the rest of the array stays as it was. It returns how many names there are, even if more than
 //! fit. A name whose number doesn't fit isn't checked, so an empty array only counts the names.
 
-ghost use Rattle.std.specs.Prelude.{◌≡◌, ◌<◌, ◌≤◌, [], ◌∷◌, length, map, take, drop, MatchOption, IfSome};
+ghost use Rattle.std.specs.Prelude.{◌≡◌, ◌<◌, ◌≤◌, [], ◌∷◌, length, map, take, drop, MatchOption};
+ghost use Rattle.std.specs.Prelude.{IfSome};
 ghost use Rattle.gix_validate.specs.Tag as tag;
 ghost use Rattle.gix_validate.specs.Reference.{partial_fault_of, full_fault_of, branch_fault_of};
 ghost use Rattle.gix_validate.specs.Submodule as submodule;
-ghost use Rattle.gix_validate_c.specs.Numbers.{code_by, tag_number, reference_number, submodule_number};
+ghost use Rattle.gix_validate_c.specs.Numbers.{code_by, tag_number, reference_number};
+ghost use Rattle.gix_validate_c.specs.Numbers.{submodule_number};
 ghost use Rattle.gix_validate.specs.Pieces.{names_in};
 
 use crate::fault::{Fault, code};

@@ -7,13 +7,15 @@
 
 ghost use Rattle.std.specs.Prelude.{◌≡◌, ◌⊎◌, ◌↔◌, ◌≤◌, ◌%◌, IsTrue, length};
 ghost use Rattle.gix_validate.specs.Tag as tag;
-ghost use Rattle.gix_validate.specs.Reference.{partial_fault_of, full_fault_of, branch_fault_of, is_partial_name, is_full_name, is_branch_name};
+ghost use Rattle.gix_validate.specs.Reference.{partial_fault_of, full_fault_of, branch_fault_of};
+ghost use Rattle.gix_validate.specs.Reference.{is_partial_name, is_full_name, is_branch_name};
 ghost use Rattle.gix_validate.specs.Submodule as submodule;
 ghost use Rattle.gix_validate.specs.Component as component;
 ghost use Rattle.gix_validate.specs.Windows.{is_device};
 ghost use Rattle.gix_validate_c.specs.Flags.{options_of, mode_of};
-ghost use Rattle.gix_validate_c.specs.Numbers.{code_by, tag_number, reference_number, submodule_number, component_number, invalid_byte_of, offset_or};
-ghost use Rattle.gix_validate_c.specs.Numbers.{reference_invalid_byte_of};
+ghost use Rattle.gix_validate_c.specs.Numbers.{code_by, tag_number, reference_number};
+ghost use Rattle.gix_validate_c.specs.Numbers.{submodule_number, component_number, invalid_byte_of};
+ghost use Rattle.gix_validate_c.specs.Numbers.{offset_or, reference_invalid_byte_of};
 
 use crate::fault::code;
 use crate::flags::{mode_of, options_of};
@@ -119,8 +121,10 @@ pub extern "C" fn gix_validate_submodule(name: &[u8]) -> u32
 #[tactic(auto, using(crate::proofs::FlagLemmas::low_flags))]
 #[unsafe(no_mangle)]
 pub extern "C" fn gix_validate_component(name: &[u8], flags: u32) -> u32
-    ensures answer { result ≡ code_by component_number (component.fault_of (options_of flags) (mode_of flags) name.now) }
-    ensures grammar { (result ≡ 0) ↔ IsTrue (component.is_component (options_of flags) (mode_of flags) name.now) }
+    ensures answer { result
+        ≡ code_by component_number (component.fault_of (options_of flags) (mode_of flags) name.now) }
+    ensures grammar { (result ≡ 0)
+        ↔ IsTrue (component.is_component (options_of flags) (mode_of flags) name.now) }
     ensures range { (result ≡ 0) ⊎ (result ≡ 11) ⊎ ((15 ≤ result) × (result ≤ 21)) }
     ensures low_bits { let low = flags % 16 in
         result ≡ code_by component_number (component.fault_of (options_of low) (mode_of low) name.now) }

@@ -7,7 +7,8 @@
 //! offsets are in bytes. The functions don't allocate.
 
 ghost use Rattle.std.specs.Prelude.{◌≡◌, ◌↔◌, ◌≤◌, max, length, take, drop, IsTrue};
-ghost use Rattle.gix_validate.specs.{Reference.is_partial_name, Sanitized.sanitized};
+ghost use Rattle.gix_validate.specs.Reference.{is_partial_name};
+ghost use Rattle.gix_validate.specs.Sanitized.{sanitized};
 
 use gix_validate::reference;
 
@@ -29,8 +30,9 @@ pub extern "C" fn gix_validate_sanitize_in_place(buffer: &mut [u8], name_len: us
     ensures bounds { result ≤ max 1 name_len }
     ensures text { 1 ≤ result → take result buffer.new ≡ sanitized (take name_len buffer.old) }
     ensures partial { 1 ≤ result → IsTrue (is_partial_name (take result buffer.new)) }
-    ensures unchanged { 1 ≤ result →
-        (take result buffer.new ≡ take name_len buffer.old) ↔ IsTrue (is_partial_name (take name_len buffer.old)) }
+    ensures unchanged { 1 ≤ result
+        → (take result buffer.new ≡ take name_len buffer.old)
+        ↔ IsTrue (is_partial_name (take name_len buffer.old)) }
     ensures rest { drop (max 1 name_len) buffer.new ≡ drop (max 1 name_len) buffer.old }
 {
     if buffer.len() < name_len.max(1) {

@@ -7,11 +7,14 @@
 
 ghost use Rattle.std.specs.Prelude.{◌≡◌, ◌↔◌, ◌≤◌, length, IsTrue};
 ghost use Rattle.gix_validate.specs.Tag as tag;
-ghost use Rattle.gix_validate.specs.Reference.{text_of, partial_fault_of, full_fault_of, branch_fault_of, is_partial_name, is_full_name, is_branch_name};
+ghost use Rattle.gix_validate.specs.Reference.{text_of, partial_fault_of, full_fault_of};
+ghost use Rattle.gix_validate.specs.Reference.{branch_fault_of, is_partial_name, is_full_name};
+ghost use Rattle.gix_validate.specs.Reference.{is_branch_name};
 ghost use Rattle.gix_validate.specs.Printed.{printed};
 ghost use Rattle.gix_validate.specs.Submodule as submodule;
 ghost use Rattle.gix_validate.specs.Component as component;
-ghost use Rattle.gix_validate_c.specs.{Flags.{options_of, mode_of}, Texts.{text_by, with_text}};
+ghost use Rattle.gix_validate_c.specs.Flags.{options_of, mode_of};
+ghost use Rattle.gix_validate_c.specs.Texts.{text_by, with_text};
 
 use crate::flags::{mode_of, options_of};
 use arrayvec::ArrayString;
@@ -121,7 +124,8 @@ pub extern "C" fn gix_validate_component_text(name: &[u8], flags: u32, text: &mu
         result ≡ length (text_by component.text_of fault) }
     ensures bytes { let fault = component.fault_of (options_of flags) (mode_of flags) name.now in
         text.new ≡ with_text (text_by component.text_of fault) text.old }
-    ensures none { (result ≡ 0) ↔ IsTrue (component.is_component (options_of flags) (mode_of flags) name.now) }
+    ensures none { (result ≡ 0)
+        ↔ IsTrue (component.is_component (options_of flags) (mode_of flags) name.now) }
     ensures longest { result ≤ MAX_TEXT }
 {
     match path::component(BStr::new(name), mode_of(flags), options_of(flags)) {

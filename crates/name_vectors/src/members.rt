@@ -2,11 +2,15 @@
 //! contract is a ghost member of an `impl`, and where it is left out, it says nothing. So each caller
 //! here has an `ensures` that then couldn't be proved.
 
-ghost use Rattle.std.specs.Prelude.{◌≡◌, ◌↔◌, [], ◌∷◌, ◌++◌, map, IfOk, IsTrue, MatchOption, string_bytes, encode_utf8_all};
-ghost use Rattle.bstr.specs.{BStr.bstr_bytes, Utf8.lossy_chars};
+ghost use Rattle.std.specs.Prelude.{◌≡◌, ◌↔◌, [], ◌∷◌, ◌++◌, map, IfOk, IsTrue, MatchOption};
+ghost use Rattle.std.specs.Prelude.{string_bytes, encode_utf8_all};
+ghost use Rattle.bstr.specs.BStr.{bstr_bytes};
+ghost use Rattle.bstr.specs.Utf8.{lossy_chars};
 ghost use Rattle.gix_validate.specs.Component.{all_protections, text_of as component_text_of};
-ghost use Rattle.gix_validate.specs.{Pieces.pieces as pieces_of, Reference.{carried, text_of as reference_text_of}};
-ghost use Rattle.gix_validate.specs.{Submodule.text_of as submodule_text_of, Tag.text_of as tag_text_of};
+ghost use Rattle.gix_validate.specs.Pieces.{pieces as pieces_of};
+ghost use Rattle.gix_validate.specs.Reference.{carried, text_of as reference_text_of};
+ghost use Rattle.gix_validate.specs.Submodule.{text_of as submodule_text_of};
+ghost use Rattle.gix_validate.specs.Tag.{text_of as tag_text_of};
 ghost use Rattle.typed_names.specs.Names.{name_bytes, name_text, component_bytes};
 
 use crate::agree::{expect, expect_told, options};
@@ -30,8 +34,8 @@ fn printed_errors(
     c: &submodule::NameError,
     d: &ComponentError,
 ) -> Result<String, AllocError>
-    ensures { IfOk result (λ text. string_bytes text ≡
-        tag_text_of a.now ++ (reference_text_of b.now ++ (submodule_text_of c.now ++ component_text_of d.now))) }
+    ensures { IfOk result (λ text. string_bytes text ≡ tag_text_of a.now
+        ++ (reference_text_of b.now ++ (submodule_text_of c.now ++ component_text_of d.now))) }
 {
     format!(in alloc; "{a}{b}{c}{d}")
 }
@@ -111,8 +115,8 @@ fn printed_names<R: Rule>(
     a: &Name<'_, R>,
     b: &Component<'_>,
 ) -> Result<String, AllocError>
-    ensures { IfOk result (λ text. string_bytes text ≡
-        encode_utf8_all (lossy_chars (name_bytes a.now)) ++ encode_utf8_all (lossy_chars (component_bytes b.now))) }
+    ensures { IfOk result (λ text. string_bytes text ≡ encode_utf8_all (lossy_chars (name_bytes a.now))
+        ++ encode_utf8_all (lossy_chars (component_bytes b.now))) }
 {
     format!(in alloc; "{a}{b}")
 }

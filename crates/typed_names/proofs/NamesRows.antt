@@ -1,5 +1,6 @@
 -- The words of the contracts, computed on the worked names.
-use Rattle.gix_validate.proofs.Common.{◌≡◌, ℕ, true, false, refl, List, [], ◌∷◌, Some, None, codes, after_first}
+use Rattle.gix_validate.proofs.Common.{◌≡◌, ℕ, true, false, refl, List, [], ◌∷◌, Some, None, codes}
+use Rattle.gix_validate.proofs.Common.{after_first}
 use Rattle.bstr.specs.declared.bstr.BStr.{BStr}
 use Rattle.gix_validate.specs.Pieces.{is_slash, has_no_slash}
 use Rattle.typed_names.specs.Pieces.{pieces_left}

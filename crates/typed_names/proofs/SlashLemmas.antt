@@ -1,14 +1,18 @@
 -- The first slash of a text: what a search for it finds, and what it means for the pieces.
-use Rattle.gix_validate.proofs.Common.{◌≡◌, ◌≢◌, ℕ, ◌+◌, true, not, List, [], ◌∷◌, ◌++◌, length, take, drop, arith, take_rest, All-from_get_or}
-use Rattle.gix_validate.proofs.Common.{slice_split_none, slice_split_first, join_with_byte-slice_split, position_or_len_is, AllPass-from_list_all}
-use Rattle.gix_validate.proofs.Common.{list_all-from_AllPass, list_all, after_first, position_or_len, byte}
+use Rattle.gix_validate.proofs.Common.{◌≡◌, ◌≢◌, ℕ, ◌+◌, true, not, List, [], ◌∷◌, ◌++◌, length}
+use Rattle.gix_validate.proofs.Common.{take, drop, arith, take_rest, All-from_get_or}
+use Rattle.gix_validate.proofs.Common.{slice_split_none, slice_split_first}
+use Rattle.gix_validate.proofs.Common.{join_with_byte-slice_split, position_or_len_is}
+use Rattle.gix_validate.proofs.Common.{AllPass-from_list_all, list_all-from_AllPass, list_all}
+use Rattle.gix_validate.proofs.Common.{after_first, position_or_len, byte}
 use Rattle.bstr.specs.Find.{Nowhere, NoneBefore, Passes, is_byte}
 use Rattle.gix_validate.specs.Pieces.{is_slash, pieces, has_no_slash}
 
 -- a search that finds no slash
 pub nowhere_slash : (x : List ℕ) → Nowhere (Passes (is_byte 47) x) 0 (length x) → has_no_slash x ≡ true
 nowhere_slash x nowhere =
-    list_all-from_AllPass (λ b. not (is_slash b)) x (All-from_get_or (λ b. not (is_slash b) ≡ true) x 0 (λ k within. grind (arith, nowhere k)))
+    list_all-from_AllPass (λ b. not (is_slash b)) x
+    (All-from_get_or (λ b. not (is_slash b) ≡ true) x 0 (λ k within. grind (arith, nowhere k)))
 
 -- a search that finds the first slash
 abbrev pub FindsSlash : List ℕ → ℕ → Type 0
@@ -39,7 +43,8 @@ pieces_some (b ∷ x) = grind arith
 
 -- a text whose later pieces are those of a text is its first piece, a slash, and that text
 pub whole_from_pieces : (x p rest : List ℕ) → pieces x ≡ p ∷ pieces rest → x ≡ p ++ byte "/" ∷ rest
-whole_from_pieces x p rest e = grind (arith, join_with_byte-slice_split 47 x, join_with_byte-slice_split 47 rest, pieces_some)
+whole_from_pieces x p rest e =
+    grind (arith, join_with_byte-slice_split 47 x, join_with_byte-slice_split 47 rest, pieces_some)
 
 -- what `split_at_first_slash` takes from above
 pub ruleset first_slash_found = (nowhere_slash, pieces_alone, after_found, pieces_found, take_rest)

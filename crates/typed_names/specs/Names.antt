@@ -1,7 +1,9 @@
 -- Typed names: the text that each keeps, and what it means that a validator's answer is kept as one.
 use Rattle.std.specs.Prelude.{◌≡◌, ℕ, List, Option, Some, None, Result, MatchResult}
-use Rattle.bstr.specs.{declared.bstr.BStr.BStr, BStr.bstr_bytes}
-use Rattle.typed_names.specs.declared.{component.Component.Component, name.Name.Name}
+use Rattle.bstr.specs.declared.bstr.BStr.{BStr}
+use Rattle.bstr.specs.BStr.{bstr_bytes}
+use Rattle.typed_names.specs.declared.component.Component.{Component}
+use Rattle.typed_names.specs.declared.name.Name.{Name}
 
 -- the text that a name keeps
 abbrev pub name_text : {R Fault rule : _} → Name R Fault rule → BStr

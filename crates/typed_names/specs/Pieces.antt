@@ -1,6 +1,7 @@
 -- What an iterator over pieces has left.
 use Rattle.std.specs.Prelude.{ℕ, List, [], Option, Some, None}
-use Rattle.bstr.specs.{declared.bstr.BStr.BStr, BStr.bstr_bytes}
+use Rattle.bstr.specs.declared.bstr.BStr.{BStr}
+use Rattle.bstr.specs.BStr.{bstr_bytes}
 use Rattle.gix_validate.specs.Pieces.{pieces}
 
 -- the pieces of the text that is left, if any is

@@ -1,9 +1,12 @@
 //! Path components.
 
 ghost use Rattle.std.specs.Prelude.{◌≡◌, ◌↔◌, None, IsOk, IsTrue, Some, bytes_eq, encode_utf8_all};
-ghost use Rattle.std.specs.Cmp.{on_equiv, on_per, partial_equiv_from_equiv, Lexicographic.nat_list_eq_equiv};
-ghost use Rattle.bstr.specs.{BStr.bstr_bytes, Utf8.lossy_chars};
-ghost use Rattle.gix_validate.specs.{Component.{fault_of, is_component}, ComponentLaws.no_protections};
+ghost use Rattle.std.specs.Cmp.{on_equiv, on_per, partial_equiv_from_equiv};
+ghost use Rattle.std.specs.Cmp.Lexicographic.{nat_list_eq_equiv};
+ghost use Rattle.bstr.specs.BStr.{bstr_bytes};
+ghost use Rattle.bstr.specs.Utf8.{lossy_chars};
+ghost use Rattle.gix_validate.specs.Component.{fault_of, is_component};
+ghost use Rattle.gix_validate.specs.ComponentLaws.{no_protections};
 
 use bstr::BStr;
 use gix_validate::path::{self, ComponentError, ComponentMode, ComponentOptions};

@@ -2,7 +2,8 @@
 
 ghost use Rattle.std.specs.Prelude.{◌≡◌, ◌<◌, All, IfOk, length, map};
 ghost use Rattle.bstr.specs.Owned.{bstring_bytes};
-ghost use Rattle.gix_validate.specs.{ComponentLaws.IsBasicName, Pieces.{joined, pieces}};
+ghost use Rattle.gix_validate.specs.ComponentLaws.{IsBasicName};
+ghost use Rattle.gix_validate.specs.Pieces.{joined, pieces};
 ghost use Rattle.typed_names.specs.Names.{component_bytes};
 
 use crate::component::Component;

@@ -1,9 +1,12 @@
 //! Names that a rule accepts: one type, and an alias for each rule.
 
-ghost use Rattle.std.specs.Prelude.{◌≡◌, ◌≢◌, ◌↔◌, [], All, IsOk, IsNone, IsTrue, IfSome, Some, bytes_eq, encode_utf8_all, ⊤};
-ghost use Rattle.std.specs.Cmp.{on_equiv, on_per, partial_equiv_from_equiv, Lexicographic.nat_list_eq_equiv};
+ghost use Rattle.std.specs.Prelude.{◌≡◌, ◌≢◌, ◌↔◌, [], All, IsOk, IsNone, IsTrue, IfSome, Some};
+ghost use Rattle.std.specs.Prelude.{bytes_eq, encode_utf8_all, ⊤};
+ghost use Rattle.std.specs.Cmp.{on_equiv, on_per, partial_equiv_from_equiv};
+ghost use Rattle.std.specs.Cmp.Lexicographic.{nat_list_eq_equiv};
 ghost use Rattle.std.specs.List.{after_first};
-ghost use Rattle.bstr.specs.{BStr.bstr_bytes, Utf8.lossy_chars};
+ghost use Rattle.bstr.specs.BStr.{bstr_bytes};
+ghost use Rattle.bstr.specs.Utf8.{lossy_chars};
 ghost use Rattle.gix_validate.specs.Pieces.{is_slash, has_no_slash, pieces as pieces_of, joined};
 
 use crate::pieces::{Pieces, split_at_first_slash};

@@ -1,6 +1,7 @@
 //! The pieces of a tag name.
 
-ghost use Rattle.std.specs.{Prelude.{◌≡◌, ◌↔◌, [], ◌∷◌, IsTrue, IsNone, IfSome, MatchOption}, List.after_first};
+ghost use Rattle.std.specs.Prelude.{◌≡◌, ◌↔◌, [], ◌∷◌, IsTrue, IsNone, IfSome, MatchOption};
+ghost use Rattle.std.specs.List.{after_first};
 ghost use Rattle.bstr.specs.BStr.{bstr_bytes};
 ghost use Rattle.gix_validate.specs.Pieces.{is_slash, has_no_slash, pieces};
 

@@ -2,10 +2,11 @@
 
 ghost use Rattle.std.specs.Prelude.{◌≡◌, ◌↔◌, ℕ, List, Bool, Option, IsOk, IfOk, IsTrue};
 ghost use Rattle.bstr.specs.BStr.{bstr_bytes};
-ghost use Rattle.gix_validate.specs.Reference.{is_partial_name, partial_fault_of, is_full_name, full_fault_of};
-ghost use Rattle.gix_validate.specs.Reference.{is_branch_name, branch_fault_of};
+ghost use Rattle.gix_validate.specs.Reference.{is_partial_name, partial_fault_of, is_full_name};
+ghost use Rattle.gix_validate.specs.Reference.{full_fault_of, is_branch_name, branch_fault_of};
 ghost use Rattle.gix_validate.specs.Submodule.{is_submodule_name, fault_of as submodule_fault_of};
-ghost use Rattle.gix_validate.specs.{Faults.Validates, Tag.{is_tag_name, fault_of as tag_fault_of}};
+ghost use Rattle.gix_validate.specs.Faults.{Validates};
+ghost use Rattle.gix_validate.specs.Tag.{is_tag_name, fault_of as tag_fault_of};
 
 use bstr::BStr;
 use gix_validate::{reference, submodule, tag};

@@ -1,9 +1,11 @@
--- The first unit is as long as what `bstr` decodes first: for both, the first byte says in which ranges the bytes
--- after it have to be.
-use Rattle.gix_validate.proofs.Common.{◌≡◌, ℕ, ◌+◌, cond, nat_lt, List, [], ◌∷◌, sym, ◌∙◌, arith, ◌==◌, nat_tests}
+-- The first unit is as long as what `bstr` decodes first: for both,
+-- the first byte says in which ranges the bytes after it have to be.
+use Rattle.gix_validate.proofs.Common.{◌≡◌, ℕ, ◌+◌, cond, nat_lt, List, [], ◌∷◌, sym, ◌∙◌, arith}
+use Rattle.gix_validate.proofs.Common.{◌==◌, nat_tests}
 use Rattle.gix_validate.proofs.Components.FirstUnit.{row_for, unit_by_row}
 use Rattle.bstr.specs.Utf8.{second, decoded}
-use Rattle.gix_validate.specs.{Units.{is_within, fitting_len, whole_sequences}, ComponentLaws.FirstUnitIsDecoded}
+use Rattle.gix_validate.specs.Units.{is_within, fitting_len, whole_sequences}
+use Rattle.gix_validate.specs.ComponentLaws.{FirstUnitIsDecoded}
 
 -- the ranges of the bytes after the first one, as `bstr` has them: that of the second byte, and all of them
 abbrev second_range : ℕ → ℕ × ℕ
@@ -20,7 +22,8 @@ ranges b =
     second_range b ∷ cond (nat_lt b 0xE0) [] ((0x80, 0xBF) ∷ cond (nat_lt b 0xF0) [] ((0x80, 0xBF) ∷ []))))
 
 -- the table's row for the byte has the same
-row_fits : (b : ℕ) (x : List ℕ) → fitting_len (row_for whole_sequences b) (b ∷ x) ≡ 1 + fitting_len (ranges b) x
+row_fits : (b : ℕ) (x : List ℕ)
+    → fitting_len (row_for whole_sequences b) (b ∷ x) ≡ 1 + fitting_len (ranges b) x
 unfolding whole_sequences
 row_fits b x = grind (arith, nat_tests)
 

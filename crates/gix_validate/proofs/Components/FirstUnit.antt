@@ -1,5 +1,6 @@
 -- The first unit by the row of the table that has its first byte.
-use Rattle.gix_validate.proofs.Common.{◌≡◌, ℕ, ◌<◌, ◌≤◌, Bool, true, cond, List, [], ◌∷◌, length, drop, get_or, ◌⊎◌, ◌∙◌, refl, arith, at_drop_all, nat_tests}
+use Rattle.gix_validate.proofs.Common.{◌≡◌, ℕ, ◌<◌, ◌≤◌, Bool, true, cond, List, [], ◌∷◌, length}
+use Rattle.gix_validate.proofs.Common.{drop, get_or, ◌⊎◌, ◌∙◌, refl, arith, at_drop_all, nat_tests}
 use Rattle.gix_validate.specs.Units.{is_within, fitting_len, whole_sequences, first_unit_len}
 
 abbrev pub begins_row : List (ℕ × ℕ) → ℕ → Bool
@@ -11,7 +12,8 @@ abbrev pub row_for : List (List (ℕ × ℕ)) → ℕ → List (ℕ × ℕ)
 row_for [] b = (b, b) ∷ []
 row_for (row ∷ rows) b = cond (begins_row row b) row (row_for rows b)
 
-pub unit_by_row : (x : List ℕ) → 1 ≤ length x → first_unit_len x ≡ fitting_len (row_for whole_sequences (get_or x 0 0)) x
+pub unit_by_row : (x : List ℕ) → 1 ≤ length x
+    → first_unit_len x ≡ fitting_len (row_for whole_sequences (get_or x 0 0)) x
 unfolding first_unit_len whole_sequences
 unit_by_row [] some = grind arith
 unit_by_row (b ∷ x) some = grind (arith, nat_tests)
@@ -28,7 +30,8 @@ unit_of_none x none = grind arith
 pub ruleset by_row = (nat_tests, unit_by_row, unit_of_one, unit_of_none)
 
 -- nothing is left of a text past its end
-pub fits_past : (row : List (ℕ × ℕ)) (x : List ℕ) (i : ℕ) → length x ≤ i → fitting_len (drop i row) (drop i x) ≡ 0
+pub fits_past : (row : List (ℕ × ℕ)) (x : List ℕ) (i : ℕ) → length x ≤ i
+    → fitting_len (drop i row) (drop i x) ≡ 0
 fits_past row x i past = at_drop_all (fitting_len (drop i row)) x i past ∙ nothing (drop i row)
   where
     nothing : (row : List (ℕ × ℕ)) → fitting_len row [] ≡ 0

@@ -1,23 +1,39 @@
 -- The laws of path components, proved of their definitions.
-use Rattle.gix_validate.proofs.Common.{◌≡◌, ℕ, ◌+◌, Bool, true, false, is_none, is_some, Option, None, List, [], ◌∷◌, length, refl, sym, arith, codes}
-use Rattle.gix_validate.proofs.Common.{slice_index, IsTrue, ◌==◌, list_all, byte, bytes_eq, false≢true, and_parts, agree_below, bytes_eq-Decides, nat_tests}
-use Rattle.gix_validate.proofs.Texts.LetterCase.{test-lower_byte, lower-lower, list_any-lower, bytes_eq-lower}
-use Rattle.gix_validate.proofs.Texts.LetterCase.{before_first-lower, without_end-lower, ends-lower}
-use Rattle.gix_validate.proofs.{OnLiterals.components_on_literals, Components.{Forms.{form_cut, form_trimmed}, HfsForm.hfs_form-units}}
-use Rattle.gix_validate.specs.Units.{is_within, fitting_len, whole_len, begun_len, whole_sequences, first_unit_len}
-use Rattle.gix_validate.specs.ComponentLaws.{HasOnlySwitchesOf, IsValidUnderFewerSwitches, FaultIgnoresCase, FormIsKeptUnits}
-use Rattle.gix_validate.specs.ComponentLaws.{IsBasicName, DeviceIgnoresCase, DeviceGoesByForm}
-use Rattle.gix_validate.specs.declared.path.{ComponentError.ComponentError, ComponentMode.ComponentMode, ComponentOptions.ComponentOptions}
-use Rattle.gix_validate.specs.{Bytes.{lower, lower_byte, is_among}, Faults.first_of, Pieces.has_no_slash, Hfs.{is_ignored, hfs_form}}
-use Rattle.gix_validate.specs.{Ntfs.{ntfs_form, is_git_form, is_modules_form}, Component.{conditions, fault_of, is_component}}
-use Rattle.gix_validate.specs.Windows.{device_form, is_device_form, is_device, is_illegal_byte, is_illegal}
+use Rattle.gix_validate.proofs.Common.{◌≡◌, ℕ, ◌+◌, Bool, true, false, is_none, is_some, Option}
+use Rattle.gix_validate.proofs.Common.{None, List, [], ◌∷◌, length, refl, sym, arith, codes}
+use Rattle.gix_validate.proofs.Common.{slice_index, IsTrue, ◌==◌, list_all, byte, bytes_eq}
+use Rattle.gix_validate.proofs.Common.{false≢true, and_parts, agree_below, bytes_eq-Decides}
+use Rattle.gix_validate.proofs.Common.{nat_tests}
+use Rattle.gix_validate.proofs.Texts.LetterCase.{test-lower_byte, lower-lower, list_any-lower}
+use Rattle.gix_validate.proofs.Texts.LetterCase.{bytes_eq-lower, before_first-lower}
+use Rattle.gix_validate.proofs.Texts.LetterCase.{without_end-lower, ends-lower}
+use Rattle.gix_validate.proofs.OnLiterals.{components_on_literals}
+use Rattle.gix_validate.proofs.Components.Forms.{form_cut, form_trimmed}
+use Rattle.gix_validate.proofs.Components.HfsForm.{hfs_form-units}
+use Rattle.gix_validate.specs.Units.{is_within, fitting_len, whole_len, begun_len, whole_sequences}
+use Rattle.gix_validate.specs.Units.{first_unit_len}
+use Rattle.gix_validate.specs.ComponentLaws.{HasOnlySwitchesOf, IsValidUnderFewerSwitches}
+use Rattle.gix_validate.specs.ComponentLaws.{FaultIgnoresCase, FormIsKeptUnits, IsBasicName}
+use Rattle.gix_validate.specs.ComponentLaws.{DeviceIgnoresCase, DeviceGoesByForm}
+use Rattle.gix_validate.specs.declared.path.ComponentError.{ComponentError}
+use Rattle.gix_validate.specs.declared.path.ComponentMode.{ComponentMode}
+use Rattle.gix_validate.specs.declared.path.ComponentOptions.{ComponentOptions}
+use Rattle.gix_validate.specs.Bytes.{lower, lower_byte, is_among}
+use Rattle.gix_validate.specs.Faults.{first_of}
+use Rattle.gix_validate.specs.Pieces.{has_no_slash}
+use Rattle.gix_validate.specs.Hfs.{is_ignored, hfs_form}
+use Rattle.gix_validate.specs.Ntfs.{ntfs_form, is_git_form, is_modules_form}
+use Rattle.gix_validate.specs.Component.{conditions, fault_of, is_component}
+use Rattle.gix_validate.specs.Windows.{device_form, is_device_form, is_device, is_illegal_byte}
+use Rattle.gix_validate.specs.Windows.{is_illegal}
 use Rattle.std.proofs.Math.ListN.{get_or-map}
 
 -- The first unit is as long in lower case: no range of the table parts a letter from its small letter.
 skips : ℕ × ℕ → Bool
 skips range = agree_below (λ k. is_within range (k + byte "a")) (λ k. is_within range (k + byte "A")) 26
 
-fitting_len-lower : (row : List (ℕ × ℕ)) → list_all skips row ≡ true → (x : List ℕ) → fitting_len row (lower x) ≡ fitting_len row x
+fitting_len-lower : (row : List (ℕ × ℕ)) → list_all skips row ≡ true → (x : List ℕ)
+    → fitting_len row (lower x) ≡ fitting_len row x
 unfolding skips
 fitting_len-lower (range ∷ row) ok (b ∷ x) =
     let parts = and_parts _ _ ok in
@@ -29,13 +45,17 @@ table-lower : (rows : List (List (ℕ × ℕ))) → list_all (list_all skips) ro
 table-lower [] ok x = grind arith
 table-lower (row ∷ rows) ok x = grind (arith, fitting_len-lower, table-lower rows)
 
-prefix-lower : (x : List ℕ) → (slice_index (lower x) (first_unit_len (lower x)) == byte ":") ≡ (slice_index x (first_unit_len x) == byte ":")
+prefix-lower : (x : List ℕ)
+    → (slice_index (lower x) (first_unit_len (lower x)) == byte ":")
+    ≡ (slice_index x (first_unit_len x) == byte ":")
 unfolding first_unit_len whole_sequences skips lower_byte
 prefix-lower x =
     let same = table-lower whole_sequences refl x in
-    rw (same.0, same.1, get_or-map lower_byte x (first_unit_len x) 0) (test-lower_byte (λ b. b == byte ":") refl _)
+    rw (same.0, same.1, get_or-map lower_byte x (first_unit_len x) 0)
+    (test-lower_byte (λ b. b == byte ":") refl _)
 
--- No byte of an ignored character is a letter, so the HFS form of the lower case is the lower case of the HFS form.
+-- No byte of an ignored character is a letter,
+-- so the HFS form of the lower case is the lower case of the HFS form.
 is_ignored-lower : (a b c : ℕ) → is_ignored (lower_byte a) (lower_byte b) (lower_byte c) ≡ is_ignored a b c
 unfolding is_ignored lower_byte
 is_ignored-lower a b c = grind (arith, nat_tests)
@@ -51,17 +71,32 @@ ntfs_form-lower x = grind (arith, before_first-lower, without_end-lower)
 
 pub device_case_law : (x : List ℕ) → DeviceIgnoresCase x
 unfolding is_device is_device_form device_form
-device_case_law x = sym (rw (before_first-lower (is_among (codes ".:")) refl x, without_end-lower (λ b. b == byte " ") refl _, lower-lower))
+device_case_law x = sym (rw (
+  before_first-lower (is_among (codes ".:")) refl x,
+  without_end-lower (λ b. b == byte " ") refl _,
+  lower-lower,
+))
 
 is_illegal-lower : (x : List ℕ) → is_illegal (lower x) ≡ is_illegal x
 unfolding is_illegal is_illegal_byte
-is_illegal-lower x = rw (list_any-lower is_illegal_byte refl x, ends-lower (codes ".") refl x, ends-lower (codes " ") refl x)
+is_illegal-lower x =
+    rw (list_any-lower is_illegal_byte refl x, ends-lower (codes ".") refl x, ends-lower (codes " ") refl x)
 
 -- A change of letter case changes neither acceptance nor the fault.
-pub case_law : (options : ComponentOptions) (mode : Option ComponentMode) (x : List ℕ) → FaultIgnoresCase options mode x
+pub case_law : (options : ComponentOptions) (mode : Option ComponentMode) (x : List ℕ)
+    → FaultIgnoresCase options mode x
 unfolding fault_of conditions
-case_law options mode x =
-    grind (arith, bytes_eq-lower, list_any-lower, prefix-lower, device_case_law, is_illegal-lower, lower-lower, hfs_form-lower, ntfs_form-lower)
+case_law options mode x = grind (
+  arith,
+  bytes_eq-lower,
+  list_any-lower,
+  prefix-lower,
+  device_case_law,
+  is_illegal-lower,
+  lower-lower,
+  hfs_form-lower,
+  ntfs_form-lower,
+)
 
 pub device_form_law : (x : List ℕ) → DeviceGoesByForm x
 unfolding is_device device_form
@@ -102,18 +137,21 @@ unfolding components_on_literals
 git_forms x plain = rw (sym (hfs_form-lower x), sym (ntfs_form-lower x)) (grind (arith, bytes_eq-Decides))
 
 modules_forms : (x : List ℕ) → bytes_eq (lower x) (codes ".gitmodules") ≡ true
-    → (bytes_eq (lower (hfs_form x)) (codes ".gitmodules") ≡ true) × (is_modules_form (lower (ntfs_form x)) ≡ true)
+    → (bytes_eq (lower (hfs_form x)) (codes ".gitmodules") ≡ true)
+    × (is_modules_form (lower (ntfs_form x)) ≡ true)
 unfolding components_on_literals
 modules_forms x plain = rw (sym (hfs_form-lower x), sym (ntfs_form-lower x)) (grind (arith, bytes_eq-Decides))
 
-none_under_fewer : (options fewer : ComponentOptions) (mode other : Option ComponentMode) → HasOnlySwitchesOf fewer options
-    → (IsTrue (is_some other) → IsTrue (is_some mode)) → (x : List ℕ) → AllNone (conditions options mode x) → fault_of fewer other x ≡ None
+none_under_fewer : (options fewer : ComponentOptions) (mode other : Option ComponentMode)
+    → HasOnlySwitchesOf fewer options
+    → (IsTrue (is_some other) → IsTrue (is_some mode)) → (x : List ℕ) → AllNone (conditions options mode x)
+    → fault_of fewer other x ≡ None
 unfolding conditions fault_of
 none_under_fewer options fewer mode other part less x none = grind (arith, git_forms, modules_forms)
 
 -- What is accepted is accepted under fewer switches, and without the mode.
-pub fewer_law : (options : ComponentOptions) (mode : Option ComponentMode) (x : List ℕ) → fault_of options mode x ≡ None
-    → IsValidUnderFewerSwitches options mode x
+pub fewer_law : (options : ComponentOptions) (mode : Option ComponentMode) (x : List ℕ)
+    → fault_of options mode x ≡ None → IsValidUnderFewerSwitches options mode x
 unfolding fault_of
 fewer_law options mode x none = grind (arith, nat_tests, AllNone-from_first, none_under_fewer, false≢true)
 
@@ -122,7 +160,8 @@ has_no_slash-from_none [] none = grind arith
 has_no_slash-from_none (b ∷ x) none = grind (arith, has_no_slash-from_none x)
 
 -- What is accepted is nonempty, neither `.` nor `..`, has no slash, and isn't `.git` in any case.
-pub basic_law : (options : ComponentOptions) (mode : Option ComponentMode) (x : List ℕ) → fault_of options mode x ≡ None → IsBasicName x
+pub basic_law : (options : ComponentOptions) (mode : Option ComponentMode) (x : List ℕ)
+    → fault_of options mode x ≡ None → IsBasicName x
 unfolding fault_of conditions
 basic_law options mode x none = grind (arith, has_no_slash-from_none, git_forms)
 

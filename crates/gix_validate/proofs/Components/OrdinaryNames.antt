@@ -1,21 +1,36 @@
 -- Ordinary names: no condition but the one on devices refuses one.
-use Rattle.gix_validate.proofs.Common.{◌≡◌, ℕ, ◌-◌, ◌<◌, ◌≤◌, Bool, true, false, ◌&&◌, ◌||◌, Option, None, Some, List, [], ◌∷◌, ◌++◌, length, get_or, refl, ◌∙◌}
-use Rattle.gix_validate.proofs.Common.{arith, codes, slice_index, is_some, ◌==◌, list_any, byte, bytes_eq, or_parts, bytes_eq-Decides, length-map, nat_tests}
+use Rattle.gix_validate.proofs.Common.{◌≡◌, ℕ, ◌-◌, ◌<◌, ◌≤◌, Bool, true, false, ◌&&◌, ◌||◌, Option}
+use Rattle.gix_validate.proofs.Common.{None, Some, List, [], ◌∷◌, ◌++◌, length, get_or, refl, ◌∙◌}
+use Rattle.gix_validate.proofs.Common.{arith, codes, slice_index, is_some, ◌==◌, list_any, byte}
+use Rattle.gix_validate.proofs.Common.{bytes_eq, or_parts, bytes_eq-Decides, length-map, nat_tests}
 use Rattle.gix_validate.proofs.Common.{list_any_none, list_any_at, common_steps}
-use Rattle.gix_validate.proofs.{Components.Laws.case_law, OnLiterals.components_on_literals, Texts.LetterCase.list_any-lower}
-use Rattle.gix_validate.proofs.{Texts.Endings.ends_read, Components.{HfsForm.{is_lead, hfs_form_same}, Forms.{form, form_at}}}
-use Rattle.gix_validate.specs.declared.path.ComponentError.TheVariants.{WindowsReservedName, PathSeparator, DotGitDir, SymlinkedGitModules, Relative}
-use Rattle.gix_validate.specs.{declared.path.{ComponentMode.ComponentMode, ComponentOptions.ComponentOptions}, Private.Classes.is_classed}
-use Rattle.gix_validate.specs.{Bytes.{is_among, ends, lower}, Faults.when, Units.first_unit_len}
+use Rattle.gix_validate.proofs.Components.Laws.{case_law}
+use Rattle.gix_validate.proofs.OnLiterals.{components_on_literals}
+use Rattle.gix_validate.proofs.Texts.LetterCase.{list_any-lower}
+use Rattle.gix_validate.proofs.Texts.Endings.{ends_read}
+use Rattle.gix_validate.proofs.Components.HfsForm.{is_lead, hfs_form_same}
+use Rattle.gix_validate.proofs.Components.Forms.{form, form_at}
+use Rattle.gix_validate.specs.declared.path.ComponentError.TheVariants.{WindowsReservedName}
+use Rattle.gix_validate.specs.declared.path.ComponentError.TheVariants.{PathSeparator, DotGitDir}
+use Rattle.gix_validate.specs.declared.path.ComponentError.TheVariants.{SymlinkedGitModules}
+use Rattle.gix_validate.specs.declared.path.ComponentError.TheVariants.{Relative}
+use Rattle.gix_validate.specs.declared.path.ComponentMode.{ComponentMode}
+use Rattle.gix_validate.specs.declared.path.ComponentOptions.{ComponentOptions}
+use Rattle.gix_validate.specs.Private.Classes.{is_classed}
+use Rattle.gix_validate.specs.Bytes.{is_among, ends, lower}
+use Rattle.gix_validate.specs.Faults.{when}
+use Rattle.gix_validate.specs.Units.{first_unit_len}
 use Rattle.gix_validate.specs.Ntfs.{ntfs_form, is_git_form, is_modules_form, is_short_name}
-use Rattle.gix_validate.specs.{Windows.{is_device, is_illegal, is_illegal_byte}, Component.{conditions, fault_of}}
+use Rattle.gix_validate.specs.Windows.{is_device, is_illegal, is_illegal_byte}
+use Rattle.gix_validate.specs.Component.{conditions, fault_of}
 
 abbrev is_tilde : ℕ → Bool
 is_tilde b = b == byte "~"
 
 -- what a name without classed bytes has none of
 unclassed : (x : List ℕ) → list_any is_classed x ≡ false
-    → (list_any is_illegal_byte x ≡ false) × (list_any is_lead x ≡ false) × (is_among x (byte "/") ≡ false) × (is_among x (byte "\\") ≡ false)
+    → (list_any is_illegal_byte x ≡ false) × (list_any is_lead x ≡ false)
+    × (is_among x (byte "/") ≡ false) × (is_among x (byte "\\") ≡ false)
     × (list_any is_tilde x ≡ false)
 unfolding is_classed
 unclassed [] none = grind arith
@@ -27,46 +42,53 @@ uncut [] none = refl
 uncut (b ∷ x) none = grind (arith, uncut x)
 
 -- a name with no illegal byte has no prefix
-pub legal_no_prefix : (x : List ℕ) (n : ℕ) → list_any is_illegal_byte x ≡ false → (slice_index x n == byte ":") ≡ false
+pub legal_no_prefix : (x : List ℕ) (n : ℕ) → list_any is_illegal_byte x ≡ false
+    → (slice_index x n == byte ":") ≡ false
 unfolding is_illegal_byte
 legal_no_prefix x n legal = grind (arith, common_steps, list_any_at)
 
 -- a form from which nothing is cut
-form_same : (cut trim : ℕ → Bool) (b : ℕ) (x : List ℕ) → list_any cut (b ∷ x) ≡ false → trim (get_or (b ∷ x) (length x) 0) ≡ false
-    → form cut trim (b ∷ x) ≡ b ∷ x
+form_same : (cut trim : ℕ → Bool) (b : ℕ) (x : List ℕ) → list_any cut (b ∷ x) ≡ false
+    → trim (get_or (b ∷ x) (length x) 0) ≡ false → form cut trim (b ∷ x) ≡ b ∷ x
 form_same cut trim b [] none last = grind arith
 form_same cut trim b (c ∷ x) none last =
     let parts = or_parts (cut b) (list_any cut (c ∷ x)) none in
     rw (form_at cut trim b (c ∷ x), form_same cut trim c x parts.1 last, parts.0) (grind arith)
 
-other_word : (f word : List ℕ) → list_any is_tilde f ≡ false → list_any is_tilde word ≡ true → bytes_eq f word ≡ false
+other_word : (f word : List ℕ) → list_any is_tilde f ≡ false → list_any is_tilde word ≡ true
+    → bytes_eq f word ≡ false
 other_word f word none some = grind (arith, bytes_eq-Decides)
 
 no_short_name : (k : ℕ) (f : List ℕ) → list_any is_tilde f ≡ false → is_short_name k f ≡ false
 no_short_name k f none = grind (arith, nat_tests)
 
-no_form : (f : List ℕ) → list_any is_tilde f ≡ false → bytes_eq f (codes ".git") ≡ false → bytes_eq f (codes ".gitmodules") ≡ false
-    → (is_git_form f ≡ false) × (is_modules_form f ≡ false)
+no_form : (f : List ℕ) → list_any is_tilde f ≡ false → bytes_eq f (codes ".git") ≡ false
+    → bytes_eq f (codes ".gitmodules") ≡ false → (is_git_form f ≡ false) × (is_modules_form f ≡ false)
 unfolding is_git_form is_modules_form
 no_form f clean git modules =
-    let digits = list_any_none (λ digit. bytes_eq f (codes "gitmod~" ++ digit ∷ [])) (codes "1234") (λ k d h. other_word f _ clean refl) in
-    let short = list_any_none (λ k. is_short_name k f) (0 ∷ 1 ∷ 2 ∷ 3 ∷ 4 ∷ 5 ∷ 6 ∷ []) (λ k d h. no_short_name _ f clean) in
+    let digits = list_any_none (λ digit. bytes_eq f (codes "gitmod~" ++ digit ∷ [])) (codes "1234") (λ k d h.
+    other_word f _ clean refl) in
+    let short = list_any_none (λ k. is_short_name k f) (0 ∷ 1 ∷ 2 ∷ 3 ∷ 4 ∷ 5 ∷ 6 ∷ []) (λ k d h.
+    no_short_name _ f clean) in
     (rw (git, other_word f (codes "git~1") clean refl) refl, rw (modules, digits, short) refl)
 
 -- a text that ends otherwise is another text
-other_end : (x : List ℕ) → ends x (codes ".") ≡ false → (bytes_eq x (codes ".") || bytes_eq x (codes "..")) ≡ false
+other_end : (x : List ℕ) → ends x (codes ".") ≡ false
+    → (bytes_eq x (codes ".") || bytes_eq x (codes "..")) ≡ false
 other_end x other = grind (arith, bytes_eq-Decides)
 
 pub ordinary_fault : (options : ComponentOptions) (mode : Option ComponentMode) (x : List ℕ) → 1 ≤ length x
     → (ends x (codes ".") || ends x (codes " ")) ≡ false → list_any is_classed x ≡ false
     → bytes_eq (lower x) (codes ".git") ≡ false → bytes_eq (lower x) (codes ".gitmodules") ≡ false
-    → fault_of options mode x ≡ when (options.protect_windows && options.protect_ntfs && is_device x) WindowsReservedName
+    → fault_of options mode x
+    ≡ when (options.protect_windows && options.protect_ntfs && is_device x) WindowsReservedName
 unfolding fault_of conditions is_illegal ntfs_form
 ordinary_fault options mode [] some end classed git modules = absurd (omega arith)
 ordinary_fault options mode (b ∷ x) some end classed git modules =
     let ends = or_parts (ends (b ∷ x) (codes ".")) (ends (b ∷ x) (codes " ")) end in
     let none = unclassed (b ∷ x) classed in
-    let ntfs = form_same (is_among (codes ":\\")) (is_among (codes " .")) b x (uncut (b ∷ x) classed) (grind (arith, ends_read)) in
+    let ntfs = form_same (is_among (codes ":\\")) (is_among (codes " .")) b x
+    (uncut (b ∷ x) classed) (grind (arith, ends_read)) in
     let forms = no_form (lower (b ∷ x)) (list_any-lower is_tilde refl (b ∷ x) ∙ none.4) git modules in
     rw (
       other_end (b ∷ x) ends.0,
@@ -87,31 +109,36 @@ ordinary_fault options mode (b ∷ x) some end classed git modules =
 -- `.git` and `.gitmodules` in any letter case
 pub special_fault : (options : ComponentOptions) (mode : Option ComponentMode) (x : List ℕ)
     → (bytes_eq (lower x) (codes ".git") ≡ true → fault_of options mode x ≡ Some DotGitDir)
-    × (bytes_eq (lower x) (codes ".gitmodules") ≡ true → fault_of options mode x ≡ when (is_some mode) SymlinkedGitModules)
+    × (bytes_eq (lower x) (codes ".gitmodules") ≡ true
+    → fault_of options mode x ≡ when (is_some mode) SymlinkedGitModules)
 unfolding components_on_literals
 special_fault options mode x = grind (arith, case_law, bytes_eq-Decides)
 
-pub relative_fault : (options : ComponentOptions) (mode : Option ComponentMode) (x : List ℕ) → (bytes_eq x (codes ".") || bytes_eq x (codes "..")) ≡ true
-    → fault_of options mode x ≡ Some Relative
+pub relative_fault : (options : ComponentOptions) (mode : Option ComponentMode) (x : List ℕ)
+    → (bytes_eq x (codes ".") || bytes_eq x (codes "..")) ≡ true → fault_of options mode x ≡ Some Relative
 unfolding fault_of conditions
 relative_fault options mode x dots = grind (arith, bytes_eq-Decides)
 
 pub ruleset faults_of_ordinary = (ordinary_fault, special_fault)
 
 pub separator_fault : (options : ComponentOptions) (mode : Option ComponentMode) (x : List ℕ)
-    → (is_among x (byte "/") || (options.protect_windows && is_among x (byte "\\"))) ≡ true → fault_of options mode x ≡ Some PathSeparator
+    → (is_among x (byte "/") || (options.protect_windows && is_among x (byte "\\"))) ≡ true
+    → fault_of options mode x ≡ Some PathSeparator
 unfolding fault_of conditions
 separator_fault options mode x has = grind (arith, nat_tests, bytes_eq-Decides)
 
 -- Without protections a name that is longer than `.gitmodules` is refused for a slash alone.
-pub unprotected_fault : (options : ComponentOptions) (mode : Option ComponentMode) (x : List ℕ) → options.protect_windows ≡ false
-    → options.protect_hfs ≡ false → options.protect_ntfs ≡ false → 11 < length x → is_among x (byte "/") ≡ false → fault_of options mode x ≡ None
+pub unprotected_fault : (options : ComponentOptions) (mode : Option ComponentMode) (x : List ℕ)
+    → options.protect_windows ≡ false → options.protect_hfs ≡ false → options.protect_ntfs ≡ false
+    → 11 < length x → is_among x (byte "/") ≡ false → fault_of options mode x ≡ None
 unfolding fault_of conditions
-unprotected_fault options mode x windows hfs ntfs long whole = grind (arith, nat_tests, length-map, bytes_eq-Decides)
+unprotected_fault options mode x windows hfs ntfs long whole =
+    grind (arith, nat_tests, length-map, bytes_eq-Decides)
 
 -- A name of one or two bytes is `.` or `..` if its first and its last are dots.
 pub relative_by_ends : (x : List ℕ) → 1 ≤ length x → length x < 3
-    → (bytes_eq x (codes ".") || bytes_eq x (codes "..")) ≡ (get_or x 0 0 == byte "." && get_or x (length x - 1) 0 == byte ".")
+    → (bytes_eq x (codes ".") || bytes_eq x (codes ".."))
+    ≡ (get_or x 0 0 == byte "." && get_or x (length x - 1) 0 == byte ".")
 relative_by_ends (p ∷ []) some few = grind arith
 relative_by_ends (p ∷ q ∷ []) some few = grind arith
 relative_by_ends _ some few = absurd (omega arith)

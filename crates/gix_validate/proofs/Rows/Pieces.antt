@@ -1,5 +1,6 @@
 -- The pieces of literal texts, and literal texts joined.
-use Rattle.gix_validate.proofs.{Common.{refl, [], ◌∷◌, true, false, codes}, Rows.Tables.Gives}
+use Rattle.gix_validate.proofs.Common.{refl, [], ◌∷◌, true, false, codes}
+use Rattle.gix_validate.proofs.Rows.Tables.{Gives}
 use Rattle.gix_validate.specs.Pieces.{pieces, joined, has_no_slash}
 
 split : Gives pieces

@@ -1,8 +1,11 @@
 -- The definitions of reference names, computed on literals.
-use Rattle.gix_validate.proofs.{Common.{refl, [], ◌∷◌, Some, None, codes}, OnLiterals.names_on_literals, Rows.Tables.{Gives, Judges}}
-use Rattle.gix_validate.specs.Reference.{is_partial_name, is_full_name, is_branch_name, reserved, partial_fault_of}
-use Rattle.gix_validate.specs.Reference.{full_fault_of, branch_fault_of, text_of}
-use Rattle.gix_validate.specs.declared.reference.NameError.TheVariants.{InvalidByte, Empty, SomeLowercase}
+use Rattle.gix_validate.proofs.Common.{refl, [], ◌∷◌, Some, None, codes}
+use Rattle.gix_validate.proofs.OnLiterals.{names_on_literals}
+use Rattle.gix_validate.proofs.Rows.Tables.{Gives, Judges}
+use Rattle.gix_validate.specs.Reference.{is_partial_name, is_full_name, is_branch_name, reserved}
+use Rattle.gix_validate.specs.Reference.{partial_fault_of, full_fault_of, branch_fault_of, text_of}
+use Rattle.gix_validate.specs.declared.reference.NameError.TheVariants.{InvalidByte, Empty}
+use Rattle.gix_validate.specs.declared.reference.NameError.TheVariants.{SomeLowercase}
 
 -- partial names, `@` in them, and no names
 partial_names : Judges partial_fault_of is_partial_name
@@ -44,7 +47,10 @@ branch_names = (refl, refl)
 
 -- faults, and what they print
 printed : Gives text_of
-    ((reserved (codes "refs/heads/HEAD"), codes "Reference name is reserved and cannot be used: \"refs/heads/HEAD\"")  -- reserved
+    ((
+      reserved (codes "refs/heads/HEAD"),
+      codes "Reference name is reserved and cannot be used: \"refs/heads/HEAD\"",
+    )  -- reserved
     ∷ (InvalidByte 0x1B, codes "Reference name contains invalid byte: \"\\x1b\"")  -- escape
     ∷ (SomeLowercase, codes "Standalone references must be all uppercased, like 'HEAD'")  -- lowercase
     ∷ [])

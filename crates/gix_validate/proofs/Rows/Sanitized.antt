@@ -1,7 +1,9 @@
 -- The definitions of the sanitised text, computed on literals.
-use Rattle.gix_validate.proofs.{Common.{◌≡◌, refl, [], ◌∷◌, inl, inr, arith, false≢true, codes, byte}, OnLiterals.names_on_literals}
+use Rattle.gix_validate.proofs.Common.{◌≡◌, refl, [], ◌∷◌, inl, inr, arith, false≢true, codes, byte}
+use Rattle.gix_validate.proofs.OnLiterals.{names_on_literals}
 use Rattle.gix_validate.proofs.Rows.Tables.{Gives}
-use Rattle.gix_validate.specs.Sanitized.{Dots, Other, runs, cleaned, cut, dash_last_of, mended_pieces, sanitized, KeepsGood, KeepsPieces}
+use Rattle.gix_validate.specs.Sanitized.{Dots, Other, runs, cleaned, cut, dash_last_of}
+use Rattle.gix_validate.specs.Sanitized.{mended_pieces, sanitized, KeepsGood, KeepsPieces}
 
 runs_of_pieces : Gives runs
     ((codes "a..b.", Other (byte "a") ∷ Dots ∷ Other (byte "b") ∷ Dots ∷ [])  -- between bytes
@@ -59,11 +61,21 @@ repaired_names = refl
 
 piecewise_with_dash : KeepsPieces (codes "a b//c.") (codes "a-b/c-")
 unfolding names_on_literals
-piecewise_with_dash = record { as_many = refl; none_empty = refl; kept = (λ good. absurd (false≢true good), λ good. inr refl); mended = inr refl }
+piecewise_with_dash = record {
+  as_many = refl;
+  none_empty = refl;
+  kept = (λ good. absurd (false≢true good), λ good. inr refl);
+  mended = inr refl;
+}
 
 piecewise_as_mended : KeepsPieces (codes "a b/c.lock") (codes "a-b/c")
 unfolding names_on_literals
-piecewise_as_mended = record { as_many = refl; none_empty = refl; kept = (λ good. absurd (false≢true good), λ good. absurd (false≢true good)); mended = inl refl }
+piecewise_as_mended = record {
+  as_many = refl;
+  none_empty = refl;
+  kept = (λ good. absurd (false≢true good), λ good. absurd (false≢true good));
+  mended = inl refl;
+}
 
 fewer_pieces : KeepsPieces (codes "a/*") (codes "a") → ⊥
 fewer_pieces keeps = let e : 1 ≡ 2 = keeps.as_many in absurd (omega (arith, e))

@@ -1,5 +1,7 @@
 -- The definitions of submodule names, computed on literals.
-use Rattle.gix_validate.proofs.{Common.{refl, [], ◌∷◌, Some, None, codes}, OnLiterals.names_on_literals, Rows.Tables.{Gives, Judges}}
+use Rattle.gix_validate.proofs.Common.{refl, [], ◌∷◌, Some, None, codes}
+use Rattle.gix_validate.proofs.OnLiterals.{names_on_literals}
+use Rattle.gix_validate.proofs.Rows.Tables.{Gives, Judges}
 use Rattle.gix_validate.specs.Submodule.{parts, is_submodule_name, fault_of}
 use Rattle.gix_validate.specs.declared.submodule.NameError.TheVariants.{Empty, ParentComponent}
 

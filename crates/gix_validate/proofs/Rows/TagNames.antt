@@ -1,8 +1,14 @@
 -- The definitions of tag names, computed on literals.
-use Rattle.gix_validate.proofs.{Common.{refl, [], ◌∷◌, Some, None, codes}, OnLiterals.names_on_literals, Rows.Tables.{Gives, Judges}}
-use Rattle.gix_validate.specs.declared.tag.NameError.TheVariants.{InvalidByte, StartsWithSlash, RepeatedSlash, RepeatedDot, LockFileSuffix}
-use Rattle.gix_validate.specs.declared.tag.NameError.TheVariants.{ReflogPortion, Asterisk, StartsWithDot, EndsWithDot, EndsWithSlash, Empty}
-use Rattle.gix_validate.specs.{Quoted.quoted, Tag.{◌at◌, first_fault, fault_of, is_tag_name}}
+use Rattle.gix_validate.proofs.Common.{refl, [], ◌∷◌, Some, None, codes}
+use Rattle.gix_validate.proofs.OnLiterals.{names_on_literals}
+use Rattle.gix_validate.proofs.Rows.Tables.{Gives, Judges}
+use Rattle.gix_validate.specs.declared.tag.NameError.TheVariants.{InvalidByte, StartsWithSlash}
+use Rattle.gix_validate.specs.declared.tag.NameError.TheVariants.{RepeatedSlash, RepeatedDot}
+use Rattle.gix_validate.specs.declared.tag.NameError.TheVariants.{LockFileSuffix, ReflogPortion}
+use Rattle.gix_validate.specs.declared.tag.NameError.TheVariants.{Asterisk, StartsWithDot}
+use Rattle.gix_validate.specs.declared.tag.NameError.TheVariants.{EndsWithDot, EndsWithSlash, Empty}
+use Rattle.gix_validate.specs.Quoted.{quoted}
+use Rattle.gix_validate.specs.Tag.{◌at◌, first_fault, fault_of, is_tag_name}
 
 -- an accepted text, and one for each fault: where several rules are broken, which comes first
 faults : Judges fault_of is_tag_name
@@ -22,8 +28,8 @@ faults : Judges fault_of is_tag_name
 unfolding names_on_literals
 faults = (refl, refl)
 
--- A text for each line of the order, with its fault and the offset. An offset that is wrong in the definition and in the body
--- alike is refused by this proof alone.
+-- A text for each line of the order, with its fault and the offset.
+-- An offset that is wrong in the definition and in the body alike is refused by this proof alone.
 faults_at_offsets : Gives first_fault
     (([], Some Empty at 0)  -- nothing
     ∷ (codes "refs/", Some EndsWithSlash at 4)  -- last slash

@@ -1,8 +1,11 @@
 -- The laws of tag names, proved of their definitions.
-use Rattle.gix_validate.proofs.Common.{◌≡◌, ℕ, List, [], ◌∷◌, ◌++◌, eqb, sym, ap, ◌∙◌, arith, byte, nat_tests}
-use Rattle.gix_validate.proofs.Common.{join_with_byte-slice_split, common_steps}
-use Rattle.gix_validate.proofs.{Texts.Pieces.{pieces_some, pieces_apart, pieces-joined}, TagNames.FaultTable.lock_ends_in_k}
-use Rattle.gix_validate.specs.{Bytes.{is_bad, ends}, Pieces.pieces, Tag.{fault_table, faults_at}}
+use Rattle.gix_validate.proofs.Common.{◌≡◌, ℕ, List, [], ◌∷◌, ◌++◌, eqb, sym, ap, ◌∙◌, arith, byte}
+use Rattle.gix_validate.proofs.Common.{nat_tests, join_with_byte-slice_split, common_steps}
+use Rattle.gix_validate.proofs.Texts.Pieces.{pieces_some, pieces_apart, pieces-joined}
+use Rattle.gix_validate.proofs.TagNames.FaultTable.{lock_ends_in_k}
+use Rattle.gix_validate.specs.Bytes.{is_bad, ends}
+use Rattle.gix_validate.specs.Pieces.{pieces}
+use Rattle.gix_validate.specs.Tag.{fault_table, faults_at}
 use Rattle.gix_validate.specs.TagLaws.{HasAtMostOneFaultPerOffset, PiecesAreTheOnlySplit}
 
 ends_push_one : (y : List ℕ) (b c : ℕ) → ends (y ++ b ∷ []) (c ∷ []) ≡ eqb b c
@@ -16,7 +19,11 @@ one_fault_law x i inside = grind (arith, nat_tests, lock_ends_in_k, ends_push_on
 -- Slashes split a text in one way.
 pub only_split_law : (x : List ℕ) → PiecesAreTheOnlySplit x
 only_split_law x = record {
-  these = record { some = pieces_some x; no_slash = pieces_apart x; whole = join_with_byte-slice_split (byte "/") x };
+  these = record {
+    some = pieces_some x;
+    no_slash = pieces_apart x;
+    whole = join_with_byte-slice_split (byte "/") x;
+  };
   only = λ texts h. sym (pieces-joined texts h.some h.no_slash) ∙ ap pieces h.whole;
 }
 

@@ -1,5 +1,6 @@
 -- Texts without a slash are the pieces of what they join to.
-use Rattle.gix_validate.proofs.Common.{◌≡◌, ◌≢◌, ℕ, true, List, [], ◌∷◌, ◌++◌, append_assoc, list_all, byte}
+use Rattle.gix_validate.proofs.Common.{◌≡◌, ◌≢◌, ℕ, true, List, [], ◌∷◌, ◌++◌, append_assoc}
+use Rattle.gix_validate.proofs.Common.{list_all, byte}
 use Rattle.gix_validate.specs.Pieces.{pieces, joined, has_no_slash}
 use native.Mathlib.Omega.{arith}
 
@@ -24,12 +25,14 @@ pieces_alone [] h = grind arith
 pieces_alone (b ∷ t) h = grind (arith, pieces_alone t)
 
 -- texts without a slash are the pieces of what they join to
-pub pieces-joined : (texts : List (List ℕ)) → texts ≢ [] → list_all has_no_slash texts ≡ true → pieces (joined texts) ≡ texts
+pub pieces-joined : (texts : List (List ℕ)) → texts ≢ [] → list_all has_no_slash texts ≡ true
+    → pieces (joined texts) ≡ texts
 pieces-joined [] some h = grind arith
 pieces-joined (t ∷ []) some h = grind (arith, pieces_alone)
 pieces-joined (t ∷ u ∷ texts) some h = grind (arith, pieces_front, pieces-joined (u ∷ texts))
 
 -- one text more after the others
-pub joined-push : (text : List ℕ) (texts : List (List ℕ)) (last : List ℕ) → joined (text ∷ (texts ++ last ∷ [])) ≡ joined (text ∷ texts) ++ (byte "/" ∷ last)
+pub joined-push : (text : List ℕ) (texts : List (List ℕ)) (last : List ℕ)
+    → joined (text ∷ (texts ++ last ∷ [])) ≡ joined (text ∷ texts) ++ (byte "/" ∷ last)
 joined-push text [] last = grind arith
 joined-push text (next ∷ texts) last = grind (arith, append_assoc, joined-push next texts last)

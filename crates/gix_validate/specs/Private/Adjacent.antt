@@ -1,7 +1,13 @@
--- Clear texts, recognised by each two adjacent bytes and by the end: each is a tag name, and most tag names are clear.
-use Rattle.std.specs.{Prelude.{◌≡◌, ℕ, ◌<◌, Bool, false, ◌==◌, ◌&&◌, ◌||◌, List, [], ◌∷◌, length, codes, Option}, Str.byte}
-use Rattle.gix_validate.specs.{Private.Scan.{NoneBelow, at_both}, Bytes.{is_bad, is_among, ends}}
-use Rattle.gix_validate.specs.{declared.tag.NameError.NameError, Faults.first_of, Tag.fault_table}
+-- Clear texts, recognised by each two adjacent bytes and by the end: each is a tag name,
+-- and most tag names are clear.
+use Rattle.std.specs.Prelude.{◌≡◌, ℕ, ◌<◌, Bool, false, ◌==◌, ◌&&◌, ◌||◌, List, [], ◌∷◌, length}
+use Rattle.std.specs.Prelude.{codes, Option}
+use Rattle.std.specs.Str.{byte}
+use Rattle.gix_validate.specs.Private.Scan.{NoneBelow, at_both}
+use Rattle.gix_validate.specs.Bytes.{is_bad, is_among, ends}
+use Rattle.gix_validate.specs.declared.tag.NameError.{NameError}
+use Rattle.gix_validate.specs.Faults.{first_of}
+use Rattle.gix_validate.specs.Tag.{fault_table}
 
 -- the byte may have a fault by what is before it; no other byte ever has one
 abbrev pub may_be_faulty : ℕ → Bool
@@ -11,8 +17,8 @@ may_be_faulty b = is_bad b || is_among (codes "*./{") b
 unfoldable pub fault_of_byte : List ℕ → ℕ → Option NameError
 fault_of_byte before b = first_of (fault_table before b (0 ∷ []))
 
--- After the byte before it, the byte may have a fault, or lead to one: a bad byte, `*` or `{`; a dot or slash after a dot or
--- slash; an `l` after a dot, as in `.lock`, whose fault is at a later byte.
+-- After the byte before it, the byte may have a fault, or lead to one: a bad byte, `*` or `{`;
+-- a dot or slash after a dot or slash; an `l` after a dot, as in `.lock`, whose fault is at a later byte.
 unfoldable pub is_suspect : ℕ → ℕ → Bool
 is_suspect before b =
     is_bad b || is_among (codes "*{") b || (is_among (codes "./") before && is_among (codes "./") b)

@@ -1,6 +1,6 @@
 -- How the sixteen bytes of a block are taken from a text, and what a scan says of the offsets of a text.
-use Rattle.std.specs.Prelude.{◌≡◌, ℕ, ◌+◌, ◌-◌, ◌%◌, ◌<◌, Bool, true, false, not, ◌==◌, nat_lt, if◌then◌else◌}
-use Rattle.std.specs.Prelude.{List, slice_index, Option, MatchOption}
+use Rattle.std.specs.Prelude.{◌≡◌, ℕ, ◌+◌, ◌-◌, ◌%◌, ◌<◌, Bool, true, false, not, ◌==◌, nat_lt}
+use Rattle.std.specs.Prelude.{if◌then◌else◌, List, slice_index, Option, MatchOption}
 use Rattle.gix_validate.specs.declared.lanes.TheConstants.{LANES}
 
 -- the block has n bytes of the text from the first offset on and n from the second, again and again

@@ -1,7 +1,8 @@
 //! Words in any ASCII case. Rust's own `eq_ignore_ascii_case` isn't unrolled for a constant word:
 //! with it `component` takes up to an eighth more instructions (`bench/run`).
 
-ghost use Rattle.std.specs.{Prelude.{◌≡◌, ◌==◌, true, false, drop, length, MatchOption}, Str.bytes_eq};
+ghost use Rattle.std.specs.Prelude.{◌≡◌, ◌==◌, true, false, drop, length, MatchOption};
+ghost use Rattle.std.specs.Str.{bytes_eq};
 ghost use Rattle.gix_validate.specs.Bytes.{begins, lower, lower_byte};
 
 /// What follows the word, if the bytes begin with it in any ASCII case.

@@ -1,12 +1,19 @@
 //! One look at a short name says which classes of bytes it has. A long name is searched by `scan` for
 //! each thing by itself.
 
-ghost use Rattle.std.specs.Prelude.{◌≡◌, ◌==◌, false, IsTrue, ◌≤◌, ◌<◌, ◌+◌, ◌&&◌, ◌||◌, not, length, map};
-ghost use Rattle.std.specs.{Str.byte, List.list_any, Simd.Lanes.chunk};
+ghost use Rattle.std.specs.Prelude.{◌≡◌, ◌==◌, false, IsTrue, ◌≤◌, ◌<◌, ◌+◌, ◌&&◌, ◌||◌, not};
+ghost use Rattle.std.specs.Prelude.{length, map};
+ghost use Rattle.std.specs.Str.{byte};
+ghost use Rattle.std.specs.List.{list_any};
+ghost use Rattle.std.specs.Simd.Lanes.{chunk};
 ghost use Rattle.gix_validate.specs.Private.Classes.{has_class, any_class, class_of, HaveClassesOf};
-ghost use Rattle.gix_validate.specs.{declared.path.classes.TheConstants.ILLEGAL, Bytes.is_among, Windows.is_illegal_byte};
+ghost use Rattle.gix_validate.specs.declared.path.classes.TheConstants.{ILLEGAL};
+ghost use Rattle.gix_validate.specs.Bytes.{is_among};
+ghost use Rattle.gix_validate.specs.Windows.{is_illegal_byte};
 
-use crate::lanes::{LANES, classify, halves, has_nonzero, nonzero_lanes, first_and_last_two, first_and_last_four};
+use crate::lanes::{
+    LANES, classify, first_and_last_four, first_and_last_two, halves, has_nonzero, nonzero_lanes,
+};
 use crate::pieces::Slash;
 use crate::scan::{self, FOUR_BLOCKS, Pattern};
 use std::simd::prelude::*;

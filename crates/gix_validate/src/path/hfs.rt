@@ -1,8 +1,10 @@
 //! How a name is read on HFS+, which ignores sixteen characters.
 
-ghost use Rattle.std.specs.Prelude.{◌≡◌, false, ◌<◌, ◌∷◌, [], MatchOption, codes, length, drop, slice_index};
+ghost use Rattle.std.specs.Prelude.{◌≡◌, false, ◌<◌, ◌∷◌, [], MatchOption, codes, length, drop};
+ghost use Rattle.std.specs.Prelude.{slice_index};
 ghost use Rattle.std.specs.Str.{bytes_eq};
-ghost use Rattle.gix_validate.specs.{Bytes.lower, Hfs.{hfs_form, is_ignored}};
+ghost use Rattle.gix_validate.specs.Bytes.{lower};
+ghost use Rattle.gix_validate.specs.Hfs.{hfs_form, is_ignored};
 
 use crate::path::ascii_case::bytes_eq_ignore_ascii_case;
 

@@ -1,8 +1,10 @@
 //! Joining path components.
 
 ghost use Rattle.std.specs.Prelude.{◌≡◌, ◌<◌, None, map, length, All, IfOk};
-ghost use Rattle.bstr.specs.{BStr.bstr_bytes, Owned.bstring_bytes};
-ghost use Rattle.gix_validate.specs.{Component.fault_of, ComponentLaws.{no_protections, IsBasicName}};
+ghost use Rattle.bstr.specs.BStr.{bstr_bytes};
+ghost use Rattle.bstr.specs.Owned.{bstring_bytes};
+ghost use Rattle.gix_validate.specs.Component.{fault_of};
+ghost use Rattle.gix_validate.specs.ComponentLaws.{no_protections, IsBasicName};
 ghost use Rattle.gix_validate.specs.Pieces.{pieces, joined};
 
 use crate::pieces::joined;

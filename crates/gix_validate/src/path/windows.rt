@@ -4,9 +4,13 @@
 //! each of the first three offsets, since a branch for each letter is hard to predict. The one branch
 //! on what it says is hardly ever taken.
 
-ghost use Rattle.std.specs.Prelude.{◌≡◌, ◌≤◌, false, length, ◌==◌, ◌||◌, ◌∷◌, [], ◌++◌, ◌%◌, slice_index, bit_and, codes, IsTrue};
-ghost use Rattle.std.specs.{Prelude.not, List.{list_all, list_any}, Str.{byte, bytes_eq}};
-ghost use Rattle.gix_validate.specs.{Bytes.{lower, is_among, is_empty, ends}, Units.first_unit_len, Ntfs.is_digit};
+ghost use Rattle.std.specs.Prelude.{◌≡◌, ◌≤◌, false, length, ◌==◌, ◌||◌, ◌∷◌, [], ◌++◌, ◌%◌};
+ghost use Rattle.std.specs.Prelude.{slice_index, bit_and, codes, IsTrue, not};
+ghost use Rattle.std.specs.List.{list_all, list_any};
+ghost use Rattle.std.specs.Str.{byte, bytes_eq};
+ghost use Rattle.gix_validate.specs.Bytes.{lower, is_among, is_empty, ends};
+ghost use Rattle.gix_validate.specs.Units.{first_unit_len};
+ghost use Rattle.gix_validate.specs.Ntfs.{is_digit};
 ghost use Rattle.gix_validate.specs.Windows.{device_form, is_device, is_illegal_byte};
 
 use crate::path::ascii_case::strip_prefix_ignore_ascii_case;
@@ -70,7 +74,10 @@ const BY_LETTER: [[u8; 32]; 3] = [
 #[inline(always)]
 #[tactic(auto, using(crate::proofs::Components::Devices::special_bits), unfolding(crate::proofs::Components::Devices::bits, crate::specs::Bytes::lower_byte))]
 pub(super) fn may_be_special(name: &[u8]) -> bool
-    ensures { result ≡ false → (is_device name.now || (bytes_eq (lower name.now) (codes ".git") || bytes_eq (lower name.now) (codes ".gitmodules"))) ≡ false }
+    ensures { result ≡ false
+        → (is_device name.now
+        || (bytes_eq (lower name.now) (codes ".git") || bytes_eq (lower name.now) (codes ".gitmodules")))
+        ≡ false }
 {
     if name.len() < 3 {
         return false;
@@ -133,7 +140,8 @@ fn form_is(name: &[u8], word: &[u8]) -> bool
 #[inline(always)]
 #[tactic(auto, using(std::proofs::lemmas::Grind::common_steps, crate::proofs::Components::Devices::ends_in_digit))]
 fn ends_in_digit(rest: &[u8]) -> bool
-    ensures { result ≡ list_any (λ digit. bytes_eq (lower (device_form rest.now)) (digit ∷ [])) (codes "0123456789") }
+    ensures { result
+        ≡ list_any (λ digit. bytes_eq (lower (device_form rest.now)) (digit ∷ [])) (codes "0123456789") }
 {
     matches!(rest, [b'0'..=b'9', after @ ..] if ends_form(after))
 }
@@ -141,7 +149,8 @@ fn ends_in_digit(rest: &[u8]) -> bool
 #[inline(always)]
 #[tactic(auto, using(std::proofs::lemmas::Grind::common_steps, crate::proofs::Components::Devices::ends_in_nonzero_digit))]
 fn ends_in_nonzero_digit(rest: &[u8]) -> bool
-    ensures { result ≡ list_any (λ digit. bytes_eq (lower (device_form rest.now)) (digit ∷ [])) (codes "123456789") }
+    ensures { result
+        ≡ list_any (λ digit. bytes_eq (lower (device_form rest.now)) (digit ∷ [])) (codes "123456789") }
 {
     matches!(rest, [b'1'..=b'9', after @ ..] if ends_form(after))
 }

@@ -1,12 +1,20 @@
 //! The repair of names that are not partial names. A scan stops at the first byte that may have to
 //! change (see `adjacent`), and from there on a walk reads and writes in one buffer.
 
-ghost use Rattle.std.specs.Prelude.{◌≡◌, ◌≢◌, ℕ, false, ◌↔◌, ◌+◌, ◌-◌, ◌≤◌, ◌<◌, ◌==◌, ◌||◌, ◌&&◌, ◌++◌, [], ◌∷◌, max, if◌then◌else◌, length, take, drop, get_or, set, codes, IsTrue, IsOk, IfOk, Some, None, slice_range, vec_capacity};
+ghost use Rattle.std.specs.Prelude.{◌≡◌, ◌≢◌, ℕ, false, ◌↔◌, ◌+◌, ◌-◌, ◌≤◌, ◌<◌, ◌==◌, ◌||◌, ◌&&◌};
+ghost use Rattle.std.specs.Prelude.{◌++◌, [], ◌∷◌, max, if◌then◌else◌, length, take, drop, get_or};
+ghost use Rattle.std.specs.Prelude.{set, codes, IsTrue, IsOk, IfOk, Some, None, slice_range};
+ghost use Rattle.std.specs.Prelude.{vec_capacity};
 ghost use Rattle.std.specs.Str.{byte};
-ghost use Rattle.bstr.specs.{BStr.bstr_bytes, Owned.bstring_bytes};
-ghost use Rattle.gix_validate.specs.Sanitized.{Dots, Other, byte_of, cut, mended_pieces, repaired_dot, repaired_at, repaired_nothing, sanitized, IsPiecewise};
-ghost use Rattle.gix_validate.specs.{Pieces.{is_slash, joined}, Reference.is_partial_name};
-ghost use Rattle.gix_validate.specs.Private.{Scan.NoneBelow, Adjacent.{may_be_faulty, suspect_at}};
+ghost use Rattle.bstr.specs.BStr.{bstr_bytes};
+ghost use Rattle.bstr.specs.Owned.{bstring_bytes};
+ghost use Rattle.gix_validate.specs.Sanitized.{Dots, Other, byte_of, cut, mended_pieces};
+ghost use Rattle.gix_validate.specs.Sanitized.{repaired_dot, repaired_at, repaired_nothing};
+ghost use Rattle.gix_validate.specs.Sanitized.{sanitized, IsPiecewise};
+ghost use Rattle.gix_validate.specs.Pieces.{is_slash, joined};
+ghost use Rattle.gix_validate.specs.Reference.{is_partial_name};
+ghost use Rattle.gix_validate.specs.Private.Scan.{NoneBelow};
+ghost use Rattle.gix_validate.specs.Private.Adjacent.{may_be_faulty, suspect_at};
 
 use crate::adjacent::clear_front;
 use crate::bytes::may_be_faulty;
@@ -39,7 +47,8 @@ pub fn name_partial_or_sanitize(alloc: Global, path: BStr<'_>) -> Result<BString
     ensures unchanged { IfOk result (λ name.
         (bstring_bytes name ≡ bstr_bytes path.entry) ↔ IsTrue (is_partial_name (bstr_bytes path.entry))) }
     ensures bounds { IfOk result (λ name.
-        (1 ≤ length (bstring_bytes name)) × (length (bstring_bytes name) ≤ max 1 (length (bstr_bytes path.entry)))) }
+        (1 ≤ length (bstring_bytes name))
+        × (length (bstring_bytes name) ≤ max 1 (length (bstr_bytes path.entry)))) }
     ensures again { IfOk result (λ name. sanitized (bstring_bytes name) ≡ bstring_bytes name) }
     ensures piecewise { IfOk result (λ name. IsPiecewise (bstr_bytes path.entry) (bstring_bytes name)) }
 {
@@ -88,7 +97,8 @@ pub fn sanitize_in_place(buf: &mut [u8], len: usize) -> usize
     ensures bounds { (1 ≤ result) × (result ≤ max 1 len) }
     ensures text { take result buf.new ≡ sanitized (take len buf.old) }
     ensures partial { IsTrue (is_partial_name (take result buf.new)) }
-    ensures unchanged { (take result buf.new ≡ take len buf.old) ↔ IsTrue (is_partial_name (take len buf.old)) }
+    ensures unchanged { (take result buf.new ≡ take len buf.old)
+        ↔ IsTrue (is_partial_name (take len buf.old)) }
     ensures again { sanitized (take result buf.new) ≡ take result buf.new }
     ensures piecewise { IsPiecewise (take len buf.old) (take result buf.new) }
     ensures rest { drop (max 1 len) buf.new ≡ drop (max 1 len) buf.old }

@@ -5,7 +5,8 @@ use Rattle.gix_validate.specs.ComponentLaws.{no_protections}
 use Rattle.check_trees.proofs.options.protections_of.Given as goal
 
 abbrev pub invariant-loop-end : goal.invariant-loop-end
-invariant-loop-end l = all_switched_on (comma_parts l.rest) l.options ≡ all_switched_on (comma_parts l.fn.list) no_protections
+invariant-loop-end l =
+    all_switched_on (comma_parts l.rest) l.options ≡ all_switched_on (comma_parts l.fn.list) no_protections
 
 abbrev pub decreases-loop-end : goal.decreases-loop-end
 decreases-loop-end l = length l.rest

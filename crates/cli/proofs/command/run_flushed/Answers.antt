@@ -1,4 +1,5 @@
-use Rattle.std.proofs.{Common.{arith, rules}, lemmas.Grind.common_steps}
+use Rattle.std.proofs.Common.{arith, rules}
+use Rattle.std.proofs.lemmas.Grind.{common_steps}
 use Rattle.cli.proofs.command.run_flushed.Goals as goal
 
 pub returns-in_err-map_err : goal.returns-in_err-map_err

@@ -1,4 +1,5 @@
-use Rattle.gix_validate.proofs.{Common.{refl, arith, ◌++◌, range_with_len}, Blocks.Parts.has_parts}
+use Rattle.gix_validate.proofs.Common.{refl, arith, ◌++◌, range_with_len}
+use Rattle.gix_validate.proofs.Blocks.Parts.{has_parts}
 use Rattle.gix_validate.proofs.lanes.first_and_last_two.Goals as goal
 
 pub returns : goal.returns

@@ -1,7 +1,9 @@
 -- What the classes of a short name say of it.
-use Rattle.gix_validate.proofs.{Common.arith, Blocks.ByteClasses.classes_tell}
+use Rattle.gix_validate.proofs.Common.{arith}
+use Rattle.gix_validate.proofs.Blocks.ByteClasses.{classes_tell}
 use Rattle.gix_validate.proofs.path.first_fault.Goals as goal
-use Rattle.gix_validate.proofs.path.first_fault.Goals.{then-windows, else-windows, else-not-is_empty+else-has_separator}
+use Rattle.gix_validate.proofs.path.first_fault.Goals.{then-windows, else-windows}
+use Rattle.gix_validate.proofs.path.first_fault.Goals.{else-not-is_empty+else-has_separator}
 use Rattle.gix_validate.proofs.path.first_fault.Goals.{then-not-is_empty+then-name-le-MAX_SHORT+else-is_relative+else-not-has_class+else-has_class}
 
 pub returns-then-not-ends_illegally : goal.returns-then-not-ends_illegally
@@ -10,7 +12,8 @@ returns-then-not-ends_illegally c = c.first_fault_of_ordinary.ensures c.args.opt
 pub first_fault_in_order-requires : goal.first_fault_in_order-requires
 first_fault_in_order-requires c = elim c.if-not-is_empty.branch [
   | then-not-is_empty+then-name-le-MAX_SHORT+else-is_relative+else-not-has_class+else-has_class w ↦
-      let tell = classes_tell w.classes_of-classes.result c.args.name.now c.type_inv.name w.classes_of-classes.ensures in
+      let tell =
+      classes_tell w.classes_of-classes.result c.args.name.now c.type_inv.name w.classes_of-classes.ensures in
       elim w.if-windows.branch [
         | then-windows w' ↦ grind (arith, tell.separator, w'.if-windows, w'.has_class-is)
         | else-windows w' ↦ grind (arith, tell.slash, w'.if-windows, w'.has_class-is)

@@ -5,6 +5,7 @@ use Rattle.gix_validate.proofs.pieces.joined_len.Given as goal
 
 abbrev pub invariant-loop-part : goal.invariant-loop-part
 invariant-loop-part l = record {
-  counted : l.len ≡ (length l.parts - 1) + sum_by (λ part. length (bstr_bytes part)) (take l.part-index l.parts);
+  counted : l.len
+      ≡ (length l.parts - 1) + sum_by (λ part. length (bstr_bytes part)) (take l.part-index l.parts);
   small : l.len < 2 ^ 64;
 }

@@ -6,6 +6,7 @@ use Rattle.gix_validate_c.proofs.texts.write_text.Given as goal
 
 abbrev pub invariant-loop-byte : goal.invariant-loop-byte
 invariant-loop-byte l = record {
-  written : l.shown.bytes ≡ l.fn.text.words.now ++ codes "\"" ++ flat_map escape_of (take l.byte-index l.bytes);
+  written : l.shown.bytes
+      ≡ l.fn.text.words.now ++ codes "\"" ++ flat_map escape_of (take l.byte-index l.bytes);
   room : array_string_len l.shown ≤ length l.fn.text.words.now + 4 * l.byte-index + 1;
 }

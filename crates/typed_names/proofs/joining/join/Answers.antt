@@ -10,7 +10,8 @@ returns-clause-bytes c =
 
 pub returns-clause-pieces : goal.returns-clause-pieces
 returns-clause-pieces c =
-    rw (returns-clause-bytes c) (pieces_joined_parts component_bytes c.args.parts.now c.requires.some (all_valid c.args.parts.now))
+    rw (returns-clause-bytes c)
+    (pieces_joined_parts component_bytes c.args.parts.now c.requires.some (all_valid c.args.parts.now))
 
 pub returns-clause-basic : goal.returns-clause-basic
 returns-clause-basic c =

@@ -6,4 +6,5 @@ use Rattle.gitmodules.proofs.escaped.EscapedName.after_quote.Given as goal
 
 abbrev pub invariant-loop-offset : goal.invariant-loop-offset
 invariant-loop-offset l =
-    escaped_name false l.fn.bytes ≡ option_map (λ more. take l.offset l.bytes ++ more) (escaped_name l.escaped (drop l.offset l.bytes))
+    escaped_name false l.fn.bytes
+    ≡ option_map (λ more. take l.offset l.bytes ++ more) (escaped_name l.escaped (drop l.offset l.bytes))

@@ -1,4 +1,5 @@
-use Rattle.gix_validate.proofs.{Common.{arith, bit_at-zero}, Blocks.Lanes.{none_nonzero, suspect_lane}}
+use Rattle.gix_validate.proofs.Common.{arith, bit_at-zero}
+use Rattle.gix_validate.proofs.Blocks.Lanes.{none_nonzero, suspect_lane}
 use Rattle.gix_validate.proofs.adjacent.SuspectPattern.hits.Goals as goal
 
 pub returns-then-suspect-eq0-clause-lanes : goal.returns-then-suspect-eq0-clause-lanes

@@ -1,4 +1,5 @@
-use Rattle.gix_validate.proofs.{Common.◌∙◌, Blocks.ByteClasses.illegal_is}
+use Rattle.gix_validate.proofs.Common.{◌∙◌}
+use Rattle.gix_validate.proofs.Blocks.ByteClasses.{illegal_is}
 use Rattle.gix_validate.proofs.path.classes.has_illegal_byte.Goals as goal
 
 pub returns-then-name-gt-MAX_SHORT : goal.returns-then-name-gt-MAX_SHORT

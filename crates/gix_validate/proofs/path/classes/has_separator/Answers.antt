@@ -1,4 +1,5 @@
-use Rattle.gix_validate.proofs.{Common.{arith, byte}, Blocks.Parts.either_among}
+use Rattle.gix_validate.proofs.Common.{arith, byte}
+use Rattle.gix_validate.proofs.Blocks.Parts.{either_among}
 use Rattle.gix_validate.proofs.path.classes.has_separator.Goals as goal
 
 pub returns-then-windows : goal.returns-then-windows

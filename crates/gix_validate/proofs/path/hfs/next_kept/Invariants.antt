@@ -1,4 +1,5 @@
-use Rattle.gix_validate.{proofs.Common.{◌≡◌, length}, specs.Hfs.hfs_form}
+use Rattle.gix_validate.proofs.Common.{◌≡◌, length}
+use Rattle.gix_validate.specs.Hfs.{hfs_form}
 use Rattle.gix_validate.proofs.path.hfs.next_kept.Given as goal
 
 abbrev pub invariant-loop-after : goal.invariant-loop-after

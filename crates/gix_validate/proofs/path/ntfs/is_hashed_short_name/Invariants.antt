@@ -1,4 +1,5 @@
-use Rattle.gix_validate.proofs.{Common.◌≡◌, Components.ShortNames.is_short_from}
+use Rattle.gix_validate.proofs.Common.{◌≡◌}
+use Rattle.gix_validate.proofs.Components.ShortNames.{is_short_from}
 use Rattle.gix_validate.specs.Bytes.{lower}
 use Rattle.gix_validate.proofs.path.ntfs.is_hashed_short_name.Given as goal
 

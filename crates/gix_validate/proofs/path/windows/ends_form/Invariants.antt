@@ -1,4 +1,6 @@
-use Rattle.gix_validate.{proofs.Common.{◌≡◌, drop}, specs.{Bytes.is_empty, Windows.device_form}}
+use Rattle.gix_validate.proofs.Common.{◌≡◌, drop}
+use Rattle.gix_validate.specs.Bytes.{is_empty}
+use Rattle.gix_validate.specs.Windows.{device_form}
 use Rattle.gix_validate.proofs.path.windows.ends_form.Given as goal
 
 abbrev pub invariant-loop-byte : goal.invariant-loop-byte

@@ -1,4 +1,5 @@
-use Rattle.gix_validate.proofs.{Common.{sym, arith, nat_tests}, Components.Devices.{device_unlettered, are_letters}}
+use Rattle.gix_validate.proofs.Common.{sym, arith, nat_tests}
+use Rattle.gix_validate.proofs.Components.Devices.{device_unlettered, are_letters}
 use Rattle.gix_validate.proofs.path.windows.is_device_by_letters.Goals as goal
 
 pub returns-in_default-4 : goal.returns-in_default-4

@@ -1,4 +1,5 @@
-use Rattle.gix_validate.{proofs.Common.{◌≡◌, ◌≤◌, length, take}, specs.Sanitized.cut}
+use Rattle.gix_validate.proofs.Common.{◌≡◌, ◌≤◌, length, take}
+use Rattle.gix_validate.specs.Sanitized.{cut}
 use Rattle.gix_validate.proofs.reference.sanitize.length_of_cut.Given as goal
 
 abbrev pub invariant-loop-end : goal.invariant-loop-end

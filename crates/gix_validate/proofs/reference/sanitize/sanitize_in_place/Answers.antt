@@ -1,6 +1,10 @@
-use Rattle.gix_validate.proofs.Sanitizing.Laws.{sanitized-own, sanitized-partial, sanitized-unchanged, sanitized-sanitized, sanitized-piecewise}
-use Rattle.gix_validate.proofs.{Common.{◌≡◌, true, take, subst, sym, refl, arith}, Sanitizing.OneBuffer.in_place}
-use Rattle.gix_validate.specs.{Reference.is_partial_name, Sanitized.{sanitized, IsPiecewise}}
+use Rattle.gix_validate.proofs.Sanitizing.Laws.{sanitized-own, sanitized-partial}
+use Rattle.gix_validate.proofs.Sanitizing.Laws.{sanitized-unchanged, sanitized-sanitized}
+use Rattle.gix_validate.proofs.Sanitizing.Laws.{sanitized-piecewise}
+use Rattle.gix_validate.proofs.Common.{◌≡◌, true, take, subst, sym, refl, arith}
+use Rattle.gix_validate.proofs.Sanitizing.OneBuffer.{in_place}
+use Rattle.gix_validate.specs.Reference.{is_partial_name}
+use Rattle.gix_validate.specs.Sanitized.{sanitized, IsPiecewise}
 use Rattle.gix_validate.proofs.reference.sanitize.sanitize_in_place.Goals as goal
 
 pub returns-then-clear-len : goal.returns-then-clear-len

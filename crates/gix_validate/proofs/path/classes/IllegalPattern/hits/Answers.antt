@@ -1,4 +1,5 @@
-use Rattle.gix_validate.proofs.{Blocks.ByteClasses.mask_lane, Common.{arith, nat_tests}}
+use Rattle.gix_validate.proofs.Blocks.ByteClasses.{mask_lane}
+use Rattle.gix_validate.proofs.Common.{arith, nat_tests}
 use Rattle.gix_validate.proofs.path.classes.IllegalPattern.hits.Goals as goal
 
 pub returns-clause-lanes : goal.returns-clause-lanes

@@ -1,3 +1,4 @@
 pub mod AnswerLemmas
 pub mod WriteLemmas
 pub mod AnswersRows
+mod RunsRows

@@ -1,3 +1,4 @@
 pub mod TargetLemmas
 pub mod WalkLemmas
 pub mod SettingsLemmas
+mod Rows

@@ -1,11 +1,15 @@
--- The definitions of numbers, ids, header lines and verdicts, computed on literals.
-use Rattle.gix_validate.proofs.Common.{refl, ℕ, Bool, List, [], ◌∷◌, ◌++◌, true, false, Option}
-use Rattle.gix_validate.proofs.Common.{Some, None, codes}
+-- The definitions of numbers, ids, header lines and verdicts, computed on literals,
+-- and what the words of the laws say of literals.
+use Rattle.gix_validate.proofs.Common.{◌≡◌, refl, ℕ, ◌<◌, Bool, List, [], ◌∷◌, ◌++◌, true, false}
+use Rattle.gix_validate.proofs.Common.{Option, Some, None, Ok, codes, arith, length, length-append}
 use Rattle.gix_validate.proofs.Rows.Tables.{Gives}
-use Rattle.git_input.specs.Texts.{split_once, number_of, is_id, hex_pair}
+use Rattle.std.specs.Io.KnownBytes.{IsAtEnd}
+use Rattle.git_input.specs.Texts.{number_of, is_id, hex_pair}
 use Rattle.git_input.specs.Headers.{ParsedHeader, Missing, Object, parsed_header}
-use Rattle.git_input.specs.Objects.{object_reach}
-use Rattle.git_input.specs.Reports.{extent, malformation_at_end, verdict_by}
+use Rattle.git_input.specs.Objects.{object_reach, ObjectRule, IsWholeStream, object_report}
+use Rattle.git_input.specs.Reports.{extent, malformation_at_end, verdict_by, EndsIn, IsCleanIff}
+use Rattle.git_input.specs.Reports.{IsWhole, LineRule, Reach, Report, end_line, report}
+use Rattle.git_input.specs.Promises.{Runs}
 use Rattle.git_input.specs.declared.header.Kind.{Kind}
 use Rattle.git_input.specs.declared.header.Kind.TheVariants.{Blob, Tree, Commit, Tag}
 use Rattle.git_input.specs.declared.lines.Ending.{Ending}
@@ -118,3 +122,44 @@ verdicts : Gives (λ (found : Bool × Option (ℕ × Malformation)). verdict_by 
     ∷ ((true, Some (2, Line)), Malformed 2 Line)  -- the refused part was printed
     ∷ [])
 verdicts = refl
+
+-- clean if accepted, and only then
+clean_verdicts :
+    let IsCleanIff-a = IsCleanIff (λ text. text ≡ codes "a") in
+    IsCleanIff-a Clean (codes "a")
+    × IsCleanIff-a Refused (codes "b")
+    × ¬ IsCleanIff-a Clean (codes "b")
+    × ¬ IsCleanIff-a Refused (codes "a")
+    × ¬ IsCleanIff-a (Malformed 1 Line) (codes "a")
+clean_verdicts = (
+  (λ clean. refl, λ same. refl),
+  (λ clean. absurd (grind (arith, clean)), λ same. absurd (grind (arith, same))),
+  λ iff. grind (arith, iff.0 refl),
+  λ iff. grind (arith, iff.1 refl),
+  λ iff. grind (arith, iff.1 refl),
+)
+
+-- a text doesn't end in a longer one
+too_short : (text rest : List ℕ) → length text < length rest → ¬ EndsIn text rest
+too_short text rest shorter (front, is) = grind (arith, is, length-append)
+
+-- the end of a text, and what is longer than that
+ends_of_texts : EndsIn (codes "ab") (codes "b") × EndsIn (codes "ab") (codes "ab")
+    × ¬ EndsIn (codes "b") (codes "ab")
+ends_of_texts = ((codes "a", refl), ([], refl), λ end. too_short (codes "b") (codes "ab") (omega arith) end)
+
+-- a line alone is no whole input where the end line has to follow
+whole_inputs : (rule : LineRule) → IsWhole rule → ¬ ((report rule EndLine (codes "a\n")).malformed ≡ None)
+whole_inputs rule whole none = too_short (codes "a\n") end_line (omega arith) (whole (codes "a\n") none)
+
+whole_streams : (rule : ObjectRule) → IsWholeStream rule true
+    → ¬ ((object_report rule true (codes "a\n")).malformed ≡ None)
+whole_streams rule whole none = too_short (codes "a\n") end_line (omega arith) (whole refl (codes "a\n") none)
+
+-- a run that found no malformed part read all
+read_to_the_end : (report : List ℕ → Report) (reach : Reach)
+    (text : List ℕ) (left before after : Option (List ℕ))
+    → (Runs report reach (Some text) left before after (Ok Clean) → (left ≡ Some []) × IsAtEnd left)
+    × (Runs report reach (Some text) left before after (Ok Refused) → (left ≡ Some []) × IsAtEnd left)
+read_to_the_end report reach text left before after =
+    (λ ran. (ran.spent refl, ran.end refl), λ ran. (ran.spent refl, ran.end refl))

@@ -1,6 +1,8 @@
 -- The sections of worked files, computed.
 use Rattle.std.proofs.Common.{◌≡◌, ℕ, List, [], ◌∷◌, ◌++◌, Option, Some, None, codes, refl}
-use Rattle.gitmodules.specs.Sections.{sections, header_after_bracket}
+use Rattle.gitmodules.specs.Sections.{sections, header_after_bracket, Named, Unreadable, Other}
+use Rattle.gitmodules.specs.Headers.{header_of, section_pair}
+use Rattle.gitmodules.specs.declared.reader.Header.TheVariants as code
 
 -- a section of a name, at its offset
 abbrev name_at : ℕ → List ℕ → ℕ × Option (List ℕ)
@@ -10,14 +12,15 @@ name_at offset name = (offset, Some name)
 abbrev unreadable_at : ℕ → ℕ × Option (List ℕ)
 unreadable_at offset = (offset, None)
 
--- names: of two sections, with escapes, and with brackets
+-- names: of two sections, with escapes, with brackets, and with a backslash last
 names_of_sections :
     (sections 0 (codes "[submodule \"a/b\"]\n\tpath = x\n[submodule \"c\"]\n")
     ≡ name_at 0 (codes "a/b") ∷ name_at 28 (codes "c") ∷ [])
     × (sections 0 (codes "[submodule \"a\\\"b\\\\c\"]") ≡ name_at 0 (codes "a\"b\\c") ∷ [])
     × (sections 0 (codes "[submodule \"a]b[c\"]") ≡ name_at 0 (codes "a]b[c") ∷ [])
+    × (sections 0 (codes "[submodule \"\\n\\\\\"]") ≡ name_at 0 (codes "n\\") ∷ [])
 unfolding header_after_bracket
-names_of_sections = (refl, refl, refl)
+names_of_sections = (refl, refl, refl, refl)
 
 -- the blanks, each alone and together, and words in other letters
 blanks_before_names :
@@ -50,8 +53,9 @@ sections_anywhere = (refl, refl)
 other_sections :
     (sections 0 (codes "[submodules \"a\"]\n[submodule-x \"a\"]\n[submodule2]") ≡ [])
     × (sections 0 (codes "[sub \"submodule\"]\n[ submodule \"a\"]\n[submodul") ≡ [])
+    × (sections 0 (codes "[submodule]\n[submoduleX \"a\"]") ≡ [])
 unfolding header_after_bracket
-other_sections = (refl, refl)
+other_sections = (refl, refl, refl)
 
 -- sections that can't be read: the old form, no blank, no quotes, no end, and bytes that are in no name
 unreadable_sections :
@@ -59,9 +63,21 @@ unreadable_sections :
     × (sections 0 (codes "[submodule\"a\"]\n[submodule a]\n[submodule \n\"a\"]")
     ≡ unreadable_at 0 ∷ unreadable_at 15 ∷ unreadable_at 29 ∷ [])
     × (sections 0 (codes "[submodule \"a\" ]\n[submodule \"a") ≡ unreadable_at 0 ∷ unreadable_at 17 ∷ [])
+    × (sections 0 (codes "[submodule \"a\"") ≡ unreadable_at 0 ∷ [])
+    × (sections 0 (codes "[submodule ") ≡ unreadable_at 0 ∷ [])
+    × (sections 0 (codes "[submodule_x \"a\"]") ≡ unreadable_at 0 ∷ [])
     × (sections 0 (codes "[submodule \"a\nb\"]\n[submodule \"a\\\nb\"]")
     ≡ unreadable_at 0 ∷ unreadable_at 18 ∷ [])
     × (sections 0 (codes "[submodule \"a\\" ++ 0 ∷ codes "\"]") ≡ unreadable_at 0 ∷ [])
     × (sections 0 (codes "[submodule \"a" ++ 0xFF ∷ codes "\"]") ≡ unreadable_at 0 ∷ [])
 unfolding header_after_bracket
-unreadable_sections = (refl, refl, refl, refl, refl, refl)
+unreadable_sections = (refl, refl, refl, refl, refl, refl, refl, refl, refl)
+
+-- what the program finds, in the terms of the rule
+found_by_the_program :
+    (section_pair (record { offset = 7; name = Some (codes "a") }) ≡ name_at 7 (codes "a"))
+    × (section_pair (record { offset = 7; name = None }) ≡ unreadable_at 7)
+    × (header_of (code.Submodule (Some (codes "a"))) ≡ Named (codes "a"))
+    × (header_of (code.Submodule None) ≡ Unreadable)
+    × (header_of code.Other ≡ Other)
+found_by_the_program = (refl, refl, refl, refl, refl)

@@ -1,8 +1,12 @@
 -- The words of the contracts, computed on the worked names.
-use Rattle.gix_validate.proofs.Common.{◌≡◌, ℕ, true, false, refl, List, [], ◌∷◌, Some, None, codes}
-use Rattle.gix_validate.proofs.Common.{after_first}
+use Rattle.gix_validate.proofs.Common.{◌≡◌, ℕ, true, false, refl, List, [], ◌∷◌, Some, None, Ok}
+use Rattle.gix_validate.proofs.Common.{Err, codes, after_first, arith}
+use Rattle.gix_validate.proofs.OnLiterals.{names_on_literals}
 use Rattle.bstr.specs.declared.bstr.BStr.{BStr}
 use Rattle.gix_validate.specs.Pieces.{is_slash, has_no_slash}
+use Rattle.gix_validate.specs.Tag.{fault_of}
+use Rattle.gix_validate.specs.declared.tag.NameError.TheVariants.{Empty, StartsWithDot}
+use Rattle.typed_names.specs.Names.{NewChecks}
 use Rattle.typed_names.specs.Pieces.{pieces_left}
 
 abbrev text : List ℕ → BStr
@@ -25,3 +29,21 @@ after_the_first_slash :
     × (has_no_slash (codes "main") ≡ true)
     × (has_no_slash (codes "a./b") ≡ false)
 after_the_first_slash = (refl, refl, refl, refl, refl, refl)
+
+-- a text without a fault is kept, and no other text for it
+kept_texts :
+    let Checks = NewChecks (λ name. name) fault_of in
+    Checks (text (codes "a")) (Ok (text (codes "a")))
+    × ¬ Checks (text (codes "a")) (Ok (text (codes "b")))
+    × ¬ Checks (text (codes ".a")) (Ok (text (codes ".a")))
+unfolding names_on_literals
+kept_texts = ((refl, refl), λ e. grind (arith, e.1), λ e. grind (arith, e.0))
+
+-- of another its fault is given
+given_faults :
+    let Checks = NewChecks (λ (name : BStr). name) fault_of in
+    Checks (text (codes ".a")) (Err StartsWithDot)
+    × ¬ Checks (text (codes ".a")) (Err Empty)
+    × ¬ Checks (text (codes "a")) (Err StartsWithDot)
+unfolding names_on_literals
+given_faults = (refl, λ e. grind (arith, e), λ e. grind (arith, e))

@@ -12,8 +12,8 @@ use Rattle.git_input.specs.Reports.{max_line, Said}
 use Rattle.git_input.specs.Promises.{ReadsBefore, ReadsExactly}
 use Rattle.git_input.specs.Texts.{split_once}
 use Rattle.git_input.specs.Headers.{ParsedObject}
-use Rattle.cli.specs.declared.outcome.RunError.{RunError}
-use Rattle.cli.specs.declared.outcome.RunError.TheVariants.{Write}
+use Rattle.cli.specs.declared.error.RunError.{RunError}
+use Rattle.cli.specs.declared.error.RunError.TheVariants.{Write}
 use Rattle.cli.specs.Messages.{AppendsPrefixOf}
 use Rattle.git_input.proofs.SplitTexts.{take_after, take_past, drop_before, drop_both, split_within}
 use Rattle.git_input.proofs.SplitTexts.{split_short, split_long}

@@ -8,8 +8,8 @@ use Rattle.git_input.specs.declared.outcome.Malformation.{Malformation}
 use Rattle.git_input.specs.Headers.{ParsedObject}
 use Rattle.git_input.specs.Reports.{nothing, then_said}
 use Rattle.git_input.specs.Promises.{FollowsRule, ReadsUpTo, ReadsWithin}
-use Rattle.cli.specs.declared.outcome.RunError.{RunError}
-use Rattle.cli.specs.declared.outcome.RunError.TheVariants.{Write}
+use Rattle.cli.specs.declared.error.RunError.{RunError}
+use Rattle.cli.specs.declared.error.RunError.TheVariants.{Write}
 use Rattle.cli.specs.Messages.{AppendsPrefixOf}
 use Rattle.git_input.proofs.LinesStop.{up_to_more}
 use Rattle.git_input.proofs.ReportSoFar.{SoFar, goes, ends, stops}

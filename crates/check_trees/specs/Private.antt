@@ -6,8 +6,8 @@ use Rattle.git_input.specs.declared.outcome.Malformation.{Malformation}
 use Rattle.git_input.specs.Promises.{ReadsUpTo, ReadsExactly, judged_step}
 use Rattle.git_input.specs.Headers.{ParsedObject}
 use Rattle.git_input.specs.Reports.{Said, nothing, Step}
-use Rattle.cli.specs.declared.outcome.RunError.{RunError}
-use Rattle.cli.specs.declared.outcome.RunError.TheVariants.{Write}
+use Rattle.cli.specs.declared.error.RunError.{RunError}
+use Rattle.cli.specs.declared.error.RunError.TheVariants.{Write}
 use Rattle.cli.specs.Messages.{AppendsPrefixOf}
 use Rattle.check_trees.specs.declared.check.Checked.{Checked}
 use Rattle.check_trees.specs.declared.entry.EntryHeader.{EntryHeader}

@@ -4,8 +4,8 @@ use Rattle.std.specs.declared.process.ExitCode.{ExitCode}
 use Rattle.std.specs.Io.KnownBytes.{Keeps}
 use Rattle.std.specs.Process.{exit_status}
 use Rattle.cli.specs.declared.messages.Messages.{Messages}
-use Rattle.cli.specs.declared.outcome.RunError.{RunError}
-use Rattle.cli.specs.declared.outcome.RunError.TheVariants.{Write}
+use Rattle.cli.specs.declared.error.RunError.{RunError}
+use Rattle.cli.specs.declared.error.RunError.TheVariants.{Write}
 use Rattle.cli.specs.Messages.{Says, message}
 
 -- what a run gave: what it says of its input, or why it failed

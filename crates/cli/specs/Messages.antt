@@ -8,8 +8,8 @@ use Rattle.std.specs.Io.KnownBytes.{Appends}
 use Rattle.std.specs.Process.{exit_status}
 use Rattle.cli.specs.declared.TheConstants.{VERSION}
 use Rattle.cli.specs.declared.messages.Messages.{Messages}
-use Rattle.cli.specs.declared.outcome.RunError.{RunError}
-use Rattle.cli.specs.declared.outcome.RunError.TheVariants.{Read, Memory, Write}
+use Rattle.cli.specs.declared.error.RunError.{RunError}
+use Rattle.cli.specs.declared.error.RunError.TheVariants.{Read, Memory, Write}
 use Rattle.cli.specs.Lines.{line_end}
 use Rattle.cli.specs.Arguments.{Task, Check, Help, Version, WrongArgument, UnknownWord, NoValue}
 use Rattle.cli.specs.Arguments.{WrongValue}

@@ -13,9 +13,9 @@ ghost use Rattle.cli.specs.Arguments.{wrong_argument};
 ghost use Rattle.cli.specs.Lines.{split_once};
 ghost use Rattle.cli.specs.Messages.{Says, message, stop_text_of, wrong_text_of};
 
+use crate::error::RunError;
 use crate::fail;
 use crate::messages::Messages;
-use crate::outcome::RunError;
 use std::alloc::Global;
 use std::env::Args;
 use std::io::{self, ErrorKind, Write};

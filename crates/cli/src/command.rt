@@ -8,8 +8,8 @@ ghost use Rattle.cli.specs.Command.{Checks, End, EndsAs, Finishes, Ran};
 ghost use Rattle.cli.specs.Messages.{Does};
 
 use crate::arguments::{ParseOptions, Request, fail_arguments, request_of};
+use crate::error::RunError;
 use crate::messages::Messages;
-use crate::outcome::RunError;
 use crate::{VERSION, print};
 use std::alloc::Global;
 use std::io::{BufRead, BufReader, BufWriter, Read, Write};

@@ -7,16 +7,16 @@ ghost use Rattle.std.specs.Io.KnownBytes.{Appends};
 ghost use Rattle.std.specs.Process.{exit_status};
 ghost use Rattle.cli.specs.Messages.{Prints, Says, message};
 
+use crate::error::RunError;
 use crate::messages::Messages;
-use crate::outcome::RunError;
 use std::fmt::Display;
 use std::io::{self, Write};
 use std::process::ExitCode;
 
 pub mod arguments;
 pub mod command;
+pub mod error;
 pub mod messages;
-pub mod outcome;
 
 /// The version of the library and of the programs, which `--version` prints.
 pub const VERSION: &str = "3.0.0-dev";

@@ -19,8 +19,8 @@ use Rattle.git_input.specs.declared.outcome.Malformation.{Malformation}
 use Rattle.git_input.specs.Texts.{line_end, split_once}
 use Rattle.git_input.specs.declared.outcome.Malformation.TheVariants.{TooLong, Ended}
 use Rattle.git_input.specs.declared.outcome.Verdict.TheVariants.{Clean, Refused, Malformed}
-use Rattle.cli.specs.declared.outcome.RunError.{RunError}
-use Rattle.cli.specs.declared.outcome.RunError.TheVariants.{Write}
+use Rattle.cli.specs.declared.error.RunError.{RunError}
+use Rattle.cli.specs.declared.error.RunError.TheVariants.{Write}
 use Rattle.cli.specs.Messages.{AppendsPrefixOf}
 use Rattle.git_input.proofs.SplitTexts.{IsCut, split_cuts, whole, drop_both, split_found}
 use Rattle.git_input.proofs.SplitTexts.{split_within, split_short, split_long}

@@ -20,7 +20,7 @@ use Rattle.git_input.specs.declared.outcome.Verdict.{Verdict}
 use Rattle.git_input.specs.Promises.{Runs}
 use Rattle.git_input.specs.Reports.{Reach, verdict_of, IsCleanIff, max_line, Said}
 use Rattle.git_input.specs.Texts.{line_end, split_once, number_of, is_id}
-use Rattle.cli.specs.declared.outcome.RunError.{RunError}
+use Rattle.cli.specs.declared.error.RunError.{RunError}
 use Rattle.git_input.proofs.SpelledStreams.{line_spelled, some_bytes, not_end}
 use Rattle.git_input.proofs.WholeStreams.{whole_stream}
 use Rattle.git_input.proofs.LinesRead.{by_line}

@@ -11,8 +11,8 @@ use Rattle.git_input.specs.declared.outcome.Verdict.{Verdict}
 use Rattle.git_input.specs.declared.input.Found.{Found}
 use Rattle.git_input.specs.declared.input.Found.TheVariants.{Byte, Limit, End}
 use Rattle.git_input.specs.declared.outcome.Malformation.TheVariants.{Ended}
-use Rattle.cli.specs.declared.outcome.RunError.{RunError}
-use Rattle.cli.specs.declared.outcome.RunError.TheVariants.{Write}
+use Rattle.cli.specs.declared.error.RunError.{RunError}
+use Rattle.cli.specs.declared.error.RunError.TheVariants.{Write}
 use Rattle.cli.specs.Messages.{AppendsPrefixOf}
 use Rattle.git_input.specs.declared.outcome.Stop.{Stop}
 use Rattle.git_input.specs.declared.outcome.Stop.TheVariants as halt

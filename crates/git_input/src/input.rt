@@ -7,7 +7,7 @@ ghost use Rattle.std.specs.Io.KnownBytes.{Consumes, IsAtEnd};
 ghost use Rattle.gix_validate.specs.Bytes.{is_empty};
 ghost use Rattle.git_input.specs.Promises.{IsCutAt, ReadsBefore, ReadsNext, ReadsExactly};
 
-use cli::outcome::RunError;
+use cli::error::RunError;
 use memchr::memchr;
 use std::io::{self, BufRead, ErrorKind};
 

@@ -15,7 +15,7 @@ ghost use Rattle.git_input.specs.Promises.{FollowsRule, ReadsWithin, StopsWithin
 
 use crate::input::{Found, MAX_ITERATIONS, is_at_end, read_before, until_returned};
 use crate::outcome::{Malformation, Stop, Verdict};
-use cli::outcome::RunError;
+use cli::error::RunError;
 use std::alloc::Global;
 use std::io::{BufRead, Write};
 

@@ -13,7 +13,7 @@ use crate::header::{Header, Object, header_of};
 use crate::input::read_byte;
 use crate::lines::{self, Buffers, Ending, LineCheck};
 use crate::outcome::{Malformation, Stop, Verdict};
-use cli::outcome::RunError;
+use cli::error::RunError;
 use std::alloc::Global;
 use std::io::{BufRead, Write};
 

@@ -7,9 +7,9 @@ ghost use Rattle.cli.specs.Command.{EndsAs};
 ghost use Rattle.cli.specs.Messages.{Says, message};
 ghost use Rattle.git_input.specs.Ends.{end_of, malformed_text};
 
+use cli::error::RunError;
 use cli::fail;
 use cli::messages::Messages;
-use cli::outcome::RunError;
 use std::fmt;
 use std::io::Write;
 use std::process::ExitCode;

@@ -12,12 +12,14 @@ use Rattle.gix_validate.specs.declared.path.ComponentMode.TheVariants.{Symlink}
 use Rattle.gix_validate.specs.declared.path.ComponentError.TheVariants as component_fault
 use Rattle.gix_validate.specs.declared.submodule.NameError.TheVariants as submodule_fault
 use Rattle.gix_validate.specs.declared.tag.NameError.TheVariants as tag_fault
+use Rattle.git_names.specs.ShortNames.{fault_of as short_fault_of}
+use Rattle.git_names.specs.declared.branch.ShortNameError.TheVariants as short_fault
 use Rattle.examples.specs.declared.branches.BranchError.TheVariants as branch_error
 use Rattle.examples.specs.declared.branches.TrackingError.TheVariants as tracking_error
 use Rattle.examples.specs.declared.checkout.EnterError.TheVariants as enter_error
 use Rattle.examples.specs.declared.settings.SettingsError.TheVariants as settings_error
 use Rattle.examples.specs.declared.ref_store.ObjectId.{ObjectId}
-use Rattle.examples.specs.Branches.{branch_name_of, tracking_name_of, IsBranchError}
+use Rattle.examples.specs.Branches.{tracking_name_of, IsBranchError}
 use Rattle.examples.specs.Branches.{IsTrackingError}
 use Rattle.examples.specs.Settings.{IsAccepted, IsErrorOf, IsFirstError}
 use Rattle.examples.specs.Targets.{HasDistinctNames, target_of}
@@ -29,23 +31,17 @@ is_some a e = grind arith
 
 -- ---- branches
 
-names_of_branches : Gives branch_name_of
-    ((codes "main", codes "refs/heads/main")
-    ∷ (codes "topic/a", codes "refs/heads/topic/a")
-    ∷ [])
-names_of_branches = refl
-
 names_of_tracked : Gives (λ (of : List ℕ × List ℕ). tracking_name_of of.0 of.1)
     (((codes "origin", codes "main"), codes "refs/remotes/origin/main")
     ∷ ((codes "a/b", codes "topic/a"), codes "refs/remotes/a/b/topic/a")
     ∷ [])
 names_of_tracked = refl
 
--- the fault is that of the full name: the name that is reserved, and another is none
+-- the fault is that of the short name: the name that is reserved, and another is none
 faults_of_branches :
-    IsBranchError (codes "HEAD") (branch_error.Name (reserved (codes "refs/heads/HEAD")))
-    × ¬ IsBranchError (codes "main") (branch_error.Name (reserved (codes "refs/heads/HEAD")))
-unfolding names_on_literals
+    IsBranchError (codes "HEAD") (branch_error.Name (short_fault.Name (reserved (codes "HEAD"))))
+    × ¬ IsBranchError (codes "main") (branch_error.Name short_fault.StartsWithDash)
+unfolding short_fault_of names_on_literals
 faults_of_branches = (refl, λ e. grind (arith, e))
 
 -- the remote's fault comes first

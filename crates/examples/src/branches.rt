@@ -3,11 +3,12 @@
 ghost use Rattle.std.specs.Prelude.{◌≡◌, IsTrue, IfOk, IfErr};
 ghost use Rattle.bstr.specs.BStr.{bstr_bytes};
 ghost use Rattle.bstr.specs.Owned.{bstring_bytes};
+ghost use Rattle.git_names.specs.ShortNames.{full_name};
 ghost use Rattle.gix_validate.specs.Reference.{is_branch_name, is_full_name};
-ghost use Rattle.examples.specs.Branches.{IsBranchError, IsTrackingError, branch_name_of};
-ghost use Rattle.examples.specs.Branches.{tracking_name_of};
+ghost use Rattle.examples.specs.Branches.{IsBranchError, IsTrackingError, tracking_name_of};
 
 use bstr::{BStr, BString};
+use git_names::branch::{self, ShortName, ShortNameError};
 use gix_validate::{reference, tag};
 use std::alloc::{AllocError, Global};
 use thiserror::Error;
@@ -15,9 +16,9 @@ use thiserror::Error;
 /// Why a branch has no valid full name.
 #[derive(Debug, Drop, Error)]
 pub enum BranchError {
-    /// The full name is invalid.
+    /// The short name is invalid.
     #[error("{0}")]
-    Name(reference::NameError),
+    Name(ShortNameError),
     /// Out of memory.
     #[error("out of memory")]
     Memory(AllocError),
@@ -26,19 +27,15 @@ pub enum BranchError {
 /// The full name of the branch with this short name: `refs/heads/main` for `main` (docs/RULES.md,
 /// "Short branch names").
 ///
-/// [`reference::branch_name`] checks full names, so it rejects `main` itself. Put a short name
-/// after `refs/heads/` first. (The commands of Git also reject a short name that begins with `-`,
-/// which is an option to them.)
+/// [`reference::branch_name`] checks full names, so it accepts `HEAD` and rejects `main`. A name that
+/// somebody typed is a short one.
 pub fn full_branch_name(alloc: Global, short: BStr<'_>) -> Result<BString, BranchError>
-    ensures name { IfOk result (λ name. bstring_bytes name ≡ branch_name_of (bstr_bytes short.entry)) }
+    ensures name { IfOk result (λ name. bstring_bytes name ≡ full_name (bstr_bytes short.entry)) }
     ensures branch { IfOk result (λ name. IsTrue (is_branch_name (bstring_bytes name))) }
     ensures refused { IfErr result (IsBranchError (bstr_bytes short.entry)) }
 {
-    let mut name = Vec::from_slice(alloc, b"refs/heads/").map_err(BranchError::Memory)?;
-    name.extend_from_slice(short.as_bytes())
-        .map_err(BranchError::Memory)?;
-    reference::branch_name(BStr::new(&name)).map_err(BranchError::Name)?;
-    Ok(BString::new(name))
+    let short = ShortName::new(short).map_err(BranchError::Name)?;
+    branch::full_name(alloc, short).map_err(BranchError::Memory)
 }
 
 /// Why a branch of a remote has no valid remote-tracking name.

@@ -1,12 +1,13 @@
 //! A walk down a working tree, and the path of a file.
 
 ghost use Rattle.std.specs.Prelude.{◌≡◌, ◌≢◌, ◌<◌, ◌-◌, [], ◌∷◌, ◌++◌, map, take, length, All};
-ghost use Rattle.std.specs.Prelude.{IfOk, OnOk, OnErr, IfErr, None, Some};
+ghost use Rattle.std.specs.Prelude.{IfOk, OnOk, OnErr, IfErr, IsTrue, None, Some};
 ghost use Rattle.bstr.specs.BStr.{bstr_bytes};
 ghost use Rattle.bstr.specs.Owned.{bstring_bytes};
 ghost use Rattle.gix_validate.specs.Component.{fault_of};
 ghost use Rattle.gix_validate.specs.ComponentLaws.{IsBasicName, IsValidUnderFewerSwitches};
 ghost use Rattle.gix_validate.specs.Pieces.{pieces};
+ghost use Rattle.git_names.specs.Paths.{is_path};
 ghost use Rattle.examples.specs.Walks.{IsEnterError};
 
 use bstr::{BStr, BString};
@@ -102,6 +103,9 @@ impl<'a> Place<'a> {
         ensures accepted { IfOk result (λ path.
             All (λ name. fault_of self.now.options None name ≡ None) (pieces (bstring_bytes path))) }
         ensures basic { IfOk result (λ path. All IsBasicName (pieces (bstring_bytes path))) }
+        // `git_names::path::whole` accepts it under the options of the `Place`.
+        ensures whole { IfOk result (λ path.
+            IsTrue (is_path self.now.options None (bstring_bytes path))) }
     {
         path::join(alloc, &self.names)
     }

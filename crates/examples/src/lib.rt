@@ -1,5 +1,5 @@
-//! Callers of `gix_validate` and `typed_names`, as a project that uses them would write them. Each
-//! function is proved and has a contract of its own.
+//! Callers of `gix_validate`, `typed_names` and `git_names`, as a project that uses them would write
+//! them. Each function is proved and has a contract of its own.
 //!
 //! | Module | What it has |
 //! |---|---|

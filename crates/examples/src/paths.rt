@@ -10,7 +10,7 @@ use bstr::BStr;
 use gix_validate::path::{ComponentOptions, component};
 
 /// The index of the first component of a path that is invalid under these options: 1 for `a/../b`.
-/// It is `None` if each component is valid.
+/// It is `None` if each component is valid. (`git_names::path::whole` returns the error and its offset.)
 pub fn first_hostile_component(path: BStr<'_>, options: ComponentOptions) -> Option<usize>
     ensures { result ≡ position (λ name. not (is_component options None name))
         (pieces (bstr_bytes path.entry)) }

@@ -14,7 +14,9 @@ use Rattle.gix_validate.specs.Reference.{carried, reserved}
 use Rattle.gix_validate.specs.Private.Classes.{switches}
 use Rattle.gix_validate_c.specs.Numbers.{tag_number, reference_number, submodule_number}
 use Rattle.gix_validate_c.specs.Numbers.{component_number, code_by, invalid_byte_of, offset_or}
-use Rattle.gix_validate_c.specs.Numbers.{version_number}
+use Rattle.gix_validate_c.specs.Numbers.{short_name_number, path_number, version_number}
+use Rattle.git_names.specs.declared.branch.ShortNameError.TheVariants as short
+use Rattle.git_names.specs.declared.path.PathError.TheVariants as whole
 use Rattle.gix_validate_c.specs.Flags.{options_of, mode_of}
 use Rattle.gix_validate_c.specs.Texts.{text_by, with_text}
 
@@ -45,6 +47,13 @@ numbers_of_submodules = refl
 
 numbers_of_components : map component_number (path.Empty ∷ component_faults) ≡ 11 ∷ range_with_len 15 7
 numbers_of_components = refl
+
+numbers_of_short_names : map short_name_number (short.StartsWithDash ∷ short.Name reference.Empty ∷ [])
+    ≡ 22 ∷ 11 ∷ []
+numbers_of_short_names = refl
+
+numbers_of_paths : map path_number (whole.EmptyPart 7 ∷ whole.InvalidPart 7 path.Relative ∷ []) ≡ 23 ∷ 21 ∷ []
+numbers_of_paths = refl
 
 -- what else is a number
 no_fault : code_by tag_number None ≡ 0

@@ -1,4 +1,4 @@
--- The numbers that C sees: those of the faults of all four types,
+-- The numbers that C sees: those of the faults of all six types,
 -- the byte of an invalid byte, and the version.
 use Rattle.std.specs.Prelude.{ℕ, ◌+◌, ◌*◌, Option, Some, None}
 use Rattle.gix_validate.specs.declared.path.ComponentError.{ComponentError}
@@ -9,6 +9,10 @@ use Rattle.gix_validate.specs.declared.tag.NameError.TheVariants as tag
 use Rattle.gix_validate.specs.declared.reference.NameError.TheVariants as reference
 use Rattle.gix_validate.specs.declared.submodule.NameError.TheVariants as submodule
 use Rattle.gix_validate.specs.declared.path.ComponentError.TheVariants as path
+use Rattle.git_names.specs.declared.branch.ShortNameError.{ShortNameError}
+use Rattle.git_names.specs.declared.branch.ShortNameError.TheVariants as short
+use Rattle.git_names.specs.declared.path.PathError.{PathError}
+use Rattle.git_names.specs.declared.path.PathError.TheVariants as whole
 
 -- the number of a fault, or 0 where there is none
 abbrev pub code_by : {E : Type 0} → (E → ℕ) → Option E → ℕ
@@ -61,6 +65,16 @@ component_number path.DotGitDir = 19
 component_number path.SymlinkedGitModules = 20
 component_number path.Relative = 21
 
+-- Those of short names of branches: faults of reference names keep their numbers, and there is one more.
+abbrev pub short_name_number : ShortNameError → ℕ
+short_name_number (short.Name e) = reference_number e
+short_name_number short.StartsWithDash = 22
+
+-- Those of whole paths: faults of components keep their numbers, and there is one more.
+abbrev pub path_number : PathError → ℕ
+path_number (whole.InvalidPart at e) = component_number e
+path_number (whole.EmptyPart at) = 23
+
 -- the byte of the fault `InvalidByte`, and 256, which is not a byte, where there is no such fault
 abbrev pub invalid_byte_of : Option TagError → ℕ
 invalid_byte_of (Some (tag.InvalidByte b)) = b
@@ -70,6 +84,11 @@ invalid_byte_of _ = 256
 abbrev pub reference_invalid_byte_of : Option ReferenceError → ℕ
 reference_invalid_byte_of (Some (reference.InvalidByte b)) = b
 reference_invalid_byte_of _ = 256
+
+-- the byte of the fault `InvalidByte` of a short name, and 256 where there is no such fault
+abbrev pub short_invalid_byte_of : Option ShortNameError → ℕ
+short_invalid_byte_of (Some (short.Name (reference.InvalidByte b))) = b
+short_invalid_byte_of _ = 256
 
 -- an offset in a text of n bytes, and n where there is none
 abbrev pub offset_or : ℕ → Option ℕ → ℕ

@@ -2,9 +2,11 @@
 
 ghost use Rattle.std.specs.Prelude.{◌≡◌, ◌↔◌, ◌≤◌, ℕ, IsOk, MatchResult};
 ghost use Rattle.gix_validate_c.specs.Numbers.{tag_number, reference_number, submodule_number};
-ghost use Rattle.gix_validate_c.specs.Numbers.{component_number};
+ghost use Rattle.gix_validate_c.specs.Numbers.{component_number, short_name_number, path_number};
 
 use bstr::BStr;
+use git_names::branch::ShortNameError;
+use git_names::path::PathError;
 use gix_validate::path::ComponentError;
 use gix_validate::{reference, submodule, tag};
 
@@ -73,6 +75,28 @@ impl Fault for ComponentError {
             Self::DotGitDir => 19,
             Self::SymlinkedGitModules => 20,
             Self::Relative => 21,
+        }
+    }
+}
+
+impl Fault for ShortNameError {
+    ghost number = { short_name_number };
+
+    fn number(self) -> u8 {
+        match self {
+            Self::Name(error) => error.number(),
+            Self::StartsWithDash => 22,
+        }
+    }
+}
+
+impl Fault for PathError {
+    ghost number = { path_number };
+
+    fn number(self) -> u8 {
+        match self {
+            Self::EmptyPart { .. } => 23,
+            Self::InvalidPart { error, .. } => error.number(),
         }
     }
 }

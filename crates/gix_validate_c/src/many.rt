@@ -15,11 +15,13 @@ ghost use Rattle.gix_validate.specs.Tag as tag;
 ghost use Rattle.gix_validate.specs.Reference.{partial_fault_of, full_fault_of, branch_fault_of};
 ghost use Rattle.gix_validate.specs.Submodule as submodule;
 ghost use Rattle.gix_validate_c.specs.Numbers.{code_by, tag_number, reference_number};
-ghost use Rattle.gix_validate_c.specs.Numbers.{submodule_number};
+ghost use Rattle.gix_validate_c.specs.Numbers.{submodule_number, short_name_number};
+ghost use Rattle.git_names.specs.ShortNames as short;
 ghost use Rattle.gix_validate.specs.Pieces.{names_in};
 
 use crate::fault::{Fault, code};
 use bstr::BStr;
+use git_names::branch::Short;
 use memchr::memchr;
 use typed_names::{Branch, Full, Partial, Rule, Submodule, Tag};
 
@@ -85,6 +87,22 @@ pub extern "C" fn gix_validate_branch_many(names: &[u8], end: u8, faults: &mut [
     ensures bounds { result ≤ length names.now }
 {
     write_numbers::<Branch>(names, end, faults)
+}
+
+/// Checks the names as [`gix_validate_short_branch`] does.
+///
+/// ```c
+/// gix_validate_short_branch_many((const uint8_t *)"main\n-d", 7, '\n', faults, sizeof faults); // 2: 0, and 22, StartsWithDash
+/// ```
+#[unsafe(no_mangle)]
+pub extern "C" fn gix_validate_short_branch_many(names: &[u8], end: u8, faults: &mut [u8]) -> usize
+    ensures count { result ≡ length (names_in end names.now) }
+    ensures numbers { take result faults.new ≡ take (length faults.old)
+        (map (λ name. code_by short_name_number (short.fault_of name)) (names_in end names.now)) }
+    ensures rest { drop result faults.new ≡ drop result faults.old }
+    ensures bounds { result ≤ length names.now }
+{
+    write_numbers::<Short>(names, end, faults)
 }
 
 /// Checks the names as [`gix_validate_submodule`] does.

@@ -6,6 +6,8 @@
 #![tactic(auto, unfolding(crate::proofs::ReferenceFaults::reference_faults))]
 
 ghost use Rattle.std.specs.Prelude.{◌≡◌, ◌⊎◌, ◌↔◌, ◌≤◌, ◌%◌, IsTrue, length};
+ghost use Rattle.std.specs.Prelude.{IfErr, IsOk, option_map};
+ghost use Rattle.gix_validate.specs.Faults.{Validates};
 ghost use Rattle.gix_validate.specs.Tag as tag;
 ghost use Rattle.gix_validate.specs.Reference.{partial_fault_of, full_fault_of, branch_fault_of};
 ghost use Rattle.gix_validate.specs.Reference.{is_partial_name, is_full_name, is_branch_name};
@@ -16,10 +18,16 @@ ghost use Rattle.gix_validate_c.specs.Flags.{options_of, mode_of};
 ghost use Rattle.gix_validate_c.specs.Numbers.{code_by, tag_number, reference_number};
 ghost use Rattle.gix_validate_c.specs.Numbers.{submodule_number, component_number, invalid_byte_of};
 ghost use Rattle.gix_validate_c.specs.Numbers.{offset_or, reference_invalid_byte_of};
+ghost use Rattle.gix_validate_c.specs.Numbers.{short_name_number, path_number};
+ghost use Rattle.gix_validate_c.specs.Numbers.{short_invalid_byte_of};
+ghost use Rattle.git_names.specs.Paths as paths;
+ghost use Rattle.git_names.specs.ShortNames as short;
 
 use crate::fault::code;
 use crate::flags::{mode_of, options_of};
 use bstr::BStr;
+use git_names::branch::short_name;
+use git_names::path::{PathError, whole};
 use gix_validate::{path, reference, submodule, tag};
 
 /// Returns 0 if it is a valid tag name, otherwise its fault's number (docs/RULES.md, "Tag names").
@@ -90,6 +98,24 @@ pub extern "C" fn gix_validate_branch(name: &[u8]) -> u32
     code(reference::branch_name(BStr::new(name))).into()
 }
 
+/// Returns 0 if it is a valid short name of a branch, otherwise its fault's number (docs/RULES.md,
+/// "Short branch names").
+///
+/// ```c
+/// gix_validate_short_branch((const uint8_t *)"main", 4); // 0
+/// gix_validate_short_branch((const uint8_t *)"HEAD", 4); // 13, Reserved
+/// gix_validate_short_branch((const uint8_t *)"-d", 2);   // 22, StartsWithDash
+/// ```
+#[unsafe(no_mangle)]
+pub extern "C" fn gix_validate_short_branch(name: &[u8]) -> u32
+    ensures answer { result ≡ code_by short_name_number (short.fault_of name.now) }
+    ensures grammar { (result ≡ 0) ↔ IsTrue (short.is_short_name name.now) }
+    ensures range { (result ≤ 11) ⊎ (result ≡ 13) ⊎ (result ≡ 22) }
+    ensures as_tag { let number = code_by tag_number (tag.fault_of name.now) in 1 ≤ number → result ≡ number }
+{
+    code(short_name(BStr::new(name))).into()
+}
+
 /// Returns 0 if it is a valid submodule name, otherwise its fault's number (docs/RULES.md,
 /// "Submodule names").
 ///
@@ -133,10 +159,61 @@ pub extern "C" fn gix_validate_component(name: &[u8], flags: u32) -> u32
     code(answer).into()
 }
 
+/// Returns 0 if it is a valid path, whose parts are separated by slashes, otherwise the number of the
+/// fault of its first part that has one (docs/RULES.md, "Whole paths").
+///
+/// The flags are those of [`gix_validate_component`]; 8 is for the last part alone.
+///
+/// ```c
+/// gix_validate_path((const uint8_t *)"src/main.rs", 11, 7); // 0
+/// gix_validate_path((const uint8_t *)"src/.git", 8, 7);     // 19, DotGitDir
+/// gix_validate_path((const uint8_t *)"src/", 4, 7);         // 23, EmptyPart
+/// ```
+#[tactic(auto, using(crate::proofs::FlagLemmas::low_flags))]
+#[unsafe(no_mangle)]
+pub extern "C" fn gix_validate_path(path: &[u8], flags: u32) -> u32
+    ensures answer { result
+        ≡ code_by path_number (paths.fault_of (options_of flags) (mode_of flags) path.now) }
+    ensures grammar { (result ≡ 0) ↔ IsTrue (paths.is_path (options_of flags) (mode_of flags) path.now) }
+    ensures range { (result ≡ 0) ⊎ ((15 ≤ result) × (result ≤ 21)) ⊎ (result ≡ 23) }
+{
+    code(whole(BStr::new(path), mode_of(flags), options_of(flags))).into()
+}
+
+/// Returns the offset in bytes of the part for which [`gix_validate_path`] refuses the path, and the
+/// length of the path if it is valid. An empty part at the end has that offset, too.
+///
+/// ```c
+/// gix_validate_path_offset((const uint8_t *)"src/.git/a", 10, 7); // 4
+/// gix_validate_path_offset((const uint8_t *)"src/a", 5, 7);       // 5
+/// ```
+#[unsafe(no_mangle)]
+pub extern "C" fn gix_validate_path_offset(path: &[u8], flags: u32) -> usize
+    ensures offset { let fault = paths.fault_of (options_of flags) (mode_of flags) path.now in
+        result ≡ offset_or (length path.now) (option_map paths.offset_of fault) }
+    ensures bounds { result ≤ length path.now }
+{
+    match checked_path(path, flags) {
+        Ok(_) => path.len(),
+        Err(error) => error.offset(),
+    }
+}
+
+/// The result of [`whole`] under these flags. (Most paths are valid, so what asks for more than the
+/// number needn't have all of its code once more.)
+#[inline(never)]
+pub(crate) fn checked_path(path: &[u8], flags: u32) -> Result<BStr<'_>, PathError>
+    ensures answer { Validates (paths.fault_of (options_of flags) (mode_of flags)) path.now result }
+    ensures grammar { IsOk result ↔ IsTrue (paths.is_path (options_of flags) (mode_of flags) path.now) }
+    ensures within { IfErr result (λ e. paths.offset_of e ≤ length path.now) }
+{
+    whole(BStr::new(path), mode_of(flags), options_of(flags))
+}
+
 /// Returns the invalid byte if the fault of the tag name is `InvalidByte`, and otherwise 256.
 ///
-/// It serves for all reference names: whichever has this fault also has it as a tag name, with the
-/// same byte (docs/RULES.md, "Reference names").
+/// It serves for all reference names and for short names of branches: whichever has this fault also
+/// has it as a tag name, with the same byte (docs/RULES.md, "Reference names").
 ///
 /// ```c
 /// gix_validate_invalid_byte((const uint8_t *)"a b", 3); // 32, the space
@@ -148,6 +225,7 @@ pub extern "C" fn gix_validate_invalid_byte(name: &[u8]) -> u32
     ensures as_partial { result ≡ reference_invalid_byte_of (partial_fault_of name.now) }
     ensures as_full { result ≡ reference_invalid_byte_of (full_fault_of name.now) }
     ensures as_branch { result ≡ reference_invalid_byte_of (branch_fault_of name.now) }
+    ensures as_short { result ≡ short_invalid_byte_of (short.fault_of name.now) }
 {
     match tag::name(BStr::new(name)) {
         Err(tag::NameError::InvalidByte { byte }) => u32::from(byte),
@@ -158,7 +236,8 @@ pub extern "C" fn gix_validate_invalid_byte(name: &[u8]) -> u32
 /// Returns the offset in bytes of the fault of the tag name, and the length of the name if it has
 /// none (docs/RULES.md, "Calls for C").
 ///
-/// It serves for all reference names: whichever has a fault of tag names also has it as a tag name.
+/// It serves for all reference names and short names of branches: whichever has a fault of tag names
+/// also has it as a tag name.
 ///
 /// ```c
 /// gix_validate_fault_offset((const uint8_t *)"v1..2", 5); // 3, the second dot

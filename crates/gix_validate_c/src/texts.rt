@@ -15,10 +15,16 @@ ghost use Rattle.gix_validate.specs.Submodule as submodule;
 ghost use Rattle.gix_validate.specs.Component as component;
 ghost use Rattle.gix_validate_c.specs.Flags.{options_of, mode_of};
 ghost use Rattle.gix_validate_c.specs.Texts.{text_by, with_text};
+ghost use Rattle.git_names.specs.Paths as paths;
+ghost use Rattle.git_names.specs.ShortNames as short;
 
 use crate::flags::{mode_of, options_of};
+use crate::names::checked_path;
 use arrayvec::ArrayString;
 use bstr::BStr;
+use git_names::branch::short_name;
+use git_names::path::PathError;
+use gix_validate::path::ComponentError;
 pub use gix_validate::text::MAX_TEXT;
 use gix_validate::text::{Text, escape};
 use gix_validate::{path, reference, submodule, tag};
@@ -95,6 +101,24 @@ pub extern "C" fn gix_validate_branch_text(name: &[u8], text: &mut [u8]) -> usiz
     }
 }
 
+/// Writes the text of the fault of a short name of a branch.
+///
+/// ```c
+/// gix_validate_short_branch_text((const uint8_t *)"-d", 2, text, sizeof text); // 73
+/// ```
+#[unsafe(no_mangle)]
+pub extern "C" fn gix_validate_short_branch_text(name: &[u8], text: &mut [u8]) -> usize
+    ensures length { result ≡ length (text_by short.text_of (short.fault_of name.now)) }
+    ensures bytes { text.new ≡ with_text (text_by short.text_of (short.fault_of name.now)) text.old }
+    ensures none { (result ≡ 0) ↔ IsTrue (short.is_short_name name.now) }
+    ensures longest { result ≤ MAX_TEXT }
+{
+    match short_name(BStr::new(name)) {
+        Ok(_) => 0,
+        Err(fault) => write_text(fault.text(), text),
+    }
+}
+
 /// Writes the text of the fault of a submodule name.
 ///
 /// ```c
@@ -130,8 +154,44 @@ pub extern "C" fn gix_validate_component_text(name: &[u8], flags: u32, text: &mu
 {
     match path::component(BStr::new(name), mode_of(flags), options_of(flags)) {
         Ok(_) => 0,
-        Err(fault) => write_text(fault.text(), text),
+        Err(fault) => write_component_text(fault, text),
     }
+}
+
+/// Writes the text of the fault of a path under these flags: that of its first part that has one.
+///
+/// ```c
+/// gix_validate_path_text((const uint8_t *)"a//b", 4, 7, text, sizeof text); // 73
+/// ```
+#[unsafe(no_mangle)]
+pub extern "C" fn gix_validate_path_text(path: &[u8], flags: u32, text: &mut [u8]) -> usize
+    ensures length { let fault = paths.fault_of (options_of flags) (mode_of flags) path.now in
+        result ≡ length (text_by paths.text_of fault) }
+    ensures bytes { let fault = paths.fault_of (options_of flags) (mode_of flags) path.now in
+        text.new ≡ with_text (text_by paths.text_of fault) text.old }
+    ensures none { (result ≡ 0) ↔ IsTrue (paths.is_path (options_of flags) (mode_of flags) path.now) }
+    ensures longest { result ≤ MAX_TEXT }
+{
+    match checked_path(path, flags) {
+        Ok(_) => 0,
+        Err(PathError::InvalidPart { error, .. }) => write_component_text(error, text),
+        Err(PathError::EmptyPart { .. }) => {
+            let words = "A path must not be empty, start or end with a slash, or have two in a row";
+            let quoted = None;
+            write_text(Text { words, quoted }, text)
+        }
+    }
+}
+
+/// Writes the text of the fault of a component. (LLVM makes a table of these texts. It has offsets in
+/// place of pointers, as a block that is loaded anywhere needs it, only if one function has it.)
+#[inline(never)]
+fn write_component_text(fault: ComponentError, text: &mut [u8]) -> usize
+    ensures length { result ≡ length (component.text_of fault) }
+    ensures bytes { text.new ≡ with_text (component.text_of fault) text.old }
+    ensures longest { result ≤ MAX_TEXT }
+{
+    write_text(fault.text(), text)
 }
 
 /// Writes the text to the start of the buffer if all of it fits, and returns its length.

@@ -79,7 +79,7 @@ fn expect_refused<T: Drop, E: Display + Drop>(
 #[test]
 fn calls_are_refused(rt: HostRuntime) -> Checked {
     let alloc = rt.alloc();
-    let text = b"Reference name is reserved and cannot be used: \"refs/heads/HEAD\"";
+    let text = b"Reference name is reserved and cannot be used: \"HEAD\"";
     let told = full_branch_name(alloc, BStr::from("HEAD"));
     expect_refused(&rt, told, text)?;
     let text = b"remote: A ref must not contain invalid bytes or ascii control characters: \" \"";

@@ -1,7 +1,7 @@
-//! The tests of `gix_validate`, `typed_names` and `examples`:
+//! The tests of `gix_validate`, `typed_names`, `git_names` and `examples`:
 //!
 //! - Tables of worked names, and what docs/RULES.md gives for each (`rows`, and of typed names
-//!   `members`), and of the texts of errors (`printed`).
+//!   `members`, of short and whole ones `short_and_whole`), and of the texts of errors (`printed`).
 //! - An independent second implementation of docs/RULES.md. (The first is the definitions in
 //!   `crates/gix_validate/specs`, against which the library is proved.) It uses nothing of the library,
 //!   and other algorithms: it searches names for what they may not have instead of scanning them, and
@@ -31,6 +31,8 @@ mod reference;
 mod refused_memory;
 #[cfg(test)]
 mod rows;
+#[cfg(test)]
+mod short_and_whole;
 #[cfg(test)]
 mod tests;
 #[cfg(test)]

@@ -56,6 +56,18 @@ pub(crate) const OF_COMPONENTS: Texts = &[
     (b"Relative", b"Relative components '.' and '..' are disallowed"),
 ];
 
+/// Those that short names of branches have besides those of reference names.
+#[rattlefmt::skip]
+pub(crate) const OF_BRANCHES: Texts = &[
+    (b"StartsWithDash", b"Branch name cannot start with a dash, as it may be mistaken for an option"),
+];
+
+/// Those that whole paths have besides those of components.
+#[rattlefmt::skip]
+pub(crate) const OF_PATHS: Texts = &[
+    (b"EmptyPart", b"A path must not be empty, start or end with a slash, or have two in a row"),
+];
+
 /// The text of the error, followed by what is quoted after it in its quoted form, if it wants that.
 pub(crate) fn printed(
     alloc: Global,

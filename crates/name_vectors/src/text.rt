@@ -2,7 +2,8 @@
 
 use bstr::ByteSlice;
 
-/// Whether the byte is a bad byte, as `scripts/bytes` lists them. `*` has an error of its own.
+/// Whether the byte is a bad byte (`scripts/dev update-byte-tables` lists them). `*` has an error of
+/// its own.
 pub(crate) fn is_bad(byte: u8) -> bool {
     byte < 0x20 || b"\x7f :?[\\^~".contains(&byte)
 }

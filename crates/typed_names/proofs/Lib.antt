@@ -1,4 +1,3 @@
 pub mod SlashLemmas
 pub mod TagLemmas
-pub mod JoinLemmas
 mod NamesRows

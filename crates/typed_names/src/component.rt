@@ -17,7 +17,7 @@ use std::fmt;
 ///
 /// [`new`](Component::new) checks it under a mode and options. The type keeps what all of these
 /// have in common: the name is valid with no switch and without a mode. That is what
-/// `gix_validate::path::join` requires of its parts; [`join`](crate::join) requires it of none.
+/// `gix_validate::path::join` requires of its parts.
 #[derive(Clone, Copy, Debug)]
 pub struct Component<'a> {
     name: BStr<'a>,

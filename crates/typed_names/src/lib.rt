@@ -2,7 +2,7 @@
 //!
 //! A value of one of these types keeps the byte string that was passed to `new`, for as long as the
 //! bytes live. The rule accepts it, so code that is passed a value need not check it again. The
-//! values are `Copy`, and nothing but [`join`] allocates (docs/RULES.md, "Typed names").
+//! values are `Copy`, and nothing here allocates (docs/RULES.md, "Typed names").
 //!
 //! [`TagName`], [`PartialName`], [`FullName`], [`BranchName`] and [`SubmoduleName`] are one type,
 //! [`Name<'a, R>`](Name), whose [`Rule`] is [`Tag`], [`Partial`], [`Full`], [`Branch`] or
@@ -11,8 +11,7 @@
 //! variants. `Debug` prints its constant `TYPE_NAME`; derived, it would print `Name` for all five.
 //!
 //! Each name of a branch is a full name, each full name a partial name, and each partial name a tag
-//! name: `From` converts each into the next. [`Pieces`] iterates over the pieces of a tag name, and
-//! [`join`] joins components to a path.
+//! name: `From` converts each into the next. [`Pieces`] iterates over the pieces of a tag name.
 //!
 //! Two names of one type are equal if and only if their bytes are. Each prints its bytes, and each
 //! is an `AsSlice<u8>`, which is what Rattle has for Rust's `AsRef<[u8]>`. They have no order and
@@ -26,13 +25,11 @@
 #![tactic(auto)]
 
 pub use crate::component::Component;
-pub use crate::joining::join;
 pub use crate::name::{BranchName, FullName, Name, PartialName, SubmoduleName, TagName};
 pub use crate::pieces::Pieces;
 pub use crate::rule::{Branch, Full, Partial, Rule, Submodule, Tag};
 
 mod component;
-mod joining;
 mod name;
 mod pieces;
 mod rule;

@@ -1,7 +1,7 @@
 use Rattle.gix_validate.proofs.Components.JoinedParts.{pieces_joined_parts, basic_parts}
 use Rattle.typed_names.specs.Names.{component_bytes}
-use Rattle.typed_names.proofs.JoinLemmas.{all_valid, components_joined}
-use Rattle.typed_names.proofs.joining.join.Goals as goal
+use Rattle.git_names.proofs.JoinLemmas.{all_valid, components_joined}
+use Rattle.git_names.proofs.path.joining.join.Goals as goal
 
 pub returns-clause-bytes : goal.returns-clause-bytes
 returns-clause-bytes c =

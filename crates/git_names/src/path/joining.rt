@@ -6,9 +6,9 @@ ghost use Rattle.gix_validate.specs.ComponentLaws.{IsBasicName};
 ghost use Rattle.gix_validate.specs.Pieces.{joined, pieces};
 ghost use Rattle.typed_names.specs.Names.{component_bytes};
 
-use crate::component::Component;
 use bstr::BString;
 use std::alloc::{AllocError, Global};
+use typed_names::Component;
 
 /// Joins components with slashes to a path, whose pieces are the parts in their order
 /// (docs/RULES.md, "Joining").

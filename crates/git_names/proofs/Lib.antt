@@ -1,0 +1,5 @@
+pub mod ShortNameLemmas
+pub mod PathLemmas
+pub mod SlashLemmas
+pub mod JoinLemmas
+mod Rows

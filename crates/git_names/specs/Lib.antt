@@ -1,0 +1,3 @@
+pub mod ShortNames
+pub mod Paths
+pub mod Private

@@ -1,0 +1,255 @@
+//! The checks of names: Git lists and prints objects, and the proved programs read them.
+//!
+//! A list of trees goes from `git rev-list` to `git cat-file`, and the trees from there to
+//! `check_trees`, each through a pipe of their own. So this program only reads reports.
+
+use crate::child::Child;
+use crate::failure::{failed, OrFail, Result};
+use crate::findings::{Entry, Finding, Place};
+use crate::git::Git;
+use crate::ids::{id, split_once, Id};
+use crate::lines::{Lengths, Line};
+use crate::programs::Programs;
+use crate::quoting::beginning;
+use crate::settings::Rules;
+use crate::verdict::{List, Objects, Report, Says};
+use std::collections::HashMap;
+use std::ffi::OsString;
+use std::io::Write;
+use std::ops::ControlFlow;
+use std::os::unix::io::AsFd;
+use std::process::{ChildStdin, Command, Stdio};
+use std::thread::{self, Scope, ScopedJoinHandle};
+
+/// What `git cat-file` prints of an object, before its content.
+const BATCH: &str = "--batch=%(objectname) %(objecttype) %(objectsize)";
+/// How much of the name of a `.gitmodules` file is kept.
+const LONGEST_FILE: usize = 80;
+
+/// What is needed to check names.
+#[derive(Clone)]
+pub struct Checks {
+    pub programs: Programs,
+    pub git: Git,
+    pub rules: Rules,
+    pub bounds: Bounds,
+}
+
+/// What a check may take. A push can be made so that some kilobytes are gigabytes of names.
+#[derive(Clone)]
+pub struct Bounds {
+    pub lengths: Lengths,
+    /// How many bytes of ids references may have.
+    pub ids: usize,
+    /// How many different `.gitmodules` files there may be.
+    pub modules: usize,
+    /// How many seconds of processor time Git may take to read these. (Deltas can be made so that it
+    /// takes minutes to read a kilobyte.)
+    pub seconds: Option<u64>,
+    /// Whether the limits of this process also hold for `git rev-list`.
+    pub limit_lists: bool,
+}
+
+/// Which trees are checked: what `git rev-list` selects by these ids, one on each line, and
+/// arguments. (An id that was pushed has `^{}` at its end.)
+#[derive(Clone, Copy)]
+pub struct Selection<'a> {
+    pub ids: &'a [u8],
+    pub arguments: &'a [OsString],
+}
+
+/// Where the blobs are that are read as `.gitmodules`: one place of each.
+pub type Modules = HashMap<Id, Place>;
+
+/// What is done with a finding. After `Break` no more are wanted.
+pub type OnFinding<'a> = &'a mut dyn FnMut(Finding) -> ControlFlow<()>;
+
+impl Checks {
+    /// Checks the names of references, in lines `OLD NEW REF` that `write` writes. To `ids` it adds
+    /// the new ones of those that are allowed and not deleted, each on a line, as `ID^{}`: of a tag,
+    /// this is what is tagged. (For a chain of tags Git would keep the chain of each.)
+    pub fn references(
+        &self,
+        write: impl FnOnce(ChildStdin) -> Result<()> + Send,
+        place: fn(Vec<u8>) -> Place,
+        ids: &mut Vec<u8>,
+        found: OnFinding,
+    ) -> Result<Report> {
+        let mut command = self.programs.command("check_refs");
+        command.arg("--ids");
+        command.args(self.rules.replace.then_some("--replace"));
+        let mut check = start("check_refs", command, Stdio::piped())?;
+        let to = check.input()?;
+        thread::scope(|scope| {
+            let writer = spawn(scope, move || write(to))?;
+            let report = Report::read(check, self.bounds.lengths, |line| match id(&line.front) {
+                Some(id) if ids.len() < self.bounds.ids => {
+                    ids.extend_from_slice(&id);
+                    ids.extend_from_slice(b"^{}\n");
+                    Ok(Says::Else)
+                }
+                Some(_) => failed("there are too many references"),
+                None => Ok(Says::Refused(found(Finding::of_reference(line, place)))),
+            });
+            Report::if_written(report, join(writer))
+        })
+    }
+
+    /// Checks the names in the trees of a selection, and adds the blobs that a checkout reads as
+    /// `.gitmodules`.
+    pub fn trees(
+        &self,
+        selection: Selection,
+        modules: &mut Modules,
+        found: OnFinding,
+    ) -> Result<Objects> {
+        let mut cat_file = self.cat_file(&["cat-file", BATCH, "--buffer"])?;
+        let check = start("check_trees", self.check_trees(), cat_file.output()?)?;
+
+        let list_to = cat_file.input()?;
+        let copy = list_to
+            .as_fd()
+            .try_clone_to_owned()
+            .or_fail("a pipe could not be copied")?;
+        let mut rev_list = self.rev_list(selection, "--no-object-names", copy)?;
+        let ids_to = rev_list.input()?;
+
+        thread::scope(|scope| {
+            let lister = spawn(scope, move || {
+                let written = write_ids(selection.ids, ids_to);
+                List::of_git(written, rev_list, list_to)
+            })?;
+            let report = Report::read(check, self.bounds.lengths, |line| {
+                if let Some(rest) = line.front.strip_prefix(b"modules ") {
+                    return match add_modules(rest, line, modules) {
+                        None => failed("check_trees listed a file in another way"),
+                        Some(()) if modules.len() > self.bounds.modules => {
+                            failed("there are too many .gitmodules files")
+                        }
+                        Some(()) => Ok(Says::Else),
+                    };
+                }
+                match Finding::of_entry(line) {
+                    Some(finding) => Ok(Says::Refused(found(finding))),
+                    None => failed("check_trees reported in another way"),
+                }
+            });
+            Objects::of(|| join(lister), cat_file, report)
+        })
+    }
+
+    /// Checks the names of submodules in these blobs.
+    pub fn submodules(&self, modules: &Modules, found: OnFinding) -> Result<Objects> {
+        let mut cat_file = self.cat_file(&["cat-file", "--buffer", BATCH])?;
+        if let Some(seconds) = self.bounds.seconds {
+            cat_file.limit_time(seconds)?;
+        }
+        let mut command = self.programs.command("check_submodules");
+        command.arg("--end");
+        let check = start("check_submodules", command, cat_file.output()?)?;
+        let ids_to = cat_file.input()?;
+        let ids = modules
+            .keys()
+            .flat_map(|blob| [blob, b"\n".as_slice()])
+            .collect::<Vec<_>>()
+            .concat();
+        thread::scope(|scope| {
+            let lister = spawn(scope, || List::of_ids(&ids, ids_to))?;
+            let report = Report::read(
+                check,
+                self.bounds.lengths,
+                |line| match Finding::of_submodule(line, |blob| modules.get(blob).cloned()) {
+                    Some(finding) => Ok(Says::Refused(found(finding))),
+                    None => failed("check_submodules reported in another way"),
+                },
+            );
+            Objects::of(|| join(lister), cat_file, report)
+        })
+    }
+
+    pub fn check_trees(&self) -> Command {
+        let mut command = self.programs.command("check_trees");
+        command
+            .args(["--end", "--modules", "--protect"])
+            .arg(&self.rules.protect);
+        command.arg("--accept").arg(&self.rules.accept);
+        command
+    }
+
+    /// Starts to list the trees of a selection, with or without their folders. The ids are for its
+    /// input, on which it waits before all else.
+    pub fn rev_list(
+        &self,
+        selection: Selection,
+        names: &str,
+        output: impl Into<Stdio>,
+    ) -> Result<Child> {
+        let mut command =
+            self.git
+                .command(&["-c", "core.warnAmbiguousRefs=false", "rev-list", "--stdin"]);
+        command.args([
+            "--objects",
+            names,
+            "--filter=object:type=tree",
+            "--filter-provided-objects",
+        ]);
+        command.args(selection.arguments);
+        command.stdin(Stdio::piped()).stdout(output);
+        let rev_list = Child::start("git rev-list", command)?;
+        if !self.bounds.limit_lists {
+            rev_list.free()?;
+        }
+        Ok(rev_list)
+    }
+
+    /// Starts to print the objects whose ids it gets. (The order of the words means nothing to Git:
+    /// `tests/hook/test_failures.py` tells that for trees from that for submodules by it.)
+    fn cat_file(&self, words: &[&str]) -> Result<Child> {
+        start("git cat-file", self.git.command(words), Stdio::piped())
+    }
+}
+
+/// Starts a part whose output is a pipe. What Git says on standard error can have names of the
+/// pusher's choice, as they are, so nobody reads it. What a proved program says is shown if that
+/// failed first.
+pub fn start(name: &'static str, mut command: Command, input: impl Into<Stdio>) -> Result<Child> {
+    if name.starts_with("check_") {
+        command.stderr(Stdio::piped());
+    }
+    command.stdin(input).stdout(Stdio::piped());
+    Child::start(name, command)
+}
+
+/// Writes ids to Git, each of which has its newline, and closes the pipe.
+pub fn write_ids(ids: &[u8], mut to: ChildStdin) -> Result<()> {
+    to.write_all(ids).or_fail("Git did not read all ids")
+}
+
+/// Adds the file of a line `modules BLOB TREE MODE "NAME"`, unless its blob is there already.
+fn add_modules(rest: &[u8], line: &Line, modules: &mut Modules) -> Option<()> {
+    let (blob, rest) = split_once(rest, b' ')?;
+    let (tree, _) = split_once(rest, b' ')?;
+    let (blob, tree) = (id(blob)?, id(tree)?);
+    let name = beginning(&line.name, LONGEST_FILE);
+    modules
+        .entry(blob)
+        .or_insert_with(|| Place::Entry(Entry { tree, name }));
+    Some(())
+}
+
+/// Starts a thread. (`thread::spawn` panics if there can't be another.)
+pub fn spawn<'scope, T: Send + 'scope>(
+    scope: &'scope Scope<'scope, '_>,
+    task: impl FnOnce() -> T + Send + 'scope,
+) -> Result<ScopedJoinHandle<'scope, T>> {
+    thread::Builder::new()
+        .spawn_scoped(scope, task)
+        .or_fail("no thread could be started")
+}
+
+/// What a thread returned.
+pub fn join<T>(thread: ScopedJoinHandle<Result<T>>) -> Result<T> {
+    thread
+        .join()
+        .unwrap_or_else(|_| failed("a thread panicked"))
+}

@@ -1,0 +1,169 @@
+//! The hook: refuses a push that brings a hostile name, and says which. hook/README.md says what it
+//! checks and what it doesn't.
+
+mod chains;
+mod headers;
+mod lines;
+mod refusal;
+mod size;
+
+use crate::checks::{Bounds, Checks, Selection};
+use crate::failure::{Failure, Result};
+use crate::findings::{Finding, Place};
+use crate::git::{self, Git};
+use crate::lines::Lengths;
+use crate::programs::Programs;
+use crate::settings::{self, Rules};
+use crate::system::Limits;
+use crate::verdict::{Checked, Objects, Report, Verdict};
+use lines::{write_lines, PushLines};
+use std::env;
+use std::ffi::OsString;
+use std::io::{self, Write};
+use std::ops::ControlFlow::{Break, Continue};
+
+/// How many refused names are looked at. (A push can have millions.)
+const MOST_FINDINGS: usize = 10_000;
+/// What a push may take, so that what is kept of its names and ids has less than 64 MB. (chains.rs
+/// keeps 20 bytes for each delta besides, which has at least 40 in the push.)
+fn bounds(limits: Limits) -> Bounds {
+    // (a push has a long report if it has long names; each program writes at most so much)
+    let lengths = Lengths {
+        report: limits.megabytes << 20,
+        name: 200,
+    };
+    Bounds {
+        lengths,
+        ids: 24_000_000,
+        modules: 100_000,
+        seconds: Some(2),
+        limit_lists: false,
+    }
+}
+
+/// Checks the push whose lines are on standard input.
+pub fn run(programs: Programs) -> Result<Verdict> {
+    let limits = size::limit_push()?;
+    let (git, version) = Git::find()?;
+    let git = git.in_push();
+    let settings = settings::start(&git)?;
+    programs.check()?;
+    git::check_version(version)?;
+    let mut rules = Rules::default();
+    rules.read(settings, &programs)?;
+    let checks = Checks {
+        programs,
+        git,
+        rules,
+        bounds: bounds(limits),
+    };
+
+    let mut push = Push {
+        checks,
+        arguments: ["--not".into(), "--all".into()],
+        ids: Vec::new(),
+        findings: Vec::new(),
+    };
+    let verdict = push.check().map_err(|it| explained(it, limits))?;
+    if let Verdict::Refused = verdict {
+        // (refused all the same, if nobody reads why)
+        let _ = io::stdout().write_all(push.refusal().as_bytes());
+    }
+    Ok(verdict)
+}
+
+/// What a failure may come from. (Git's list has no limits.)
+fn explained(failure: Failure, limits: Limits) -> Failure {
+    match failure {
+        Failure::Failed(what) if what == "git rev-list failed (status 128)" => {
+            // (receive-pack sets this, if receive.shallowUpdate allows such a push)
+            let why = match env::var_os("GIT_SHALLOW_FILE") {
+                Some(_) => "the push is shallow, and leaves out commits that the server lacks: push from a full clone",
+                None => "an object is missing or broken",
+            };
+            Failure::Failed(format!("{what}: {why}"))
+        }
+        other => other.explained(limits),
+    }
+}
+
+struct Push {
+    checks: Checks,
+    /// The new ids of the references that are allowed, each on a line.
+    ids: Vec<u8>,
+    /// What the server has already.
+    arguments: [OsString; 2],
+    /// What is refused; if it is very much, its beginning.
+    findings: Vec<Finding>,
+}
+
+impl Push {
+    /// Checks all names: those of references, those in trees, and those of submodules.
+    fn check(&mut self) -> Result<Verdict> {
+        let Self {
+            checks,
+            ids,
+            arguments,
+            findings,
+        } = self;
+        let mut found = |finding| {
+            findings.push(finding);
+            if findings.len() < MOST_FINDINGS {
+                Continue(())
+            } else {
+                Break(())
+            }
+        };
+        let mut lines = PushLines::new(checks.rules.replace);
+        let references = checks.references(
+            |to| lines.pass_on(io::stdin(), to),
+            Place::Reference,
+            ids,
+            &mut found,
+        )?;
+        let in_namespaces = match lines.in_namespaces.as_slice() {
+            [] => Report::of_none(0)?,
+            names => checks.references(
+                |to| write_lines(names, to),
+                Place::InNamespace,
+                ids,
+                &mut found,
+            )?,
+        };
+        let mut modules = lines.replacements;
+        let trees = match ids.as_slice() {
+            [] => Objects::of_none(0)?,
+            ids => {
+                headers::check(&checks.git)?;
+                checks.trees(Selection { ids, arguments }, &mut modules, &mut found)?
+            }
+        };
+        let submodules = if modules.is_empty() {
+            Objects::of_none(modules.len())?
+        } else {
+            checks.submodules(&modules, &mut found)?
+        };
+        Ok(Verdict::of(Checked {
+            references,
+            in_namespaces,
+            trees,
+            submodules,
+        }))
+    }
+
+    /// What the hook says of a push that is refused.
+    fn refusal(&self) -> String {
+        let trees = self.findings.iter().filter_map(Finding::tree).collect();
+        let selection = Selection {
+            ids: &self.ids,
+            arguments: &self.arguments,
+        };
+        // (if they can't be found, the lines have the ids of the trees)
+        let folders = self.checks.folders(selection, trees).unwrap_or_default();
+        refusal::text(
+            &self.findings,
+            &folders,
+            self.findings.len() < MOST_FINDINGS,
+        )
+    }
+}

@@ -8,12 +8,20 @@ use bstr::{BStr, BString};
 #[cfg(all(target_arch = "x86_64", target_pointer_width = "64"))]
 std::arch::global_asm!(include_str!("../native/x86_64.s"), options(att_syntax)); // in a clone, bindings/build makes this file
 
-#[cfg(all(target_arch = "aarch64", target_pointer_width = "64", target_endian = "little"))]
+#[cfg(all(
+    target_arch = "aarch64",
+    target_pointer_width = "64",
+    target_endian = "little"
+))]
 std::arch::global_asm!(include_str!("../native/aarch64.s")); // in a clone, release/aarch64 makes this file
 
 #[cfg(not(any(
     all(target_arch = "x86_64", target_pointer_width = "64"),
-    all(target_arch = "aarch64", target_pointer_width = "64", target_endian = "little")
+    all(
+        target_arch = "aarch64",
+        target_pointer_width = "64",
+        target_endian = "little"
+    )
 )))]
 compile_error!(
     "the proved functions of gix-validate are there for x86-64 and AArch64, but not for this target; to build for it, \
@@ -30,8 +38,11 @@ macro_rules! declare {
             fn gix_validate_partial(name: *const u8, name_len: size_t) -> u32;
             fn gix_validate_full(name: *const u8, name_len: size_t) -> u32;
             fn gix_validate_branch(name: *const u8, name_len: size_t) -> u32;
+            fn gix_validate_short_branch(name: *const u8, name_len: size_t) -> u32;
             fn gix_validate_submodule(name: *const u8, name_len: size_t) -> u32;
             fn gix_validate_component(name: *const u8, name_len: size_t, flags: u32) -> u32;
+            fn gix_validate_path(path: *const u8, path_len: size_t, flags: u32) -> u32;
+            fn gix_validate_path_offset(path: *const u8, path_len: size_t, flags: u32) -> size_t;
             fn gix_validate_invalid_byte(name: *const u8, name_len: size_t) -> u32;
             fn gix_validate_fault_offset(name: *const u8, name_len: size_t) -> size_t;
             fn gix_validate_is_windows_device(name: *const u8, name_len: size_t) -> bool;
@@ -76,8 +87,10 @@ checks! {
     partial: gix_validate_partial();
     full: gix_validate_full();
     branch: gix_validate_branch();
+    short_branch: gix_validate_short_branch();
     submodule: gix_validate_submodule();
     component: gix_validate_component(flags);
+    path: gix_validate_path(flags);
 }
 
 /// Panics on a processor that lacks what the block needs, before that would be an illegal instruction.
@@ -107,26 +120,41 @@ pub(crate) fn fault_offset(name: &BStr) -> usize {
     unsafe { gix_validate_fault_offset(name.as_ptr(), name.len()) }
 }
 
+/// The offset of the part for which the path is refused, or its length.
+pub(crate) fn path_offset(path: &BStr, flags: u32) -> usize {
+    unsafe { gix_validate_path_offset(path.as_ptr(), path.len(), flags) }
+}
+
+/// The length of what the first bytes of the buffer are repaired to, or 0 if it has no room for that.
+pub(crate) fn sanitize_in_place(buffer: &mut [u8], len: usize) -> usize {
+    check_processor();
+    // SAFETY: pointer and length are those of a slice that is borrowed alone until the call returns.
+    unsafe { gix_validate_sanitize_in_place(buffer.as_mut_ptr(), buffer.len(), len) }
+}
+
 /// The name repaired to a partial reference name.
 pub(crate) fn sanitized(name: &BStr) -> BString {
-    check_processor();
     let mut buffer = Vec::with_capacity(name.len().max(1));
     buffer.extend_from_slice(name);
     if buffer.is_empty() {
         buffer.push(0); // room for the one byte that the empty name becomes
     }
-    // SAFETY: pointer and length are those of a vector that is borrowed alone until the call returns.
-    let repaired = unsafe { gix_validate_sanitize_in_place(buffer.as_mut_ptr(), buffer.len(), name.len()) };
+    let repaired = sanitize_in_place(&mut buffer, name.len());
     buffer.truncate(repaired);
     buffer.into()
 }
 
 #[test]
 fn the_block_has_the_version_of_the_crate() {
-    let version = env!("CARGO_PKG_VERSION").rsplit("dihareku.").next().unwrap();
+    let version = env!("CARGO_PKG_VERSION")
+        .rsplit("dihareku.")
+        .next()
+        .unwrap();
     let number = version
         .trim_end_matches("-dev")
         .split('.')
-        .fold(0, |number, part| number * 1000 + part.parse::<u32>().unwrap());
+        .fold(0, |number, part| {
+            number * 1000 + part.parse::<u32>().unwrap()
+        });
     assert_eq!(unsafe { gix_validate_version() }, number);
 }

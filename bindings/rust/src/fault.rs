@@ -1,4 +1,4 @@
-//! The errors. `scripts/faults` writes the list of each.
+//! What an error has, and says. `errors.rs` lists the faults of each.
 
 use bstr::{BStr, BString};
 

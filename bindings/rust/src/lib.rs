@@ -3,7 +3,8 @@
 //! This is the API of the crate gix-validate 0.13.1. Behind it stand the calls of the Rattle crate `gix_validate_c`,
 //! each with a contract that is proved. `docs/ASSURANCE.md` says what that covers, `README.md` what differs from
 //! gix-validate.
-//! Beyond that API, [`reference::names`], [`tag::names`] and [`submodule::names`] check the names in a buffer.
+//! Beyond that API, [`branch::short_name()`] checks a branch as people write it, [`path::whole()`] a whole path, and
+//! [`reference::names`], [`tag::names`] and [`submodule::names`] check the names in a buffer.
 //!
 //! ```
 //! use bstr::ByteSlice;
@@ -18,9 +19,11 @@
 
 #[allow(unsafe_code)]
 mod block;
+mod errors;
 mod fault;
 mod many;
 
+pub mod branch;
 pub mod path;
 pub mod reference;
 pub mod submodule;
@@ -30,7 +33,8 @@ pub mod tag;
 fn class() -> Option<&'static (dyn std::error::Error + 'static)> {
     #[cfg(feature = "gix-error")]
     {
-        const CLASS: &gix_error::ClassificationMarker = &gix_error::ClassificationMarker::VALIDATION;
+        const CLASS: &gix_error::ClassificationMarker =
+            &gix_error::ClassificationMarker::VALIDATION;
         Some(CLASS)
     }
     #[cfg(not(feature = "gix-error"))]

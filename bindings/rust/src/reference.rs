@@ -11,36 +11,7 @@ pub mod name {
 
     use crate::tag;
 
-    crate::fault::faults! {
-        "Why a text is not the name of a reference.":
-        /// It has a byte below 0x20, a space, DEL, or one of `:` `?` `[` `\` `^` `~`. The first is
-        /// `byte`.
-        1 InvalidByte { byte }: "Reference name contains invalid byte: {byte:?}",
-        /// It starts with a slash.
-        2 StartsWithSlash: "Reference name cannot start with a slash",
-        /// It has two slashes in a row.
-        3 RepeatedSlash: "Reference name cannot contain repeated slashes",
-        /// It has two dots in a row.
-        4 RepeatedDot: "Reference name cannot contain repeated dots",
-        /// A piece between slashes ends in `.lock`.
-        5 LockFileSuffix: "Reference name cannot end with '.lock'",
-        /// It has `@{`.
-        6 ReflogPortion: "Reference name cannot contain '@{{'",
-        /// It has a `*`.
-        7 Asterisk: "Reference name cannot contain '*'",
-        /// A piece between slashes starts with a dot.
-        8 StartsWithDot: "Reference name cannot start with a dot",
-        /// It ends in a dot.
-        9 EndsWithDot: "Reference name cannot end with a dot",
-        /// It ends in a slash.
-        10 EndsWithSlash: "Reference name cannot end with a slash",
-        /// It is empty.
-        11 Empty: "Reference name cannot be empty",
-        /// It has no slash, and a byte other than `A` to `Z` and `_`, as a digit.
-        12 SomeLowercase: "Standalone references must be all uppercased, like 'HEAD'",
-        /// It is reserved: `@`, or as a branch `refs/heads/HEAD`.
-        13 Reserved { name }: "Reference name is reserved and cannot be used: {name:?}",
-    }
+    pub use crate::errors::reference::Error;
 
     impl From<tag::name::Error> for Error {
         fn from(error: tag::name::Error) -> Self {
@@ -80,7 +51,7 @@ pub fn name_partial(path: &BStr) -> Result<&BStr, name::Error> {
 }
 
 /// Returns `path` if it is a full name other than `refs/heads/HEAD`, otherwise its first fault. `HEAD` and
-/// `refs/tags/v1` pass too: put `refs/heads/` before a branch's short name.
+/// `refs/tags/v1` pass too, and `main` doesn't: [`short_name()`](crate::branch::short_name()) is for what people write.
 #[inline]
 pub fn branch_name(path: &BStr) -> Result<&BStr, name::Error> {
     accepted(path, block::branch(path))
@@ -124,6 +95,22 @@ pub fn branch_names(buffer: &BStr, end: u8) -> impl Iterator<Item = Result<&BStr
 /// ```
 pub fn name_partial_or_sanitize(path: &BStr) -> BString {
     block::sanitized(path)
+}
+
+/// Repairs the name in the first `len` bytes of `buf` where it is, as [`name_partial_or_sanitize()`] does, and returns
+/// the new length. The bytes from the old length on (at least 1) stay as they were. It is `None`, and nothing changes,
+/// if `buf` is empty or has fewer than `len` bytes.
+///
+/// ```
+/// let mut buf = *b"a..b?";
+/// assert_eq!(gix_validate::reference::sanitize_in_place(&mut buf, 4), Some(3));
+/// assert_eq!(&buf[..3], b"a.b");
+/// ```
+pub fn sanitize_in_place(buf: &mut [u8], len: usize) -> Option<usize> {
+    match block::sanitize_in_place(buf, len) {
+        0 => None,
+        repaired => Some(repaired),
+    }
 }
 
 #[inline]

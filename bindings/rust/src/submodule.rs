@@ -7,13 +7,7 @@ use crate::many::names_in;
 
 /// The error of [`name()`].
 pub mod name {
-    crate::fault::faults! {
-        "Why a text is not the name of a submodule.":
-        /// It is empty.
-        11 Empty: "Submodule names cannot be empty",
-        /// A part of it is `..`. Both `/` and `\` separate parts.
-        14 ParentComponent: "Submodules names must not contains '..'",
-    }
+    pub use crate::errors::submodule::Error;
 }
 
 /// Returns `name` if it is a valid name of a submodule, otherwise its fault. It may be neither empty nor have a

@@ -7,32 +7,7 @@ use crate::many::names_in;
 
 /// The error of [`name()`].
 pub mod name {
-    crate::fault::faults! {
-        "Why a text is not the name of a tag.":
-        /// It has a byte below 0x20, a space, DEL, or one of `:` `?` `[` `\` `^` `~`. The first is
-        /// `byte`.
-        1 InvalidByte { byte }: "A ref must not contain invalid bytes or ascii control characters: {byte:?}",
-        /// It starts with a slash.
-        2 StartsWithSlash: "A reference name must not start with a slash '/'",
-        /// It has two slashes in a row.
-        3 RepeatedSlash: "Multiple slashes in a row are not allowed as they may change the reference's meaning",
-        /// It has two dots in a row.
-        4 RepeatedDot: "A ref must not contain '..' as it may be mistaken for a range",
-        /// A piece between slashes ends in `.lock`.
-        5 LockFileSuffix: "A ref must not end with '.lock'",
-        /// It has `@{`.
-        6 ReflogPortion: "A ref must not contain '@{{' which is a part of a ref-log",
-        /// It has a `*`.
-        7 Asterisk: "A ref must not contain '*' character",
-        /// A piece between slashes starts with a dot.
-        8 StartsWithDot: "A ref must not start with a '.'",
-        /// It ends in a dot.
-        9 EndsWithDot: "A ref must not end with a '.'",
-        /// It ends in a slash.
-        10 EndsWithSlash: "A ref must not end with a '/'",
-        /// It is empty.
-        11 Empty: "A ref must not be empty",
-    }
+    pub use crate::errors::tag::Error;
 }
 
 /// Returns `input` if it is a valid name of a tag, otherwise its first fault. It may hold slashes.

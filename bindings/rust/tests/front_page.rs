@@ -11,7 +11,10 @@ fn the_examples_of_the_front_page() {
     assert!(tag::name(b"v1.2.3".as_bstr()).is_ok());
     assert!(submodule::name(b"vendor/package".as_bstr()).is_ok());
     assert!(path::component(b"src".as_bstr(), None, options).is_ok());
-    assert!(matches!(path::component(b".git".as_bstr(), None, options), Err(path::component::Error::DotGitDir)));
+    assert!(matches!(
+        path::component(b".git".as_bstr(), None, options),
+        Err(path::component::Error::DotGitDir)
+    ));
 }
 
 #[test]
@@ -36,12 +39,17 @@ fn a_payload_is_printed_as_bstr_prints_it() {
 
 #[test]
 fn the_fault_of_a_tag_is_that_of_a_reference() {
-    for name in ["", "a b", "/a", "a//b", "a..b", "a.lock", "@{", "a*", ".a", "a.", "a/"] {
+    for name in [
+        "", "a b", "/a", "a//b", "a..b", "a.lock", "@{", "a*", ".a", "a.", "a/",
+    ] {
         let name = name.as_bytes().as_bstr();
         let tag = tag::name(name).expect_err("a bad name");
         let reference = reference::name_partial(name).expect_err("a bad name");
         assert_eq!(format!("{tag:?}"), format!("{reference:?}"));
-        assert_eq!(reference::name::Error::from(tag).to_string(), reference.to_string());
+        assert_eq!(
+            reference::name::Error::from(tag).to_string(),
+            reference.to_string()
+        );
     }
 }
 
@@ -55,19 +63,36 @@ fn names_in_a_buffer_are_its_slices() {
     assert_eq!(given[2].as_ref().unwrap().as_ptr(), buffer[4..].as_ptr());
     let mut invalid = reference::names(b"a b".as_bstr(), 0);
     let error = invalid.next().unwrap().unwrap_err();
-    assert_eq!(error.to_string(), "Reference name contains invalid byte: \" \"");
+    assert_eq!(
+        error.to_string(),
+        "Reference name contains invalid byte: \" \""
+    );
     assert!(invalid.next().is_none() && invalid.next().is_none());
 }
 
 #[test]
 fn errors_may_be_boxed_and_sent() {
-    fn boxed<E: std::error::Error + Send + Sync + 'static>(error: E) -> Box<dyn std::error::Error + Send + Sync> {
+    fn boxed<E: std::error::Error + Send + Sync + 'static>(
+        error: E,
+    ) -> Box<dyn std::error::Error + Send + Sync> {
         error.into()
     }
-    assert_eq!(boxed(tag::name::Error::Empty).to_string(), "A ref must not be empty");
-    assert_eq!(boxed(reference::name::Error::Empty).to_string(), "Reference name cannot be empty");
-    assert_eq!(boxed(submodule::name::Error::Empty).to_string(), "Submodule names cannot be empty");
-    assert_eq!(boxed(path::component::Error::Empty).to_string(), "A path component must not be empty");
+    assert_eq!(
+        boxed(tag::name::Error::Empty).to_string(),
+        "A ref must not be empty"
+    );
+    assert_eq!(
+        boxed(reference::name::Error::Empty).to_string(),
+        "Reference name cannot be empty"
+    );
+    assert_eq!(
+        boxed(submodule::name::Error::Empty).to_string(),
+        "Submodule names cannot be empty"
+    );
+    assert_eq!(
+        boxed(path::component::Error::Empty).to_string(),
+        "A path component must not be empty"
+    );
 }
 
 #[cfg(feature = "gix-error")]

@@ -25,7 +25,12 @@ fn processor_time() -> Any<u64> {
 }
 
 /// Prints a call's line. All passes have the same results.
-fn timed(call: &str, passes: usize, wanted: usize, mut results: impl FnMut() -> Any<usize>) -> Any<()> {
+fn timed(
+    call: &str,
+    passes: usize,
+    wanted: usize,
+    mut results: impl FnMut() -> Any<usize>,
+) -> Any<()> {
     let mut least = u64::MAX;
     for _ in 0..passes {
         let start = processor_time()?;
@@ -40,32 +45,73 @@ fn timed(call: &str, passes: usize, wanted: usize, mut results: impl FnMut() -> 
 }
 
 fn references(repo: &Repository) -> Any<()> {
-    let packed = repo.refs.open_packed_buffer()?.ok_or("there are no packed references")?;
-    let names = packed.iter()?.map(|found| Ok(found?.name.as_bstr().to_owned())).collect::<Any<Vec<BString>>>()?;
+    let packed = repo
+        .refs
+        .open_packed_buffer()?
+        .ok_or("there are no packed references")?;
+    let names = packed
+        .iter()?
+        .map(|found| Ok(found?.name.as_bstr().to_owned()))
+        .collect::<Any<Vec<BString>>>()?;
     let all: Vec<&BStr> = names.iter().map(|name| name.as_bstr()).collect();
     let some: Vec<&BStr> = all.iter().step_by(50).copied().collect();
-    timed("reference", 5, all.len(), || Ok(all.iter().filter(|name| reference::name(name).is_ok()).count()))?;
-    timed("FullName", 5, all.len(), || Ok(all.iter().filter(|name| FullName::try_from(**name).is_ok()).count()))?;
-    timed("packed", 5, all.len(), || Ok(packed.iter()?.filter(Result::is_ok).count()))?;
-    timed("all", 5, all.len(), || Ok(repo.references()?.all()?.filter(Result::is_ok).count()))?;
-    timed("find", 5, some.len(), || Ok(some.iter().filter(|name| repo.find_reference(**name).is_ok()).count()))
+    timed("reference", 5, all.len(), || {
+        Ok(all
+            .iter()
+            .filter(|name| reference::name(name).is_ok())
+            .count())
+    })?;
+    timed("FullName", 5, all.len(), || {
+        Ok(all
+            .iter()
+            .filter(|name| FullName::try_from(**name).is_ok())
+            .count())
+    })?;
+    timed("packed", 5, all.len(), || {
+        Ok(packed.iter()?.filter(Result::is_ok).count())
+    })?;
+    timed("all", 5, all.len(), || {
+        Ok(repo.references()?.all()?.filter(Result::is_ok).count())
+    })?;
+    timed("find", 5, some.len(), || {
+        Ok(some
+            .iter()
+            .filter(|name| repo.find_reference(**name).is_ok())
+            .count())
+    })
 }
 
 fn files(repo: &Repository, room: &Path) -> Any<()> {
     let tree = repo.head_tree_id()?.detach();
     let index = repo.index_from_tree(&tree)?;
     let entries = index.entries();
-    let mut options = repo.checkout_options(worktree::stack::state::attributes::Source::IdMapping)?;
+    let mut options =
+        repo.checkout_options(worktree::stack::state::attributes::Source::IdMapping)?;
     options.destination_is_initially_empty = true;
     options.thread_limit = Some(1);
-    let parts: Vec<&BStr> = entries.iter().flat_map(|entry| entry.path(&index).split_str("/")).map(BStr::new).collect();
+    let parts: Vec<&BStr> = entries
+        .iter()
+        .flat_map(|entry| entry.path(&index).split_str("/"))
+        .map(BStr::new)
+        .collect();
     timed("component", 5, parts.len(), || {
-        Ok(parts.iter().filter(|part| component(part, None, options.validate).is_ok()).count())
+        Ok(parts
+            .iter()
+            .filter(|part| component(part, None, options.validate).is_ok())
+            .count())
     })?;
-    timed("index", 5, entries.len(), || Ok(repo.index_from_tree(&tree)?.entries().len()))?;
+    timed("index", 5, entries.len(), || {
+        Ok(repo.index_from_tree(&tree)?.entries().len())
+    })?;
     timed("checkout", 1, entries.len(), || {
-        let (mut index, objects, options) = (index.clone(), repo.objects.clone().into_arc()?, options.clone());
-        let done = worktree::state::checkout(&mut index, room, objects, &Discard, &Discard, &NEVER, options)?;
+        let (mut index, objects, options) = (
+            index.clone(),
+            repo.objects.clone().into_arc()?,
+            options.clone(),
+        );
+        let done = worktree::state::checkout(
+            &mut index, room, objects, &Discard, &Discard, &NEVER, options,
+        )?;
         Ok(done.files_updated - done.errors.len() - done.collisions.len())
     })
 }

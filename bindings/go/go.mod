@@ -1,0 +1,3 @@
+module dihareku/gitnames
+
+go 1.19

@@ -13,40 +13,69 @@ folder = release / "share" / "man"
 
 
 def literal(text):
-    """Text that troff prints as it is."""
-    return re.sub(r"(?m)^(?=[.'])", r"\\&", text.replace("\\", r"\e").replace("-", r"\-"))
+    """Text that troff prints as it is. (mandoc's HTML would lose an empty line, and add one before a line with a margin.)"""
+    text = text.replace("\\", r"\e").replace("-", r"\-")
+    text = re.sub(r"(?m)^$", r"\\ ", text)
+    return re.sub(r"(?m)^(?=[.' ])", r"\\&", text)
 
 
 def code(text):
     """Declarations, without the bodies of functions, and without what only the compiler needs."""
-    text = re.sub(r"(?ms)^static inline ([^{]*?) \{\n.*?^\}", r"\1;", text).replace(" GIX_VALIDATE_ABI", "")
-    text = re.sub(r'(?m)^(#(?!define GIX_VALIDATE_[NTV])|extern "C"|\}$).*\n', "", text).strip()
+    text = re.sub(r"(?ms)^static inline ([^{]*?) \{\n.*?^\}", r"\1;", text).replace(
+        " GIX_VALIDATE_ABI", ""
+    )
+    text = re.sub(
+        r'(?m)^(#(?!define GIX_VALIDATE_[NTV])|extern "C"|\}$)(.*\\\n)*.*\n', "", text
+    ).strip()
     return f".PP\n.nf\n{literal(text)}\n.fi\n" if text else ""
 
 
 def prose(text):
     """The paragraphs of a comment. What is indented in it is printed as it is."""
     page = ""
-    for paragraph in re.split(r"\n\s*\n|\n(?= +- )", re.sub(r"(?m)^ ?\* ?|^   (?=\S)", "", text).strip("\n")):
+    for paragraph in re.split(
+        r"\n\s*\n|\n(?= +- )", re.sub(r"(?m)^ ?\* ?|^   (?=\S)", "", text).strip("\n")
+    ):
         if paragraph.startswith("    "):
             page += f".PP\n.nf\n{literal(paragraph)}\n.fi\n"
         else:
-            mark = '.IP \\(bu 2' if paragraph.lstrip().startswith("- ") else ".PP"
-            page += mark + "\n" + literal(" ".join(paragraph.split()).removeprefix("- ")) + "\n"
+            mark = ".IP \\(bu 2" if paragraph.lstrip().startswith("- ") else ".PP"
+            page += (
+                mark
+                + "\n"
+                + literal(" ".join(paragraph.split()).removeprefix("- "))
+                + "\n"
+            )
     return page
 
 
 for command in release.glob("bin/*"):
-    text = literal(subprocess.check_output([command, "--help"], encoding="utf-8").rstrip("\n"))
+    text = subprocess.check_output([command, "--help"], encoding="utf-8").rstrip("\n")
     page = f'.TH {command.name.upper()} 1 "{day}" "gix-validate {version}"\n.SH NAME\n{command.name} \\- '
-    page += re.sub("(?m)[.:]$", "", text.partition("\n\n")[0]) + f"\n.SH DESCRIPTION\n.nf\n{text}\n.fi\n"
+    page += (
+        re.sub("(?m)[.:]$", "", literal(text.partition("\n\n")[0]))
+        + f"\n.SH DESCRIPTION\n.nf\n{literal(text)}\n.fi\n"
+    )
     (folder / "man1" / f"{command.name}.1").write_text(page, encoding="utf-8")
 
-parts = re.split(r"(?ms)^/\*(.*?)\*/\n", (release / "include" / "gix_validate.h").read_text(encoding="ascii"))
-declared = re.findall(r"(?m)^(?:static inline )?\w[\w ]*[ *](gix_validate_\w+)\(", "".join(parts[::2]))
+parts = re.split(
+    r"(?ms)^/\*(.*?)\*/\n",
+    re.sub(
+        r" */\* clang-format \w+ \*/\n",
+        "",
+        (release / "include" / "gix_validate.h").read_text(encoding="ascii"),
+    ),
+)
+declared = re.findall(
+    r"(?m)^(?:static inline )?\w[\w ]*[ *](gix_validate_\w+)\(", "".join(parts[::2])
+)
 page = f'.TH GIX_VALIDATE 3 "{day}" "gix-validate {version}"\n.SH NAME\n{", ".join(["gix_validate", *declared])} \\- names that Git uses\n'
-page += ".nh\n.ad l\n.SH SYNOPSIS\n.nf\n#include <gix_validate.h>\n.fi\n.SH DESCRIPTION\n"
-page += "".join(prose(comment) + code(behind) for comment, behind in zip(parts[1::2], parts[2::2])).removeprefix(".PP\n")
+page += (
+    ".nh\n.ad l\n.SH SYNOPSIS\n.nf\n#include <gix_validate.h>\n.fi\n.SH DESCRIPTION\n"
+)
+page += "".join(
+    prose(comment) + code(behind) for comment, behind in zip(parts[1::2], parts[2::2])
+).removeprefix(".PP\n")
 (folder / "man3" / "gix_validate.3").write_text(page, encoding="ascii")
 for name in declared:
     (folder / "man3" / f"{name}.3").symlink_to("gix_validate.3")

@@ -1,6 +1,6 @@
 # shellcheck shell=bash disable=SC2154
-# For release/aarch64 and release/wasm, which set `target`: rt refuses these targets, so this calls rattle, by its documented
-# options. The libraries below have to be proved already.
+# For release/aarch64 and release/wasm, which set `target`: rt refuses these targets, so this calls
+# rattle, by its documented options. The libraries below have to be proved already.
 
 cd -- "$(dirname -- "${BASH_SOURCE[0]}")/../crates/gix_validate_c" || exit 1
 kit=$(dirname -- "$(rt doc)")
@@ -16,15 +16,23 @@ done
 
 # Runs a command, and shows the end of what it says if it fails. quiet COMMAND..
 quiet() {
-    "$@" > "$room/log" 2>&1 || { tail -n 20 -- "$room/log" >&2; exit 1; }
+    "$@" >"$room/log" 2>&1 || {
+        tail -n 20 -- "$room/log" >&2
+        exit 1
+    }
 }
 
-# Proves the functions for the target, and builds an archive of them by the clang on standard input, which calls that of the kit.
-# (rattle empties its environment.) archive FILE
+# Proves the functions for the target, and builds an archive of them by the clang on standard
+# input, which calls that of the kit. (rattle empties its environment.) archive FILE
 archive() {
     cp -rL --symbolic-link -- "$kit/toolchain" "$room"
     install -m 755 -- /dev/stdin "$room/toolchain/bin/clang"
-    quiet "$kit/bin/rattle" check "${options[@]}" --logic-built "$kit/logic_built" --jobs 2 -o "$room/checked"
-    grep -q '^logic=proved ' "$room/log" || { tail -n 20 -- "$room/log" >&2; exit 1; }
-    quiet "$kit/bin/rattle" build "${options[@]}" --crate-checked "$room/checked" --toolchain "$room/toolchain" --backend llvm -o "$1"
+    quiet "$kit/bin/rattle" check "${options[@]}" --logic-built "$kit/logic_built" --jobs 2 \
+        -o "$room/checked"
+    grep -q '^logic=proved ' "$room/log" || {
+        tail -n 20 -- "$room/log" >&2
+        exit 1
+    }
+    quiet "$kit/bin/rattle" build "${options[@]}" --crate-checked "$room/checked" \
+        --toolchain "$room/toolchain" --backend llvm -o "$1"
 }

@@ -26,21 +26,33 @@ def swizzled(found):
         ]
     joined = "zeroinitializer"
     for lane in range(16):
-        values.append(f"insertelement <16 x i8> {joined}, i8 %r{first + 6 * lane + 6}, i32 {lane}")
+        values.append(
+            f"insertelement <16 x i8> {joined}, i8 %r{first + 6 * lane + 6}, i32 {lane}"
+        )
         joined = f"%r{first + len(values) - 1}"
     result = first + len(values) + 1
-    values += [f"icmp sge <16 x i8> %r{index}, zeroinitializer",
-               f"select <16 x i1> %r{result - 1}, <16 x i8> {joined}, <16 x i8> zeroinitializer"]
-    if found[0] != "".join(f"  %r{at} = {value}\n" for at, value in enumerate(values, first)):
+    values += [
+        f"icmp sge <16 x i8> %r{index}, zeroinitializer",
+        f"select <16 x i1> %r{result - 1}, <16 x i8> {joined}, <16 x i8> zeroinitializer",
+    ]
+    if found[0] != "".join(
+        f"  %r{at} = {value}\n" for at, value in enumerate(values, first)
+    ):
         return found[0]
-    return (f"  %l{result} = load <16 x i8>, ptr %r{table}, align 1\n"
-            f"  %i{result} = and <16 x i8> %r{index}, splat (i8 -113)\n"  # (0x8F; from 16 on `swizzle` gives 0)
-            f"  %r{result} = call <16 x i8> @llvm.wasm.swizzle(<16 x i8> %l{result}, <16 x i8> %i{result})\n")
+    return (
+        f"  %l{result} = load <16 x i8>, ptr %r{table}, align 1\n"
+        f"  %i{result} = and <16 x i8> %r{index}, splat (i8 -113)\n"  # (0x8F; from 16 on `swizzle` gives 0)
+        f"  %r{result} = call <16 x i8> @llvm.wasm.swizzle(<16 x i8> %l{result}, <16 x i8> %i{result})\n"
+    )
 
 
 def lookups(code):
-    code = re.sub(r"  %r(\d+) = and <16 x i8> %r(\d+), splat \(i8 15\)\n"
-                  r"(?:.*\n){4}.* = getelementptr i8, ptr %r(\d+), .*\n(?:.*\n){109}", swizzled, code)
+    code = re.sub(
+        r"  %r(\d+) = and <16 x i8> %r(\d+), splat \(i8 15\)\n"
+        r"(?:.*\n){4}.* = getelementptr i8, ptr %r(\d+), .*\n(?:.*\n){109}",
+        swizzled,
+        code,
+    )
     if "@llvm.wasm.swizzle" not in code:
         raise SystemExit("wasm.py: the code has no lookup as rattle wrote it")
     return code + "\ndeclare <16 x i8> @llvm.wasm.swizzle(<16 x i8>, <16 x i8>)\n"
@@ -50,7 +62,13 @@ def addresses(text):
     """Puts `i32.wrap_i64` around the first operand of these instructions, unless it is there. (wasm-opt writes an
     operand on lines of its own, whose first and last have one space more.)"""
     operand = r"\2 \((?!i32\.wrap_i64).*\n(?:\2  .*\n)*(?:\2 \)\n)?"
-    return re.sub(rf"(?m)^(( *)\(v128\.load\d+_(?:splat|zero|lane).*\n)({operand})", r"\1(i32.wrap_i64\n\3)\n", text)
+    return re.sub(
+        rf"(?m)^(( *)\(v128\.load\d+_(?:splat|zero|lane).*\n)({operand})",
+        r"\1(i32.wrap_i64\n\3)\n",
+        text,
+    )
 
 
-sys.stdout.write({"lookups": lookups, "addresses": addresses}[sys.argv[1]](sys.stdin.read()))
+sys.stdout.write(
+    {"lookups": lookups, "addresses": addresses}[sys.argv[1]](sys.stdin.read())
+)

@@ -26,34 +26,64 @@ def packed(folder, out):
     """Packs a folder, and returns the name of the wheel."""
     info = next(folder.glob("*.dist-info"))
     tags = re.findall("(?m)^Tag: .*-(.*)$", (info / "WHEEL").read_text())
-    files = {str(path.relative_to(folder)): path.read_bytes() for path in sorted(folder.rglob("*")) if path.is_file()}
+    files = {
+        str(path.relative_to(folder)): path.read_bytes()
+        for path in sorted(folder.rglob("*"))
+        if path.is_file()
+    }
     record = f"{info.name}/RECORD"
-    digests = (base64.urlsafe_b64encode(hashlib.sha256(data).digest()).rstrip(b"=").decode() for data in files.values())
-    lines = [f"{name},sha256={digest},{len(files[name])}\n" for name, digest in zip(files, digests)]
+    digests = (
+        base64.urlsafe_b64encode(hashlib.sha256(data).digest()).rstrip(b"=").decode()
+        for data in files.values()
+    )
+    lines = [
+        f"{name},sha256={digest},{len(files[name])}\n"
+        for name, digest in zip(files, digests)
+    ]
     files[record] = f"{''.join(lines)}{record},,\n".encode()
     name = f"{info.stem}-py3-none-{'.'.join(tags)}.whl"
     with zipfile.ZipFile(out / name, "w") as wheel:
         for path, data in files.items():
-            entry = zipfile.ZipInfo(path, time.gmtime(int(os.environ.get("SOURCE_DATE_EPOCH", 946684800)))[:6])
+            entry = zipfile.ZipInfo(
+                path,
+                time.gmtime(int(os.environ.get("SOURCE_DATE_EPOCH", 946684800)))[:6],
+            )
             entry.create_system = 3  # Unix, wherever this runs
             entry.external_attr = (0o100755 if path.endswith(".so") else 0o100644) << 16
             wheel.writestr(entry, data)
     return name
 
 
-def build_wheel(wheel_directory, config_settings=None, metadata_directory=None):  # (PEP 517 gives the names)
+def build_wheel(
+    wheel_directory, config_settings=None, metadata_directory=None
+):  # (PEP 517 gives the names)
     """Builds the wheel for this machine in the folder of the source archive."""
     block = BLOCKS.get(platform.machine())
     if not block or os.name != "posix":
-        sys.exit(f"gix-validate has no shared object for {platform.system()} on {platform.machine()}")
+        sys.exit(
+            f"gix-validate has no shared object for {platform.system()} on {platform.machine()}"
+        )
     with tempfile.TemporaryDirectory() as room:
         folder = Path(shutil.copytree("wheel", f"{room}/wheel"))
         flags = ["-Wl,-z,noexecstack"] if platform.system() == "Linux" else []
         library = folder / "gix_validate" / "libgix_validate_c.so"
-        subprocess.run([os.environ.get("CC", "cc"), "-shared", "-nostdlib", *flags, "-o", library, block], check=True)
+        subprocess.run(
+            [
+                os.environ.get("CC", "cc"),
+                "-shared",
+                "-nostdlib",
+                *flags,
+                "-o",
+                library,
+                block,
+            ],
+            check=True,
+        )
         tags = next(folder.glob("*.dist-info")) / "WHEEL"
         system = re.sub("[-.]", "_", sysconfig.get_platform())
-        tags.write_text(re.sub("(?m)^Tag: .*\n", "", tags.read_text()) + f"Tag: py3-none-{system}\n")
+        tags.write_text(
+            re.sub("(?m)^Tag: .*\n", "", tags.read_text()) + f"Tag: py3-none-{system}\n"
+        )
         return packed(folder, Path(wheel_directory))
 
 

@@ -1,15 +1,11 @@
-"""What the scripts share that read the sources, and work at the root: files, clauses,
-must-fail edits, what is written."""
-import argparse
-import os
+"""What the sources of the crates have: functions and types, their clauses, and must-fail
+edits."""
+
 import re
-import subprocess
-import sys
 from collections import namedtuple
 from functools import lru_cache
 from pathlib import Path
 
-os.chdir(Path(__file__).resolve().parent.parent)
 EDIT = re.compile(
     r"file: (.*)\n((?:old: .*\nnew: ?.*\n)+)"
     r"refused: ([\w:]+)((?: \w+)+)( \(limit\))?\n"
@@ -27,46 +23,12 @@ Item = namedtuple("Item", "file offset path clause is_public")
 Edit = namedtuple("Edit", "file crate source pairs function clauses is_limit")
 
 
+class Wrong(Exception):
+    """What is wrong, a sentence on each line, for whoever runs a command."""
+
+
 def read(path):
     return Path(path).read_text("utf-8")
-
-
-def put_between(path, text, before, after, new):
-    """The text with this between what is before and after it, which it has once. That
-    has as many lines as the old one, or ends with a line."""
-    head, _, rest = text.partition(before)
-    old, end, tail = rest.partition(after)
-    is_as_long = old.count("\n") == new.count("\n") or after[0] == "\n"
-    if text.count(before) != 1 or not end or not is_as_long:
-        raise SystemExit(
-            f"{path} does not have this once, in as many lines as are written: "
-            f"{before!r} .. {after!r}"
-        )
-    return head + before + new + end + tail
-
-
-def write_or_check(doc, derive, then=()):
-    """Runs a script that gives places of files: what is before each and after it, and
-    the text between; or a file, and all of it. It writes them, or with --check fails if
-    a file has another. If it writes, the scripts `then` run. It writes nothing if the
-    script gives strings, too, which say what is wrong."""
-    parser = argparse.ArgumentParser(description=doc)
-    parser.add_argument("--check", action="store_true")
-    is_check = parser.parse_args().check
-    places, texts = [*derive()], {}
-    if faults := [it for it in places if isinstance(it, str)]:
-        raise SystemExit("\n".join(faults))
-    for path, *around, new in places:
-        if around:
-            new = put_between(path, texts.get(path) or read(path), *around, new)
-        texts[path] = new
-    differ = [path for path in texts if texts[path] != read(path)]
-    for path in [] if is_check else differ:
-        Path(path).write_text(texts[path], "utf-8")
-    failed = not is_check and any([subprocess.call([script]) for script in then])
-    end = f"differs: run {sys.argv[0]}" if is_check else "is written"
-    status = bool(failed or is_check and differ)
-    parser.exit(status, "".join(f"{path} {end}\n" for path in differ))
 
 
 def items_of(file):
@@ -124,36 +86,51 @@ def bodies(file):
     return found
 
 
+def replaced(text, pairs):
+    """The text with the first of each pair, which it has once then, replaced by the
+    second."""
+    for old, new in pairs:
+        if text.count(old) != 1:
+            raise Wrong(f"does not have this once: {old}")
+        text = text.replace(old, new)
+    return text
+
+
 def edit_of(file):
     """A must-fail edit. It replaces one text, or several one after the other, in the body
     of its function."""
     parts = EDIT.fullmatch(read(file))
     if not parts:
-        raise SystemExit(
+        raise Wrong(
             f"{file} is no edit: its lines are 'file:', 'old:', 'new:', "
             "perhaps more pairs of these two, and 'refused: FUNCTION CLAUSE..'"
         )
     name, lines, function, clauses, limit = parts.groups()
     crate, source = file.parts[1], file.parent.parent / name
     path, pairs = f"{crate}::{function}", PAIR.findall(lines)
-    text = changed = read(source)
-    for old, new in pairs:
-        if changed.count(old) != 1:
-            raise SystemExit(
-                f"{file} no longer applies: {name} does not have this once: {old}"
-            )
-        changed = changed.replace(old, new)
+    text = read(source)
+    try:
+        changed = replaced(text, pairs)
+    except Wrong as wrong:
+        raise Wrong(f"{file} no longer applies: {name} {wrong}") from wrong
     ranges = [(first, last) for it, first, last in bodies(source) if it == path]
     if not any(
         changed.startswith(text[:first]) and changed.endswith(text[last:])
         for first, last in ranges
     ):
-        raise SystemExit(f"{file} changes something else than the body of {function}")
+        raise Wrong(f"{file} changes something else than the body of {function}")
     return Edit(file, crate, source, pairs, path, clauses.split(), bool(limit))
 
 
 def edits():
-    """Yields the must-fail edits: what each replaces in the body of a function, which
-    refuses it, with its clauses, and whether only a search that gave up says so."""
+    """The must-fail edits: what each replaces in the body of a function, which refuses
+    it, with its clauses, and whether only a search that gave up says so. No two leave
+    the same source, white space aside."""
+    found = {}
     for file in sorted(Path("crates").glob("*/*/*.edit")):
-        yield edit_of(file)
+        edit = edit_of(file)
+        effect = (edit.source, *replaced(read(edit.source), edit.pairs).split())
+        if effect in found:
+            raise Wrong(f"{found[effect].file} and {file} have the same effect")
+        found[effect] = edit
+    return [*found.values()]

@@ -1,9 +1,11 @@
 # shellcheck shell=bash disable=SC2154
 # For scripts that build by rt, which set `who`, the name that messages begin with.
 
-# Runs rt without input. Shows which crate is being proved, and what isn't proved. The status is 0 or 2. watched WORD..
+# Runs rt without input. Shows which crate is being proved, and what isn't proved. The status is 0
+# or 2. watched WORD..
 watched() {
-    rt "$@" 2>&1 < /dev/null | sed -u -n -E -e "s|^rt: chose --jobs [0-9]+ for |$who: proving |p" \
+    rt "$@" 2>&1 </dev/null | sed -u -n -E \
+        -e "s|^rt: chose --jobs [0-9]+ for |$who: proving |p" \
         -e '/^rt: (waiting for another rt|the library )|: rt: command not found$/p' \
         -e '/^(note: )?[^ ]+:[0-9]+:[0-9]+: (error|it is not proved)/p' >&2 && return
     echo "$who: it was not built; run \`rt $*\` in $PWD for the whole message" >&2

@@ -1,0 +1,88 @@
+"""Checks that pages quote what the sources have, and that their links lead somewhere.
+
+The code on the pages that teach is code of the sources: the line before a block of Rattle
+or antt ends with 'From `FILE`:', and the lines between two lines `...` are together in
+that file, in any order of the parts. The names in the table of docs/BINDINGS.md are names
+of each language. A link between pages leads to a file and to a heading of it.
+"""
+
+import re
+from glob import glob
+from pathlib import Path
+
+from scripts.sources import read
+
+PAGES = ("docs/TUTORIAL.md", "docs/CONTRACTS.md")
+BLOCK = re.compile(r"(?ms)^([^\n]*)\n+```(?:rust|antt)\n(.*?)^```$")
+BINDINGS = "docs/BINDINGS.md"
+# Of each column of its table: the files, and what is in one of them.
+LANGUAGES = (
+    ("bindings/c/gix_validate.h", r"\bgix_validate_{}\("),
+    ("bindings/rust/src/{}.rs", r"\b{}\b"),
+    ("bindings/python/gix_validate.py", r"\b{}\b"),
+    ("bindings/js/gix_validate.d.ts", r"\b{}\b"),
+    ("bindings/go/*.go", r"(?m)^(?:func |type |\t){}\b"),
+)
+TRIED = "Write `crates/app/src/main.rt`:"  # (tests/pages tries it)
+
+
+def stripped(text):
+    """The lines without the white space around them, each between two newlines."""
+    return "\n".join(["", *map(str.strip, text.splitlines()), ""])
+
+
+def without_code(page):
+    return re.sub(r"(?ms)^```.*?^```$", "", read(page))
+
+
+def pages(root):
+    """The pages of the repository, without those that a tool has left. (release/ has pages
+    for the places of a release.)"""
+    is_left_out = re.compile(r"(^|/)(\.[^/]*|out|release|target)/").search
+    every = root.glob("**/*.md")
+    return sorted(it for it in every if not is_left_out(str(it.relative_to(root))))
+
+
+def slug(heading):
+    """The anchor that Git hosts give a heading."""
+    return re.sub(r"[^\w\- ]", "", heading.lower()).replace(" ", "-")
+
+
+def anchors(page):
+    """What can follow a `#` in a link to this page: its headings as hosts write them, and
+    its anchors."""
+    headings = re.findall(r"(?m)^#+ (.*)$", without_code(page))
+    return {*map(slug, headings), *re.findall('<a id="(.*?)"', read(page))}
+
+
+def derived():
+    """What is wrong on the pages."""
+    for page in pages(Path()):
+        for target in re.findall(r"\]\((?!https?:)([^)\s]*)\)", without_code(page)):
+            path, _, anchor = target.partition("#")
+            to = page.parent / path if path else page
+            if (
+                not to.exists()
+                or anchor
+                and to.suffix == ".md"
+                and anchor not in anchors(to)
+            ):
+                yield f"{page} has a link that leads nowhere: {target}"
+    for row in re.findall(
+        r"(?m)^\| (?!---).*`.*$", read(BINDINGS).partition("\n## With")[0]
+    ):
+        for (file, form), cell in zip(LANGUAGES, row.split("|")[2:]):
+            for module, name in re.findall(r"`(?:(\w+)::)?(\w+)`", cell):
+                path = file.format(module or "fault")
+                texts = map(read, glob(path))
+                if not any(re.search(form.format(name), text) for text in texts):
+                    yield f"{BINDINGS} has a name that isn't in {path}: {name}"
+    for page, (before, code) in (
+        (page, block) for page in PAGES for block in BLOCK.findall(read(page))
+    ):
+        file = re.search(r"\bFrom `([\w./]+)`:$", before)
+        if not file and before != TRIED:
+            yield f"{page} doesn't say where this is from: {code}"
+        for part in re.split(r"(?m)^ *\.\.\.\n", code) if file else []:
+            if stripped(part) not in stripped(read(file[1])):
+                yield f"{page} quotes from {file[1]} what it doesn't have: {part}"

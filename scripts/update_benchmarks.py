@@ -1,0 +1,303 @@
+"""Writes the tables and the pictures of bench/README.md from bench/figures.txt.
+
+Other pages have figures of it, too. Debian's python3-matplotlib draws the pictures: the
+same files each time, but maybe another one in another version.
+"""
+
+import io
+import re
+from html import escape
+
+from scripts.sources import Wrong, read
+
+# Lists of names and calls in words. The page has these rows; all others are in
+# figures.txt.
+LISTS = {
+    "refs": "references",
+    "one_fault": "one fault",
+    "files": "file names",
+    "branches": "branches",
+    "three_parts": "paths of three parts",
+}
+# The rows whose call isn't one of a function's name.
+TITLES = {"each_component": "`component`, each part"}
+BYTES = {
+    "tag long": "valid references",
+    "component long_file": "no slash",
+    "sanitize_in_place long_hostile": "hostile references",
+}
+GITOXIDE = {
+    "packed": "read {} packed references",
+    "all": "`references().all()`, {} references",
+    "FullName": "`FullName::try_from`, {} references",
+    "reference": "`reference::name` alone, {} references",
+    "component": "`path::component` alone, {} components",
+    "find": "`find_reference`, {} of 100,000 references",
+    "index": "index from a tree, {} files",
+    "checkout": "checkout, {} files",
+}
+# How names are checked, by the words that figures.txt has for it.
+WAYS = {
+    "a name": "one name in each call",
+    "in a list": "a list in one call",
+    "in a buffer": "a buffer in one call",
+    "by a regular expression": "by the regular expression of JavaScript's Git clients",
+}
+WAY = re.compile(rf"([\d.]+) (?:ns )?({'|'.join(WAYS)})")
+# The heads of tables.
+CALL_COLUMNS = ["Call", "Names", "Dihareku, ns", "Crate, ns", "libgit2, ns"]
+CALL_COLUMNS += ["Dihareku, instructions", "Crate, instructions"]
+PUSH_COLUMNS = ["What is pushed", "Without a hook", "The shell script", "The hook"]
+ATTACK_COLUMNS = ["What is pushed", "Bytes", "`receive.fsckObjects`", *PUSH_COLUMNS[2:]]
+# The pages of marks that aren't on bench/README.md.
+PAGES = {"go": "bindings/go/README.md", "python": "bindings/python/README.md"}
+# The colours of this library, of what it is compared with most, and of others.
+OURS, OTHER, THIRD = "#0072b2", "#d55e00", "#767676"
+# In the dark the pictures have these in place of those above, and of those of the axes.
+DARK = {OURS: "#56b4e9", OTHER: "#f59b52", THIRD: "#a5abb3"}
+DARK |= {"#000000": "#a9b1ba", "#e0e0e0": "#4d525c"}
+# The bars of the pictures of calls and of pushes: their colours and names.
+CALLS = [(OURS, "Dihareku"), (OTHER, "Rust crate"), (THIRD, "libgit2")]
+PUSH = [(THIRD, "no hook"), (OTHER, "hook in shell, before"), (OURS, "hook")]
+ATTACKS = [(THIRD, "no hook, but receive.fsckObjects"), *PUSH[1:]]
+# The curves of the picture: the rows and the column of their times, their styles, and
+# their names. Below them what is marked on its axes.
+CURVES = [
+    ("full length_", 2, "-", THIRD, "libgit2, full reference"),
+    ("full length_", 1, "-", OTHER, "Rust crate, full reference"),
+    ("component length_file_", 1, "--", OTHER, "Rust crate, path component"),
+    ("full length_", 0, "-", OURS, "Dihareku, full reference"),
+    ("component length_file_", 0, "--", OURS, "Dihareku, path component"),
+]
+LENGTHS = {
+    4: "4",
+    16: "16",
+    64: "64",
+    256: "256",
+    1 << 10: "1 Ki",
+    1 << 12: "4 Ki",
+    1 << 14: "16 Ki",
+    1 << 16: "64 Ki",
+}
+TIMES = {1e1: "10 ns", 1e2: "100 ns", 1e3: "1 µs", 1e4: "10 µs", 1e5: "100 µs"}
+
+
+def rows(lines, key=2):
+    """The fields of each line by its first two, or by the first."""
+    return {" ".join(line.split()[:key]): line.split()[key:] for line in lines}
+
+
+def shown(number, decimals=0):
+    """A number with commas, below 100 with so many decimals; and `-` as nothing."""
+    if number == "-":
+        return ""
+    return f"{float(number):,.{decimals if float(number) < 100 else 0}f}"
+
+
+def table(head, *body):
+    """A table without outer pipes."""
+    cells = [head, *body]
+    lines = [" | ".join(it).rstrip() for it in cells]
+    return "\n".join([lines[0], "|".join(["---"] * len(head)), *lines[1:]])
+
+
+def calls(times, counts):
+    """The rows of the table of calls."""
+    for row, cells in times.items():
+        call, names = row.split()
+        if names in LISTS:
+            counted = counts[row.replace("sanitize", "sanitize_in_place")]
+            ours, crates = counted[0], (counted[4:5] or ["-"])[0]
+            nanoseconds = (shown(it, 1) for it in cells)
+            title = TITLES.get(call, f"`{call}`")
+            yield title, LISTS[names], *nanoseconds, shown(ours), shown(crates)
+
+
+def ways(lines):
+    """The table of what a name takes by each way to check it, below the version."""
+    version, _, measured = lines[0].partition(": ")
+    body = [(WAYS[way], each) for each, way in WAY.findall(measured)]
+    cells = table(["How names are checked", "ns a name"], *body)
+    return f"{version}:\n\n{cells}" + "".join(f"\n\n{it}." for it in lines[1:])
+
+
+def cells_of(lines):
+    """The cells of each line but the first, the head."""
+    return (re.split("  +", it) for it in lines[1:])
+
+
+def gains(lines):
+    """The rows of the table that says how many times as fast gitoxide is."""
+    measured = rows(lines, 1)
+    for call, words in GITOXIDE.items():
+        results, _, _, ratio = measured[call]
+        is_near = 0.8 < float(ratio) < 1.2
+        gain = "about the same" if is_near else f"{float(ratio):.1f}"
+        yield words.format(shown(results)), gain
+
+
+def made(figures):
+    """The text of each mark."""
+    times, counts = rows(figures["times"]), rows(figures["counts"])
+    costs = (
+        (f"`{row.split()[0]}`", names, *counts[row][1:6:4])
+        for row, names in BYTES.items()
+    )
+    measured = figures["counts"] + figures["trees"]
+    over = [" ".join(it.split()[:3]) for it in measured if it.endswith("OVER")]
+    gitoxide = table(["Gitoxide", "Times as fast"], *gains(figures["gitoxide"]))
+    return {
+        "calls": table(CALL_COLUMNS, *calls(times, counts)),
+        "bytes": table(["Call", "Name", "Dihareku", "Crate"], *costs),
+        "over": f"Calls that take more than their limit: {', '.join(over) or 'none'}.",
+        "python": ways(figures["python"]),
+        "javascript": ways(figures["javascript"]),
+        "go": ways(figures["go"]),
+        "gitoxide": f"{figures['gitoxide'][0]}:\n\n{gitoxide}",
+        "push": table(PUSH_COLUMNS, *cells_of(figures["push"])),
+        "pushes": table(ATTACK_COLUMNS, *cells_of(figures["pushes"])),
+    }
+
+
+def figure_of(size):
+    """An empty picture."""
+    try:
+        # (Here, since no other command needs it.)
+        import matplotlib
+        from matplotlib.figure import Figure
+    except ImportError as error:
+        raise Wrong(
+            f"the picture needs Debian's python3-matplotlib, and /usr/bin/python3: {error}"
+        ) from error
+    matplotlib.rcdefaults()
+    matplotlib.rcParams["font.size"] = 11
+    # (so that text stays text, and ids stay the same)
+    matplotlib.rcParams.update({"svg.fonttype": "none", "svg.hashsalt": "length"})
+    matplotlib.rcParams.update({"axes.spines.top": False, "axes.spines.right": False})
+    matplotlib.rcParams.update({"legend.edgecolor": "none", "legend.facecolor": "none"})
+    return Figure(figsize=size, layout="constrained")
+
+
+def style():
+    """The colours of the text, and all colours in the dark."""
+    rules = "".join(
+        f'[style*="{kind}: {light}"] {{ {kind}: {dark} !important }}\n'
+        for light, dark in DARK.items()
+        for kind in ("fill", "stroke")
+    )
+    dark = "@media (prefers-color-scheme: dark) {\ntext { fill: #e6e9ed }\n"
+    return f"<style>\ntext {{ fill: #1f2328 }}\n{dark}{rules}}}\n</style>\n"
+
+
+def svg_of(figure, title, description):
+    """The picture as SVG without a background, with words for those who can't see it."""
+    drawn = io.StringIO()
+    figure.savefig(drawn, format="svg", metadata={"Date": None}, transparent=True)
+    words = (
+        f'<title id="title">{escape(title)}</title>\n'
+        f'<desc id="desc">{escape(description)}</desc>\n'
+    )
+    svg = re.sub(
+        r"<svg (.*)>\n",
+        rf'<svg role="img" aria-labelledby="title desc" \1>\n{words}{style()}',
+        drawn.getvalue(),
+        count=1,
+    )
+    return re.sub(" +\n", "\n", svg)
+
+
+def draw_bars(axes, rows, bars):
+    """Draws a group of bars for each row: the cells of its name, in these colours."""
+    for column, (colour, label) in enumerate(bars):
+        cells = [row[column] for row in rows.values()]
+        numbers = [float(re.sub(",(?: .*)?", "", it) or 0) for it in cells]
+        places = [place + (column - 1) * 0.27 for place in range(len(rows))]
+        drawn = axes.barh(places, numbers, 0.25, color=colour, label=label)
+        axes.bar_label(drawn, cells, padding=3, fontsize=9)
+    axes.set_yticks(range(len(rows)), [*rows])
+    axes.invert_yaxis()
+
+
+def bars(times):
+    """The time of a call of this library next to that of others, as SVG."""
+    figure = figure_of((8, 4))
+    axes = figure.subplots()
+    rows = {}
+    for row, cells in times.items():
+        call, names = row.split()
+        if names in LISTS:
+            rows[f"{call}, {LISTS[names]}"] = [shown(it) for it in cells]
+    draw_bars(axes, rows, CALLS)
+    axes.set_xlabel("nanoseconds of a call")
+    axes.legend(loc="lower right")
+    description = "Bars: nanoseconds of a call. " + said(rows, CALLS)
+    return svg_of(figure, "Calls next to the Rust crate and libgit2", description)
+
+
+def said(rows, bars):
+    """What the bars show, in words."""
+    names = [name for _, name in bars]
+    return " ".join(
+        f"{row}: {', '.join(f'{name} {it}' for name, it in zip(names, cells) if it)}."
+        for row, cells in rows.items()
+    )
+
+
+def pushes(push, attacks):
+    """What the hook adds to a push, and what it takes for those that attack it, as SVG."""
+    figure = figure_of((9, 11))
+    above, below = figure.subplots(2, gridspec_kw={"height_ratios": [3.5, 14]})
+    few = {name: cells for name, *cells in push}
+    many = {name: cells for name, _, *cells in attacks}
+    draw_bars(above, few, PUSH)
+    draw_bars(below, many, ATTACKS)
+    above.set_title("Pushes, in milliseconds")
+    below.set_title("Attacks on the hook, in seconds")
+    for axes in (above, below):
+        axes.margins(x=0.12, y=0.02)
+        axes.legend(loc="upper right" if axes == above else "center right")
+    description = (
+        f"Bars: milliseconds of a push. {said(few, PUSH)} Bars: seconds of a push that "
+        f"attacks the hook. {said(many, ATTACKS)}"
+    )
+    return svg_of(figure, "What the hook adds to a push", description)
+
+
+def picture(times):
+    """The time of a call by the length of the name, as SVG."""
+    figure = figure_of((8, 4.8))
+    axes = figure.subplots()
+    ends = []
+    for front, column, style, colour, label in CURVES:
+        points = [
+            (int(row.removeprefix(front)), float(cells[column]))
+            for row, cells in times.items()
+            if row.startswith(front)
+        ]
+        axes.loglog(*zip(*points), style, color=colour, linewidth=2, label=label)
+        ends.append(f"{label} {points[-1][1] / 1000:.0f} µs")
+    axes.set_xlabel("length of the name in bytes")
+    axes.set_ylabel("time of a call")
+    axes.set_xticks([*LENGTHS], LENGTHS.values())
+    axes.set_yticks([*TIMES], TIMES.values())
+    axes.minorticks_off()
+    axes.grid(color="#e0e0e0")
+    axes.legend(loc="upper left")
+    description = f"Curves, on axes of powers. At {[*LENGTHS.values()][-1]} bytes: "
+    description += f"{', '.join(ends)}."
+    return svg_of(figure, "Time of a call by the length of the name", description)
+
+
+def derived():
+    parts = re.split(r"(?m)^== (\w+)\n", read("bench/figures.txt"))
+    figures = {name: text.splitlines() for name, text in zip(parts[1::2], parts[2::2])}
+    for name, text in made(figures).items():
+        page = PAGES.get(name, "bench/README.md")
+        yield page, f"<!-- {name} -->\n\n", "\n\n<!-- end -->", text
+    yield "bench/length.svg", picture(rows(figures["times"]))
+    yield "bench/calls.svg", bars(rows(figures["times"]))
+    push, attacks = (
+        [re.split("  +", line) for line in figures[name][1:]]
+        for name in ("push", "pushes")
+    )
+    yield "bench/pushes.svg", pushes(push, attacks)

@@ -1,0 +1,83 @@
+"""Draws docs/pictures/*.svg from the .dot files beside them, by Debian's graphviz.
+
+The first line of a .dot, a comment, is the title of the picture, and the comment after an
+empty one says in words what it shows, for those who can't see it. Each .svg names the
+sha256 of what it was drawn from, which --check compares: fonts, and so the bytes of the
+.svg, differ between machines. So --check needs no graphviz.
+"""
+
+import re
+import subprocess
+from hashlib import sha256
+from html import escape
+from pathlib import Path
+
+from scripts.sources import Wrong, read
+
+FONT = "Helvetica,Arial,sans-serif"
+STYLE = """
+    text { fill: #1f2328; font-family: Helvetica, Arial, sans-serif }
+    .graph > polygon { fill: none; stroke: none }
+    .cluster > polygon { fill: none; stroke: #848b95; stroke-dasharray: 4 3 }
+    .node > *, .edge > path { stroke: #525a64 }
+    .node > text, .edge > text { stroke: none }
+    .edge > polygon { fill: #525a64; stroke: #525a64 }
+    .good > path { stroke: #12692f; stroke-width: 2 }
+    .bad > path { stroke: #a4161a; stroke-width: 2 }
+    .taken > path { stroke-width: 3 }
+    @media (prefers-color-scheme: dark) {
+        text { fill: #e6e9ed }
+        .node > *, .edge > path { stroke: #a9b1ba }
+        .edge > polygon { fill: #a9b1ba; stroke: #a9b1ba }
+        .good > path { stroke: #6fd08c }
+        .bad > path { stroke: #ff9a94 }
+    }
+"""
+HEAD = re.compile(r"// (.*)\n//\n((?:// .*\n)+)")
+SIZE = re.compile(r'<svg width="(\d+)pt" height="(\d+)pt"\n viewBox="(.*?)" .*?>')
+
+
+def words(dot, path):
+    """The title of a picture, and what it shows."""
+    head = HEAD.match(dot)
+    if not head:
+        raise Wrong(f"{path} does not begin with a title and what it shows")
+    return head[1], " ".join(head[2].replace("// ", "").split())
+
+
+def digest(dot):
+    """What a picture is drawn from."""
+    return sha256((STYLE + dot).encode()).hexdigest()
+
+
+def drawn(dot, path):
+    """The picture as SVG."""
+    title, description = words(dot, path)
+    fonts = (f"-{kind}fontname={FONT}" for kind in "GNE")
+    try:
+        svg = subprocess.run(
+            ["dot", "-Tsvg", *fonts], input=dot, capture_output=True, text=True
+        )
+    except FileNotFoundError as error:
+        raise Wrong(f"the pictures need Debian's graphviz: {error}") from error
+    if svg.returncode or svg.stderr:
+        raise Wrong(f"{path}: {svg.stderr}")
+    size = SIZE.search(svg.stdout)
+    # (The titles of nodes and edges are names of the .dot, which nobody wants to hear.)
+    body = re.sub(r"<title>.*</title>\n|<!--(?s:.*?)-->\n", "", svg.stdout)
+    return (
+        f"<!-- drawn from {digest(dot)} by scripts/dev update-pictures -->\n"
+        '<svg xmlns="http://www.w3.org/2000/svg" role="img" '
+        f'aria-labelledby="title desc" width="{size[1]}" height="{size[2]}" '
+        f'viewBox="{size[3]}">\n'
+        f'<title id="title">{escape(title)}</title>\n'
+        f'<desc id="desc">{escape(description)}</desc>\n'
+        f"<style>{STYLE}</style>\n{body[SIZE.search(body).end() + 1 :]}"
+    )
+
+
+def derived():
+    for path in sorted(Path("docs/pictures").glob("*.dot")):
+        dot, picture = read(path), path.with_suffix(".svg")
+        is_drawn = picture.exists() and digest(dot) in read(picture)
+        yield str(picture), read(picture) if is_drawn else drawn(dot, path)

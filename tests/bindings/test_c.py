@@ -1,0 +1,140 @@
+"""The functions for C, by the libraries and the block that are built."""
+import os
+import re
+
+import pytest
+
+from .tools import (
+    AARCH64_BLOCK,
+    ARCHIVE,
+    BINDINGS,
+    BLOCK,
+    CC,
+    CXX,
+    RATTLE_ARCHIVE,
+    ROOT,
+    ROWS,
+    STRICT,
+    declared,
+    need,
+    output,
+    rows,
+    run,
+)
+
+LIBRARIES = [RATTLE_ARCHIVE, ARCHIVE, BLOCK]
+VALGRIND = ["valgrind", "--quiet", "--error-exitcode=1", "--leak-check=full"]
+SOURCE = BINDINGS / "c/rows.c"
+ALL_HOLD = f"{len(rows())} rows, 0 wrong\n"
+
+libraries = pytest.mark.parametrize(
+    "library", LIBRARIES, ids=lambda it: str(it.relative_to(ROOT))
+)
+
+
+def replayed(tmp_path, compiler, *flags, by=(), env=None):
+    """What the program for the rows says, as it is built by this compiler, and run by
+    this program."""
+    program = tmp_path / "rows.exe"
+    run(*compiler, *STRICT, "-o", program, *flags)
+    return output(*by, program, ROWS, env=env and {**os.environ, **env})
+
+
+def exported(library, tmp_path):
+    """The functions that a library exports, sorted. (The block also has each with a
+    line before its name, for macOS.)"""
+    if library.suffix == ".s":
+        block = tmp_path / "block.o"
+        run(CC, "-c", "-o", block, library)
+        run("objcopy", "--wildcard", "--strip-symbol", "_*", block)
+        library = block
+    names = output("nm", "--extern-only", "--defined-only", library)
+    return sorted(re.findall(r"(?m)^\w+ \w (.*)$", names))
+
+
+@libraries
+def test_a_library_exports_what_the_header_declares(library, tmp_path):
+    assert len(declared()) > 20
+    assert exported(library, tmp_path) == declared()
+
+
+def test_the_code_uses_no_memory_below_the_stack_pointer():
+    # (Windows may overwrite it.)
+    code = output("objdump", "-d", ARCHIVE)
+    assert "(%rsp" in code
+    assert re.findall(r"-0x[0-9a-f]+\(%rsp", code) == []
+
+
+@libraries
+def test_the_rows_hold(library, tmp_path):
+    flags = ["-O2", "-Wa,--noexecstack", SOURCE, library]
+    assert replayed(tmp_path, [CC, "-std=c11"], *flags) == ALL_HOLD
+
+
+@libraries
+def test_the_rows_hold_under_valgrind(library, tmp_path):
+    need("valgrind")
+    flags = ["-gdwarf-4", "-O2", "-Wa,--noexecstack", SOURCE, library]
+    assert replayed(tmp_path, [CC, "-std=c11"], *flags, by=VALGRIND) == ALL_HOLD
+
+
+def test_the_rows_hold_with_sanitizers(tmp_path):
+    flags = ["-gdwarf-4", "-fsanitize=address,undefined", "-fno-sanitize-recover"]
+    said = replayed(tmp_path, [CC, "-std=c11"], *flags, SOURCE, ARCHIVE)
+    assert said == ALL_HOLD
+
+
+def test_the_rows_hold_as_cplusplus(tmp_path):
+    need(CXX)
+    flags = ["-x", "c++", SOURCE, "-x", "none", ARCHIVE]
+    assert replayed(tmp_path, [CXX, "-std=c++11"], *flags) == ALL_HOLD
+
+
+def test_the_rows_hold_on_windows(tmp_path, wine):
+    compiler = [
+        "x86_64-w64-mingw32-gcc",
+        "-std=c11",
+        "-O2",
+        f"-I{SOURCE.parent}/windows",
+    ]
+    said = replayed(tmp_path, compiler, SOURCE, BLOCK, by=["wine"], env=wine)
+    assert said == ALL_HOLD
+
+
+def test_the_rows_hold_on_aarch64(tmp_path):
+    need("aarch64-linux-gnu-gcc", "qemu-aarch64", AARCH64_BLOCK)
+    compiler = ["aarch64-linux-gnu-gcc", "-std=c11", "-O2", "-static"]
+    said = replayed(tmp_path, compiler, SOURCE, AARCH64_BLOCK, by=["qemu-aarch64"])
+    assert said == ALL_HOLD
+
+
+def test_the_functions_of_memory_that_the_block_has_do_what_the_standard_says(tmp_path):
+    program = tmp_path / "memory"
+    source = BINDINGS / "block/memory_test.c"
+    run(CC, "-std=c11", *STRICT, "-O2", "-fno-builtin", "-o", program, source)
+    assert output(program) == "0 wrong\n"
+
+
+@pytest.mark.parametrize(
+    "system", ["apple-macos", "unknown-freebsd", "pc-windows-msvc"]
+)
+def test_the_block_can_be_assembled_for_systems_where_nothing_is_run(system, tmp_path):
+    need("clang")
+    block = tmp_path / "block.o"
+    run("clang", f"--target=x86_64-{system}", "-c", "-o", block, BLOCK)
+    assert block.stat().st_size > BLOCK.stat().st_size / 10
+
+
+def test_the_example_built_by_pkg_config_says_why_a_name_is_refused(tmp_path):
+    need("pkg-config")
+    source = BINDINGS / "c"
+    environment = {**os.environ, "PKG_CONFIG_PATH": str(source)}
+    asked = ["pkg-config", "--cflags", "--libs", "gix_validate"]
+    flags = output(*asked, env=environment).split()
+    program = tmp_path / "example"
+    run(CC, "-std=c11", *STRICT, "-o", program, source / "example.c", *flags)
+    assert run(program, "refs/heads/main", "a..b", status=1).stdout == (
+        "refs/heads/main: ok\n"
+        "a..b: RepeatedDot: Reference name cannot contain repeated dots\n"
+        "    a partial name in its place: a.b\n"
+    )

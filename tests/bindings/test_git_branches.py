@@ -1,0 +1,68 @@
+"""Short names of branches, next to Git."""
+import ctypes
+import itertools
+import os
+import subprocess
+
+import pytest
+
+from .tools import OUT, need
+
+LIBRARY = OUT / "libgix_validate_c.so"
+# What the rules speak of, and what is like it.
+MARKS = [b"a", b"-", b".", b"/", b"@", b"{", b"HEAD", b".lock", b"refs/heads/", b"\xff"]
+ALONE = [bytes([byte]) for byte in range(1, 256)]
+BEFORE = b"topic/a"
+
+
+def git(folder, *words, **options):
+    """A command of Git that no setting of a user changes."""
+    environment = {
+        "PATH": os.environ["PATH"],
+        "LC_ALL": "C",
+        "HOME": "/nonexistent",
+        "GIT_CONFIG_NOSYSTEM": "1",
+        "GIT_CEILING_DIRECTORIES": str(folder.parent),
+    }
+    return subprocess.run(
+        ["git", *words], cwd=folder, env=environment, capture_output=True, **options
+    )
+
+
+def git_accepts(folder, name):
+    """Whether Git accepts the name of a new branch, and keeps it as it is."""
+    done = git(folder, "check-ref-format", "--branch", name)
+    assert done.returncode in (0, 128)
+    return done.returncode == 0 and done.stdout == name + b"\n"
+
+
+@pytest.fixture(scope="module")
+def accepts():
+    """Whether the library accepts a short name."""
+    need("git", LIBRARY)
+    function = ctypes.CDLL(str(LIBRARY)).gix_validate_short_branch
+    function.argtypes = [ctypes.c_char_p, ctypes.c_size_t]
+    return lambda name: function(name, len(name)) == 0
+
+
+def test_git_accepts_the_same_short_names(accepts, tmp_path):
+    pairs = [first + second for first, second in itertools.product(MARKS, MARKS)]
+    around = [b"a" + byte + b"b" for byte in ALONE]
+    names = [b"", *MARKS, *ALONE, *around, *pairs]
+    both = [(accepts(name), git_accepts(tmp_path, name)) for name in names]
+    differ = [name for name, (ours, gits) in zip(names, both) if ours != gits]
+    assert differ == []
+    assert 100 < both.count((True, True)) < len(names) - 100
+
+
+def test_git_replaces_a_branch_that_was_checked_out_before(accepts, tmp_path):
+    person = ["-c", "user.name=a", "-c", "user.email=a@b"]
+    git(tmp_path, "init", "--quiet", "--initial-branch=main", check=True)
+    git(tmp_path, *person, "commit", "--allow-empty", "--message=x", check=True)
+    for branch in BEFORE, b"main":
+        git(tmp_path, "checkout", "-B", branch, check=True)
+    for rest in b"", b"/x", b"-1":
+        name = b"@{-1}" + rest
+        replaced = git(tmp_path, "check-ref-format", "--branch", name, check=True)
+        assert replaced.stdout == BEFORE + rest + b"\n"
+        assert not accepts(name)

@@ -1,0 +1,178 @@
+"""Python, C, JavaScript and Rust on the same random names."""
+import importlib
+import re
+import subprocess
+import sys
+import tempfile
+
+import pytest
+from hypothesis import HealthCheck, given, settings
+from hypothesis import strategies as st
+
+from .tools import BINDINGS, WASM, need
+
+pytestmark = pytest.mark.xdist_group("rust")
+# What the rules speak of, and what is like it.
+PARTS = [
+    *(
+        b"refs/",
+        b"heads/",
+        b"HEAD",
+        b"main",
+        b"/",
+        b"//",
+        b".",
+        b"..",
+        b"@",
+        b"@{",
+        b"{",
+    ),
+    *(b".lock", b".lock/", b"*", b" ", b"~", b"^", b":", b"?", b"[", b"\\", b"\x7f"),
+    *(
+        b"\n",
+        b"\t",
+        b"-",
+        b"_",
+        b"A",
+        b"z",
+        "ä".encode(),
+        "🎉".encode(),
+        b"\x80",
+        b"\xff",
+    ),
+    *(b".git", b".GIT", b"git~1", b"GIT~2", b".gitmodules", b"gitmod~1", b"gi7eb9"),
+    *(b"gi7eba", b"~1", b"con", b"NUL", b"aux", b"com1", b"lpt9", b"CONIN$", b"prn"),
+    *(b".txt", b"$", b"::$INDEX_ALLOCATION", b"c:", b"<", b"|", b'"', b"\xe2\x80\x8c"),
+    *(b"\xef\xbb\xbf", b"\xe2\x81\xaf", b".g\xe2\x80\x8dit", b"i", b"I", b"t", b"T"),
+    *(b" .", b". ", b"1", b"0", b"abcdefghijklmnop", b"some-longer-name"),
+]
+PIECES = st.sampled_from(PARTS) | st.binary(min_size=1, max_size=1)
+NAMES = st.lists(PIECES, max_size=20).map(b"".join)
+LETTERS = ["", "w", "h", "n", "wh", "wn", "hn", "whn"]
+LETTERS += [f"{it}s" for it in LETTERS]
+
+
+class Replayer:
+    """A program that replays rows from its input, and says `ok` of each that holds."""
+
+    def __init__(self, *command, **options):
+        self.command = [str(it) for it in command]
+        self.options = options
+        self.start()
+
+    def start(self):
+        self.errors = tempfile.TemporaryFile("w+")
+        pipes = {"stdin": subprocess.PIPE, "stdout": subprocess.PIPE}
+        self.process = subprocess.Popen(
+            self.command, stderr=self.errors, encoding="ascii", **pipes, **self.options
+        )
+
+    def wrong(self, rows):
+        """The first row that doesn't hold, and what the program says of it, or None.
+        (Rows and replies of some names fit a pipe.)"""
+        for at in range(0, len(rows), 24):
+            some = rows[at : at + 24]
+            try:
+                self.process.stdin.write("".join(f"{row}\n" for row in some))
+                self.process.stdin.flush()
+            except BrokenPipeError:
+                pass  # (it ended early, so a reply is missing)
+            replies = [self.process.stdout.readline().strip() for _ in some]
+            for row, reply in zip(some, replies):
+                if reply != "ok":
+                    said = self.end()
+                    self.start()
+                    return row, reply, said
+        return None
+
+    def end(self):
+        """Ends the program, and returns what it said on standard error."""
+        self.process.communicate()
+        self.errors.seek(0)
+        return f"status {self.process.returncode}: {self.errors.read()}"
+
+
+@pytest.fixture(scope="module")
+def replayers(rows_program, rust_program):
+    """A program in each language but Python, by the language."""
+    need("node", WASM)
+    rust_program.cargo("build", "--quiet", "--package", "gix-validate", "--examples")
+    found = {
+        "C": Replayer(rows_program, "-"),
+        "JavaScript": Replayer("node", BINDINGS / "js/test_gix_validate.mjs", "-"),
+        "Rust": Replayer(rust_program.target / "debug/examples/replay_rows"),
+    }
+    yield found
+    assert [it.end() for it in found.values()] == ["status 0: "] * 3
+
+
+@pytest.fixture(scope="module")
+def gix():
+    """Python's module."""
+    sys.path.append(str(BINDINGS / "python"))
+    return importlib.import_module("gix_validate")
+
+
+def quoted(name):
+    """The bytes of a name, as rows have them."""
+    escaped = re.sub(rb"[^ !#-\[\]-~]", lambda it: b"\\x%02x" % ord(it[0]), name)
+    return f'"{escaped.decode()}"'
+
+
+def answers(gix, name):
+    """What Python's module says of a name: the call, the exception or None, and if it
+    isn't that of the exception the result, as rows have them."""
+    for kind in "tag", "partial", "full", "branch", "short_branch", "submodule":
+        yield kind, refusal(gix, getattr(gix, f"{kind}_name"), name), "Ok"
+    for letters in LETTERS:
+        words = {"windows": "w", "hfs": "h", "ntfs": "n", "symlink": "s"}
+        options = {word: letter in letters for word, letter in words.items()}
+        error = refusal(gix, gix.path_component, name, **options)
+        yield f"component:{letters}", error, "Ok"
+        yield f"path:{letters}", refusal(gix, gix.path, name, **options), "Ok"
+        offset = gix.path_offset(name, **options)
+        yield f"path_offset:{letters}", None, "none" if offset is None else str(offset)
+    offset = gix.fault_offset(name)
+    yield "device", None, "yes" if gix.is_windows_device(name) else "no"
+    yield "offset", None, "none" if offset is None else str(offset)
+    yield "sanitize", None, quoted(gix.sanitize(name))
+
+
+def refusal(gix, call, *given, **options):
+    """The exception of a call, or None."""
+    try:
+        call(*given, **options)
+    except gix.InvalidName as error:
+        return error
+
+
+def row(call, name, error, result):
+    if error is not None:
+        byte = "" if error.byte is None else f":{error.byte:02x}"
+        result = f"{error.fault}{byte} {error.text}"
+    return f"{call} {quoted(name)} {result}"
+
+
+@pytest.fixture(scope="module")
+def seen(gix):
+    """The faults that the names have had; at the end each has to be among them."""
+    faults = set()
+    yield faults
+    assert faults == {None, *gix.Fault}
+
+
+@settings(
+    max_examples=1500,
+    deadline=None,
+    database=None,
+    suppress_health_check=HealthCheck.all(),
+)
+@given(st.lists(NAMES, min_size=1, max_size=20))
+def test_all_languages_return_the_same_for_random_names(gix, replayers, seen, names):
+    rows = []
+    for name in names:
+        for call, error, result in answers(gix, name):
+            seen.add(error and error.fault)
+            rows.append(row(call, name, error, result))
+    wrong = {language: it.wrong(rows) for language, it in replayers.items()}
+    assert wrong == {"C": None, "JavaScript": None, "Rust": None}

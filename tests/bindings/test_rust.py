@@ -1,0 +1,66 @@
+"""The Rust crate, under a program that was written for gix-validate 0.13.1."""
+import re
+
+import pytest
+
+from .cargo import DEBIAN, SID, program, registry
+from .tools import BINDINGS, need, run
+
+# (`--dist loadgroup` has one process run them all, which builds once.)
+pytestmark = pytest.mark.xdist_group("rust")
+EXPECTED = (BINDINGS / "rust/drop_in/expected").read_text()
+STANDARD_LIBRARY = "/usr/lib/rustlib"
+
+
+def passed(said):
+    """How many tests passed in each of the crate's test programs, if none failed or was
+    left out: those of the sources, the front page, the record, the rows, and at last
+    the examples in comments."""
+    found = re.findall(
+        r"(?m)^test result: ok\. (\d+) passed; 0 failed; 0 ignored", said
+    )
+    assert len(found) == said.count("test result: ")
+    return [int(it) for it in found]
+
+
+def test_the_crate_passes_its_own_tests_without_gix_error(rust_program):
+    said = rust_program.cargo("test", "--quiet", "--package", "gix-validate").stdout
+    assert [it > 0 for it in passed(said)] == [True] * 5
+
+
+def test_a_program_for_gix_validate_runs_without_gix_error(rust_program):
+    assert rust_program.cargo("run", "--quiet").stdout == EXPECTED
+
+
+@pytest.mark.may_be_skipped
+def test_the_crate_and_a_program_work_with_gix_error():
+    need(*list(registry().glob("gix-error-*")) or [SID / "gix-error"])
+    with_gix_error = program("with")
+    said = with_gix_error.cargo("test", "--quiet", "--package", "gix-validate").stdout
+    assert [it > 0 for it in passed(said)] == [True] * 5
+    assert with_gix_error.cargo("run", "--quiet").stdout == EXPECTED
+
+
+def test_an_older_processor_is_told_what_is_needed(rust_program):
+    need("qemu-x86_64")
+    rust_program.cargo("build", "--quiet")
+    built = rust_program.target / "debug/checkout"
+    ended = run("qemu-x86_64", "-cpu", "core2duo", built, status=101)
+    assert "need a processor with SSE 4.2" in ended.stderr
+
+
+def test_the_crate_and_a_program_work_on_windows(wine):
+    need(f"{STANDARD_LIBRARY}/x86_64-pc-windows-gnu", *DEBIAN.glob("bstr-*"))
+    wine["CARGO_TARGET_X86_64_PC_WINDOWS_GNU_RUNNER"] = "wine"
+    windows = program("windows", default_features=False, by_debian=True, **wine)
+    target = ["--quiet", "--target", "x86_64-pc-windows-gnu"]
+    said = windows.cargo("test", *target, "--package", "gix-validate", "--tests").stdout
+    assert [it > 0 for it in passed(said)] == [True] * 4
+    assert windows.cargo("run", *target).stdout == EXPECTED
+
+
+def test_a_target_without_the_functions_is_told_how_to_build():
+    need(f"{STANDARD_LIBRARY}/wasm32-unknown-unknown", *DEBIAN.glob("bstr-*"))
+    other = program("wasm32", default_features=False, by_debian=True)
+    ended = other.cargo("build", "--target", "wasm32-unknown-unknown", status=101)
+    assert "take gix-validate out of [patch.crates-io]" in ended.stderr

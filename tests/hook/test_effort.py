@@ -1,0 +1,311 @@
+"""How much work a push can make: the hook has Git list the trees twice, however many
+references there are, and it bounds what a hostile .gitmodules file or pack can take."""
+import re
+import sys
+
+import pytest
+
+from tests.hook.expected import (
+    ACCEPTED,
+    DEVICE,
+    MEND_THE_SUBMODULES,
+    RENAME_THE_FILE,
+    UNCHECKED,
+    Result,
+    bad_name,
+    not_checked,
+    refused,
+)
+from tests.hook.git import file, folder
+
+
+def test_trees_of_12000_references_are_listed_twice_the_second_time_with_folders(
+    hook, source, room
+):
+    lines = [source.push_of(source.clean, f"refs/heads/{n}") for n in range(1, 12_001)]
+    lines[0] = source.push_of(source.device, "refs/heads/1")
+    lines[-1] = source.push_of(source.bad_submodule, "refs/heads/12000")
+    hook.stand_in("git rev-list", f'echo "$*" >> "{room}/calls"')
+    result = hook.run("".join(lines))
+    assert result.status == 1
+    assert result.said.endswith(
+        "push refused: 2 names are not allowed\n"
+        + RENAME_THE_FILE
+        + MEND_THE_SUBMODULES
+    )
+    words = [line.split() for line in (room / "calls").read_text().splitlines()]
+    assert [line[5:6] + line[8:] for line in words] == [
+        ["--no-object-names", "--not", "--all"],
+        ["--object-names", "--not", "--all"],
+    ]
+
+
+def test_if_the_list_with_folders_fails_the_name_is_refused_without_its_folder(
+    hook, source
+):
+    hook.stand_in("git rev-list --stdin --objects --object-names", "exit 9")
+    commit = source.commit_of(folder("a", source.tree_with_device))
+    line = bad_name(f"aux.c (in the tree {source.tree_with_device})", DEVICE)
+    assert hook.run(source.push_of(commit)) == refused(line, RENAME_THE_FILE)
+
+
+def test_gitmodules_files_that_take_git_more_than_two_seconds_refuse_the_push(
+    hook, source
+):
+    hook.stand_in("git cat-file --buffer", "while :; do :; done")
+    result = hook.run(source.pushes["submodule"].lines)
+    why = "git cat-file failed (status 152): it may take 2 seconds"
+    assert result.ending == not_checked(why)
+
+
+@pytest.fixture
+def chain(source):
+    """A branch of the source with a chain of 300 deltas. (It goes again: for other
+    tests the source has no reference.)"""
+    files = "".join(
+        f"M 100644 inline f{n}\ndata 200\n{n:0200d}\n" for n in range(1, 6001)
+    )
+    start = "commit refs/heads/chain\ncommitter a <a@b> 1700000000 +0000\ndata 0\n"
+    source.git("fast-import", "--quiet", "--depth=300", stdin=start + files)
+    yield "refs/heads/chain:refs/heads/chain"
+    source.git("update-ref", "-d", "refs/heads/chain")
+
+
+def test_a_long_chain_of_deltas_is_refused_but_not_as_git_push_sends_it(server, chain):
+    """To print an object, Git walks along its chain of deltas: minutes, if there is one
+    of 30,000."""
+    result = server.push(
+        chain,
+        GIT_CONFIG_COUNT="1",
+        GIT_CONFIG_KEY_0="pack.depth",
+        GIT_CONFIG_VALUE_0="300",
+    )
+    assert result.status == 1
+    assert re.fullmatch(
+        rf"{UNCHECKED}: a chain of more than 250 deltas is too long: "
+        r"push with git -c pack.depth=50\n",
+        result.said,
+    )
+    assert server.push(chain) == ACCEPTED
+
+
+@pytest.fixture
+def dump(source):
+    """A branch with thousands of files, and two versions of one of 200 MB that packs
+    into little. (It goes again.)"""
+    files = "".join(f"M 100644 inline f{n}\ndata 4\n{n:04}\n" for n in range(6000))
+    start = "commit refs/heads/dump\ncommitter a <a@b> 1700000000 +0000\ndata 0\n"
+    row = "a row of a table\n" * 12_500_000
+    dump = f"M 100644 inline dump\ndata {len(row)}\n{row}\n"
+    longer = f"M 100644 inline dump\ndata {len(row) + 2}\n{row}a\n\n"
+    source.git("fast-import", "--quiet", stdin=start + files + dump + start + longer)
+    yield "refs/heads/dump:refs/heads/dump"
+    source.git("update-ref", "-d", "refs/heads/dump")
+
+
+def test_a_large_file_in_a_small_pack_of_thousands_of_files_is_accepted(server, dump):
+    """To unpack it, Git would need more memory than such a pack may take."""
+    assert server.push(dump) == ACCEPTED
+
+
+def test_of_more_names_in_namespaces_than_are_kept_none_is_accepted(hook, source):
+    """The lines after them are not read."""
+    names = [f"refs/namespaces/a/refs/heads/{n}/{'x' * 60_000}" for n in range(300)]
+    lines = [source.push_of(source.clean, it) for it in [*names, "refs/heads/HEAD"]]
+    assert hook.run("".join(lines)) == not_checked(
+        "the push has too many references below refs/namespaces/ or refs/replace/"
+    )
+
+
+def test_more_references_than_are_kept_refuse_the_push(hook, source):
+    count = 24_000_000 // len(source.clean + "^{}\n") + 2
+    lines = (source.push_of(source.clean, f"refs/heads/{n}") for n in range(count))
+    assert hook.run("".join(lines)) == not_checked("there are too many references")
+
+
+@pytest.mark.parametrize(
+    "size, seconds, megabytes", [(0, 10, 96), (16, 26, 224)], ids=["0 MB", "16 MB"]
+)
+@pytest.mark.parametrize("part", ["check_refs", "check_trees"])
+def test_what_a_part_may_take_grows_with_the_push(
+    hook, source, room, part, size, seconds, megabytes
+):
+    (room / "quarantine").mkdir()
+    with open(room / "quarantine/a file", "wb") as file:
+        file.truncate(size << 20)
+    hook.stand_in(part, f"""echo "$(ulimit -t) $(ulimit -d)" > '{room}/limits'""")
+    lines = source.pushes["submodule"].lines
+    hook.run(lines, GIT_QUARANTINE_PATH=room / "quarantine")
+    assert (room / "limits").read_text() == f"{seconds} {megabytes * 1024}\n"
+
+
+# What Git holds whole. The list of trees has no limit, since Git also reads for it what
+# the server has.
+def large_commit(source, size):
+    """A commit with a message of so many bytes. It packs into little."""
+    content = (
+        f"tree {source.tree('a')}\nauthor a <b> 1 +0000\ncommitter a <b> 1 +0000\n"
+    )
+    message = f"{size}".ljust(size)
+    words = ["hash-object", "--literally", "-t", "commit", "-w", "--stdin"]
+    return source.git(*words, stdin=f"{content}\n{message}")
+
+
+def large_tag(source, size):
+    content = f"object {source.clean}\ntype commit\ntag x\ntagger a <b> 1 +0000\n\n"
+    words = ["hash-object", "--literally", "-t", "tag", "-w", "--stdin"]
+    return source.git(*words, stdin=content + "x" * size)
+
+
+def large_tree(source, size):
+    names = (f"{n:06d}".ljust(60_000, "x") for n in range(size // 60_000))
+    return source.tree(*names)
+
+
+@pytest.mark.parametrize(
+    "kind, make",
+    [("commit", large_commit), ("tag", large_tag), ("tree", large_tree)],
+    ids=["commit", "tag", "tree"],
+)
+def test_a_commit_tag_or_tree_above_64_MB_refuses_the_push(server, source, kind, make):
+    large = make(source, 80_000_000)
+    assert server.push(f"{large}:refs/objects/large") == not_checked(
+        f"the {kind} {large} has more than 64 MB", status=1
+    )
+
+
+def test_large_commits_that_the_server_has_refuse_no_small_push(server, source):
+    """Git reads the commit of each reference for each push, and keeps its message."""
+    large = [large_commit(source, 80_000_000 + n) for n in range(2)]
+    server.already_has(*(f"{it}:refs/heads/{n}" for n, it in enumerate(large)))
+    assert server.push(source.clean) == ACCEPTED
+
+
+@pytest.fixture
+def tags_of_tags(source):
+    """A tag of a tag of a tag .., 3,000 times: what a push of all of them has. (They go
+    again.)"""
+    ends = "tagger a <a@b> 1700000000 +0000\ndata 0\n"
+    start = "blob\nmark :1\ndata 1\na\n"
+    tags = (f"tag t{n}\nmark :{n + 1}\nfrom :{n}\n{ends}" for n in range(1, 3001))
+    source.git("fast-import", "--quiet", stdin=start + "".join(tags))
+    listed = ["for-each-ref", "--format=%(objectname) %(refname)", "refs/tags/"]
+    lines = source.git(*listed).splitlines()
+    names = [line.split()[1] for line in lines]
+    deletes = "".join(f"delete {name}\n" for name in names)
+    source.git("update-ref", "--stdin", stdin=deletes)
+    return "".join(f"{source.no_id} {line}\n" for line in lines)
+
+
+def test_thousands_of_tags_of_tags_take_little_memory(measured, tags_of_tags):
+    """Git would keep the chain of each tag."""
+    result, megabytes, seconds = measured(tags_of_tags)
+    assert result == ACCEPTED
+    assert megabytes < 96
+    assert seconds < 10
+
+
+def test_if_memory_runs_out_the_hook_says_so_and_nothing_else(hook, source):
+    """What check_trees says of its input, which has no end then, is no help."""
+    tree = large_tree(source, 110_000_000)
+    assert hook.run(source.push_of(tree)) == not_checked(
+        "git cat-file failed (status 128): "
+        "an object is missing or broken, or it needs more than 96 MB"
+    )
+
+
+# A command that runs another, and writes what it took into a file: the memory of the
+# largest process below it, and the processor time of all.
+MEASURE = """
+import resource, subprocess, sys
+status = subprocess.run(sys.argv[2:], check=False).returncode
+used = resource.getrusage(resource.RUSAGE_CHILDREN)
+with open(sys.argv[1], "w") as file:
+    file.write(f"{used.ru_maxrss / 1024} {used.ru_utime + used.ru_stime}")
+sys.exit(status)
+"""
+
+
+@pytest.fixture
+def measured(hook, source, room):
+    """Runs the hook on a commit, or on the lines of a push. Returns its result, the
+    megabytes of the largest process, and the seconds of processor time of all."""
+
+    def run(pushed):
+        file = room / "used"
+        through = [sys.executable, "-c", MEASURE, file]
+        lines = pushed if " " in pushed else source.push_of(pushed)
+        result = hook.run(lines, through=through)
+        return result, *map(float, file.read_text().split())
+
+    return run
+
+
+def spellings(source, count, size):
+    """A tree with so many spellings of .gitmodules for HFS+, which ignores some
+    characters, each of so many bytes."""
+    ignored = "\u200c\u200d\u200e\u200f"
+    names = (
+        "".join(ignored[n >> 2 * place & 3] for place in range(8))
+        + ".gitmodules"
+        + ignored[0] * (size // 3)
+        for n in range(count)
+    )
+    return source.tree(*(file(name, source.good_modules) for name in sorted(names)))
+
+
+def test_thousands_of_spellings_of_gitmodules_take_little_memory(source, measured):
+    """The report about them has 90 MB. They took gigabytes once, and a minute."""
+    commit = source.commit(spellings(source, 1500, 15_000))
+    result, megabytes, seconds = measured(commit)
+    assert result == ACCEPTED
+    assert megabytes < 96
+    assert seconds < 10
+
+
+def test_more_names_than_a_push_of_its_size_may_have_refuse_it(source, measured):
+    """Some kilobytes of pack can be gigabytes of names."""
+    commit = source.commit(spellings(source, 3000, 15_000))
+    result, megabytes, seconds = measured(commit)
+    why = "the report of check_trees could not be read: it is too long"
+    assert result == not_checked(why)
+    assert megabytes < 96
+    assert seconds < 10
+
+
+def test_of_very_many_refused_names_the_first_are_read(source, measured):
+    devices = [f"aux.{n:06d}" for n in range(200_000)]
+    result, megabytes, seconds = measured(source.commit_of(*devices))
+    assert result == Result(
+        1,
+        "".join(bad_name(name, DEVICE) for name in devices[:10])
+        + "push refused: at least 10000 names are not allowed (10 of them shown)\n"
+        + RENAME_THE_FILE,
+    )
+    assert megabytes < 96
+    assert seconds < 10
+
+
+def test_of_very_many_refused_submodules_the_first_are_read(source, measured):
+    modules = source.blob('[submodule ".."]\n' * 200_000)
+    commit = source.commit_of(file(".gitmodules", modules))
+    result, megabytes, seconds = measured(commit)
+    assert result == Result(
+        1,
+        '.gitmodules: submodule "..": '
+        "Submodules names must not contains '..'\n"
+        "push refused: at least 1 name is not allowed\n" + MEND_THE_SUBMODULES,
+    )
+    assert megabytes < 96
+    assert seconds < 10
+
+
+def test_a_file_of_some_hundred_megabytes_is_not_read_into_memory(source, measured):
+    """A few kilobytes of pack."""
+    modules = source.blob(b"#" * 200_000_000)
+    commit = source.commit_of(file(".gitmodules", modules))
+    result, megabytes, _ = measured(commit)
+    assert result == refused(
+        ".gitmodules: the file is larger than 16777216 bytes\n", MEND_THE_SUBMODULES
+    )
+    assert megabytes < 96

@@ -1,0 +1,150 @@
+"""Whatever fails, nothing hostile is accepted: the hook and the scan fail closed."""
+
+import pytest
+
+from tests.hook.expected import ACCEPTED, not_checked
+
+# The parts of the hook, with what it says if that part fails at once. (`git config` is
+# git, where its words are these.)
+REASONS = {
+    "git version": "git version failed",
+    "git config": "git config failed",
+    "git rev-list": "git rev-list failed (status 9)",
+    "git cat-file --batch=": "git cat-file failed (status 9)",
+    "git cat-file --buffer": "git cat-file failed (status 9)",
+    "check_refs": "check_refs failed (status 9)",
+    "check_trees": "check_trees failed (status 9)",
+    "check_submodules": "check_submodules failed (status 9)",
+}
+
+# The ways in which a part fails. "$real" "$@" is the part itself, and $grand the parent
+# of its parent.
+WAYS = {
+    "fails": "exit 9",
+    "reads all, then fails": "cat > /dev/null; exit 1",
+    "is killed": "kill -9 $$",
+    "takes its parent along": "kill -9 $PPID",
+    "is killed at its end": '{ "$real" "$@"; kill -9 $$; }',
+    "is cut, then fails": '"$real" "$@" | head -c 50; exit 9',
+    "is cut, then takes its parent along": """
+        "$real" "$@" | {
+            head -c 30
+            kill -9 $PPID
+        }
+    """,
+    "takes its grandparent along": 'kill -9 "$grand"',
+    "leaves its parents no descriptors": """
+        for process in $PPID $grand; do
+            prlimit --pid="$process" --nofile=4 > /dev/null
+        done
+    """,
+}
+# A program that says that all is well, and whose output the next one can check. (A `git
+# rev-list` or a check that lies can't be told from a true one.)
+LIES = {
+    "does nothing": "exit 0",
+    "is cut": '"$real" "$@" | head -c 50; exit 0',
+    "prints the first object alone": 'head -n 1 | "$real" "$@"; cat > /dev/null; exit 0',
+    "loses its last line": '"$real" "$@" | sed \\$d; exit 0',
+}
+LIARS = ["git cat-file --batch=", "git cat-file --buffer"]
+
+
+def failures(parts):
+    """Parameters for each part and way."""
+    return pytest.mark.parametrize(
+        "part, way",
+        [
+            pytest.param(part, script, id=f"{part} {way}")
+            for part in parts
+            for way, script in (WAYS | (LIES if part in LIARS else {})).items()
+        ],
+    )
+
+
+@failures(REASONS)
+def test_nothing_hostile_is_accepted_if_a_part(hook, hostile_push, part, way):
+    hook.stand_in(part, way)
+    assert hook.run(hostile_push.lines).status != 0
+
+
+@pytest.mark.parametrize("part", REASONS)
+def test_a_clean_push_is_refused_if_a_part_is_killed_when_it_has_done_all(
+    hook, source, part
+):
+    hook.stand_in(part, WAYS["is killed at its end"])
+    assert hook.run(source.pushes["clean"].lines).status == 2
+
+
+@failures(REASONS)
+def test_the_scan_finds_no_hostile_repository_clean_if_a_part(
+    scan, hook, server, source, part, way
+):
+    server.already_has(
+        f"{source.device}:refs/heads/HEAD", f"{source.bad_submodule}:refs/heads/modules"
+    )
+    hook.stand_in(part, way)
+    result = scan(server)
+    assert result.status != 0
+    if way.endswith("exit 9"):
+        assert result.ending.said.startswith("scan failed: ")
+
+
+@pytest.mark.parametrize("part", REASONS)
+def test_the_hook_says_which_part_failed(hook, source, part):
+    hook.stand_in(part, "exit 9")
+    assert hook.run(source.pushes["submodule"].lines).ending == not_checked(
+        REASONS[part]
+    )
+
+
+# What the hook gets in another way than Git would give it. `"$@"` is the hook.
+STREAMS = ["", "<&-", ">&-", "2>&-", "<&- >&- 2>&-"]
+LIMITS = [f"ulimit -n {n}" for n in range(4, 15)]
+LIMITS += [f"ulimit -v {n}000" for n in range(2, 33, 3)]
+
+
+@pytest.mark.parametrize(
+    "way",
+    [f'exec "$@" {streams}' for streams in STREAMS]
+    + [f'{limit}; exec "$@"' for limit in LIMITS],
+)
+def test_nothing_hostile_is_accepted_if_streams_are_closed_or_limits_are_low(
+    hook, hostile_push, way
+):
+    assert hook.run(hostile_push.lines, through=["bash", "-c", way, "-"]).status != 0
+
+
+def test_a_closed_input_is_not_taken_for_an_empty_push(hook, source):
+    result = hook.run(
+        source.pushes["clean"].lines, through=["bash", "-c", 'exec "$@" <&-', "-"]
+    )
+    assert result == not_checked(
+        "check_refs failed (status 2): malformed input: line 1: the input is empty"
+    )
+
+
+def test_the_hook_needs_no_room_for_files(hook, push):
+    no_files = '(ulimit -f 0; exec "$@") 2>&1 | cat; exit "${PIPESTATUS[0]}"'
+    result = hook.run(
+        push.lines, through=["bash", "-c", no_files, "-"], TMPDIR=hook.home / "missing"
+    )
+    assert result == push.expected
+
+
+@pytest.mark.parametrize("version", ["1.9.5", "2.9.0", "2.38.5", "2.4.12", "2.3"])
+def test_an_old_git_refuses_every_push(hook, source, version):
+    hook.stand_in("git version", f"echo git version {version}; exit")
+    too_old = not_checked(
+        f"git version {version} is too old: it has to be 2.39 or later"
+    )
+    assert hook.run(source.pushes["clean"].lines) == too_old
+
+
+@pytest.mark.parametrize(
+    "version",
+    ["2.39.0.rc1", "2.39.5 (Apple Git-154)", "2.50.1", "2.100", "3.0", "10.2.1"],
+)
+def test_a_git_that_is_new_enough_is_used(hook, source, version):
+    hook.stand_in("git version", f"echo 'git version {version}'; exit")
+    assert hook.run(source.pushes["clean"].lines) == ACCEPTED

@@ -1,0 +1,132 @@
+"""The programs of the hook: one that a full disk has cut, or that is of another release,
+accepts nothing. And nothing that isn't a program is run as a script."""
+
+import shutil
+
+import pytest
+
+from tests.hook.expected import not_checked
+from tests.hook.installed import PROGRAMS
+from tests.hook.processes import write_script
+
+NO_PROGRAM = "could not be started: Exec format error (os error 8)"
+
+
+def not_of_this_release(name):
+    return not_checked(f"the program {name} is not that of this release")
+
+
+@pytest.mark.parametrize("name", PROGRAMS)
+@pytest.mark.parametrize("part", [0, 1, 2, 3], ids=lambda part: f"{part} quarters")
+def test_a_program_that_was_cut_refuses_every_push(hook, source, name, part):
+    whole = (hook.original / name).read_bytes()
+    hook.replace(name, whole[: len(whole) * part // 4])
+    assert hook.run(source.pushes["clean"].lines) == not_of_this_release(name)
+
+
+@pytest.mark.parametrize("name", PROGRAMS)
+def test_a_program_of_another_release_refuses_every_push(hook, source, name):
+    whole = bytearray((hook.original / name).read_bytes())
+    whole[len(whole) // 2] ^= 1
+    hook.replace(name, whole)
+    assert hook.run(source.pushes["clean"].lines) == not_of_this_release(name)
+
+
+@pytest.mark.parametrize("name", PROGRAMS)
+def test_a_program_that_is_missing_refuses_every_push(hook, source, name):
+    (hook.folder / name).unlink()
+    assert hook.run(source.pushes["clean"].lines) == not_checked(
+        f"the program {name} can't be read: No such file or directory (os error 2)"
+    )
+
+
+@pytest.mark.parametrize("text", ["", "1 2 check_refs\n"], ids=["empty", "another"])
+def test_without_the_sums_of_its_programs_the_hook_refuses_every_push(
+    hook, source, text
+):
+    hook.replace("cksums", text.encode())
+    assert hook.run(source.pushes["clean"].lines) == not_of_this_release("check_refs")
+
+
+@pytest.mark.parametrize("size", [63, 64, 500, 4096, 100_000, "half", "most"])
+def test_a_hook_that_was_cut_accepts_nothing_hostile(hook, hostile_push, size):
+    """But one that is empty does: Git takes it for a script. A release is a folder that
+    is renamed when it is whole."""
+    whole = (hook.original / "pre-receive").read_bytes()
+    size = {"half": len(whole) // 2, "most": len(whole) - 5000}.get(size, size)
+    hook.replace("pre-receive", whole[:size])
+    result = hook.run(hostile_push.lines, through=["bash", "-c", '"$@"', "-"])
+    assert result.status != 0
+
+
+@pytest.mark.parametrize("text", ["", "exit 0\n"], ids=["empty", "text"])
+def test_what_is_no_program_is_not_run_as_a_script(hook, source, text):
+    for name in PROGRAMS:
+        hook.replace(name, text.encode())
+    hook.record()
+    assert hook.run(source.pushes["clean"].lines) == not_checked(
+        f"check_refs {NO_PROGRAM}"
+    )
+
+
+@pytest.mark.parametrize("text", ["", "exit 0\n"], ids=["empty", "text"])
+def test_a_git_that_is_no_program_is_not_run_as_a_script(hook, source, text):
+    git = hook.stand_ins / "git"
+    git.write_text(text)
+    git.chmod(0o755)
+    assert hook.run(source.pushes["clean"].lines) == not_checked(
+        f"git version {NO_PROGRAM}"
+    )
+
+
+@pytest.mark.parametrize("mode", [0o644, 0o000, None], ids=["file", "none", "folder"])
+def test_a_git_that_can_not_be_executed_is_passed_over(hook, push, mode):
+    git = hook.stand_ins / "git"
+    if mode is None:
+        git.mkdir()
+    else:
+        write_script(git, "exit 9")
+        git.chmod(mode)
+    assert hook.run(push.lines) == push.expected
+
+
+def test_git_is_searched_in_absolute_folders_alone(hook, room, source):
+    """Git runs the hook in the repository that gets the push."""
+    here = room / "repository"
+    shutil.copytree(source.path, here)
+    write_script(here / "git", f"touch '{room}/ran'", 'exec /usr/bin/git "$@"')
+    lines = source.pushes["device"].lines
+    result = hook.run(lines, cwd=here, PATH="::.:/nowhere")
+    assert result == not_checked("there is no git on the PATH")
+    assert not (room / "ran").exists()
+
+
+def test_no_program_gets_a_variable_of_the_caller(hook, source, room):
+    """Such as LD_PRELOAD, or GIT_TRACE, by which Git would write into a file."""
+    given = room / "given"
+    for name in PROGRAMS:
+        hook.stand_in(name, f"env >> '{given}'")
+    hook.stand_in("git", f"env >> '{given}'")
+    push = source.pushes["submodule"]
+    mine = {
+        "LD_PRELOAD": "/nowhere/library.so",
+        "GIT_TRACE": str(room / "trace"),
+        "GIT_CONFIG_PARAMETERS": "'core.pager=x'",
+        "GIT_EXEC_PATH": "/nowhere",
+        "GIT_NAMESPACE": "mine",
+        "GIT_SHALLOW_FILE": str(room / "shallow"),
+        "HOME": "/nowhere",
+        "ONE_OF_MINE": "1",
+    }
+    assert hook.run(push.lines, **mine) == push.expected
+    names = {line.partition("=")[0] for line in given.read_text().splitlines()}
+    # (the last three are the shell's own)
+    assert names - {"PWD", "SHLVL", "_"} == {
+        "GIT_CONFIG_COUNT",
+        "GIT_CONFIG_GLOBAL",
+        "GIT_CONFIG_KEY_0",
+        "GIT_CONFIG_VALUE_0",
+        "GIT_DIR",
+        "GIT_NO_LAZY_FETCH",
+        "GIT_NO_REPLACE_OBJECTS",
+    }

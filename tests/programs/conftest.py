@@ -1,0 +1,130 @@
+"""What the tests of check_names, check_trees, check_submodules and check_refs get.
+
+Without --build these are the programs that `rt ci` has just proved and built: each as
+LLVM builds it, and as Rattle's own compiler does (NAME.by-rattle). Golden files have
+most of what they print; these tests are for what no clause says.
+
+- `program`: each build in turn.
+- `program`, `row`: with @rows(TABLE), each row of the table with each build of its
+  program.
+- `check_trees` or another program's name: the builds of this one alone.
+- `devices`: for `program.run(.., devices=devices, READ=3)`, reads, writes and
+  allocations that fail (tests/devices.c).
+"""
+
+import functools
+import os
+import shutil
+import subprocess
+import warnings
+
+import pytest
+
+from tests.programs.program import PROGRAMS, ROOT, Program, Ran, name_of
+
+# Stands for a build of a program of which --build has none.
+NOT_CHOSEN = object()
+
+
+def pytest_generate_tests(metafunc):
+    builds = metafunc.config.getoption("build") or [
+        ROOT / f"crates/{name}/out/{name}{end}"
+        for name in PROGRAMS
+        for end in ("", ".by-rattle")
+    ]
+
+    def parameters(name):
+        chosen = [build for build in builds if name_of(build) == name]
+        return [(build, build.name) for build in chosen] or [(NOT_CHOSEN, name)]
+
+    names = [name for name in PROGRAMS if name in metafunc.fixturenames]
+    if "row" in metafunc.fixturenames:
+        metafunc.parametrize(
+            "program, row",
+            [
+                pytest.param(build, row, id=f"{shown} {row.why}")
+                for row in metafunc.function.table
+                for build, shown in parameters(row.program)
+            ],
+            indirect=["program"],
+        )
+    elif "program" in metafunc.fixturenames:
+        shown = [build.name for build in builds]
+        metafunc.parametrize("program", builds, ids=shown, indirect=True)
+    for name in names:
+        chosen, shown = zip(*parameters(name))
+        metafunc.parametrize(name, chosen, ids=shown, indirect=True)
+
+
+def pytest_collection_modifyitems(config, items):
+    """A test of a program of which --build has none isn't selected, nor one of a static
+    program on the devices."""
+    static = config.getoption("static")
+
+    def is_chosen(item):
+        given = item.callspec.params if hasattr(item, "callspec") else {}
+        is_built = all(
+            given.get(it, 0) is not NOT_CHOSEN for it in ("program", *PROGRAMS)
+        )
+        return is_built and not (
+            static and "devices" in getattr(item, "fixturenames", ())
+        )
+
+    config.hook.pytest_deselected(items=[it for it in items if not is_chosen(it)])
+    items[:] = filter(is_chosen, items)
+
+
+@functools.cache
+def newest_source():
+    return max(map(os.path.getmtime, ROOT.glob("crates/*/src/**/*.rt")))
+
+
+@functools.cache
+def program_of(build, is_chosen):
+    if name_of(build) not in PROGRAMS or not os.access(build, os.X_OK):
+        pytest.fail(
+            f"{build} is no program that is there: rt ci builds all; or run rt in a "
+            "crate, and give what it builds with --build"
+        )
+    if not is_chosen and os.path.getmtime(build) < newest_source():
+        warnings.warn(f"{build} is older than a source; rt ci builds it anew")
+    return Program(build)
+
+
+@pytest.fixture
+def program(request):
+    return program_of(request.param, bool(request.config.getoption("build")))
+
+
+check_names = check_trees = check_submodules = check_refs = program
+
+
+@pytest.fixture(scope="session")
+def devices(request, tmp_path_factory):
+    """The library whose devices are slow or fail. (A static program loads none.)"""
+    compiler = shutil.which(os.environ.get("CC", "cc"))
+    if not compiler:
+        pytest.skip("needs a C compiler (Debian: gcc)")
+    library = tmp_path_factory.mktemp("devices") / "devices.so"
+    flags = ["-std=c11", "-Wall", "-Wextra", "-Werror", "-O2", "-shared", "-fPIC"]
+    source = ROOT / "tests/devices.c"
+    subprocess.run([compiler, *flags, "-o", library, source], check=True)
+    return library
+
+
+def pytest_assertrepr_compare(op, left, right):
+    """Shows of two outputs where they begin to differ. (One can have 16 MB.)"""
+    if not (isinstance(left, Ran) and isinstance(right, Ran) and op == "=="):
+        return None
+    shown = ["the run differs from what is expected:"]
+    if left.status != right.status:
+        shown.append(f"status {left.status}, expected {right.status}")
+    if left.said != right.said:
+        shown += [f"said     {left.said!r}", f"expected {right.said!r}"]
+    if left.output != right.output:
+        same = len(os.path.commonprefix([left.output, right.output]))
+        begin = max(0, same - 40)
+        for what, run in ("output  ", left), ("expected", right):
+            part = run.output[begin : same + 80]
+            shown.append(f"{what} of {len(run.output)} bytes, from {begin}: {part!r}")
+    return shown

@@ -1,0 +1,166 @@
+"""The builds of the programs, what a run does, and inputs that many tests share."""
+
+import os
+import subprocess
+import tempfile
+from dataclasses import dataclass
+from pathlib import Path
+from typing import NamedTuple
+
+ROOT = Path(__file__).parents[2]
+PROGRAMS = "check_names", "check_trees", "check_submodules", "check_refs"
+
+# An object's id, and that of none.
+ID, ZERO = "4b825dc642cb6eb9a060e54bf8d69288fbee4904", "0" * 40
+# The last line of a stream, if --end is given.
+END = b"..end missing\n"
+DOT_GIT = "The .git name may never be used"
+
+# Objects, and the lines that are printed of those that are refused.
+FILE, TREE = f"{ID} blob 0\n\n", f"{ID} tree 31\n40000 .git\0{20 * '.'}\n"
+BAD_TREE = f'{ID} 40000 ".git" {DOT_GIT}\n'
+MODULES = '[submodule ".."]'
+BAD_MODULES = f"""{ID} 0 ".." Submodules names must not contains '..'\n"""
+BAD_REF = 'ref "refs/heads/a b" Reference name contains invalid byte: " "\n'
+
+
+class Part(NamedTuple):
+    """Parts of an input: one that is accepted, and one of which a line is printed."""
+
+    good: str
+    bad: str
+    line: str
+
+
+PARTS = {
+    "check_names": Part(
+        "tag v1.2.3\n",
+        "tag a*\n",
+        "error: A ref must not contain '*' character\n",
+    ),
+    "check_trees": Part(FILE, TREE, BAD_TREE),
+    "check_submodules": Part(FILE, f"{ID} blob 16\n{MODULES}\n", BAD_MODULES),
+    "check_refs": Part(
+        f"{ZERO} {ID} refs/heads/a\n",
+        f"{ZERO} {ID} refs/heads/a b\n",
+        BAD_REF,
+    ),
+}
+
+
+def read(path):
+    """The bytes of a file of the repository; none if it isn't there."""
+    return (ROOT / path).read_bytes() if (ROOT / path).exists() else b""
+
+
+@dataclass(frozen=True)
+class Ran:
+    """How a run ended, what it printed, and what it wrote to standard error."""
+
+    status: int
+    output: bytes
+    said: str
+
+    def __repr__(self):
+        size = f"{len(self.output)} bytes that begin with {self.output[:60]!r}"
+        return f"<status {self.status}, {size}, said {self.said!r}>"
+
+
+class Row(NamedTuple):
+    """A row of a table: what a program does with this input, under these arguments."""
+
+    program: str
+    why: str
+    words: list
+    given: str
+    status: int
+    output: str = ""
+    said: str = ""
+
+    def __repr__(self):
+        return f"<{self.program} {self.words}, {self.why}: {self.given[:60]!r}>"
+
+    @property
+    def expected(self):
+        said = f"{self.program}: {self.said}\n" if self.said else ""
+        return Ran(self.status, self.output.encode(), said)
+
+
+def rows(table):
+    """Makes a test with the arguments `program` and `row` one of each row of a table,
+    for each build of the row's program (conftest.py)."""
+
+    def mark(test):
+        test.table = table
+        return test
+
+    return mark
+
+
+def name_of(build):
+    return build.name.removesuffix(".by-rattle")
+
+
+class Program:
+    """A build of a program, with its golden files: the arguments, what it is given, its
+    report and its status."""
+
+    def __init__(self, build):
+        self.build, self.name = build.resolve(), name_of(build)
+        golden = f"crates/{self.name}"
+        self.words = read(f"{golden}/args").decode().split()
+        self.good = int(read(f"{golden}/status") or 0)
+        self.failure = 2 if self.good else 1
+        self.given, self.report = read(f"{golden}/stdin"), read(f"{golden}/stdout")
+        # A large input is that of the golden files many times, so that the report is
+        # longer than what is written at once.
+        times, one = 65536 // len(self.report) + 1, self.given.removesuffix(END)
+        one += b"" if one.endswith(b"\n") else b"\n"
+        self.large = one * times + END * self.given.endswith(END)
+        self.large_report = self.report * times
+
+    def __repr__(self):
+        return f"<{self.build.name}>"
+
+    def run(self, given, *words, to=subprocess.PIPE, devices=None, **settings):
+        """Runs it on these bytes or a descriptor, on devices with these settings."""
+        settings = {f"DEVICES_{name}": str(it) for name, it in settings.items()}
+        env = {**os.environ, "LC_ALL": "C", **settings}
+        if settings:
+            env["LD_PRELOAD"] = str(devices)
+        with tempfile.TemporaryFile() as file, tempfile.TemporaryFile() as written:
+            if isinstance(given, bytes):
+                file.write(given)
+                file.seek(0)
+                given = file
+            it = subprocess.run(
+                [self.build, *words],
+                stdin=given,
+                # (a device writes single bytes: each would wake the reader of a pipe)
+                stdout=written if settings else to,
+                stderr=subprocess.PIPE,
+                env=env,
+                timeout=60,
+            )
+            written.seek(0)
+            output = written.read() if settings else it.stdout or b""
+        return Ran(it.returncode, output, it.stderr.decode())
+
+    def run_row(self, row):
+        return self.run(row.given.encode(), *row.words)
+
+    def prints(self, output):
+        return Ran(0, output, "")
+
+    def reports(self, report):
+        """It prints its report to the end. (Its status says whether all is well.)"""
+        return Ran(self.good, report, "")
+
+    def fails(self, why, output=b"", status=None):
+        status = self.failure if status is None else status
+        return Ran(status, output, f"{self.name}: {why}\n")
+
+    def is_wrong_argument(self, word):
+        """Nothing is read or printed, and it says which word is wrong."""
+        why = f'unknown argument "{word}", see {self.name} --help'
+        return self.fails(why, status=2)

@@ -1,0 +1,249 @@
+"""What arguments turn on, what is printed of them, and which are wrong."""
+
+import functools
+import itertools
+import re
+import subprocess
+
+import pytest
+
+from tests.programs.program import DOT_GIT, ID, ROOT, TREE, ZERO, Ran, Row, read, rows
+
+# The kinds of line of check_names, by their definition.
+KINDS = re.findall(
+    r'\(\s*codes "(\w+)",\s+λ', read("crates/check_names/specs/Answers.antt").decode()
+)
+# The options, or kinds of line, that the help of a program lists.
+OPTIONS = {
+    "check_names": KINDS,
+    "check_trees": ["--protect LIST", "--accept NAMES", "--modules", "--end"],
+    "check_submodules": ["--end"],
+    "check_refs": ["--ids", "--replace"],
+}
+
+
+# Help and version.
+@functools.cache
+def help_of(name):
+    """The help of the source, which a clone prints."""
+    command = [ROOT / name, "--help"]
+    return subprocess.run(command, stdout=subprocess.PIPE, check=True).stdout
+
+
+@pytest.fixture
+def help_text(program):
+    return help_of(program.name)
+
+
+def test_the_help_lists_every_option_and_fits_a_terminal(program, help_text):
+    listed = re.findall(r"(?m)^    (\S.*?)  ", help_text.decode())
+    assert sorted(listed) == sorted([*OPTIONS[program.name], "-h, --help", "--version"])
+    assert max(map(len, help_text.split(b"\n"))) <= 80
+    assert re.search(rb"[^\n]\n\Z", help_text)
+
+
+@pytest.mark.parametrize("kind", KINDS)
+def test_the_golden_input_of_check_names_has_every_kind_of_line(kind):
+    assert re.search(f"(?m)^{kind} ".encode(), read("crates/check_names/stdin"))
+
+
+@pytest.mark.parametrize("word", ["--help", "-h", "--version"])
+def test_the_first_of_help_and_version_is_printed_whatever_follows(
+    program, help_text, word
+):
+    version = f"{program.name} ".encode() + read("VERSION")
+    printed = program.prints(version if word == "--version" else help_text)
+    assert program.run(program.given, *program.words, word, "-x") == printed
+    assert program.run(program.given, word, "--version") == printed
+    assert program.run(program.given, word, "--help") == printed
+
+
+# What is no argument.
+@pytest.mark.parametrize("word", ["-x", ""])
+def test_a_wrong_argument_is_said_even_before_help(program, word):
+    ran = program.run(program.given, *program.words, word, "--help")
+    assert ran == program.is_wrong_argument(word)
+
+
+def test_an_argument_that_is_no_utf_8_is_refused(program):
+    why = "the arguments can't be read as UTF-8"
+    assert program.run(program.given, b"\xff") == program.fails(why, status=2)
+
+
+@pytest.mark.parametrize(
+    "word, quoted", [("\u00e9", "\u00e9"), ("\u200c\u00df", "\\u{200c}\u00df")]
+)
+def test_a_word_beyond_ascii_is_quoted_as_the_debug_format_of_rust(
+    program, word, quoted
+):
+    """No clause says so."""
+    assert program.run(program.given, word) == program.is_wrong_argument(quoted)
+
+
+# Words that are no option of the program.
+UNKNOWN_WORDS = {
+    "check_names": ["--end", "tag"],
+    "check_trees": ["--modules=", "--end=x", "--ids", "--protected=hfs", "protect=hfs"],
+    "check_submodules": ["--end=", "--modules", "--protect=hfs", "end"],
+    "check_refs": ["--ids=x", "--replace=", "--end", "ids"],
+}
+
+
+def test_a_word_that_is_no_option_is_refused(program):
+    for word in UNKNOWN_WORDS[program.name]:
+        assert program.run(b"", word) == program.is_wrong_argument(word)
+
+
+@pytest.mark.parametrize(
+    "words",
+    [
+        ["--protect"],
+        ["--accept"],
+        ["--end", "--protect"],
+        ["--protect=none", "--accept"],
+    ],
+    ids=" ".join,
+)
+def test_an_option_without_its_value_is_said(check_trees, words):
+    why = f"{words[-1]} needs a value, see check_trees --help"
+    assert check_trees.run(TREE.encode(), *words) == check_trees.fails(why, status=2)
+
+
+# What RULES.md says of a name that one switch refuses, or two together, and the entries
+# of a tree with these names.
+PROTECTED = [
+    ("a\\b", '"a\\\\b"', {"windows"}, "Path separators like / or \\ are not allowed"),
+    (".g\u200cit", '".g\\xe2\\x80\\x8cit"', {"hfs"}, DOT_GIT),
+    ("git~1", '"git~1"', {"ntfs"}, DOT_GIT),
+    (
+        "aux.c",
+        '"aux.c"',
+        {"windows", "ntfs"},
+        "Windows device-names may have side-effects and are not allowed",
+    ),
+]
+PROTECTED_ENTRIES = "".join(
+    f"100644 {name}\0{20 * '.'}" for name, *_ in [(".gitmodules",), *PROTECTED]
+)
+PROTECTED_TREE = f"{ID} tree {len(PROTECTED_ENTRIES.encode())}\n{PROTECTED_ENTRIES}\n"
+LISTED_FILE = f'modules {20 * "2e"} {ID} 100644 ".gitmodules"\n'
+ALL_SWITCHES = {"windows", "hfs", "ntfs"}
+
+
+def refused_lines(on, accepted=""):
+    """The lines of PROTECTED with these switches and these accepted names."""
+    lines = ""
+    for name, quoted, switches, why in PROTECTED:
+        here = on - {"windows"} if name in accepted.split("/") else on
+        lines += f"{ID} 100644 {quoted} {why}\n" if switches <= here else ""
+    return lines
+
+
+# What a list of `--protect` turns on: its words in each order, also with one of them
+# twice, or nothing.
+SWITCH_LISTS = [
+    (",".join(words), set(words))
+    for some in (1, 2, 3)
+    for words in itertools.permutations(sorted(ALL_SWITCHES), some)
+]
+SWITCH_LISTS += [(f"{words},hfs", on | {"hfs"}) for words, on in SWITCH_LISTS]
+SWITCH_LISTS.append(("none", set()))
+# Which switches are on, and which names are accepted: the last list and the last names
+# count.
+LAST_COUNTS = [
+    ([], ALL_SWITCHES, ""),
+    (["--protect=hfs", "--protect=ntfs"], {"ntfs"}, ""),
+    (["--protect=ntfs", "--protect=hfs"], {"hfs"}, ""),
+    (["--protect=none", "--protect=windows"], {"windows"}, ""),
+    (["--protect=windows,ntfs", "--protect=none"], set(), ""),
+    (["--accept=aux.c", "--accept=con"], ALL_SWITCHES, "con"),
+    (["--accept=con", "--accept=aux.c"], ALL_SWITCHES, "aux.c"),
+    (["--accept=aux.c", "--accept="], ALL_SWITCHES, ""),
+    (
+        ["--accept", "a\\b/aux.c", "--protect", "windows,ntfs"],
+        {"windows", "ntfs"},
+        "a\\b/aux.c",
+    ),
+]
+
+
+def check_protected(program, words, on, accepted=""):
+    lines = refused_lines(on, accepted).encode()
+    ran = program.run(PROTECTED_TREE.encode(), *words)
+    assert ran == Ran(int(lines != b""), lines, "")
+
+
+# (a set has no order, so an id has none of it)
+@pytest.mark.parametrize("words, on", SWITCH_LISTS, ids=[it[0] for it in SWITCH_LISTS])
+def test_a_list_protects_by_its_words(check_trees, words, on):
+    check_protected(check_trees, [f"--protect={words}"], on)
+    check_protected(check_trees, ["--protect", words], on)
+
+
+@pytest.mark.parametrize(
+    "words, on, accepted", LAST_COUNTS, ids=[" ".join(it[0]) for it in LAST_COUNTS]
+)
+def test_of_several_lists_or_accepted_names_the_last_counts(
+    check_trees, words, on, accepted
+):
+    check_protected(check_trees, words, on, accepted)
+
+
+# What is no list.
+NO_LISTS = ["", " ", ",", "hfs,", ",hfs", "hfs,,ntfs", "hfs, ntfs", "hfs;ntfs", "HFS"]
+NO_LISTS += ["hsf", "hfs,none", "none,hfs", "none,none", "nones"]
+
+
+@pytest.mark.parametrize("value", NO_LISTS)
+def test_a_list_with_another_word_is_refused(check_trees, value):
+    valid = "windows, hfs or ntfs, separated by commas, or none"
+    why = f'invalid --protect "{value}": give {valid}'
+    ran = check_trees.run(b"", f"--protect={value}")
+    assert ran == check_trees.fails(why, status=2)
+
+
+# What options print of an input, in whichever order, and also if each is given twice.
+REPLACED = f"refs/replace/{ID}"
+UPDATES = f"{ZERO} {ID} HEAD\n{ZERO} {ID} {REPLACED}\n"
+NOT_ALLOWED = f'ref "{REPLACED}" replacement references are not allowed\n'
+BLOB = f"{ID} blob 1\na\n"
+BLOB_AND_END = f"{BLOB}..end missing\n"
+NO_END = "malformed input: object 2: the input ends without the line '..end missing'"
+
+
+def choice_of(program, words, given, status, output="", said="", why=""):
+    why = f"{' '.join(words) or 'no option'}{why}"
+    return Row(program, why, words, given, status, output, said)
+
+
+ANY_ORDER = [
+    choice_of("check_refs", [], UPDATES, 1, NOT_ALLOWED),
+    choice_of("check_refs", ["--ids"], UPDATES, 1, f"{ID}\n{NOT_ALLOWED}"),
+    choice_of("check_refs", ["--replace"], UPDATES, 0),
+    choice_of("check_refs", ["--ids", "--replace"], UPDATES, 0, f"{ID}\n{ID}\n"),
+    choice_of("check_submodules", [], BLOB, 0),
+    choice_of("check_submodules", ["--end"], BLOB, 2, "", NO_END, " without one"),
+    choice_of("check_submodules", ["--end"], BLOB_AND_END, 0),
+]
+# Each choice of four options of check_trees.
+for some in itertools.product([True, False], repeat=4):
+    modules, end, protect, accept = some
+    options = ["--modules", "--end", "--protect=hfs", "--accept=aux.c"]
+    lines = refused_lines({"hfs"} if protect else ALL_SWITCHES, "aux.c" * accept)
+    ANY_ORDER.append(
+        choice_of(
+            "check_trees",
+            list(itertools.compress(options, some)),
+            PROTECTED_TREE,
+            2 if end else 1,
+            LISTED_FILE * modules + lines,
+            NO_END * end,
+        )
+    )
+
+
+@rows(ANY_ORDER)
+def test_options_do_the_same_in_any_order_and_also_twice(program, row):
+    for words in itertools.permutations(row.words):
+        assert program.run(row.given.encode(), *words) == row.expected
+        assert program.run(row.given.encode(), *words, *words) == row.expected

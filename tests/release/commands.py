@@ -1,0 +1,82 @@
+"""How these tests run a command: without the kit, and with nothing of the caller's Git."""
+
+import os
+import shutil
+import subprocess
+from pathlib import Path
+from typing import NamedTuple
+
+import pytest
+
+ROOT = Path(__file__).resolve().parent.parent.parent
+VERSION = (ROOT / "VERSION").read_text().strip()
+# The same as C and the shared object, Debian, and Python write it.
+NUMBERS = VERSION.removesuffix("-dev")
+DEBIAN = VERSION.replace("-", "~")
+PYTHON = VERSION.replace("-dev", ".dev0")
+MAJOR = VERSION.partition(".")[0]
+
+PROGRAMS = ["check_names", "check_refs", "check_submodules", "check_trees"]
+OF_THE_HOOK = PROGRAMS[1:]
+
+
+def path_without_the_kit():
+    folders = os.environ["PATH"].split(":")
+    return ":".join(it for it in folders if it and not os.access(f"{it}/rt", os.X_OK))
+
+
+def is_of_the_caller(name):
+    return name.startswith("GIT_") or name == "GIX_VALIDATE_LIBRARY"
+
+
+ENVIRONMENT = {
+    **{name: it for name, it in os.environ.items() if not is_of_the_caller(name)},
+    "PATH": path_without_the_kit(),
+    "LC_ALL": "C.UTF-8",
+    "GIT_CONFIG_GLOBAL": "/dev/null",
+    "GIT_CONFIG_NOSYSTEM": "1",
+    "GIT_AUTHOR_NAME": "a",
+    "GIT_AUTHOR_EMAIL": "a@example",
+    "GIT_COMMITTER_NAME": "a",
+    "GIT_COMMITTER_EMAIL": "a@example",
+}
+COMPILER = os.environ.get("CC", "cc")
+
+
+class Result(NamedTuple):
+    """The status of a command, and what it printed, also on standard error."""
+
+    status: int
+    said: str
+
+
+def run(*command, cwd=ROOT, **environment):
+    """Runs a command, which has to end in ten minutes."""
+    ran = subprocess.run(
+        command,
+        cwd=cwd,
+        env={**ENVIRONMENT, **environment},
+        stdin=subprocess.DEVNULL,
+        stdout=subprocess.PIPE,
+        stderr=subprocess.STDOUT,
+        timeout=600,
+    )
+    return Result(ran.returncode, ran.stdout.decode(errors="replace"))
+
+
+def need(*tools):
+    """A mark: the test is skipped if a tool is missing."""
+    missing = [it for it in tools if not shutil.which(it, path=ENVIRONMENT["PATH"])]
+    return pytest.mark.skipif(bool(missing), reason=f"needs {', '.join(missing)}")
+
+
+def files_under(folder):
+    """The paths of all that is under a folder but folders, relative to it, in order."""
+    files = (it for it in folder.rglob("*") if it.is_symlink() or not it.is_dir())
+    return sorted(str(it.relative_to(folder)) for it in files)
+
+
+def differences(one, other, *but):
+    """What `diff` prints of two folders, but for files with these names."""
+    ignored = [word for name in but for word in ("-x", name)]
+    return run("diff", "-r", "--no-dereference", *ignored, "--", one, other)

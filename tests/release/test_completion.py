@@ -1,0 +1,28 @@
+"""Completion in bash: the options that --help prints."""
+
+from pathlib import Path
+
+import pytest
+
+from tests.release.commands import ENVIRONMENT, run
+
+COMPLETION_OF_GIT = Path("/usr/share/bash-completion/completions/git")
+
+
+def test_the_options_of_a_program_are_completed(prefix):
+    completion = prefix / "share/bash-completion/completions/check_trees"
+    command = '. "$1"; _gix_validate "$2" --; echo "${COMPREPLY[@]}"'
+    program = prefix / "bin/check_trees"
+    options = "--protect --modules --end --accept --help --version\n"
+    assert run("bash", "-c", command, "-", completion, program) == (0, options)
+
+
+@pytest.mark.skipif(
+    not COMPLETION_OF_GIT.exists(), reason=f"needs {COMPLETION_OF_GIT} (Debian: git)"
+)
+def test_the_options_of_git_scan_names_are_completed(prefix):
+    completion = prefix / "share/bash-completion/completions/git-scan-names"
+    command = '. "$1"; . "$2"; cur=--pro; _git_scan_names; echo "${COMPREPLY[@]}"'
+    path = f"{prefix}/bin:{ENVIRONMENT['PATH']}"
+    words = ["bash", "-c", command, "-", COMPLETION_OF_GIT, completion]
+    assert run(*words, PATH=path) == (0, "--protect \n")

@@ -1,0 +1,182 @@
+"""The Debian packages: what they hold, how they are used from C, and their upgrades.
+
+dpkg installs them into a folder of the test."""
+
+import io
+import subprocess
+import tarfile
+
+import pytest
+
+from tests.release.commands import COMPILER, ROOT, need, run
+from tests.release.hostile import (
+    PARTS_OF_TWO,
+    are_checked,
+    package_of_another_name,
+    rounds,
+    run_slowly,
+)
+
+pytestmark = need("dpkg")
+
+VERSION = (ROOT / "VERSION").read_text()
+SHARED = f"libgix-validate-c{VERSION.partition('.')[0]}"
+NAMES = ["gix-validate", "gix-validate-doc", SHARED, "libgix-validate-dev"]
+
+
+class System:
+    """A root folder in which dpkg installs."""
+
+    def __init__(self, root):
+        self.root, self.usr = root, root / "usr"
+        state = root / "var/lib/dpkg"
+        for folder in ["info", "updates"]:
+            (state / folder).mkdir(parents=True)
+        for file in ["status", "available"]:
+            (state / file).touch()
+        forced = [f"--force-{it}" for it in ("not-root", "depends", "bad-path")]
+        self.dpkg = ["dpkg", f"--root={root}", f"--log={root}/var/log", *forced]
+
+    def install(self, *packages):
+        installed = run(*self.dpkg, "-i", *packages)
+        assert installed.status == 0, installed.said
+
+
+@pytest.fixture(scope="module")
+def system(packages, session_room):
+    """The packages, installed. Tests only read it."""
+    system = System(session_room / "system")
+    system.install(*packages)
+    return system
+
+
+@pytest.fixture
+def own_system(packages, room):
+    """The packages, installed for this test alone."""
+    system = System(room / "system")
+    system.install(*packages)
+    return system
+
+
+@pytest.fixture(scope="module")
+def upgrades(packages, session_room):
+    """The package of the hook, of two other releases."""
+    (session_room / "packages").mkdir()
+    names = [session_room / "packages" / f"{name}.deb" for name in ("other", "one")]
+    return [package_of_another_name(packages[1], it) for it in names]
+
+
+@need("lintian")
+def test_lintian_has_no_error_and_no_warning(packages):
+    words = ["--no-cfg", "--fail-on", "error,warning"]
+    status, said = run("lintian", *words, *packages)
+    assert status == 0, said
+
+
+def test_all_files_of_the_packages_have_the_date_of_the_archive(packages, archive):
+    def dates_in(opened):
+        return {member.mtime for member in opened}
+
+    with tarfile.open(archive) as opened:
+        dates = dates_in(opened)
+    assert len(dates) == 1
+    for package in packages:
+        files = subprocess.check_output(["dpkg-deb", "--fsys-tarfile", package])
+        with tarfile.open(fileobj=io.BytesIO(files)) as opened:
+            assert dates_in(opened) == dates
+
+
+def test_the_files_have_the_sums_of_the_packages(system, room):
+    info = system.root / "var/lib/dpkg/info"
+    sums = [(info / f"{name}.md5sums").read_text() for name in NAMES]
+    (room / "sums").write_text("".join(sums))
+    summed = run("md5sum", "--quiet", "--check", room / "sums", cwd=system.root)
+    assert summed == (0, "")
+
+
+@pytest.mark.parametrize(
+    "folder", ["bin", "include", "libexec", "share/bash-completion", "share/doc"]
+)
+def test_the_files_are_those_of_the_archive(system, tree, folder):
+    of_debian = ["copyright", "changelog.gz", *NAMES[1:]]
+    ignored = [
+        word for it in ("licences", "MANIFEST", *of_debian) for word in ("-x", it)
+    ]
+    # (follows links: the package has some in place of hard links)
+    compared = run("diff", "-r", *ignored, "--", tree / folder, system.usr / folder)
+    assert compared == (0, "")
+
+
+@pytest.mark.parametrize("name", ["libgix_validate_c.a", "libgix_validate_c.so"])
+def test_the_library_is_that_of_the_archive(system, tree, name):
+    [library] = system.usr.glob(f"lib/*/{name}")
+    assert library.read_bytes() == (tree / "lib" / name).read_bytes()
+
+
+def test_the_shared_object_is_in_a_package_of_its_own(system):
+    [file] = system.usr.glob("lib/*/libgix_validate_c.so.*.*")
+    listed = (system.root / f"var/lib/dpkg/info/{SHARED}.list").read_text()
+    assert f"/{file.relative_to(system.root)}\n" in listed
+
+
+@need("pkg-config")
+def test_the_example_for_c_is_built_as_pkg_config_says(system, room):
+    [folder] = system.usr.glob("lib/*/pkgconfig")
+    words = [f"--define-variable=prefix={system.usr}", "--cflags", "--libs"]
+    environment = {"PKG_CONFIG_LIBDIR": folder}
+    status, flags = run("pkg-config", *words, "gix_validate", **environment)
+    assert status == 0, flags
+    example = room / "example"
+    words = ["-o", example, "bindings/c/example.c", *flags.split()]
+    assert run(COMPILER, *words) == (0, "")
+    # (ldconfig finds it in the root of a system)
+    assert_is_the_example(example, LD_LIBRARY_PATH=folder.parent)
+
+
+PROJECT = f"""cmake_minimum_required(VERSION 3.10)
+project(example C)
+find_package(gix_validate REQUIRED)
+add_executable(example "{ROOT}/bindings/c/example.c")
+target_link_libraries(example gix_validate::{{}})
+"""
+
+
+@need("cmake")
+@pytest.mark.parametrize("kind", ["static", "shared"])
+def test_the_example_for_c_is_built_by_cmake(system, room, kind):
+    (room / "CMakeLists.txt").write_text(PROJECT.format(kind))
+    built = room / "built"
+    path = f"-DCMAKE_PREFIX_PATH={system.usr}"
+    for words in [["-S", room, "-B", built, path], ["--build", built]]:
+        made = run("cmake", *words)
+        assert made.status == 0, made.said
+    assert_is_the_example(built / "example")
+
+
+def assert_is_the_example(program, **environment):
+    status, said = run(program, "refs/heads/main", "a..b", **environment)
+    assert status == 1
+    fault = "a..b: RepeatedDot: Reference name cannot contain repeated dots\n"
+    assert fault in said
+
+
+@need("strace")
+def test_no_hostile_push_is_accepted_during_10_slow_upgrades(
+    own_system, upgrades, hostile
+):
+    hook = own_system.usr / "libexec/gix-validate/pre-receive"
+    hostile.set_hook(own_system.usr)
+    with hostile.pushes_on() as pushes:
+        for n in rounds(10, pushes):
+            command = [*own_system.dpkg, "-i", upgrades[n % 2]]
+            ran = run_slowly(own_system.root, hook, *command)
+            assert ran.status == 0, ran.said
+    assert [it for it in pushes if it.status == 0 or PARTS_OF_TWO in it.said] == []
+    assert are_checked(pushes)
+
+
+def test_a_purge_leaves_nothing_also_after_an_upgrade(own_system, upgrades):
+    own_system.install(upgrades[0])
+    purged = run(*own_system.dpkg, "-P", *NAMES)
+    assert purged.status == 0, purged.said
+    assert [it.name for it in own_system.root.iterdir()] == ["var"]

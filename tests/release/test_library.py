@@ -1,0 +1,121 @@
+"""The library for C and the sources of the Rust crate, which tests/bindings tests."""
+
+import re
+import shutil
+
+import pytest
+
+from tests.release.commands import COMPILER, DEBIAN, MAJOR, ROOT, differences, need, run
+from tests.release.elf import faults_of
+
+LIBRARY = f"libgix_validate_c.so.{MAJOR}"
+ROWS = ROOT / "tests/rows"
+
+
+@pytest.fixture(scope="module")
+def declared(prefix):
+    """The functions that the header declares."""
+    header = (prefix / "include/gix_validate.h").read_text()
+    found = re.findall(r"(?m)^[a-z0-9_]* (gix_validate_[a-z_]*)\(", header)
+    assert found
+    return sorted(found)
+
+
+@pytest.fixture(scope="module")
+def native(tree):
+    """The folder with the blocks of code of the Rust crate."""
+    return tree / "rust/gix-validate/native"
+
+
+def test_the_shared_object_is_hardened_and_needs_no_library(prefix):
+    faults, said = faults_of(prefix / "lib" / LIBRARY)
+    assert faults == []
+    assert "BIND_NOW" in said
+    assert f"Library soname: [{LIBRARY}]\n" in said
+
+
+def test_the_shared_object_exports_what_the_header_declares(prefix, declared):
+    library = prefix / "lib" / LIBRARY
+    status, said = run("nm", "-D", "--defined-only", library)
+    assert status == 0
+    exported = re.findall(r"(?m)^\w+ T ([^@\n]*)", said)
+    assert sorted(exported) == declared
+
+
+@pytest.mark.parametrize("linked", ["block", "libgix_validate_c.a", LIBRARY])
+def test_the_rows_pass_with_each_form_of_the_library(prefix, native, room, linked):
+    library = native / "x86_64.s" if linked == "block" else prefix / "lib" / linked
+    source, path = "bindings/c/rows.c", f"-Wl,-rpath,{prefix}/lib"
+    flags = ["-Wa,--noexecstack", f"-I{prefix}/include"]
+    built = run(COMPILER, *flags, "-o", room / "rows", source, library, path)
+    assert built == (0, "")
+    status, said = run(room / "rows", ROWS)
+    assert status == 0, said
+
+
+def test_each_function_has_a_manual(prefix, declared):
+    manuals = prefix / "share/man/man3"
+    assert [it for it in declared if not (manuals / f"{it}.3").exists()] == []
+
+
+def test_the_sources_of_the_crate_are_those_of_the_repository(native):
+    crate = native.parent
+    assert differences(ROOT / "bindings/rust/src", crate / "src") == (0, "")
+    manifest = (ROOT / "bindings/rust/Cargo.toml").read_text()
+    assert (crate / "Cargo.toml").read_text() == manifest
+
+
+@need("cargo")
+def test_cargo_packs_the_licences_the_page_the_blocks_and_the_sources(native, room):
+    crate = shutil.copytree(native.parent, room / "crate")  # (cargo writes into it)
+    words = ["package", "--list", "--allow-dirty", "--offline"]
+    status, said = run("cargo", *words, cwd=crate)
+    assert status == 0, said
+    packed = {
+        *["LICENSE-APACHE", "LICENSE-MIT", "README.md", "src/lib.rs"],
+        *["native/aarch64.s", "native/x86_64.s"],
+    }
+    assert packed <= set(said.splitlines())
+
+
+@need("pkg-config")
+def test_the_example_for_c_is_built_as_pkg_config_says(prefix, tree, room):
+    # (in a folder without a space: pkg-config escapes it, and the shell doesn't undo that)
+    words = ["--cflags", "--libs", f"gix_validate = {DEBIAN}"]
+    path = tree / "lib/pkgconfig"
+    status, flags = run("pkg-config", *words, PKG_CONFIG_PATH=path)
+    assert status == 0, flags
+    example, library = room / "example", f"-Wl,-rpath,{prefix}/lib"
+    words = ["-o", example, "bindings/c/example.c", *flags.split(), library]
+    assert run(COMPILER, *words) == (0, "")
+    status, said = run(example, "refs/heads/main", "a..b")
+    assert status == 1
+    fault = "a..b: RepeatedDot: Reference name cannot contain repeated dots\n"
+    assert fault in said
+
+
+@need("aarch64-linux-gnu-gcc", "qemu-aarch64")
+def test_the_rows_pass_with_the_block_for_aarch64(prefix, native, room):
+    words = [f"-I{prefix}/include", "-static", "-o", room / "rows"]
+    code = ["bindings/c/rows.c", native / "aarch64.s"]
+    assert run("aarch64-linux-gnu-gcc", *words, *code) == (0, "")
+    status, said = run("qemu-aarch64", room / "rows", ROWS)
+    assert status == 0, said
+
+
+SYSTEMS = [
+    "apple-macos",
+    "apple-ios",
+    "pc-windows-msvc",
+    "linux-android",
+    "unknown-freebsd",
+]
+
+
+@need("clang")
+@pytest.mark.parametrize("system", SYSTEMS)
+def test_the_block_for_aarch64_is_code_of_other_systems(native, room, system):
+    block = room / "block.o"
+    words = [f"--target=aarch64-{system}", "-c", "-o", block, native / "aarch64.s"]
+    assert run("clang", *words) == (0, "")
+    assert block.stat().st_size > 0

@@ -1,0 +1,215 @@
+"""The commands of the root, which prove a program and then run it, and other scripts that
+have rt prove something: hook/install and bindings/build."""
+
+import os
+import shutil
+
+import pytest
+
+COMMANDS = ["check_names", "check_trees", "check_submodules", "check_refs"]
+
+
+@pytest.mark.parametrize("word", ["-h", "--help"])
+def test_a_command_prints_its_help_without_a_proof(copy, word):
+    ended = copy.run("check_refs", word)
+    assert ended.status == 0
+    assert '    ref "refs/heads/a b" Reference name' in ended.output
+    assert "The status is 0" in ended.output
+    assert copy.calls == []
+
+
+@pytest.mark.parametrize("command", COMMANDS)
+def test_a_command_proves_its_program_and_passes_on_its_words_and_its_input(
+    copy, command
+):
+    copy.does = "builds"
+    ended = copy.run(command, "--help", "two words")
+    assert ended.status == 0
+    assert ended.output == f"{command}|--help|two words|tag a\ntag b\n"
+    assert ended.errors.splitlines() == [
+        f"{command}: proving it and the crates that it uses",
+        "rt: waiting for another rt in /a/b",
+        f"{command}: proving {command}",
+        "rt: waiting for another rt in /a/b",
+        f"{command}: proving {command}",
+    ]
+
+
+def test_a_command_whose_proof_fails_says_what_is_not_proved_and_no_more(copy):
+    copy.does = "fails"
+    ended = copy.run("check_refs", "--version")
+    assert (ended.status, ended.output) == (2, "")
+    assert ended.errors.splitlines()[1:] == [
+        "./proofs/f/Answers.antt:3:7: error: they differ",
+        "note: src/lib.rt:12:1: it is not proved that it holds",
+        "rt: the library low did not build",
+        f"check_refs: it was not built; run `rt all check --jobs {os.cpu_count()}` in "
+        f"{copy.path}/crates/check_refs for the whole message",
+    ]
+
+
+def test_a_command_runs_nothing_if_a_source_is_edited_during_the_build(copy):
+    copy.does = "is edited"
+    ended = copy.run("check_refs")
+    assert (ended.status, ended.output) == (2, "")
+    assert "a source was edited during the build: run it again" in ended.errors
+
+
+def test_a_program_that_is_built_is_not_proved_again(copy):
+    copy.run("check_refs")
+    before = len(copy.calls)
+    assert copy.run("check_refs", given="tag a\n") == (0, "check_refs|tag a\n", "")
+    assert copy.calls[before:] == ["check_refs: rt run -- --version"]
+
+
+def test_a_command_runs_by_a_link_from_another_folder(copy):
+    (copy.room / "link").symlink_to(copy.path / "check_refs")
+    copy.run("check_refs")
+    ended = copy.run(copy.room / "link", given="tag a\n", cwd="/")
+    assert ended == (0, "check_refs|tag a\n", "")
+
+
+def test_a_command_without_an_input_does_not_wait(copy):
+    copy.run("check_refs")
+    (copy.path / "closed").write_text('#!/bin/bash\nexec "${0%/*}/check_refs" <&-\n')
+    (copy.path / "closed").chmod(0o755)
+    ended = copy.run("closed")
+    assert ended.output + ended.errors == "check_refs|cat: -: Is a directory\n"
+
+
+def test_a_command_without_rt_says_so(copy):
+    few = copy.room / "few"
+    few.mkdir()
+    for tool in "bash", "env", "nproc", "readlink", "sed":
+        (few / tool).symlink_to(shutil.which(tool))
+    ended = copy.run("check_refs", path=few)
+    assert (ended.status, ended.output) == (2, "")
+    assert "rt: command not found" in ended.errors
+
+
+def test_scripts_program_builds_a_program(copy):
+    assert copy.run("scripts/program", "--build", "check_refs")[:2] == (0, "")
+    assert (copy.path / "crates/check_refs/out/check_refs").exists()
+
+
+@pytest.mark.parametrize(
+    "words, name", [(["--build"], ""), (["check_nothing"], "check_nothing"), ([], "")]
+)
+def test_scripts_program_says_that_there_is_no_such_program(copy, words, name):
+    ended = copy.run("scripts/program", *words)
+    assert (ended.status, ended.output) == (2, "")
+    assert f"there is no program '{name}'; usage: scripts/program" in ended.errors
+    assert copy.calls == []
+
+
+def test_hook_install_installs_nothing_if_a_proof_fails(copy):
+    copy.does = "fails"
+    ended = copy.run("hook/install", copy.room / "hook")
+    assert (ended.status, ended.output) == (2, "")
+    assert "src/lib.rt:12:1: it is not proved that" in ended.errors
+    assert not (copy.room / "hook").exists()
+
+
+def test_hook_install_makes_a_folder_that_all_can_read(copy):
+    before = os.umask(0o077)
+    try:
+        assert copy.run("hook/install", copy.room / "hook").status == 0
+    finally:
+        os.umask(before)
+    assert (copy.room / "hook").stat().st_mode & 0o777 == 0o755
+
+
+def test_hook_install_writes_over_no_folder(copy):
+    ended = copy.run("hook/install", copy.room)
+    assert (ended.status, ended.output) == (2, "")
+    assert f"{copy.room} is there already" in ended.errors
+    assert copy.calls == []
+
+
+@pytest.fixture
+def bindings(copy):
+    """With stand-ins for what bindings/build runs after rt."""
+    copy.replace_by("bindings/block/make", "true")
+    copy.replace_by("release/wasm", "false")
+    return copy
+
+
+def test_bindings_build_builds_both_libraries_and_fails_if_a_part_does(bindings):
+    bindings.does = "builds"
+    ended = bindings.run("bindings/build", CC="true")
+    assert (ended.status, ended.output) == (1, "")
+    assert "bindings/build: proving gix_validate_c" in ended.errors
+    assert bindings.calls == [
+        "gix_validate_c: rt lib --backend rattle",
+        "gix_validate_c: rt lib",
+    ]
+
+
+def test_bindings_build_says_what_is_not_proved(bindings):
+    bindings.does = "fails"
+    ended = bindings.run("bindings/build", CC="true")
+    assert (ended.status, ended.output) == (2, "")
+    assert "src/lib.rt:12:1: it is not proved that" in ended.errors
+
+
+def test_bindings_build_needs_a_compiler(bindings):
+    ended = bindings.run("bindings/build", CC="none")
+    assert (ended.status, ended.errors) == (77, "")
+    assert ended.output == (
+        "bindings/build: the shared object needs a C compiler (Debian: gcc)\n"
+    )
+
+
+@pytest.mark.parametrize(
+    "words",
+    ["hook/install", "hook/install --built", "hook/install NEW --build"],
+)
+def test_hook_install_does_nothing_with_wrong_arguments(copy, words):
+    script, *words = words.split()
+    words = [str(copy.room / "new") if word == "NEW" else word for word in words]
+    ended = copy.run(script, *words)
+    assert (ended.status, ended.output) == (2, "")
+    assert "usage: hook/install" in ended.errors
+    assert not (copy.room / "new").exists()
+    assert copy.calls == []
+
+
+def test_what_runs_is_what_rt_itself_has_proved_for_the_text_that_is_there(copy):
+    for name in "low", "app":
+        (copy.path / "crates" / name / "src").mkdir(parents=True)
+    (copy.path / "crates.txt").write_text("low:\napp: low\n")
+    library = copy.path / "crates/low/src/lib.rt"
+    library.write_text(LIBRARY)
+    (copy.path / "crates/app/src/main.rt").write_text(PROGRAM)
+    path = os.environ["PATH"]
+    first = copy.run("scripts/program", "app", path=path)
+    assert (first.status, first.output) == (0, "the number is 1\n"), first.errors
+    assert "app: proving it and the crates that it uses\n" in first.errors
+    assert "app: proving app\n" in first.errors
+    second = copy.run("scripts/program", "app", path=path)
+    assert second == (0, "the number is 1\n", "")
+    library.write_text(LIBRARY.replace("    1\n", "    2\n"))
+    third = copy.run("scripts/program", "app", path=path)
+    assert (third.status, third.output) == (2, "")
+    assert "src/lib.rt:5:1: it is not proved that" in third.errors
+    assert "the library low did not build" in third.errors
+
+
+LIBRARY = """\
+#![tactic(auto)]
+
+ghost use Rattle.std.specs.Prelude.{◌≡◌};
+
+pub fn number() -> u32
+    ensures { result ≡ 1 }
+{
+    1
+}
+"""
+PROGRAM = """\
+#![tactic(auto)]
+
+fn main(rt: HostRuntime) -> std::io::Result<()> {
+    println!(rt; "the number is {}", low::number())
+}
+"""

@@ -1,0 +1,200 @@
+"""Only what one run has built, and has not changed since, gets into a release."""
+
+import io
+import subprocess
+import tarfile
+
+import pytest
+
+from scripts import dist
+
+
+def git(folder, *words):
+    names = ["-c", "user.name=a", "-c", "user.email=a@example"]
+    subprocess.run(["git", *names, *words], cwd=folder, check=True)
+
+
+@pytest.fixture
+def clone(tmp_path, monkeypatch):
+    """A repository with a commit, and something under the name of all that is built."""
+    root = tmp_path / "clone"
+    for file in dist.BUILT:
+        (root / file).parent.mkdir(parents=True, exist_ok=True)
+        (root / file).write_text(file)
+    (root / ".gitignore").write_text("out/\nnative/\ngix_validate_wasm.mjs\n")
+    (root / "VERSION").write_text("1.2.3\n")
+    git(root, "init", "-q")
+    git(root, "add", ".")
+    git(root, "commit", "-q", "-m", "first")
+    monkeypatch.setattr(dist, "ROOT", root)
+    monkeypatch.setattr(dist, "KEPT", root / "out/release")
+    return root
+
+
+@pytest.fixture
+def sums(clone, tmp_path):
+    """What the full check has recorded."""
+    assert dist.main(["--record", str(tmp_path / "sums")]) == 0
+    return tmp_path / "sums"
+
+
+def test_emptying_removes_all_that_was_built_but_not_what_was_fetched(clone):
+    (clone / "crates/low/out").mkdir(parents=True)
+    (clone / "crates/low/out/left_over").touch()
+    (clone / "bindings/out/gitoxide").mkdir()
+    (clone / "out/release").mkdir(parents=True)
+    (clone / "out/check").mkdir()
+    assert dist.main(["--empty"]) == 0
+    assert [it for it in dist.BUILT if (clone / it).exists()] == []
+    assert not (clone / "crates/low/out").exists()
+    assert (clone / "crates/low").exists()
+    assert not (clone / "out/release").exists()
+    assert (clone / "bindings/out/gitoxide").exists()
+    assert (clone / "out/check").exists()
+
+
+def test_emptying_follows_no_link(clone, tmp_path):
+    (tmp_path / "elsewhere/out").mkdir(parents=True)
+    (tmp_path / "elsewhere/out/file").touch()
+    (clone / "crates/linked").symlink_to(tmp_path / "elsewhere")
+    (clone / "crates/low").mkdir()
+    (clone / "crates/low/out").symlink_to(tmp_path / "elsewhere/out")
+    assert dist.main(["--empty"]) == 0
+    assert (tmp_path / "elsewhere/out/file").exists()
+    assert not (clone / "crates/low/out").is_symlink()
+
+
+def test_what_is_recorded_is_what_sha256sum_checks(clone, sums):
+    checked = ["sha256sum", "--check", "--quiet", "--strict", sums]
+    assert subprocess.run(checked, cwd=clone).returncode == 0
+    assert len(sums.read_text().splitlines()) == len(dist.BUILT)
+
+
+@pytest.mark.parametrize("file", dist.BUILT)
+def test_nothing_is_recorded_if_a_file_is_not_built(clone, tmp_path, capsys, file):
+    (clone / file).unlink()
+    assert dist.main(["--record", str(tmp_path / "sums")]) == 1
+    assert f"{file} is not built" in capsys.readouterr().err
+    assert not (tmp_path / "sums").exists()
+
+
+@pytest.mark.parametrize("file", dist.BUILT)
+def test_a_file_is_packed_only_as_it_was_recorded(clone, sums, tmp_path, file):
+    release = dist.Release(tmp_path / "room", sums, dist.ALONE)
+    release.copy_built(file, tmp_path / "copied")
+    assert (tmp_path / "copied").read_text() == file
+    (clone / file).write_text("another")
+    with pytest.raises(dist.Wrong, match="is not what was built"):
+        release.copy_built(file, tmp_path / "other")
+    assert not (tmp_path / "other").exists()
+
+
+def test_nothing_is_packed_by_a_record_that_lacks_a_file(clone, sums, tmp_path, capsys):
+    lines = sums.read_text().splitlines(keepends=True)
+    sums.write_text("".join(lines[:-1]))
+    assert dist.main(["--built", str(sums), str(tmp_path / "out")]) == 1
+    assert f"lacks {dist.BUILT[-1]}" in capsys.readouterr().err
+    assert not (tmp_path / "out").exists()
+
+
+def test_nothing_is_packed_from_a_tree_with_changes(clone, sums, tmp_path, capsys):
+    (clone / "more").touch()
+    for words in [["--built", str(sums)], []]:
+        assert dist.main([*words, str(tmp_path / "out")]) == 1
+        assert "has changes that are not committed" in capsys.readouterr().err
+    assert not (tmp_path / "out").exists()
+    assert (clone / dist.BUILT[0]).exists()
+
+
+def test_nothing_is_packed_if_git_fails(clone, sums, tmp_path, capsys, monkeypatch):
+    monkeypatch.setenv("GIT_DIR", str(tmp_path / "nowhere"))
+    assert dist.main(["--built", str(sums), str(tmp_path / "out")]) == 1
+    assert "git status failed" in capsys.readouterr().err
+
+
+@pytest.mark.parametrize(
+    "words", [[], ["--empty", "out"], ["--built", "sums"], ["--record", "sums", "out"]]
+)
+def test_wrong_arguments_have_status_2(clone, words):
+    with pytest.raises(SystemExit) as ended:
+        dist.main(words)
+    assert ended.value.code == 2
+
+
+class Packed:
+    """What the full check has packed: an archive with a MANIFEST, and its sum."""
+
+    def __init__(self, folder, manifest):
+        self.folder, self.archive = folder, folder / "gix-validate-1.tar.gz"
+        folder.mkdir()
+        with tarfile.open(self.archive, "w:gz") as archive:
+            entry = tarfile.TarInfo("gix-validate-1/MANIFEST")
+            entry.size = len(manifest)
+            archive.addfile(entry, io.BytesIO(manifest.encode()))
+        line = f"{dist.sum_of(self.archive.read_bytes())}  {self.archive.name}\n"
+        (folder / "SHA256SUMS").write_text(line)
+
+
+@pytest.fixture
+def packed(clone, tmp_path):
+    commit = subprocess.check_output(["git", "rev-parse", "HEAD"], cwd=clone, text=True)
+    manifest = f"\ncommit:     {commit}full check: {dist.IN_THE_CHECK}\n"
+    return Packed(tmp_path / "packed", manifest)
+
+
+def test_what_was_packed_and_tested_is_kept(clone, sums, packed):
+    (clone / "out/release").mkdir(parents=True)
+    (clone / "out/release/of_another_time").touch()
+    for file in clone.glob("crates/*/out/*.o"):  # (as `rt ci` does)
+        file.unlink()
+    assert dist.main(["--keep", str(sums), str(packed.folder)]) == 0
+    kept = sorted(it.name for it in (clone / "out/release").iterdir())
+    assert kept == ["SHA256SUMS", packed.archive.name]
+
+
+def change_the_archive(clone, packed):
+    packed.archive.write_bytes(packed.archive.read_bytes() + b"\n")
+
+
+def change_a_library(clone, packed):
+    (clone / dist.ARCHIVE).write_text("another")
+
+
+def change_a_program(clone, packed):
+    (clone / dist.BUILT[0]).write_text("another")
+
+
+def change_the_tree(clone, packed):
+    (clone / "more").touch()
+
+
+def commit_another_change(clone, packed):
+    change_the_tree(clone, packed)
+    git(clone, "add", ".")
+    git(clone, "commit", "-q", "-m", "second")
+
+
+@pytest.mark.parametrize(
+    "change",
+    [
+        change_the_archive,
+        change_a_library,
+        change_a_program,
+        change_the_tree,
+        commit_another_change,
+    ],
+)
+def test_nothing_is_kept_after(clone, sums, packed, change):
+    change(clone, packed)
+    assert dist.main(["--keep", str(sums), str(packed.folder)]) == 1
+    assert not (clone / "out/release").exists()
+
+
+def test_nothing_is_kept_that_was_packed_outside_of_the_full_check(
+    clone, sums, tmp_path
+):
+    commit = subprocess.check_output(["git", "rev-parse", "HEAD"], cwd=clone, text=True)
+    manifest = f"\ncommit:     {commit}full check: {dist.ALONE}\n"
+    alone = Packed(tmp_path / "packed", manifest)
+    assert dist.main(["--keep", str(sums), str(alone.folder)]) == 1
+    assert not (clone / "out/release").exists()

@@ -1,6 +1,8 @@
 """Pushes that take a careless hook more than linear time, each as a pack of its own making, for bench/run."""
 import hashlib
+import os
 import random
+import signal
 import struct
 import subprocess
 import zlib
@@ -21,12 +23,17 @@ def copied(start, size):
     """Instructions of a delta that copy bytes of its base."""
     out = b""
     for at in range(start, start + size, 0xFFFFFF):
-        out += b"\xff" + struct.pack("<I", at) + struct.pack("<I", min(0xFFFFFF, start + size - at))[:3]
+        out += (
+            b"\xff"
+            + struct.pack("<I", at)
+            + struct.pack("<I", min(0xFFFFFF, start + size - at))[:3]
+        )
     return out
 
 
 class Pack:
     """A pack that a function fills, and the references that are pushed with it."""
+
     def __init__(self, fill, *given, algorithm="sha1"):
         self.algorithm, self.parts, self.refs, self.ids = algorithm, [], [], set()
         fill(self, *given)
@@ -44,8 +51,14 @@ class Pack:
         body = data
         if base:
             size, code, before = base[1], 7, base[0]
-            fresh = data[:len(data) - keep]
-            body = number(size) + number(len(data)) + bytes([len(fresh)]) + fresh + copied(size - keep, keep)
+            fresh = data[: len(data) - keep]
+            body = (
+                number(size)
+                + number(len(data))
+                + bytes([len(fresh)])
+                + fresh
+                + copied(size - keep, keep)
+            )
         first = bytearray(number(len(body) >> 4) if len(body) >> 4 else b"")
         head = bytes([code << 4 | len(body) & 15 | (128 if first else 0)])
         self.parts.append(head + first + before + zlib.compress(body, 1))
@@ -55,8 +68,15 @@ class Pack:
         return self.add("tree", b"".join(b"%o %s\0%s" % it for it in entries))
 
     def commit(self, tree, *parents, ref=None):
-        lines = [f"tree {tree.hex()}", *(f"parent {it.hex()}" for it in parents), "author a <b> 1 +0000", "committer a <b> 1 +0000"]
-        commit = self.add("commit", "\n".join([*lines, "", f"{len(self.parts)}\n"]).encode())
+        lines = [
+            f"tree {tree.hex()}",
+            *(f"parent {it.hex()}" for it in parents),
+            "author a <b> 1 +0000",
+            "committer a <b> 1 +0000",
+        ]
+        commit = self.add(
+            "commit", "\n".join([*lines, "", f"{len(self.parts)}\n"]).encode()
+        )
         self.refs += [(commit, ref)] if ref else []
         return commit
 
@@ -67,7 +87,7 @@ class Pack:
 
 def modules(pack, count):
     """Versions of a file .gitmodules of 500 kB, each a delta of the one before, in random order."""
-    rest = b"[submodule \"a\"]\n" + b"#\n" * 250000
+    rest = b'[submodule "a"]\n' + b"#\n" * 250000
     base, ids = None, []
     for n in range(count):
         text = b"#%09d\n" % n + rest
@@ -76,13 +96,22 @@ def modules(pack, count):
     random.Random(1).shuffle(ids)
     commit = ()
     for it in ids:
-        commit = (pack.commit(pack.tree((0o100644, b".gitmodules", it)), *commit, ref=b"main" if it is ids[-1] else None),)
+        commit = (
+            pack.commit(
+                pack.tree((0o100644, b".gitmodules", it)),
+                *commit,
+                ref=b"main" if it is ids[-1] else None,
+            ),
+        )
 
 
 def below(pack, count, length):
     """A tree with so many trees, below a path."""
     blob = pack.add("blob", b"x")
-    trees = [(0o40000, b"d%06d" % n, pack.tree((0o100644, b"f%d" % n, blob))) for n in range(count)]
+    trees = [
+        (0o40000, b"d%06d" % n, pack.tree((0o100644, b"f%d" % n, blob)))
+        for n in range(count)
+    ]
     tree = pack.tree(*trees)
     for _ in range(length // 250):
         tree = pack.tree((0o40000, b"n" * 249, tree))
@@ -109,8 +138,16 @@ def references(pack, count):
 
 
 def small_modules(pack, count):
-    trees = [pack.tree((0o100644, b".gitmodules", pack.add("blob", b"[submodule \"a%d\"]\n" % n))) for n in range(count)]
-    pack.commit(pack.tree(*((0o40000, b"d%06d" % n, it) for n, it in enumerate(trees))), ref=b"main")
+    trees = [
+        pack.tree(
+            (0o100644, b".gitmodules", pack.add("blob", b'[submodule "a%d"]\n' % n))
+        )
+        for n in range(count)
+    ]
+    pack.commit(
+        pack.tree(*((0o40000, b"d%06d" % n, it) for n, it in enumerate(trees))),
+        ref=b"main",
+    )
 
 
 def chain(pack, count):
@@ -126,9 +163,14 @@ def chain(pack, count):
 
 def tags(pack, count):
     """A tag of a tag of a tag .., and a reference to each."""
-    target, kind = pack.commit(pack.tree((0o100644, b"f", pack.add("blob", b"x")))), "commit"
+    target, kind = (
+        pack.commit(pack.tree((0o100644, b"f", pack.add("blob", b"x")))),
+        "commit",
+    )
     for n in range(count):
-        text = f"object {target.hex()}\ntype {kind}\ntag t\ntagger a <b> 1 +0000\n\n{n}\n"
+        text = (
+            f"object {target.hex()}\ntype {kind}\ntag t\ntagger a <b> 1 +0000\n\n{n}\n"
+        )
         target, kind = pack.add("tag", text.encode()), "tag"
         pack.refs.append((target, b"t%d" % n))
 
@@ -148,15 +190,55 @@ def files(pack, count):
         changed = n * 131 % count
         texts[changed] = pack.add("blob", b"%d\n" % n * 400)
         for at in range(len(trees)) if n == 0 else [changed // 20]:
-            part = texts[20 * at:20 * at + 20]
-            trees[at] = pack.tree(*((0o100644, b"f%02d.txt" % k, it) for k, it in enumerate(part)))
-        commit = (pack.commit(pack.tree(*((0o40000, b"d%06d" % k, it) for k, it in enumerate(trees))), *commit),)
+            part = texts[20 * at : 20 * at + 20]
+            trees[at] = pack.tree(
+                *((0o100644, b"f%02d.txt" % k, it) for k, it in enumerate(part))
+            )
+        commit = (
+            pack.commit(
+                pack.tree(*((0o40000, b"d%06d" % k, it) for k, it in enumerate(trees))),
+                *commit,
+            ),
+        )
     pack.refs = [(*commit, b"main")]
+
+
+def spellings(pack, count, characters):
+    """A tree of files .gitmodules, each with so many characters that HFS+ ignores."""
+    blob = pack.add("blob", b'[submodule "a"]\n')
+    ignored = ["\u200c", "\u200d"]
+    entries = []
+    for n in range(count):
+        digits = f"{n:0{characters}b}"
+        name = ".gitmodules" + "".join(ignored[int(it)] for it in digits)
+        entries.append((0o100644, name.encode(), blob))
+    pack.commit(pack.tree(*entries), ref=b"main")
+
+
+def refused(pack, count, length):
+    """A tree of files with long names that Windows takes for a device."""
+    blob = pack.add("blob", b"x")
+    names = [b"aux.%06d" % n + b"x" * length for n in range(count)]
+    tree = pack.tree(*((0o100644, name, blob) for name in names))
+    pack.commit(tree, ref=b"main")
+
+
+def refused_modules(pack, count, size):
+    """Files .gitmodules that have nothing but submodules with the name `..`."""
+    line = b'[submodule ".."]\n'
+    trees = []
+    for n in range(count):
+        text = b"#%08d\n" % n + line * ((size - 10) // len(line))
+        trees.append(pack.tree((0o100644, b".gitmodules", pack.add("blob", text))))
+    folders = ((0o40000, b"d%02d" % n, it) for n, it in enumerate(trees))
+    pack.commit(pack.tree(*folders), ref=b"main")
 
 
 PUSHES = {
     "1,000 .gitmodules of 500 kB, deltas of each other": lambda: Pack(modules, 1000),
-    "4,000 trees below 65 kB, for 40 of 100,000 references": lambda: Pack(orphans, 40, 2500),
+    "4,000 trees below 65 kB, for 40 of 100,000 references": lambda: Pack(
+        orphans, 40, 2500
+    ),
     "200,000 references": lambda: Pack(references, 200000),
     "100,000 trees below 65 kB": lambda: Pack(folders, 100000),
     "the same with SHA-256": lambda: Pack(folders, 100000, algorithm="sha256"),
@@ -165,14 +247,53 @@ PUSHES = {
     "3,000 tags of tags": lambda: Pack(tags, 3000),
     "10 merges of 20,000 commits": lambda: Pack(merges, 10, 20000),
     "17,000 files": lambda: Pack(files, 17000),
+    "3,000 .gitmodules in spellings of 60 kB": lambda: Pack(spellings, 3000, 20000),
+    "6,000 .gitmodules in spellings of 15 kB": lambda: Pack(spellings, 6000, 5000),
+    "300 MB of refused entries": lambda: Pack(refused, 4600, 65000),
+    "20 .gitmodules of 16 MB of refused names": lambda: Pack(
+        refused_modules, 20, 16 << 20
+    ),
 }
 
 
-def push(server, pack):
-    """Pushes by Git's protocol, and returns whether all references were accepted, and what the server said."""
+def push(server, pack, longest=None):
+    """Pushes by Git's protocol, and returns whether all references were accepted, and
+    what the server said. It may take so many seconds."""
     packet = lambda data: b"%04x" % (len(data) + 4) + data
-    words = b"\0report-status side-band-64k" + (b" object-format=sha256" if pack.algorithm == "sha256" else b"")
-    lines = [b"%s %s refs/pushes/%s" % (b"0" * 2 * len(it), it.hex().encode(), ref) for it, ref in pack.refs]
-    given = b"".join(packet(line + words * (n == 0)) for n, line in enumerate(lines)) + b"0000" + pack.data()
-    said = subprocess.run(["git", "receive-pack", server], input=given, capture_output=True, check=False).stdout
-    return b"unpack ok" in said and b"ng refs/" not in said, said
+    words = b"\0report-status side-band-64k" + (
+        b" object-format=sha256" if pack.algorithm == "sha256" else b""
+    )
+    lines = [
+        b"%s %s refs/pushes/%s" % (b"0" * 2 * len(it), it.hex().encode(), ref)
+        for it, ref in pack.refs
+    ]
+    given = (
+        b"".join(packet(line + words * (n == 0)) for n, line in enumerate(lines))
+        + b"0000"
+        + pack.data()
+    )
+    receiving = subprocess.Popen(
+        ["git", "receive-pack", server],
+        stdin=subprocess.PIPE,
+        stdout=subprocess.PIPE,
+        stderr=subprocess.DEVNULL,
+        start_new_session=True,
+    )
+    try:
+        said, _ = receiving.communicate(given, timeout=longest)
+    except subprocess.TimeoutExpired:
+        os.killpg(receiving.pid, signal.SIGKILL)
+        receiving.wait()
+        raise
+    text = text_of(said)
+    return b"unpack ok" in text and b"ng refs/" not in text, text
+
+
+def text_of(packets):
+    """What is in the packets of Git's protocol, without their lengths and bands."""
+    text = b""
+    while packets:
+        size = int(packets[:4], 16)
+        text += packets[4 + (packets[4:5] in (b"\1", b"\2")) : max(size, 4)]
+        packets = packets[max(size, 4) :]
+    return text

@@ -496,8 +496,10 @@ def test_at_a_terminal_a_scan_that_takes_long_says_how_far_it_is(hook, work, sou
     path = f"{hook.stand_ins}:{os.environ['PATH']}"
     env = ENVIRONMENT | {"PATH": path, "TERM": "xterm"}
     status, shown = in_terminal([str(hook.folder / "scan")], work.path, env)
-    number = int(source.git("count-objects").split()[0])
+    objects = source.git(
+        "cat-file", "--batch-check", "--batch-all-objects"
+    ).splitlines()
     assert status == 1
     steps, end = shown.rsplit("\x1b[K", 1)
-    assert set(steps.split("\r")) == {"", f"2 trees read, of {number} objects"}
+    assert set(steps.split("\r")) == {"", f"2 trees read, of {len(objects)} objects"}
     assert end == AUX.replace("\n", "\r\n")

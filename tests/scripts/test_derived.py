@@ -115,9 +115,9 @@ REFUSED = {
     "a clause is like one without an edit": Refused(
         "update-promises",
         PROMISES,
-        r"\| .*\n\Z",
-        "| as `gix_validate::tag::name`\n",
-        "texts::gix_validate_full_text bytes is said to be as one without",
+        r"(?m)^(`gix_validate_c::sanitize::gix_validate_sanitize_in_place`: .*\|).*$",
+        r"\1 as `gix_validate::tag::name`",
+        "gix_validate_sanitize_in_place bounds is said to be as one without",
     ),
     "an edit names a function that it does not change": Refused(
         "update-promises",

@@ -44,7 +44,7 @@ BUILT = [
     *GO_BLOCKS,
 ]
 # Why the full check is named in MANIFEST.
-IN_THE_CHECK = "packed by it, which keeps an archive only if all has passed"
+IN_THE_CHECK = "passed: it packed this, and keeps an archive only if all passes"
 ALONE = "did not run on this commit; the proofs were made when this was packed"
 # Debian's Rust, whatever else there is.
 CARGO, RUSTC = "/usr/bin/cargo", "/usr/bin/rustc"

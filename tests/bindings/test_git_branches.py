@@ -1,7 +1,11 @@
-"""Short names of branches, next to Git."""
+"""Short names of branches, next to Git.
+
+More random names: GIT_BRANCH_NAMES=100000 pytest tests/bindings/test_git_branches.py
+"""
 import ctypes
 import itertools
 import os
+import random
 import subprocess
 
 import pytest
@@ -13,6 +17,11 @@ LIBRARY = OUT / "libgix_validate_c.so"
 MARKS = [b"a", b"-", b".", b"/", b"@", b"{", b"HEAD", b".lock", b"refs/heads/", b"\xff"]
 ALONE = [bytes([byte]) for byte in range(1, 256)]
 BEFORE = b"topic/a"
+# Names as people write them, and other pieces of random names.
+ORDINARY = "main feature/log-in v1.0 fix_12 user/a.b grün".encode().split()
+ODD = [b" ", b"\t", b"\x7f", *rb"~ ^ : ? * [ \ .. // @{ } .LOCK head".split()]
+KINDS = [MARKS, ALONE, ODD, ORDINARY]
+NUMBER = int(os.environ.get("GIT_BRANCH_NAMES", "1000"))
 
 
 def git(folder, *words, **options):
@@ -53,6 +62,27 @@ def test_git_accepts_the_same_short_names(accepts, tmp_path):
     differ = [name for name, (ours, gits) in zip(names, both) if ours != gits]
     assert differ == []
     assert 100 < both.count((True, True)) < len(names) - 100
+
+
+def random_name(source):
+    """Some pieces, or an ordinary name in which bytes were changed."""
+    pieces = [source.choice(source.choice(KINDS)) for _ in range(source.randint(0, 6))]
+    if source.random() < 0.5:
+        return b"".join(pieces)
+    name = bytearray(b"/".join(source.choices(ORDINARY, k=source.randint(1, 3))))
+    for piece in pieces[:2]:
+        at = source.randint(0, len(name))
+        name[at : at + source.randint(0, 1)] = piece
+    return bytes(name)
+
+
+def test_git_accepts_the_same_random_short_names(accepts, tmp_path, pytestconfig):
+    source = random.Random(pytestconfig.getoption("--hypothesis-seed"))
+    names = [random_name(source) for _ in range(NUMBER)]
+    both = [(accepts(name), git_accepts(tmp_path, name)) for name in names]
+    differ = [name for name, (ours, gits) in zip(names, both) if ours != gits]
+    assert differ == []
+    assert NUMBER / 10 < both.count((True, True)) < NUMBER * 9 / 10
 
 
 def test_git_replaces_a_branch_that_was_checked_out_before(accepts, tmp_path):

@@ -11,10 +11,8 @@ ghost use Rattle.git_input.specs.Spelled.{IsReportedInOrder, IsWellFormedOnlyIfS
 ghost use Rattle.git_input.specs.Reports.{IsCleanIff};
 ghost use Rattle.git_input.specs.Objects.{IsWholeStream, object_reach};
 ghost use Rattle.git_input.specs.Promises.{Runs, FollowsRule, ReadsWithin, as_object};
-ghost use Rattle.gix_validate.specs.Component.{fault_of};
 ghost use Rattle.gix_validate.specs.Pieces.{pieces};
-ghost use Rattle.check_trees.specs.Report.{finding_by, finding_of, finding_said};
-ghost use Rattle.check_trees.specs.Report.{is_gitmodules_fault, report, tree_rule};
+ghost use Rattle.check_trees.specs.Report.{finding_of, finding_said, is_gitmodules, report, tree_rule};
 ghost use Rattle.check_trees.specs.Spelled.{IsAcceptedStream, IsReadAsItems};
 ghost use Rattle.check_trees.specs.Private.{EntryGives, EntryReads, ReadsOrSkipsId, Says};
 ghost use Rattle.check_trees.specs.Private.{as_entry_header, tree_report};
@@ -216,18 +214,28 @@ enum Finding {
 fn finding_of(options: TreesOptions<'_>, front: EntryHeader<'_>) -> Finding
     ensures { result ≡ finding_of (as_options options.entry) (as_entry_header front.entry) }
 {
-    let protections = protections_for(options, front.name);
-    let may_be_listed = options.modules && front.is_file;
-    // A name that is valid for a symbolic link is valid for any entry.
-    let mode = if may_be_listed {
-        Some(ComponentMode::Symlink)
-    } else {
-        front.mode
-    };
-    match path::component(BStr::new(front.name), mode, protections) {
+    // A name that is valid for a symbolic link is valid for any entry, and under fewer switches. Nearly
+    // every name is, and so isn't looked for in the list of accepted names.
+    let as_symlink = Some(ComponentMode::Symlink);
+    match path::component(BStr::new(front.name), as_symlink, options.protections) {
         Ok(_) => Finding::Accepted,
-        Err(fault) if may_be_listed => classify_file(protections, front, fault),
+        Err(_) => finding_of_suspect(options, front),
+    }
+}
+
+/// The result for an entry whose name may be refused.
+#[cold]
+#[inline(never)]
+fn finding_of_suspect(options: TreesOptions<'_>, front: EntryHeader<'_>) -> Finding
+    ensures { result ≡ finding_of (as_options options.entry) (as_entry_header front.entry) }
+{
+    let protections = protections_for(options, front.name);
+    match path::component(BStr::new(front.name), front.mode, protections) {
         Err(fault) => Finding::Refused(fault),
+        Ok(_) if options.modules && front.is_file && is_gitmodules(protections, front.name) => {
+            Finding::Modules
+        }
+        Ok(_) => Finding::Accepted,
     }
 }
 
@@ -253,23 +261,14 @@ fn is_piece(name: &[u8], names: &str) -> bool
     pieces.any(|piece| piece == name)
 }
 
-/// The result for a file whose name is invalid as that of a symbolic link, for the reason
-/// `as_symlink`.
-#[cold]
-#[inline(never)]
-fn classify_file(
-    protections: ComponentOptions,
-    front: EntryHeader<'_>,
-    as_symlink: ComponentError,
-) -> Finding
-    ensures { result ≡ finding_by (is_gitmodules_fault (Some as_symlink))
-        (fault_of protections front.entry.mode front.entry.name.now) }
+/// Whether a protected system takes a name for `.gitmodules`.
+fn is_gitmodules(protections: ComponentOptions, name: &[u8]) -> bool
+    ensures { result ≡ is_gitmodules protections name.now }
 {
-    match path::component(BStr::new(front.name), front.mode, protections) {
-        Err(fault) => Finding::Refused(fault),
-        Ok(_) if matches!(as_symlink, ComponentError::SymlinkedGitModules) => Finding::Modules,
-        Ok(_) => Finding::Accepted,
-    }
+    matches!(
+        path::component(BStr::new(name), Some(ComponentMode::Symlink), protections),
+        Err(ComponentError::SymlinkedGitModules)
+    )
 }
 
 /// Reads or skips the bytes of an entry's id, and returns whether the input had them. They are kept

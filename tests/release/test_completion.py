@@ -17,6 +17,14 @@ def test_the_options_of_a_program_are_completed(prefix):
     assert run("bash", "-c", command, "-", completion, program) == (0, options)
 
 
+def test_the_options_of_git_check_names_are_completed_short_ones_too(prefix):
+    completion = prefix / "share/bash-completion/completions/git-check-names"
+    command = '. "$1"; _gix_validate "$2" -; echo "${COMPREPLY[@]}"'
+    program = prefix / "bin/git-check-names"
+    options = "--stdin -z --protect --repair --verbose --help --version\n"
+    assert run("bash", "-c", command, "-", completion, program) == (0, options)
+
+
 @pytest.mark.skipif(
     not COMPLETION_OF_GIT.exists(), reason=f"needs {COMPLETION_OF_GIT} (Debian: git)"
 )

@@ -29,9 +29,9 @@ from scripts.sources import Wrong
 
 ROOT = Path(__file__).resolve().parent.parent
 KEPT = ROOT / "out/release"
-PROGRAMS = ["check_names", "check_refs", "check_submodules", "check_trees"]
 # What the hook and the scan run.
-OF_THE_HOOK = PROGRAMS[1:]
+OF_THE_HOOK = ["check_refs", "check_submodules", "check_trees"]
+PROGRAMS = ["check_names", *OF_THE_HOOK, "git_check_names"]
 ARCHIVE = "bindings/out/libgix_validate_c.a"
 WASM = "bindings/out/gix_validate.wasm"
 JAVASCRIPT = "bindings/js/gix_validate_wasm.mjs"
@@ -213,7 +213,8 @@ class Release:
         for library in libraries:
             shutil.copyfile(kit / "c" / library.name, library)
         for program in PROGRAMS:
-            linked, code = self.tree / "bin" / program, self.objects / f"{program}.o"
+            command = command_of(program)
+            linked, code = self.tree / "bin" / command, self.objects / f"{command}.o"
             self.copy_built(f"crates/{program}/out/{program}.o", code)
             self.link(linked, code, *libraries)
 
@@ -271,7 +272,7 @@ class Release:
         folder.mkdir(parents=True)
         shutil.copyfile(ROOT / "release/completion", folder / "git-scan-names")
         for program in PROGRAMS:
-            (folder / program).hardlink_to(folder / "git-scan-names")
+            (folder / command_of(program)).hardlink_to(folder / "git-scan-names")
 
     def write_manuals(self):
         for section in ["man1", "man3"]:
@@ -412,6 +413,11 @@ class Release:
             *["--owner=0", "--group=0", "--numeric-owner", "--format=ustar"],
             *["--use-compress-program=gzip -9n", "-cf", archive, folder],
         )
+
+
+def command_of(program):
+    """What a program is installed as: Git finds a command with dashes."""
+    return program.replace("_", "-") if program.startswith("git_") else program
 
 
 def move_files(folder, to):

@@ -183,7 +183,7 @@ def check_some(crates):
     edited = [name for name in names if Path("crates", name, "mutants").is_dir()]
     if edited:
         yield run("edits", "scripts/dev", "try-edits", "--built", *edited)
-    programs = [f"--build=crates/{it}/out/{it}" for it in names if it[:6] == "check_"]
+    programs = [f"--build=crates/{it}/out/{it}" for it in names if is_program(it)]
     if programs:
         yield run("programs", *PYTEST, "tests/programs", *programs)
     if {"check_refs", "check_trees", "check_submodules"} & {*names}:
@@ -200,9 +200,13 @@ def crates_and_those_below():
             yield words
 
 
+def is_program(crate):
+    return crate.startswith(("check_", "git_check_"))
+
+
 def proof_of(crate):
     """Proves a crate and runs its tests. (Those of programs are in tests/programs.)"""
-    if crate.startswith("check_"):
+    if is_program(crate):
         return "rt", "run", "--", "--version"
     return "rt", "all", "test", "--jobs", JOBS
 

@@ -1,4 +1,4 @@
-"""What the tests of check_names, check_trees, check_submodules and check_refs get.
+"""What the tests of the five programs get.
 
 Without --build these are the programs that `rt ci` has just proved and built: each as
 LLVM builds it, and as Rattle's own compiler does (NAME.by-rattle). Golden files have
@@ -97,6 +97,7 @@ def program(request):
 
 
 check_names = check_trees = check_submodules = check_refs = program
+git_check_names = program
 
 
 @pytest.fixture(scope="session")

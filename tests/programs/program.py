@@ -8,7 +8,13 @@ from pathlib import Path
 from typing import NamedTuple
 
 ROOT = Path(__file__).parents[2]
-PROGRAMS = "check_names", "check_trees", "check_submodules", "check_refs"
+PROGRAMS = (
+    "check_names",
+    "check_trees",
+    "check_submodules",
+    "check_refs",
+    "git_check_names",
+)
 
 # An object's id, and that of none.
 ID, ZERO = "4b825dc642cb6eb9a060e54bf8d69288fbee4904", "0" * 40
@@ -45,7 +51,15 @@ PARTS = {
         f"{ZERO} {ID} refs/heads/a b\n",
         BAD_REF,
     ),
+    "git_check_names": Part(
+        "src/main.rs\n",
+        "a//b\n",
+        "a//b: A path must not be empty, "
+        "start or end with a slash, or have two in a row\n",
+    ),
 }
+# The arguments without which a program reads nothing.
+NEEDED = {"git_check_names": ["path", "--stdin"]}
 
 
 def read(path):
@@ -82,7 +96,7 @@ class Row(NamedTuple):
 
     @property
     def expected(self):
-        said = f"{self.program}: {self.said}\n" if self.said else ""
+        said = f"{command_of(self.program)}: {self.said}\n" if self.said else ""
         return Ran(self.status, self.output.encode(), said)
 
 
@@ -98,7 +112,13 @@ def rows(table):
 
 
 def name_of(build):
-    return build.name.removesuffix(".by-rattle")
+    name = build.name.removesuffix(".by-rattle")
+    return name.replace("-", "_")
+
+
+def command_of(name):
+    """What a program calls itself: a command of Git has dashes."""
+    return name.replace("_", "-") if name.startswith("git_") else name
 
 
 class Program:
@@ -107,6 +127,7 @@ class Program:
 
     def __init__(self, build):
         self.build, self.name = build.resolve(), name_of(build)
+        self.command, self.needed = command_of(self.name), NEEDED.get(self.name, [])
         golden = f"crates/{self.name}"
         self.words = read(f"{golden}/args").decode().split()
         self.good = int(read(f"{golden}/status") or 0)
@@ -158,9 +179,9 @@ class Program:
 
     def fails(self, why, output=b"", status=None):
         status = self.failure if status is None else status
-        return Ran(status, output, f"{self.name}: {why}\n")
+        return Ran(status, output, f"{self.command}: {why}\n")
 
     def is_wrong_argument(self, word):
         """Nothing is read or printed, and it says which word is wrong."""
-        why = f'unknown argument "{word}", see {self.name} --help'
+        why = f'unknown argument "{word}", see {self.command} --help'
         return self.fails(why, status=2)

@@ -7,7 +7,18 @@ import subprocess
 
 import pytest
 
-from tests.programs.program import DOT_GIT, ID, ROOT, TREE, ZERO, Ran, Row, read, rows
+from tests.programs.program import (
+    DOT_GIT,
+    ID,
+    ROOT,
+    TREE,
+    ZERO,
+    Ran,
+    Row,
+    command_of,
+    read,
+    rows,
+)
 
 # The kinds of line of check_names, by their definition.
 KINDS = re.findall(
@@ -19,6 +30,10 @@ OPTIONS = {
     "check_trees": ["--protect LIST", "--accept NAMES", "--modules", "--end"],
     "check_submodules": ["--end"],
     "check_refs": ["--ids", "--replace"],
+    "git_check_names": [
+        *("branch", "path", "tag", "ref", "submodule", "component"),
+        *("--stdin", "-z", "--protect LIST", "--repair", "-v, --verbose", "--"),
+    ],
 }
 
 
@@ -26,7 +41,7 @@ OPTIONS = {
 @functools.cache
 def help_of(name):
     """The help of the source, which a clone prints."""
-    command = [ROOT / name, "--help"]
+    command = [ROOT / command_of(name), "--help"]
     return subprocess.run(command, stdout=subprocess.PIPE, check=True).stdout
 
 
@@ -51,7 +66,7 @@ def test_the_golden_input_of_check_names_has_every_kind_of_line(kind):
 def test_the_first_of_help_and_version_is_printed_whatever_follows(
     program, help_text, word
 ):
-    version = f"{program.name} ".encode() + read("VERSION")
+    version = f"{program.command} ".encode() + read("VERSION")
     printed = program.prints(version if word == "--version" else help_text)
     assert program.run(program.given, *program.words, word, "-x") == printed
     assert program.run(program.given, word, "--version") == printed
@@ -59,10 +74,15 @@ def test_the_first_of_help_and_version_is_printed_whatever_follows(
 
 
 # What is no argument.
-@pytest.mark.parametrize("word", ["-x", ""])
-def test_a_wrong_argument_is_said_even_before_help(program, word):
-    ran = program.run(program.given, *program.words, word, "--help")
-    assert ran == program.is_wrong_argument(word)
+def test_a_wrong_argument_is_said_even_before_help(program):
+    ran = program.run(program.given, *program.words, "-x", "--help")
+    assert ran == program.is_wrong_argument("-x")
+
+
+def test_an_empty_word_is_a_wrong_argument_or_an_operand(program, help_text):
+    ran = program.run(program.given, *program.words, "", "--help")
+    wrong, printed = program.is_wrong_argument(""), program.prints(help_text)
+    assert ran == (printed if program.needed else wrong)
 
 
 def test_an_argument_that_is_no_utf_8_is_refused(program):
@@ -77,7 +97,8 @@ def test_a_word_beyond_ascii_is_quoted_as_the_debug_format_of_rust(
     program, word, quoted
 ):
     """No clause says so."""
-    assert program.run(program.given, word) == program.is_wrong_argument(quoted)
+    ran = program.run(program.given, f"--{word}")
+    assert ran == program.is_wrong_argument(f"--{quoted}")
 
 
 # Words that are no option of the program.
@@ -86,6 +107,7 @@ UNKNOWN_WORDS = {
     "check_trees": ["--modules=", "--end=x", "--ids", "--protected=hfs", "protect=hfs"],
     "check_submodules": ["--end=", "--modules", "--protect=hfs", "end"],
     "check_refs": ["--ids=x", "--replace=", "--end", "ids"],
+    "git_check_names": ["--stdin=", "--repair=x", "--null", "-vz", "--modules", "-z="],
 }
 
 

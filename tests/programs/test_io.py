@@ -35,7 +35,7 @@ def test_on_a_terminal_help_is_printed_alone(program):
 # What can't be read or written.
 def test_a_folder_can_not_be_read(program, tmp_path):
     folder = os.open(tmp_path, os.O_RDONLY)
-    ran = program.run(folder)
+    ran = program.run(folder, *program.words)
     os.close(folder)
     assert ran == program.fails("read failed")
 
@@ -80,7 +80,10 @@ def test_long_lines_and_objects_are_read_when_each_byte_comes_alone(program, dev
         given = f"{ZERO} {ID} refs/heads/".ljust(65535, "a") + "\n"
     if program.name == "check_names":
         given, status, before = f"tag {100001 * 'a'}\n", 0, "ok\n"
-    ran = program.run((given + part.bad).encode(), devices=devices, SLOW=1)
+    if program.name == "git_check_names":
+        given = 65535 * "a" + "\n"
+    given = (given + part.bad).encode()
+    ran = program.run(given, *program.needed, devices=devices, SLOW=1)
     assert ran == Ran(status, (before + part.line).encode(), "")
 
 
@@ -122,11 +125,11 @@ def test_an_allocation_that_fails_stops_a_run_and_all_is_given_back(program, dev
     """Each request for memory is refused in turn, until a run makes no other: all that
     was given is given back, and the run stops, unless it does without. (It collects the
     words of the arguments one by one then.)"""
-    stops = {(2, f"refused\n{program.name}: out of memory\n")}
+    stops = {(2, f"refused\n{program.command}: out of memory\n")}
     if not program.good:
         stops |= {
-            (1, f"refused\n{program.name}: out of memory\n"),
-            (1, f"refused\n{program.name}: read failed\n"),
+            (1, f"refused\n{program.command}: out of memory\n"),
+            (1, f"refused\n{program.command}: read failed\n"),
         }
     seen = set()
     for request in range(1, 1000):

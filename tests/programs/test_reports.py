@@ -149,6 +149,15 @@ def limits():
         cut_path = f'(in "{128 * "a"}"{over * "..."})'
         yield Row("check_refs", f"a line {where}", [], line, 2 * over, "", in_line)
         yield Row(
+            "git_check_names",
+            f"a name {where}",
+            ["path", "--stdin"],
+            f"a//b\n{(size - 1) * 'a'}\n",
+            1 + over,
+            PARTS["git_check_names"].line,
+            "malformed input: name 2 is longer than 65535 bytes" * over,
+        )
+        yield Row(
             "check_trees", f"a header {where}", [], header, 2 * over, "", in_object
         )
         yield Row(
@@ -233,7 +242,8 @@ def test_100001_lines_or_objects_are_read_to_their_end(program):
     part = PARTS[program.name]
     # (check_names has a line of each name, and its status is no verdict)
     status, before = (0, "ok\n") if program.name == "check_names" else (1, "")
-    ran = program.run((100000 * part.good + part.bad).encode())
+    given = (100000 * part.good + part.bad).encode()
+    ran = program.run(given, *program.needed)
     assert ran == Ran(status, (100000 * before + part.line).encode(), "")
 
 

@@ -16,8 +16,8 @@ DEBIAN = VERSION.replace("-", "~")
 PYTHON = VERSION.replace("-dev", ".dev0")
 MAJOR = VERSION.partition(".")[0]
 
-PROGRAMS = ["check_names", "check_refs", "check_submodules", "check_trees"]
-OF_THE_HOOK = PROGRAMS[1:]
+OF_THE_HOOK = ["check_refs", "check_submodules", "check_trees"]
+PROGRAMS = ["check_names", *OF_THE_HOOK, "git-check-names"]
 
 
 def path_without_the_kit():

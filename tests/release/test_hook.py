@@ -152,9 +152,10 @@ def test_a_push_of_such_a_name_is_refused_with_this_line(work):
 
 
 @need("pre-commit")
-def test_the_hook_for_pre_commit_refuses_such_a_name(work, prefix, room):
+@pytest.mark.parametrize("hook", ["git-names", "git-paths"])
+def test_a_hook_for_pre_commit_refuses_such_a_name(work, prefix, room, hook):
     path = f"{prefix}/bin:{ENVIRONMENT['PATH']}"
-    words = ["pre-commit", "try-repo", ROOT, "git-names"]
+    words = ["pre-commit", "try-repo", ROOT, hook, "--all-files"]
     environment = {"PRE_COMMIT_HOME": room / "pre-commit", "PATH": path}
     status, said = run(*words, cwd=work("nul.txt").folder, **environment)
     assert status == 1

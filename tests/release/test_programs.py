@@ -4,7 +4,7 @@ import sys
 
 import pytest
 
-from tests.release.commands import COMPILER, PROGRAMS, ROOT, VERSION, run
+from tests.release.commands import COMPILER, OF_THE_HOOK, PROGRAMS, ROOT, VERSION, run
 from tests.release.elf import faults_of
 
 
@@ -22,7 +22,7 @@ def test_a_program_is_static_and_hardened(prefix, program):
     assert "DYN (Position-Independent Executable file)" in said
 
 
-@pytest.mark.parametrize("program", PROGRAMS[1:])
+@pytest.mark.parametrize("program", OF_THE_HOOK)
 def test_the_hook_and_the_user_run_the_same_program(prefix, hook_folder, program):
     [copy] = hook_folder.glob(f"*/{program}")
     assert copy.read_bytes() == (prefix / "bin" / program).read_bytes()

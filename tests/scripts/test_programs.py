@@ -7,6 +7,7 @@ import shutil
 import pytest
 
 COMMANDS = ["check_names", "check_trees", "check_submodules", "check_refs"]
+COMMANDS += ["git-check-names"]
 
 
 @pytest.mark.parametrize("word", ["-h", "--help"])
@@ -24,14 +25,15 @@ def test_a_command_proves_its_program_and_passes_on_its_words_and_its_input(
 ):
     copy.does = "builds"
     ended = copy.run(command, "--help", "two words")
+    program = command.replace("-", "_")
     assert ended.status == 0
-    assert ended.output == f"{command}|--help|two words|tag a\ntag b\n"
+    assert ended.output == f"{program}|--help|two words|tag a\ntag b\n"
     assert ended.errors.splitlines() == [
-        f"{command}: proving it and the crates that it uses",
+        f"{program}: proving it and the crates that it uses",
         "rt: waiting for another rt in /a/b",
-        f"{command}: proving {command}",
+        f"{program}: proving {program}",
         "rt: waiting for another rt in /a/b",
-        f"{command}: proving {command}",
+        f"{program}: proving {program}",
     ]
 
 

@@ -8,7 +8,7 @@ use Rattle.std.specs.Str.{bytes_eq}
 use Rattle.gix_validate.specs.declared.path.ComponentOptions.{ComponentOptions}
 use Rattle.gix_validate.specs.ComponentLaws.{no_protections}
 use Rattle.cli.proofs.AskedWords.{has, among, same_test, each_of}
-use Rattle.check_trees.specs.Arguments.{comma_parts, all_switched_on, protections_of}
+use Rattle.git_input.specs.Protections.{comma_parts, all_switched_on, protections_of}
 use Rattle.check_trees.specs.Options.{TurnsOn}
 
 abbrev Word : List ℕ → Type 0

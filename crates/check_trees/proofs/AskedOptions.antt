@@ -13,7 +13,8 @@ use Rattle.cli.specs.Arguments.{Check, Task, WrongArgument, Effect, Unknown, Set
 use Rattle.cli.specs.Arguments.{Invalid, after_effect, after_set, set_by, request_from}
 use Rattle.cli.specs.Lines.{split_once}
 use Rattle.cli.proofs.AskedWords.{same_test, each_of}
-use Rattle.check_trees.specs.Arguments.{Options, no_options, protections_of, rule}
+use Rattle.git_input.specs.Protections.{protections_of}
+use Rattle.check_trees.specs.Arguments.{Options, no_options, rule}
 use Rattle.check_trees.specs.Options.{Asked, Modules, End, Protect, Accept, IsGivenBy, AreGivenBy}
 use Rattle.check_trees.specs.Options.{list_of, names_of, TurnsOn, IsAllOn, IsAskedFor, AreByWords}
 use Rattle.check_trees.proofs.AskedLists.{list_law}

@@ -4,7 +4,6 @@ pub mod TreeEntries
 pub mod EntryReads
 pub mod SpelledTrees
 pub mod AcceptedTrees
-pub mod ArgumentWords
 pub mod AskedLists
 pub mod AskedOptions
 mod Rows

@@ -13,7 +13,8 @@ use Rattle.gix_validate.specs.Pieces.{pieces}
 use Rattle.git_input.specs.Texts.{number_of}
 use Rattle.cli.specs.Arguments.{Check, Task, WrongArgument, request_of}
 use Rattle.check_trees.specs.declared.check.Finding.TheVariants.{Accepted, Refused}
-use Rattle.check_trees.specs.Arguments.{Options, protections_for, no_options, protections_of, rule}
+use Rattle.git_input.specs.Protections.{protections_of}
+use Rattle.check_trees.specs.Arguments.{Options, protections_for, no_options, rule}
 use Rattle.check_trees.specs.Entries.{mode_of, is_file, named}
 use Rattle.check_trees.specs.Report.{finding_of, is_gitmodules}
 

@@ -1,12 +1,12 @@
 -- How the input is checked, which rules hold for a name, and what the options of the command do.
-use Rattle.std.specs.Prelude.{ℕ, true, false, ◌==◌, ◌||◌, if◌then◌else◌, List, [], ◌∷◌, codes}
-use Rattle.std.specs.Prelude.{Option, Some, None, option_and_then, Bool}
-use Rattle.std.specs.List.{slice_split, list_any}
-use Rattle.std.specs.Str.{byte, bytes_eq}
+use Rattle.std.specs.Prelude.{ℕ, true, false, ◌||◌, if◌then◌else◌, List, [], codes}
+use Rattle.std.specs.Prelude.{Option, Some, None, Bool}
+use Rattle.std.specs.List.{list_any}
+use Rattle.std.specs.Str.{bytes_eq}
 use Rattle.gix_validate.specs.declared.path.ComponentOptions.{ComponentOptions}
 use Rattle.gix_validate.specs.Component.{all_protections}
-use Rattle.gix_validate.specs.ComponentLaws.{no_protections}
 use Rattle.gix_validate.specs.Pieces.{pieces}
+use Rattle.git_input.specs.Protections.{protections_of}
 use Rattle.cli.specs.Arguments.{OptionRule, Effect, Unknown, Sets, NeedsValue, Invalid}
 use Rattle.check_trees.specs.declared.options.TreesOptions.{TreesOptions}
 
@@ -35,48 +35,6 @@ protections_for options name =
     if list_any (λ accepted. bytes_eq accepted name) options.accepted
     then record { protect_windows = false; protect_hfs = on.protect_hfs; protect_ntfs = on.protect_ntfs }
     else on
-
--- the texts between the commas of a text, in order
-abbrev pub comma_parts : List ℕ → List (List ℕ)
-comma_parts text = slice_split (λ b. b == byte ",") text
-
--- the switch that a word turns on, beside those that are on
-abbrev pub switched_on : List ℕ → ComponentOptions → Option ComponentOptions
-switched_on word options =
-    if bytes_eq word (codes "windows")
-    then Some
-    (record {
-      protect_windows = true;
-      protect_hfs = options.protect_hfs;
-      protect_ntfs = options.protect_ntfs;
-    })
-    else if bytes_eq word (codes "hfs")
-    then Some
-    (record {
-      protect_windows = options.protect_windows;
-      protect_hfs = true;
-      protect_ntfs = options.protect_ntfs;
-    })
-    else if bytes_eq word (codes "ntfs")
-    then Some
-    (record {
-      protect_windows = options.protect_windows;
-      protect_hfs = options.protect_hfs;
-      protect_ntfs = true;
-    })
-    else None
-
-abbrev pub all_switched_on : List (List ℕ) → ComponentOptions → Option ComponentOptions
-all_switched_on [] options = Some options
-all_switched_on (word ∷ words) options =
-    option_and_then (λ (on : ComponentOptions). all_switched_on words on) (switched_on word options)
-
--- the switches that a list asks for: none by the word `none`,
--- or those of its words, each of which must be one
-unfoldable pub protections_of : List ℕ → Option ComponentOptions
-protections_of list =
-    if bytes_eq list (codes "none") then Some no_protections
-    else all_switched_on (comma_parts list) no_protections
 
 -- without options every switch is on, and nothing more
 abbrev pub no_options : Options

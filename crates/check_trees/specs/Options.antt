@@ -5,7 +5,8 @@ use Rattle.std.specs.List.{last_or}
 use Rattle.gix_validate.specs.declared.path.ComponentOptions.{ComponentOptions}
 use Rattle.gix_validate.specs.Pieces.{pieces}
 use Rattle.cli.specs.Arguments.{Check, request_of}
-use Rattle.check_trees.specs.Arguments.{Options, comma_parts, no_options, rule}
+use Rattle.git_input.specs.Protections.{comma_parts}
+use Rattle.check_trees.specs.Arguments.{Options, no_options, rule}
 
 -- an option that is asked for, with its value
 pub data Asked : Type 0 where

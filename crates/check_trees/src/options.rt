@@ -1,12 +1,11 @@
 //! The program's options (docs/RULES.md, "The report of trees").
 
-ghost use Rattle.std.specs.Prelude.{◌≡◌};
-ghost use Rattle.check_trees.specs.Arguments.{no_options, protections_of, rule, switched_on};
+ghost use Rattle.check_trees.specs.Arguments.{no_options, rule};
 ghost use Rattle.check_trees.specs.Arguments.{Options, as_options};
 
 use cli::arguments::{ParseOptions, Setting};
+use git_input::protections::{PROTECTIONS, protections_of};
 use gix_validate::path::ComponentOptions;
-use memchr::memchr;
 
 pub const HELP: &str = "\
 Prints a line for each entry of a Git tree whose name is refused:
@@ -88,44 +87,4 @@ impl<'a> ParseOptions<'a> for TreesOptions<'a> {
         }
         Setting::Set(self)
     }
-}
-
-/// What the value of `--protect` has to be.
-const PROTECTIONS: &str = "windows, hfs or ntfs, separated by commas, or none";
-
-/// The switches that a list of words turns on; `None` if a word is unknown.
-#[tactic(auto, using(crate::proofs::ArgumentWords::comma_searched), unfolding(crate::specs::Arguments::protections_of))]
-fn protections_of(list: &[u8]) -> Option<ComponentOptions>
-    ensures { result ≡ protections_of list.now }
-{
-    let mut options = ComponentOptions {
-        protect_windows: false,
-        protect_hfs: false,
-        protect_ntfs: false,
-    };
-    if list == b"none".as_slice() {
-        return Some(options);
-    }
-    let mut rest = list;
-    while let Some(end) = memchr(b',', rest) {
-        options = switched_on(&rest[..end], options)?;
-        rest = &rest[end + 1..];
-    }
-    switched_on(rest, options)
-}
-
-/// The switches with the one that a word turns on; `None` if the word is unknown.
-fn switched_on(word: &[u8], mut options: ComponentOptions) -> Option<ComponentOptions>
-    ensures { result ≡ switched_on word.now options }
-{
-    if word == b"windows".as_slice() {
-        options.protect_windows = true;
-    } else if word == b"hfs".as_slice() {
-        options.protect_hfs = true;
-    } else if word == b"ntfs".as_slice() {
-        options.protect_ntfs = true;
-    } else {
-        return None;
-    }
-    Some(options)
 }

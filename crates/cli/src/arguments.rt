@@ -144,7 +144,23 @@ pub fn request_of<'a, O: ParseOptions<'a>>(
     ensures request { result_map_both (task_of O.view) wrong_argument result
         ≡ request_of O.rule O.start (map string_bytes arguments.now) }
 {
-    let mut options = O::start();
+    request_from(O::start(), arguments)
+}
+
+/// Reads the arguments as [`request_of`] does, where these are the options of a program without
+/// arguments.
+///
+/// # Errors
+///
+/// [`ArgumentError`] with the first argument that is wrong.
+pub fn request_from<'a, O: ParseOptions<'a>>(
+    start: O,
+    arguments: &'a [String],
+) -> Result<Request<O>, ArgumentError<'a>>
+    ensures request { result_map_both (task_of O.view) wrong_argument result
+        ≡ request_of O.rule (O.view start) (map string_bytes arguments.now) }
+{
+    let mut options = start;
     let mut option = None;
     let mut rest = arguments;
     while let [word, after @ ..] = rest {

@@ -7,7 +7,7 @@ ghost use Rattle.cli.specs.Arguments.{request_of};
 ghost use Rattle.cli.specs.Command.{Checks, End, EndsAs, Finishes, Ran};
 ghost use Rattle.cli.specs.Messages.{Does};
 
-use crate::arguments::{ParseOptions, Request, fail_arguments, request_of};
+use crate::arguments::{ParseOptions, Request, fail_arguments, request_from};
 use crate::error::RunError;
 use crate::messages::Messages;
 use crate::{VERSION, print};
@@ -87,8 +87,34 @@ pub fn execute<'a, C: Command<'a>, R: BufRead, W: Write + Drop, E: Write>(
         program.entry.help.now input.old input.new output.old output.new
         errors.old errors.new result (request_of C.rule C.start (map string_bytes arguments.now)) }
 {
+    execute_from(program, alloc, C::start(), arguments, input, output, errors)
+}
+
+/// Does what the arguments say, as [`execute`] does, where `start` are the options of a program without
+/// arguments.
+///
+/// # Memory
+///
+/// It allocates what `C::run` allocates, from `alloc`.
+pub fn execute_from<'a, C: Command<'a>, R: BufRead, W: Write + Drop, E: Write>(
+    program: Program<'_>,
+    alloc: Global,
+    start: C,
+    arguments: &'a [String],
+    input: &mut R,
+    output: &mut BufWriter<W>,
+    errors: &mut Messages<E>,
+) -> ExitCode
+    ensures { Does (λ asked. (options : C) × (C.view options ≡ asked)
+        × Checks (C.Runs options _ _ R.remaining (writer_contents W.contents) input.old input.new output.old)
+        (writer_contents W.contents) output.new
+        (writer_buffer output.new) C.end_of E.contents program.entry.name.now errors.old errors.new result)
+        (writer_contents W.contents) E.contents program.entry.name.now
+        program.entry.help.now input.old input.new output.old output.new
+        errors.old errors.new result (request_of C.rule (C.view start) (map string_bytes arguments.now)) }
+{
     let name = program.name;
-    match request_of::<C>(arguments) {
+    match request_from(start, arguments) {
         Ok(Request::Check(options)) => {
             let ran = run_flushed(alloc, options, input, output);
             C::end(name, ran, errors)
@@ -159,6 +185,34 @@ macro_rules! run_command {
                     Err(stop) => <$options>::end(program.name, Err(stop), &mut errors),
                 }
             }
+            Err(status) => status,
+        }
+    }};
+}
+
+/// What [`run_command`] does, for a program that has operands: `with_operands` of its type of options
+/// gets them.
+#[macro_export]
+macro_rules! run_command_with_operands {
+    ($rt:ident, $options:ty, $($field:ident: $value:expr),+) => {{
+        let program = $crate::command::Program { $($field: $value),+ };
+        let mut errors = $crate::messages::Messages::new($rt.stderr());
+        match $crate::arguments::arguments($rt.alloc(), std::env::args(&$rt), program.name, &mut errors) {
+            Ok(arguments) => match $crate::operands::split_words::<$options>($rt.alloc(), arguments) {
+                Ok(words) => match $crate::command::buffers($rt.alloc(), $rt.stdin(), $rt.stdout()) {
+                    Ok((mut input, mut output)) => $crate::command::execute_from(
+                        program,
+                        $rt.alloc(),
+                        <$options>::with_operands(&words.operands),
+                        &words.options,
+                        &mut input,
+                        &mut output,
+                        &mut errors,
+                    ),
+                    Err(stop) => <$options>::end(program.name, Err(stop), &mut errors),
+                },
+                Err(_) => <$options>::end(program.name, Err($crate::error::RunError::Memory), &mut errors),
+            },
             Err(status) => status,
         }
     }};

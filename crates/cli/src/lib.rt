@@ -17,6 +17,7 @@ pub mod arguments;
 pub mod command;
 pub mod error;
 pub mod messages;
+pub mod operands;
 
 /// The version of the library and of the programs, which `--version` prints.
 pub const VERSION: &str = "3.0.0-dev";

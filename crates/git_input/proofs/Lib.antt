@@ -8,4 +8,5 @@ pub mod WholeStreams
 pub mod SpelledHeaders
 pub mod SpelledStreams
 pub mod WellFormedStreams
+pub mod Commas
 mod Rows

@@ -7,3 +7,4 @@ pub mod Promises
 pub mod Messages
 pub mod Private
 pub mod Ends
+pub mod Protections

@@ -12,15 +12,16 @@ use memchr::memchr;
 use std::io::{self, BufRead, ErrorKind};
 
 /// The most turns of a loop that [`until_returned`] makes.
-pub(crate) const MAX_ITERATIONS: u64 = u64::MAX;
+pub const MAX_ITERATIONS: u64 = u64::MAX;
 
 /// Repeats a block until it returns. Each loop has to be proved to end, and nothing bounds these: an
 /// interrupted read is made again, and an input may never end. So this makes [`MAX_ITERATIONS`] turns at most,
 /// which no run lives to see, and fails then as a read does.
+#[macro_export]
 macro_rules! until_returned {
     ($turn:pat => $body:block) => {{
-        for $turn in 0..MAX_ITERATIONS $body
-        Err(RunError::Read)
+        for $turn in 0..$crate::input::MAX_ITERATIONS $body
+        Err(cli::error::RunError::Read)
     }};
 }
 

@@ -1,5 +1,6 @@
 //! What the programs share that check a stream: bounded reads, the header lines of
-//! `git cat-file --batch`, the loop over the lines of an input, quoted output, and how a program ends.
+//! `git cat-file --batch`, the loop over the lines of an input, quoted output, the switches that an
+//! option lists, and how a program ends.
 //!
 //! The programs differ in what a line means, which is the trait [`lines::LineCheck`]. [`objects`]
 //! implements it for header lines, and has [`objects::ObjectCheck`] for the bytes of an object. So
@@ -12,4 +13,5 @@ pub mod lines;
 pub mod objects;
 pub mod outcome;
 pub mod output;
+pub mod protections;
 pub mod text;

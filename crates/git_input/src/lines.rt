@@ -13,7 +13,7 @@ ghost use Rattle.git_input.specs.Reports.{IsWhole, LeavesTheEnd, LineRule, Reach
 ghost use Rattle.git_input.specs.Reports.{malformation_at_end, is_malformed, report, verdict_of};
 ghost use Rattle.git_input.specs.Promises.{FollowsRule, ReadsWithin, StopsWithin, is_end_word};
 
-use crate::input::{Found, MAX_ITERATIONS, is_at_end, read_before, until_returned};
+use crate::input::{Found, is_at_end, read_before, until_returned};
 use crate::outcome::{Malformation, Stop, Verdict};
 use cli::error::RunError;
 use std::alloc::Global;

@@ -1,8 +1,8 @@
 -- the words so far are on: with the others they give what all give
 use Rattle.gix_validate.proofs.Common.{◌≡◌, length}
-use Rattle.check_trees.specs.Arguments.{comma_parts, all_switched_on}
+use Rattle.git_input.specs.Protections.{comma_parts, all_switched_on}
 use Rattle.gix_validate.specs.ComponentLaws.{no_protections}
-use Rattle.check_trees.proofs.options.protections_of.Given as goal
+use Rattle.git_input.proofs.protections.protections_of.Given as goal
 
 abbrev pub invariant-loop-end : goal.invariant-loop-end
 invariant-loop-end l =

@@ -3,7 +3,7 @@ use Rattle.gix_validate.proofs.Common.{◌≡◌, ℕ, ◌+◌, List, [], ◌∷
 use Rattle.gix_validate.proofs.Common.{refl, arith, take_rest, byte}
 use Rattle.memchr.specs.Find.{is_byte, IsFirstByte}
 use Rattle.git_input.specs.Texts.{split_once}
-use Rattle.check_trees.specs.Arguments.{comma_parts}
+use Rattle.git_input.specs.Protections.{comma_parts}
 use Rattle.git_input.proofs.SplitTexts.{split_searched}
 
 -- the texts before and after the first comma, if there is one

@@ -1,0 +1,4 @@
+pub mod ReadNames
+pub mod InputReports
+pub mod GivenNames
+mod Rows

@@ -1,0 +1,60 @@
+-- The definitions computed on names: what is said of each, what arguments ask for, and what is read.
+use Rattle.gix_validate.proofs.Common.{ℕ, Bool, true, false, refl, List, [], ◌∷◌}
+use Rattle.gix_validate.proofs.Common.{Ok, Err, codes}
+use Rattle.gix_validate.proofs.Rows.Tables.{Gives}
+use Rattle.gix_validate.specs.Component.{all_protections}
+use Rattle.cli.specs.Operands.{split_words}
+use Rattle.git_check_names.specs.declared.kind.Kind.TheVariants.{Branch, Reference, Tag}
+use Rattle.git_check_names.specs.declared.problem.Problem.TheVariants.{NoKind, NoName, TwoSources, NoRepair}
+use Rattle.git_check_names.specs.Names.{asked_of, shown}
+use Rattle.git_check_names.specs.Options.{Options, rule, without_options}
+
+-- the words of a command line, told apart
+split : Gives (λ words. split_words rule (without_options []) words)
+    ((
+      codes "tag" ∷ codes "-v" ∷ codes "a" ∷ [],
+      record { options = codes "-v" ∷ []; operands = codes "tag" ∷ codes "a" ∷ [] },
+    )
+    ∷ (
+      codes "path" ∷ codes "--protect" ∷ codes "hfs" ∷ codes "-" ∷ [],
+      record { options = codes "--protect" ∷ codes "hfs" ∷ []; operands = codes "path" ∷ codes "-" ∷ [] },
+    )
+    ∷ (
+      codes "tag" ∷ codes "--" ∷ codes "-v" ∷ codes "--" ∷ [],
+      record { options = []; operands = codes "tag" ∷ codes "-v" ∷ codes "--" ∷ [] },
+    )
+    ∷ [])
+split = refl
+
+-- names, and how they are shown
+shown_names : Gives shown
+    ((codes "a b", codes "a b")
+    ∷ ([], codes "\"\"")  -- empty
+    ∷ (codes "a\nb", codes "\"a\\nb\"")  -- a newline
+    ∷ (codes "a\"b", codes "\"a\\\"b\"")
+    ∷ (0xC3 ∷ 0xA9 ∷ [], codes "\"\\xc3\\xa9\"")
+    ∷ [])
+shown_names = refl
+
+abbrev reading : Bool → Bool → List (List ℕ) → Options
+reading reads repair operands = record {
+  protections = all_protections;
+  reads = reads;
+  nul = false;
+  repair = repair;
+  verbose = false;
+  operands = operands;
+}
+
+-- what operands ask for
+asked : Gives asked_of
+    ((reading false false (codes "tag" ∷ codes "a" ∷ []), Ok (Tag, codes "a" ∷ []))
+    ∷ (reading true false (codes "branch" ∷ []), Ok (Branch, []))
+    ∷ (reading true true (codes "ref" ∷ []), Ok (Reference, []))
+    ∷ (reading false false [], Err NoKind)
+    ∷ (reading false false (codes "Tag" ∷ codes "a" ∷ []), Err NoKind)
+    ∷ (reading false false (codes "tag" ∷ []), Err NoName)
+    ∷ (reading true false (codes "tag" ∷ codes "a" ∷ []), Err TwoSources)
+    ∷ (reading false true (codes "tag" ∷ codes "a" ∷ []), Err NoRepair)
+    ∷ [])
+asked = refl

@@ -1,0 +1,17 @@
+-- what is written so far, and what is said of the names that are left, are said of all
+use Rattle.gix_validate.proofs.Common.{◌≡◌, ◌||◌, ◌++◌, length, map}
+use Rattle.std.specs.String.{string_bytes}
+use Rattle.git_check_names.specs.Names.{given_said}
+use Rattle.git_check_names.specs.Options.{as_options}
+use Rattle.git_check_names.proofs.check.check_given.Given as goal
+
+abbrev pub invariant-loop-rest : goal.invariant-loop-rest
+invariant-loop-rest g l =
+    let left = given_said (as_options l.options) l.kind (map string_bytes l.rest) in
+    let all = given_said (as_options l.options) l.kind (map string_bytes l.names) in record {
+      lines : l.lines.items ++ left.lines ≡ all.lines;
+      refused : (l.refused || left.refused) ≡ all.refused;
+    }
+
+abbrev pub decreases-loop-rest : goal.decreases-loop-rest
+decreases-loop-rest g l = length l.rest

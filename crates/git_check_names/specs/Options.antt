@@ -1,0 +1,96 @@
+-- How names are checked, and what the options of the command do.
+use Rattle.std.specs.Prelude.{ℕ, Bool, true, false, ◌||◌, if◌then◌else◌, List, map, codes}
+use Rattle.std.specs.Prelude.{Option, Some, None}
+use Rattle.std.specs.Str.{bytes_eq}
+use Rattle.std.specs.String.{string_bytes}
+use Rattle.gix_validate.specs.declared.path.ComponentOptions.{ComponentOptions}
+use Rattle.gix_validate.specs.Component.{all_protections}
+use Rattle.cli.specs.Arguments.{OptionRule, Effect, Unknown, Sets, NeedsValue, Invalid}
+use Rattle.git_input.specs.Protections.{protections_of}
+use Rattle.git_check_names.specs.declared.options.CheckOptions.{CheckOptions}
+
+-- the options, with the kind and the names that are arguments
+pub record Options : Type 0 where
+  pub protections : ComponentOptions
+  pub reads : Bool
+  pub nul : Bool
+  pub repair : Bool
+  pub verbose : Bool
+  pub operands : List (List ℕ)
+
+-- the options as the code has them
+abbrev pub as_options : CheckOptions → Options
+as_options options = record {
+  protections = options.protections;
+  reads = options.reads;
+  nul = options.nul;
+  repair = options.repair;
+  verbose = options.verbose;
+  operands = map string_bytes options.operands.now;
+}
+
+-- without options every switch is on, and nothing more
+abbrev pub without_options : List (List ℕ) → Options
+without_options operands = record {
+  protections = all_protections;
+  reads = false;
+  nul = false;
+  repair = false;
+  verbose = false;
+  operands = operands;
+}
+
+abbrev pub with_reads : Bool → Options → Options
+with_reads nul options = record {
+  protections = options.protections;
+  reads = true;
+  nul = nul;
+  repair = options.repair;
+  verbose = options.verbose;
+  operands = options.operands;
+}
+
+abbrev pub with_repair : Options → Options
+with_repair options = record {
+  protections = options.protections;
+  reads = options.reads;
+  nul = options.nul;
+  repair = true;
+  verbose = options.verbose;
+  operands = options.operands;
+}
+
+abbrev pub with_words : Options → Options
+with_words options = record {
+  protections = options.protections;
+  reads = options.reads;
+  nul = options.nul;
+  repair = options.repair;
+  verbose = true;
+  operands = options.operands;
+}
+
+-- the options with the switches that a list asks for
+abbrev pub protected_by : List ℕ → Options → Option ComponentOptions → Effect Options
+protected_by list options None = Invalid list (codes "windows, hfs or ntfs, separated by commas, or none")
+protected_by list options (Some on) = Sets (record {
+  protections = on;
+  reads = options.reads;
+  nul = options.nul;
+  repair = options.repair;
+  verbose = options.verbose;
+  operands = options.operands;
+})
+
+-- what an option does
+abbrev pub rule : OptionRule Options
+rule name None options =
+    if bytes_eq name (codes "--stdin") then Sets (with_reads options.nul options)
+    else if bytes_eq name (codes "-z") then Sets (with_reads true options)
+    else if bytes_eq name (codes "--repair") then Sets (with_repair options)
+    else if bytes_eq name (codes "-v") || bytes_eq name (codes "--verbose") then Sets (with_words options)
+    else if bytes_eq name (codes "--protect") then NeedsValue
+    else Unknown
+rule name (Some value) options =
+    if bytes_eq name (codes "--protect") then protected_by value options (protections_of value)
+    else Unknown

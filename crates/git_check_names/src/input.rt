@@ -1,0 +1,39 @@
+//! The names of an input.
+
+ghost use Rattle.std.specs.Prelude.{◌≢◌, IfOk, IfSome, Err};
+ghost use Rattle.git_check_names.specs.Private.{IsNext};
+
+use cli::error::RunError;
+use git_input::input::{Found, read_before};
+use git_input::lines::MAX_LINE;
+use std::io::BufRead;
+
+/// What [`next_name`] read.
+#[derive(Clone, Copy)]
+pub enum Next {
+    /// A name.
+    Name,
+    /// The beginning of a name that is too long.
+    TooLong,
+    /// Nothing, since the input has ended.
+    End,
+}
+
+/// Reads the next name into `name`, whose old contents are dropped, and the byte `end` after it, which
+/// the last name need not have.
+pub(crate) fn next_name<R: BufRead>(
+    input: &mut R,
+    end: u8,
+    name: &mut Vec<u8>,
+) -> Result<Next, RunError>
+    ensures next { IfOk result (λ next. IfSome (R.remaining input.old)
+        (λ text. IsNext end text (R.remaining input.new) name.new.items next)) }
+    ensures stop { result ≢ Err RunError.Write }
+{
+    match read_before(input, end, MAX_LINE as usize, name)? {
+        Found::Byte => Ok(Next::Name),
+        Found::Limit => Ok(Next::TooLong),
+        Found::End if name.is_empty() => Ok(Next::End),
+        Found::End => Ok(Next::Name),
+    }
+}

@@ -1,9 +1,9 @@
 -- Paths: what is left of one, from an offset on, and that a text is a path if and only if it has no fault.
 use Rattle.gix_validate.proofs.Common.{◌≡◌, ◌≢◌, All, ℕ, ◌+◌, Bool, true, false, None, Some, Option}
-use Rattle.gix_validate.proofs.Common.{List, [], ◌∷◌, length}
+use Rattle.gix_validate.proofs.Common.{List, [], ◌∷◌, length, ◌&&◌}
 use Rattle.gix_validate.proofs.Common.{◌≤◌, ◌-◌, take, drop, length-drop, length-take-le, refl}
 use Rattle.gix_validate.proofs.Common.{arith, is_none, All-cons}
-use Rattle.gix_validate.proofs.Common.{ap, sym, ◌∙◌, take_rest, length-append}
+use Rattle.gix_validate.proofs.Common.{ap, ◌∙◌, take_rest, length-append}
 use Rattle.gix_validate.proofs.Common.{join_with_byte-slice_split}
 use Rattle.gix_validate.proofs.Components.Laws.{component_grammar_law, basic_law}
 use Rattle.gix_validate.proofs.Texts.Pieces.{pieces_some}
@@ -23,7 +23,6 @@ use Rattle.gix_validate.specs.declared.path.ComponentMode.{ComponentMode}
 use Rattle.gix_validate.specs.declared.path.ComponentOptions.{ComponentOptions}
 use Rattle.std.proofs.lemmas.List.Elements.{All-nil}
 use Rattle.git_names.proofs.SlashLemmas.{last_piece_from, piece_from}
-use Rattle.git_names.specs.Private.Parts.{first_part_fault_of}
 use Rattle.git_names.specs.Private.Slashes.{IsFirstSlash, NoSlash}
 use Rattle.git_names.specs.Paths.{are_components, is_path, part_fault_of, fault_from, fault_of}
 use Rattle.git_names.specs.Paths.{offset_of}
@@ -199,23 +198,6 @@ LeftOf-after options mode x start end left first valid =
           ∙ ap (λ at. fault_from options mode at (pieces (drop (end + 1) x))) long;
     }
 
--- the part that begins at an offset: up to a slash, or the last one
-pub first_part_to_slash : (options : ComponentOptions) (mode : Option ComponentMode) (x : List ℕ)
-    (start end : ℕ)
-    → IsFirstSlash x start end
-    → part_fault_of options None start (take (end - start) (drop start x))
-    ≡ first_part_fault_of options mode start (pieces (drop start x))
-first_part_to_slash options mode x start end first =
-    grind (arith, piece_from x start end first, pieces_some (drop (end + 1) x))
-
-pub first_part_to_end : (options : ComponentOptions) (mode : Option ComponentMode) (x : List ℕ) (start : ℕ)
-    → start ≤ length x → NoSlash x start (length x)
-    → part_fault_of options mode start (take (length x - start) (drop start x))
-    ≡ first_part_fault_of options mode start (pieces (drop start x))
-first_part_to_end options mode x start within none =
-    let rest : take (length x - start) (drop start x) ≡ drop start x = grind (arith, take_rest) in
-    ap (part_fault_of options mode start) rest ∙ grind (arith, last_piece_from x start within none)
-
 -- at a part that is none
 fault_here : (options : ComponentOptions) (mode : Option ComponentMode) (at : ℕ) (part : List ℕ)
     (others : List (List ℕ)) → others ≢ [] → is_component options None part ≡ false
@@ -227,19 +209,20 @@ fault_here options mode at part (next ∷ more) some invalid =
 pub LeftOf-fault : (options : ComponentOptions) (mode : Option ComponentMode) (x : List ℕ) (start end : ℕ)
     → LeftOf options mode x start → IsFirstSlash x start end
     → is_component options None (take (end - start) (drop start x)) ≡ false
-    → fault_of options mode x ≡ first_part_fault_of options mode start (pieces (drop start x))
+    → fault_of options mode x ≡ part_fault_of options None start (take (end - start) (drop start x))
 LeftOf-fault options mode x start end left first invalid =
     left.fault ∙ ap (fault_from options mode start) (piece_from x start end first)
     ∙ fault_here options mode start (take (end - start) (drop start x)) (pieces (drop (end + 1) x))
     (pieces_some (drop (end + 1) x)) invalid
-    ∙ first_part_to_slash options mode x start end first
 
 -- at the last part
 pub LeftOf-last : (options : ComponentOptions) (mode : Option ComponentMode) (x : List ℕ) (start : ℕ)
     → LeftOf options mode x start → NoSlash x start (length x)
-    → fault_of options mode x ≡ first_part_fault_of options mode start (pieces (drop start x))
+    → fault_of options mode x
+    ≡ part_fault_of options mode start (take (length x - start) (drop start x))
 LeftOf-last options mode x start left none =
-    grind (arith, left.fault, last_piece_from x start left.within none)
+    let rest : take (length x - start) (drop start x) ≡ drop start x = grind (arith, take_rest) in
+    rw rest (left.fault ∙ ap (fault_from options mode start) (last_piece_from x start left.within none))
 
 -- which has no fault if it is a component
 pub LeftOf-none : (options : ComponentOptions) (mode : Option ComponentMode) (x : List ℕ) (start : ℕ)
@@ -248,8 +231,35 @@ pub LeftOf-none : (options : ComponentOptions) (mode : Option ComponentMode) (x 
     → fault_of options mode x ≡ None
 LeftOf-none options mode x start left none valid =
     let part = take (length x - start) (drop start x) in
-    LeftOf-last options mode x start left none ∙ sym (first_part_to_end options mode x start left.within none)
-    ∙ grind (arith, part_grammar options mode start part, valid)
+    LeftOf-last options mode x start left none ∙ grind (arith, part_grammar options mode start part, valid)
+
+-- a path is one if its first part is a component, and the rest is a path
+first_part : (options : ComponentOptions) (mode : Option ComponentMode) (part : List ℕ)
+    (others : List (List ℕ)) → others ≢ []
+    → are_components options mode (part ∷ others)
+    ≡ (is_component options None part && are_components options mode others)
+first_part options mode part [] some = absurd (some refl)
+first_part options mode part (next ∷ more) some = refl
+
+pub path_by_first_part : (options : ComponentOptions) (mode : Option ComponentMode) (x : List ℕ) (end : ℕ)
+    → IsFirstSlash x 0 end
+    → is_path options mode x
+    ≡ (is_component options None (take end x)
+    && is_path options mode (take (length x - (end + 1)) (drop (end + 1) x)))
+unfolding is_path
+path_by_first_part options mode x end first =
+    let rest : take (length x - (end + 1)) (drop (end + 1) x) ≡ drop (end + 1) x = grind (arith, take_rest) in
+    let split : pieces x ≡ take end x ∷ pieces (drop (end + 1) x) = grind (arith, piece_from x 0 end first) in
+    rw rest (
+    ap (are_components options mode) split
+    ∙ first_part options mode (take end x) (pieces (drop (end + 1) x)) (pieces_some (drop (end + 1) x))
+    )
+
+-- a part without a slash is one if it is a component
+pub path_of_one_part : (options : ComponentOptions) (mode : Option ComponentMode) (x : List ℕ)
+    → NoSlash x 0 (length x) → is_path options mode x ≡ is_component options mode x
+unfolding is_path
+path_of_one_part options mode x none = ap (are_components options mode) (last_piece_from x 0 (omega arith) none)
 
 -- a part's fault is at the offset at which the part begins
 pub fault_begins : (options : ComponentOptions) (mode : Option ComponentMode) (at : ℕ) (part : List ℕ)
@@ -280,6 +290,3 @@ path_within_law options mode x e some =
 
 -- what `path::whole` takes from here
 pub ruleset path_laws = (path_grammar_law, path_basic_law, path_other_law, path_within_law)
-
--- what a look at one part takes from here
-pub ruleset first_parts = (first_part_to_slash, first_part_to_end)

@@ -1,14 +1,34 @@
 //! Finds the slashes of a path, sixteen bytes at a time.
 
-ghost use Rattle.std.specs.Prelude.{◌≡◌, ◌≢◌, ◌<◌, ◌≤◌, ◌+◌, ◌^◌, ℕ, true, false, length};
+ghost use Rattle.std.specs.Prelude.{◌≡◌, ◌≢◌, ◌<◌, ◌≤◌, ◌+◌, ◌*◌, ◌^◌, ℕ, true, false, length};
 ghost use Rattle.std.specs.Prelude.{if◌then◌else◌, slice_index, MatchOption};
 ghost use Rattle.std.specs.Int.{bit_at};
 ghost use Rattle.gix_validate.specs.Pieces.{is_slash};
-ghost use Rattle.git_names.specs.Private.Slashes.{IsFirstSlash, NoSlash};
+ghost use Rattle.git_names.specs.Private.Slashes.{IsFirstSlash, MarksSlashes, NoSlash};
 
 use std::simd::prelude::*;
 
-const LANES: usize = 16;
+pub(super) const LANES: usize = 16;
+
+/// The most bytes of a text whose slashes one number has.
+pub(super) const MAX_SHORT: usize = 4 * LANES;
+
+/// A bit for each slash of a text of one to four blocks. The lowest bit is for the first byte. The
+/// last block overlaps the one before it, and the last two of more than two blocks the first two.
+#[inline(always)]
+pub(super) fn slashes_of(text: &[u8]) -> u64
+    requires some { LANES ≤ length text.now }
+    requires short { length text.now ≤ MAX_SHORT }
+    ensures { MarksSlashes text.now result }
+{
+    let last = text.len() - LANES;
+    let ends = slashes_of_block(text, 0) | slashes_of_block(text, last) << last;
+    if last <= LANES {
+        return ends;
+    }
+    let inner = last - LANES;
+    ends | slashes_of_block(text, LANES) << LANES | slashes_of_block(text, inner) << inner
+}
 
 /// The offset of the first slash from this one on. The last block overlaps the one before it, since
 /// most parts are shorter than a block.
@@ -66,7 +86,7 @@ fn slashes_of_block(text: &[u8], at: usize) -> u64
 }
 
 #[inline(always)]
-fn first_lane(lanes: u64) -> usize
+pub(super) fn first_lane(lanes: u64) -> usize
     requires { lanes ≢ 0 }
     ensures bound { result < 64 }
     ensures set { bit_at lanes result ≡ 1 }

@@ -2,7 +2,7 @@
 use Rattle.gix_validate.proofs.Common.{◌-◌, length}
 use Rattle.gix_validate.specs.Private.Classes.{switches}
 use Rattle.git_names.proofs.PathLemmas.{LeftOf}
-use Rattle.git_names.proofs.path.first_invalid_part.Given as goal
+use Rattle.git_names.proofs.path.first_fault.Given as goal
 
 abbrev pub invariant-loop-end : goal.invariant-loop-end
 invariant-loop-end l = LeftOf (switches l.fn.windows l.fn.hfs l.fn.ntfs) l.fn.mode l.fn.path l.start

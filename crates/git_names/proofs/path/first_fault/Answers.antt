@@ -1,9 +1,9 @@
-use Rattle.gix_validate.proofs.Common.{◌≡◌, ◌-◌, true, false, None, arith, drop, take, length}
+use Rattle.gix_validate.proofs.Common.{◌≡◌, ◌-◌, ◌∙◌, true, false, None, arith, drop, length, sym, take}
 use Rattle.gix_validate.specs.Component.{is_component}
 use Rattle.gix_validate.specs.Private.Classes.{switches}
 use Rattle.git_names.proofs.PathLemmas.{LeftOf-start, LeftOf-after, LeftOf-fault, LeftOf-last}
 use Rattle.git_names.proofs.PathLemmas.{LeftOf-none}
-use Rattle.git_names.proofs.path.first_invalid_part.Goals as goal
+use Rattle.git_names.proofs.path.first_fault.Goals as goal
 
 pub loop-end-init : goal.loop-end-init
 loop-end-init c = LeftOf-start (switches c.args.windows c.args.hfs c.args.ntfs) c.args.mode c.args.path.now
@@ -14,9 +14,10 @@ returns-then-not-is_component c =
     let x = c.args.path.now in
     let start = c.loop-end.start in
     let invalid : is_component options None (take (c.in-Some.end - start) (drop start x)) ≡ false =
-    grind (arith, c.is_component.ensures, c.if-not-is_component.true) in (
-      c.loop-end.invariant.within,
-      LeftOf-fault options c.args.mode x start c.in-Some.end c.loop-end.invariant c.in-Some.ensures invalid,
+    grind (arith, c.is_component.ensures, c.if-not-is_component.true) in
+    c.fault_of_part.ensures
+    ∙ sym (
+      LeftOf-fault options c.args.mode x start c.in-Some.end c.loop-end.invariant c.in-Some.ensures invalid
     )
 
 pub loop-end-preserved : goal.loop-end-preserved
@@ -35,12 +36,12 @@ returns-then-is_component c =
     let start = c.loop-end.start in
     let valid : is_component options c.args.mode (take (length x - start) (drop start x)) ≡ true =
     grind (arith, c.is_component-2.ensures, c.if-is_component.true) in
-    LeftOf-none options c.args.mode x start c.loop-end.invariant c.in_default.ensures valid
+    sym (LeftOf-none options c.args.mode x start c.loop-end.invariant c.in_default.ensures valid)
 
-pub returns-else-is_component : goal.returns-else-is_component
-returns-else-is_component c =
-    let options = switches c.args.windows c.args.hfs c.args.ntfs in (
-      c.loop-end.invariant.within,
-      LeftOf-last options c.args.mode c.args.path.now c.loop-end.start c.loop-end.invariant
-          c.in_default.ensures,
+pub returns : goal.returns
+returns c =
+    let options = switches c.args.windows c.args.hfs c.args.ntfs in
+    c.fault_of_part-2.ensures
+    ∙ sym (
+      LeftOf-last options c.args.mode c.args.path.now c.loop-end.start c.loop-end.invariant c.in_default.ensures
     )

@@ -16,7 +16,7 @@ from tests.hook.expected import (
     not_checked,
     refused,
 )
-from tests.hook.git import file, folder
+from tests.hook.git import Repository, file, folder
 
 
 def test_trees_of_12000_references_are_listed_twice_the_second_time_with_folders(
@@ -141,20 +141,24 @@ def test_what_a_part_may_take_grows_with_the_push(
 
 # What Git holds whole. The list of trees has no limit, since Git also reads for it what
 # the server has.
-def large_commit(source, size):
+def large_commit(source, size, *parents):
     """A commit with a message of so many bytes. It packs into little."""
-    content = (
-        f"tree {source.tree('a')}\nauthor a <b> 1 +0000\ncommitter a <b> 1 +0000\n"
-    )
+    lines = "".join(f"parent {it}\n" for it in parents)
+    ends = "author a <b> 1 +0000\ncommitter a <b> 1 +0000\n"
     message = f"{size}".ljust(size)
     words = ["hash-object", "--literally", "-t", "commit", "-w", "--stdin"]
-    return source.git(*words, stdin=f"{content}\n{message}")
+    content = f"tree {source.tree('a')}\n{lines}{ends}\n{message}"
+    return source.git(*words, stdin=content)
+
+
+def tag(source, target, kind, name, message=""):
+    content = f"object {target}\ntype {kind}\ntag {name}\ntagger a <b> 1 +0000\n\n"
+    words = ["hash-object", "--literally", "-t", "tag", "-w", "--stdin"]
+    return source.git(*words, stdin=content + message)
 
 
 def large_tag(source, size):
-    content = f"object {source.clean}\ntype commit\ntag x\ntagger a <b> 1 +0000\n\n"
-    words = ["hash-object", "--literally", "-t", "tag", "-w", "--stdin"]
-    return source.git(*words, stdin=content + "x" * size)
+    return tag(source, source.clean, "commit", "x", "x" * size)
 
 
 def large_tree(source, size):
@@ -172,6 +176,66 @@ def test_a_commit_tag_or_tree_above_64_MB_refuses_the_push(server, source, kind,
     assert server.push(f"{large}:refs/objects/large") == not_checked(
         f"the {kind} {large} has more than 64 MB", status=1
     )
+
+
+# Two commits or tags, each of which is just small enough, and what refers to them.
+def next_to_each_other(incoming):
+    return [large_commit(incoming, 62_000_000 + n) for n in range(2)]
+
+
+def in_a_chain(incoming):
+    """Git keeps the parents of each, which are a million."""
+    commit = incoming.commit_of("a")
+    for n in range(2):
+        count = 62_000_000 // len(f"parent {commit}\n")
+        commit = large_commit(incoming, n, *[commit] * count)
+    return [commit]
+
+
+def below_tags(incoming):
+    return [tag(incoming, it, "commit", "large") for it in next_to_each_other(incoming)]
+
+
+def tags_with_long_names(incoming):
+    """One tags the other. Git keeps the names of both."""
+    first = tag(incoming, incoming.commit_of("a"), "commit", "x" * 62_000_000)
+    return [tag(incoming, first, "tag", "x" * 62_000_000)]
+
+
+def smaller_ones(incoming):
+    """Git packs them into little."""
+    parents = [incoming.commit_of("a")] * 25_000
+    return [large_commit(incoming, n, *parents) for n in range(105)]
+
+
+@pytest.mark.parametrize(
+    "make",
+    [next_to_each_other, in_a_chain, below_tags, tags_with_long_names, smaller_ones],
+)
+def test_commits_and_tags_above_112_MB_together_refuse_the_push(
+    incoming, measured_push, make
+):
+    result, megabytes = measured_push(*make(incoming))
+    assert result.status == 2
+    assert re.fullmatch(
+        rf"{UNCHECKED}: the commits and tags of the push have more than 1[12]\d MB: "
+        r"push fewer at once\n",
+        result.said,
+    )
+    assert megabytes < 96
+
+
+def test_nine_branches_with_messages_of_12_MB_are_accepted(incoming, measured_push):
+    commits = [large_commit(incoming, 12_000_000 + n) for n in range(9)]
+    result, megabytes = measured_push(*commits)
+    assert result == ACCEPTED
+    assert megabytes < 192
+
+
+def test_large_files_do_not_count_as_commits(incoming, measured_push):
+    files = (file(f"{n}", incoming.blob(f"{n}" * 62_000_000)) for n in range(2))
+    result, _ = measured_push(incoming.commit_of(*files))
+    assert result == ACCEPTED
 
 
 def test_large_commits_that_the_server_has_refuse_no_small_push(server, source):
@@ -231,12 +295,32 @@ def measured(hook, source, room):
     """Runs the hook on a commit, or on the lines of a push. Returns its result, the
     megabytes of the largest process, and the seconds of processor time of all."""
 
-    def run(pushed):
+    def run(pushed, **env):
         file = room / "used"
         through = [sys.executable, "-c", MEASURE, file]
         lines = pushed if " " in pushed else source.push_of(pushed)
-        result = hook.run(lines, through=through)
+        result = hook.run(lines, through=through, **env)
         return result, *map(float, file.read_text().split())
+
+    return run
+
+
+@pytest.fixture
+def incoming(room, source):
+    """A repository whose objects are those that a push brings."""
+    return Repository(room / "incoming", source.object_format, "--bare")
+
+
+@pytest.fixture
+def measured_push(measured, source, incoming):
+    """Runs the hook on a push of a reference to each of these objects."""
+
+    def run(*ids):
+        refs = (source.push_of(it, f"refs/pushes/{n}") for n, it in enumerate(ids))
+        names = "GIT_QUARANTINE_PATH", "GIT_OBJECT_DIRECTORY"
+        env = dict.fromkeys(names, incoming.path / "objects")
+        result, megabytes, _ = measured("".join(refs), **env)
+        return result, megabytes
 
     return run
 

@@ -5,35 +5,30 @@
 //! for the largest file, of which a push can have much in few megabytes.)
 
 use super::chains::{self, Delta};
-use crate::checks::{join, spawn, start, write_ids};
+use super::size::Quarantine;
 use crate::child::Child;
 use crate::failure::{failed, OrFail, Result};
 use crate::git::Git;
-use std::env;
-use std::ffi::OsStr;
-use std::fs;
-use std::io::{self, BufRead, BufReader, Read};
-use std::path::Path;
+use std::io::{BufRead, BufReader};
 use std::process::Stdio;
-use std::thread;
 
 /// How large a tree, a commit or a tag may be: Git holds it whole.
 const LARGEST: u64 = 64 << 20;
-/// No object in a smaller file of its own is larger: deflate makes of 1032 bytes at least one.
-const SMALLEST_FILE: u64 = LARGEST / 1032;
+/// How many megabytes all commits and tags of a push may have, and how many more for each that the
+/// push has. `git rev-list` holds the commits that references name, the names of tags, and of each
+/// commit a list of its parents.
+const ALL: (u64, u64) = (112, 8);
+/// Objects in smaller files are smaller than that: deflate makes of 1032 bytes at least one.
+const SMALLEST_FILES: u64 = LARGEST / 1032;
 /// How many digits of an id are kept.
 const DIGITS: usize = 16;
 
-/// Fails if the push has a long chain of deltas, or a large tree, commit or tag.
-pub fn check(git: &Git) -> Result<()> {
-    let folder = match env::var_os("GIT_QUARANTINE_PATH") {
-        Some(folder) => folder,
-        None => return Ok(()),
+/// Fails if the push has a long chain of deltas, or large trees, commits or tags.
+pub fn check(git: &Git, quarantine: &Quarantine) -> Result<()> {
+    let folder = match &quarantine.folder {
+        Some(folder) if quarantine.has_pack || quarantine.bytes >= SMALLEST_FILES => folder,
+        _ => return Ok(()),
     };
-    let may_have = may_have(Path::new(&folder));
-    if !may_have.or_fail("the folder of the push could not be read")? {
-        return Ok(());
-    }
     // (the objects of the push alone)
     let git = git.clone().with("GIT_OBJECT_DIRECTORY", folder);
     let git = git.with("GIT_ALTERNATE_OBJECT_DIRECTORIES", "");
@@ -44,97 +39,97 @@ pub fn check(git: &Git) -> Result<()> {
             chains::LONGEST
         ));
     }
-    check_kinds(&git, &headers.large)
-}
-
-/// Whether the push may have one: if it is a pack, or has a large file.
-fn may_have(folder: &Path) -> io::Result<bool> {
-    for entry in fs::read_dir(folder)? {
-        let (path, file) = entry.and_then(|it| Ok((it.path(), it.metadata()?)))?;
-        if file.is_dir() && may_have(&path)?
-            || file.is_file() && file.len() >= SMALLEST_FILE
-            || path.extension() == Some(OsStr::new("pack"))
-        {
-            return Ok(true);
-        }
+    if headers.bytes > LARGEST {
+        check_kinds(&git, quarantine.megabytes(ALL.0, ALL.1))?;
     }
-    Ok(false)
+    Ok(())
 }
 
 /// What is kept of the headers.
 #[derive(Default)]
 struct Headers {
     deltas: Vec<Delta>,
-    /// The ids of large objects, each with a newline.
-    large: Vec<String>,
+    /// How large all objects are.
+    bytes: u64,
 }
 
 impl Headers {
     fn list(git: &Git) -> Result<Self> {
-        let mut command = git.command(&["cat-file", "--batch-all-objects"]);
-        command.arg("--batch-check=%(objectname) %(deltabase) %(objectsize)");
-        command.stdout(Stdio::piped());
-        let mut list = Child::start("git cat-file", command)?;
-        let headers = Self::read(list.output()?).or_fail("the headers could not be read")?;
-        list.succeed()?;
-        Ok(headers)
-    }
-
-    fn read(list: impl Read) -> io::Result<Self> {
-        let mut list = BufReader::with_capacity(1 << 16, list);
-        let (mut headers, mut line) = (Self::default(), String::new());
-        while list.read_line(&mut line)? > 0 {
-            let odd = || io::Error::new(io::ErrorKind::InvalidData, "they are odd");
-            headers.add(line.trim_end()).ok_or_else(odd)?;
-            line.clear();
-        }
+        let mut headers = Self::default();
+        let format = "%(objectname) %(deltabase) %(objectsize)";
+        list(git, format, |line| headers.add(line))?;
         Ok(headers)
     }
 
     /// Adds that of a line. The base of what is no delta is zeros.
-    fn add(&mut self, line: &str) -> Option<()> {
-        let mut words = line.split(' ');
-        let (id, base, size) = (words.next()?, words.next()?, words.next()?);
+    fn add(&mut self, line: &str) -> Result<()> {
+        let [id, base, size] = words(line)?;
         let (object, base) = (number(id)?, number(base)?);
         if base != 0 {
             self.deltas.push(Delta { object, base });
         }
-        if size.parse::<u64>().ok()? > LARGEST {
-            self.large.push(format!("{id}\n"));
-        }
-        Some(())
+        self.bytes += bytes(size)?;
+        Ok(())
     }
 }
 
-fn number(id: &str) -> Option<u64> {
-    u64::from_str_radix(id.get(..DIGITS)?, 16).ok()
-}
-
-/// Fails if one of these objects isn't the content of a file, which nobody has to hold whole.
-fn check_kinds(git: &Git, objects: &[String]) -> Result<()> {
-    if objects.is_empty() {
-        return Ok(());
-    }
-    let words = ["cat-file", "--batch-check=%(objecttype) %(objectname)"];
-    let mut cat_file = start("git cat-file", git.command(&words), Stdio::piped())?;
-    let (to, from) = (cat_file.input()?, cat_file.output()?);
-    let mut files = 0;
-    thread::scope(|scope| {
-        let writer = spawn(scope, move || write_ids(objects.concat().as_bytes(), to))?;
-        for line in BufReader::new(from).lines() {
-            let line = line.or_fail("the kinds of objects could not be read")?;
-            if !line.starts_with("blob ") {
-                return failed(format!("the {line} has more than {} MB", LARGEST >> 20));
-            }
-            files += 1;
+/// Fails if a tree, a commit or a tag is too large, or if all commits and tags have more than so many
+/// megabytes. (To know what a delta is, Git walks along its chain. So no chain may be long.)
+fn check_kinds(git: &Git, megabytes: u64) -> Result<()> {
+    let mut sum = 0;
+    list(git, "%(objecttype) %(objectname) %(objectsize)", |line| {
+        let [kind, id, size] = words(line)?;
+        let size = bytes(size)?;
+        if kind != "blob" && size > LARGEST {
+            return failed(format!(
+                "the {kind} {id} has more than {} MB",
+                LARGEST >> 20
+            ));
         }
-        join(writer)
+        if matches!(kind, "commit" | "tag") {
+            sum += size;
+        }
+        Ok(())
     })?;
-    cat_file.succeed()?;
-    if files < objects.len() {
-        return failed("git cat-file did not find all objects");
+    if sum > megabytes << 20 {
+        return failed(format!(
+            "the commits and tags of the push have more than {megabytes} MB: push fewer at once"
+        ));
     }
     Ok(())
+}
+
+/// Has Git list all objects of the push, each in a line of this format.
+fn list(git: &Git, format: &str, mut line_is: impl FnMut(&str) -> Result<()>) -> Result<()> {
+    let mut command = git.command(&["cat-file", "--batch-all-objects", "--unordered"]);
+    command.arg(format!("--batch-check={format}"));
+    command.stdout(Stdio::piped());
+    let mut list = Child::start("git cat-file", command)?;
+    let mut lines = BufReader::with_capacity(1 << 16, list.output()?);
+    let mut line = String::new();
+    while lines.read_line(&mut line).or_fail(UNREAD)? > 0 {
+        line_is(line.trim_end())?;
+        line.clear();
+    }
+    list.succeed()
+}
+
+const UNREAD: &str = "the headers could not be read";
+
+fn words(line: &str) -> Result<[&str; 3]> {
+    let words: Vec<_> = line.split(' ').collect();
+    words.try_into().or_else(|_| failed(UNREAD))
+}
+
+fn number(id: &str) -> Result<u64> {
+    let digits = id
+        .get(..DIGITS)
+        .and_then(|it| u64::from_str_radix(it, 16).ok());
+    digits.map_or_else(|| failed(UNREAD), Ok)
+}
+
+fn bytes(size: &str) -> Result<u64> {
+    size.parse().or_else(|_| failed(UNREAD))
 }
 
 #[cfg(test)]
@@ -143,22 +138,29 @@ mod tests {
     use crate::push::chains::Delta;
 
     #[test]
-    fn of_the_headers_deltas_and_large_objects_are_kept() {
+    fn of_the_headers_deltas_and_the_sum_of_sizes_are_kept() {
         let [a, b, none] = ["a", "b", "0"].map(|digit| digit.repeat(40));
-        let list = format!("{a} {b} 67108864\n{b} {none} 67108865\n");
-        let headers = Headers::read(list.as_bytes()).unwrap();
+        let mut headers = Headers::default();
+        headers.add(&format!("{a} {b} 67108864")).unwrap();
+        headers.add(&format!("{b} {none} 1")).unwrap();
         let delta = Delta {
             object: 0xAAAA_AAAA_AAAA_AAAA,
             base: 0xBBBB_BBBB_BBBB_BBBB,
         };
         assert!(headers.deltas == [delta]);
-        assert_eq!(headers.large, [format!("{b}\n")]);
+        assert_eq!(headers.bytes, 67_108_865);
     }
 
     #[test]
     fn a_line_without_a_header_is_an_error() {
-        for list in ["", "x", "aaaaaaaaaaaaaaaa missing"] {
-            assert_eq!(Headers::read(list.as_bytes()).is_ok(), list.is_empty());
+        let [id, none] = ["a", "0"].map(|digit| digit.repeat(40));
+        for line in [
+            "",
+            "x",
+            "aaaaaaaaaaaaaaaa missing",
+            &format!("{id} {none} x"),
+        ] {
+            assert!(Headers::default().add(line).is_err());
         }
     }
 }

@@ -17,6 +17,7 @@ use crate::settings::{self, Rules};
 use crate::system::Limits;
 use crate::verdict::{Checked, Objects, Report, Verdict};
 use lines::{write_lines, PushLines};
+use size::Quarantine;
 use std::env;
 use std::ffi::OsString;
 use std::io::{self, Write};
@@ -43,7 +44,8 @@ fn bounds(limits: Limits) -> Bounds {
 
 /// Checks the push whose lines are on standard input.
 pub fn run(programs: Programs) -> Result<Verdict> {
-    let limits = size::limit_push()?;
+    let quarantine = Quarantine::find()?;
+    let limits = quarantine.limit_push()?;
     let (git, version) = Git::find()?;
     let git = git.in_push();
     let settings = settings::start(&git)?;
@@ -60,6 +62,7 @@ pub fn run(programs: Programs) -> Result<Verdict> {
 
     let mut push = Push {
         checks,
+        quarantine,
         arguments: ["--not".into(), "--all".into()],
         ids: Vec::new(),
         findings: Vec::new(),
@@ -89,6 +92,7 @@ fn explained(failure: Failure, limits: Limits) -> Failure {
 
 struct Push {
     checks: Checks,
+    quarantine: Quarantine,
     /// The new ids of the references that are allowed, each on a line.
     ids: Vec<u8>,
     /// What the server has already.
@@ -102,6 +106,7 @@ impl Push {
     fn check(&mut self) -> Result<Verdict> {
         let Self {
             checks,
+            quarantine,
             ids,
             arguments,
             findings,
@@ -134,7 +139,7 @@ impl Push {
         let trees = match ids.as_slice() {
             [] => Objects::of_none(0)?,
             ids => {
-                headers::check(&checks.git)?;
+                headers::check(&checks.git, quarantine)?;
                 checks.trees(Selection { ids, arguments }, &mut modules, &mut found)?
             }
         };

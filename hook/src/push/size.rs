@@ -5,35 +5,64 @@
 use crate::failure::{OrFail, Result};
 use crate::system::{limit_this, Limits, Resource};
 use std::env;
+use std::ffi::OsStr;
 use std::fs;
-use std::path::Path;
+use std::io;
+use std::path::{Path, PathBuf};
 
 const MEGABYTE: u64 = 1 << 20;
 
-/// Limits this process and all that it starts.
-pub fn limit_push() -> Result<Limits> {
-    let size = size_of_push();
-    let limits = Limits {
-        seconds: 10 + size / MEGABYTE,
-        megabytes: 96 + 8 * size / MEGABYTE,
-    };
-    limit_this(Resource::Time, limits.seconds).or_fail("the time could not be limited")?;
-    limit_this(Resource::Memory, limits.megabytes * MEGABYTE)
-        .or_fail("the memory could not be limited")?;
-    Ok(limits)
+/// Where the objects are that a push brings, as they came: in a pack, or each in a file.
+pub struct Quarantine {
+    /// None, if the push brings no objects.
+    pub folder: Option<PathBuf>,
+    pub bytes: u64,
+    pub has_pack: bool,
 }
 
-/// The size of all objects that the push brings, as they came: in a pack, or each in a file.
-fn size_of_push() -> u64 {
-    env::var_os("GIT_QUARANTINE_PATH").map_or(0, |it| size_below(Path::new(&it)))
-}
+impl Quarantine {
+    /// That of this push.
+    pub fn find() -> Result<Self> {
+        let mut found = Self {
+            folder: env::var_os("GIT_QUARANTINE_PATH").map(PathBuf::from),
+            bytes: 0,
+            has_pack: false,
+        };
+        if let Some(folder) = found.folder.clone() {
+            found
+                .look_in(&folder)
+                .or_fail("the folder of the push could not be read")?;
+        }
+        Ok(found)
+    }
 
-fn size_below(folder: &Path) -> u64 {
-    let entries = fs::read_dir(folder).into_iter().flatten().flatten();
-    let size = |entry: fs::DirEntry| match entry.metadata() {
-        Ok(file) if file.is_dir() => size_below(&entry.path()),
-        Ok(file) => file.len(),
-        Err(_) => 0,
-    };
-    entries.map(size).sum()
+    fn look_in(&mut self, folder: &Path) -> io::Result<()> {
+        for entry in fs::read_dir(folder)? {
+            let (path, file) = entry.and_then(|it| Ok((it.path(), it.metadata()?)))?;
+            if file.is_dir() {
+                self.look_in(&path)?;
+            } else {
+                self.bytes += file.len();
+                self.has_pack |= path.extension() == Some(OsStr::new("pack"));
+            }
+        }
+        Ok(())
+    }
+
+    /// This many megabytes, and so many more for each that the push has.
+    pub fn megabytes(&self, least: u64, more: u64) -> u64 {
+        least + more * self.bytes / MEGABYTE
+    }
+
+    /// Limits this process and all that it starts.
+    pub fn limit_push(&self) -> Result<Limits> {
+        let limits = Limits {
+            seconds: 10 + self.bytes / MEGABYTE,
+            megabytes: self.megabytes(96, 8),
+        };
+        limit_this(Resource::Time, limits.seconds).or_fail("the time could not be limited")?;
+        limit_this(Resource::Memory, limits.megabytes * MEGABYTE)
+            .or_fail("the memory could not be limited")?;
+        Ok(limits)
+    }
 }

@@ -7,7 +7,7 @@ mod lines;
 mod refusal;
 mod size;
 
-use crate::checks::{Bounds, Checks, Selection};
+use crate::checks::{Bounds, Checks, Selection, TreeList};
 use crate::failure::{Failure, Result};
 use crate::findings::{Finding, Place};
 use crate::git::{self, Git};
@@ -49,25 +49,25 @@ pub fn run(programs: Programs) -> Result<Verdict> {
     let (git, version) = Git::find()?;
     let git = git.in_push();
     let settings = settings::start(&git)?;
-    programs.check()?;
-    git::check_version(version)?;
-    let mut rules = Rules::default();
-    rules.read(settings, &programs)?;
-    let checks = Checks {
-        programs,
-        git,
-        rules,
-        bounds: bounds(limits),
-    };
-
     let mut push = Push {
-        checks,
+        checks: Checks {
+            programs,
+            git,
+            rules: Rules::default(),
+            bounds: bounds(limits),
+        },
         quarantine,
         arguments: ["--not".into(), "--all".into()],
         ids: Vec::new(),
         findings: Vec::new(),
     };
-    let verdict = push.check().map_err(|it| explained(it, limits))?;
+    // (while that runs: starting Git takes most of the time that a small push does)
+    let list = push.checks.start_list(&push.arguments)?;
+    push.checks.programs.check()?;
+    git::check_version(version)?;
+    push.checks.rules.read(settings, &push.checks.programs)?;
+
+    let verdict = push.check(list).map_err(|it| explained(it, limits))?;
     if let Verdict::Refused = verdict {
         // (refused all the same, if nobody reads why)
         let _ = io::stdout().write_all(push.refusal().as_bytes());
@@ -103,13 +103,13 @@ struct Push {
 
 impl Push {
     /// Checks all names: those of references, those in trees, and those of submodules.
-    fn check(&mut self) -> Result<Verdict> {
+    fn check(&mut self, mut list: TreeList) -> Result<Verdict> {
         let Self {
             checks,
             quarantine,
             ids,
-            arguments,
             findings,
+            ..
         } = self;
         let mut found = |finding| {
             findings.push(finding);
@@ -119,8 +119,11 @@ impl Push {
                 Break(())
             }
         };
+        let check_refs = checks.start_references()?;
+        let check_trees = checks.start_trees(&mut list)?;
         let mut lines = PushLines::new(checks.rules.replace);
         let references = checks.references(
+            check_refs,
             |to| lines.pass_on(io::stdin(), to),
             Place::Reference,
             ids,
@@ -129,6 +132,7 @@ impl Push {
         let in_namespaces = match lines.in_namespaces.as_slice() {
             [] => Report::of_none(0)?,
             names => checks.references(
+                checks.start_references()?,
                 |to| write_lines(names, to),
                 Place::InNamespace,
                 ids,
@@ -137,10 +141,10 @@ impl Push {
         };
         let mut modules = lines.replacements;
         let trees = match ids.as_slice() {
-            [] => Objects::of_none(0)?,
+            [] => Objects::of_none(0)?, // (the list isn't needed, and ends here)
             ids => {
                 headers::check(&checks.git, quarantine)?;
-                checks.trees(Selection { ids, arguments }, &mut modules, &mut found)?
+                checks.trees(list, check_trees, ids, &mut modules, &mut found)?
             }
         };
         let submodules = if modules.is_empty() {

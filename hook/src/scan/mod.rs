@@ -179,13 +179,19 @@ impl Scan {
                 to.write_all(&selected.references)
                     .or_fail("check_refs did not read all references")
             };
-            checks.references(write, Place::Reference, &mut Vec::new(), &mut |finding| {
-                see(NamedFinding {
-                    finding,
-                    name: None,
-                });
-                Continue(())
-            })?
+            checks.references(
+                checks.start_references()?,
+                write,
+                Place::Reference,
+                &mut Vec::new(),
+                &mut |finding| {
+                    see(NamedFinding {
+                        finding,
+                        name: None,
+                    });
+                    Continue(())
+                },
+            )?
         };
         let selection = Selection {
             ids: &selected.ids,
@@ -387,12 +393,18 @@ fn refused_names(checks: &Checks, lines: &[u8]) -> Result<HashSet<Vec<u8>>> {
             .or_fail("check_refs did not read all references")
     };
     // (the names are what is looked for, and no verdict hangs on this report)
-    let _ = checks.references(write, Place::Reference, &mut Vec::new(), &mut |finding| {
-        if let Place::Reference(name) = finding.place {
-            names.insert(name);
-        }
-        Continue(())
-    })?;
+    let _ = checks.references(
+        checks.start_references()?,
+        write,
+        Place::Reference,
+        &mut Vec::new(),
+        &mut |finding| {
+            if let Place::Reference(name) = finding.place {
+                names.insert(name);
+            }
+            Continue(())
+        },
+    )?;
     names.remove(b"refs/heads/HEAD".as_slice()); // (Git lists this one)
     Ok(names)
 }

@@ -172,6 +172,9 @@ impl Checks {
 
     /// Checks the names of submodules in these blobs.
     pub fn submodules(&self, modules: &Modules, found: OnFinding) -> Result<Objects> {
+        if modules.is_empty() {
+            return Objects::of_none(modules.len());
+        }
         let mut cat_file = self.cat_file(&["cat-file", "--buffer", BATCH])?;
         if let Some(seconds) = self.bounds.seconds {
             cat_file.limit_time(seconds)?;

@@ -58,6 +58,15 @@ pub struct Selection<'a> {
     pub arguments: &'a [OsString],
 }
 
+/// `git rev-list` and the `git cat-file` that prints the trees which it lists. Both wait for ids: so
+/// they can be started before these are known, and are ready then.
+pub struct TreeList {
+    rev_list: Child,
+    cat_file: Child,
+    /// Where the list gets its end.
+    end: ChildStdin,
+}
+
 /// Where the blobs are that are read as `.gitmodules`: one place of each.
 pub type Modules = HashMap<Id, Place>;
 
@@ -65,20 +74,25 @@ pub type Modules = HashMap<Id, Place>;
 pub type OnFinding<'a> = &'a mut dyn FnMut(Finding) -> ControlFlow<()>;
 
 impl Checks {
+    /// Starts the program that checks the names of references.
+    pub fn start_references(&self) -> Result<Child> {
+        let mut command = self.programs.command("check_refs");
+        command.arg("--ids");
+        command.args(self.rules.replace.then_some("--replace"));
+        start("check_refs", command, Stdio::piped())
+    }
+
     /// Checks the names of references, in lines `OLD NEW REF` that `write` writes. To `ids` it adds
     /// the new ones of those that are allowed and not deleted, each on a line, as `ID^{}`: of a tag,
     /// this is what is tagged. (For a chain of tags Git would keep the chain of each.)
     pub fn references(
         &self,
+        mut check: Child,
         write: impl FnOnce(ChildStdin) -> Result<()> + Send,
         place: fn(Vec<u8>) -> Place,
         ids: &mut Vec<u8>,
         found: OnFinding,
     ) -> Result<Report> {
-        let mut command = self.programs.command("check_refs");
-        command.arg("--ids");
-        command.args(self.rules.replace.then_some("--replace"));
-        let mut check = start("check_refs", command, Stdio::piped())?;
         let to = check.input()?;
         thread::scope(|scope| {
             let writer = spawn(scope, move || write(to))?;
@@ -95,29 +109,47 @@ impl Checks {
         })
     }
 
-    /// Checks the names in the trees of a selection, and adds the blobs that a checkout reads as
-    /// `.gitmodules`.
-    pub fn trees(
-        &self,
-        selection: Selection,
-        modules: &mut Modules,
-        found: OnFinding,
-    ) -> Result<Objects> {
+    /// Starts to list the trees of the ids that it gets later, and to print them.
+    pub fn start_list(&self, arguments: &[OsString]) -> Result<TreeList> {
         let mut cat_file = self.cat_file(&["cat-file", BATCH, "--buffer"])?;
-        let check = start("check_trees", self.check_trees(), cat_file.output()?)?;
-
-        let list_to = cat_file.input()?;
-        let copy = list_to
+        let end = cat_file.input()?;
+        let copy = end
             .as_fd()
             .try_clone_to_owned()
             .or_fail("a pipe could not be copied")?;
-        let mut rev_list = self.rev_list(selection, "--no-object-names", copy)?;
-        let ids_to = rev_list.input()?;
+        let rev_list = self.rev_list(arguments, "--no-object-names", copy)?;
+        Ok(TreeList {
+            rev_list,
+            cat_file,
+            end,
+        })
+    }
 
+    /// Starts the program that checks the names in the trees of this list.
+    pub fn start_trees(&self, list: &mut TreeList) -> Result<Child> {
+        start("check_trees", self.check_trees(), list.cat_file.output()?)
+    }
+
+    /// Checks the names in the trees of these ids, and adds the blobs that a checkout reads as
+    /// `.gitmodules`.
+    pub fn trees(
+        &self,
+        list: TreeList,
+        check: Child,
+        ids: &[u8],
+        modules: &mut Modules,
+        found: OnFinding,
+    ) -> Result<Objects> {
+        let TreeList {
+            mut rev_list,
+            cat_file,
+            end,
+        } = list;
+        let ids_to = rev_list.input()?;
         thread::scope(|scope| {
             let lister = spawn(scope, move || {
-                let written = write_ids(selection.ids, ids_to);
-                List::of_git(written, rev_list, list_to)
+                let written = write_ids(ids, ids_to);
+                List::of_git(written, rev_list, end)
             })?;
             let report = Report::read(check, self.bounds.lengths, |line| {
                 if let Some(rest) = line.front.strip_prefix(b"modules ") {
@@ -140,6 +172,9 @@ impl Checks {
 
     /// Checks the names of submodules in these blobs.
     pub fn submodules(&self, modules: &Modules, found: OnFinding) -> Result<Objects> {
+        if modules.is_empty() {
+            return Objects::of_none(modules.len());
+        }
         let mut cat_file = self.cat_file(&["cat-file", "--buffer", BATCH])?;
         if let Some(seconds) = self.bounds.seconds {
             cat_file.limit_time(seconds)?;
@@ -180,7 +215,7 @@ impl Checks {
     /// input, on which it waits before all else.
     pub fn rev_list(
         &self,
-        selection: Selection,
+        arguments: &[OsString],
         names: &str,
         output: impl Into<Stdio>,
     ) -> Result<Child> {
@@ -193,7 +228,7 @@ impl Checks {
             "--filter=object:type=tree",
             "--filter-provided-objects",
         ]);
-        command.args(selection.arguments);
+        command.args(arguments);
         command.stdin(Stdio::piped()).stdout(output);
         let rev_list = Child::start("git rev-list", command)?;
         if !self.bounds.limit_lists {

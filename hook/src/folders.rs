@@ -21,7 +21,7 @@ impl Checks {
         if trees.is_empty() {
             return Ok(folders);
         }
-        let mut rev_list = self.rev_list(selection, "--object-names", Stdio::piped())?;
+        let mut rev_list = self.rev_list(selection.arguments, "--object-names", Stdio::piped())?;
         let input = rev_list.input()?;
         let list = rev_list.output()?.take(LONGEST_LIST);
         std::thread::scope(|scope| {

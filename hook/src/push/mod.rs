@@ -7,7 +7,7 @@ mod lines;
 mod refusal;
 mod size;
 
-use crate::checks::{Bounds, Checks, Selection};
+use crate::checks::{Bounds, Checks, OnFinding, Selection, TreeList};
 use crate::failure::{Failure, Result};
 use crate::findings::{Finding, Place};
 use crate::git::{self, Git};
@@ -21,7 +21,7 @@ use size::Quarantine;
 use std::env;
 use std::ffi::OsString;
 use std::io::{self, Write};
-use std::ops::ControlFlow::{Break, Continue};
+use std::ops::ControlFlow::{self, Break, Continue};
 
 /// How many refused names are looked at. (A push can have millions.)
 const MOST_FINDINGS: usize = 10_000;
@@ -49,25 +49,25 @@ pub fn run(programs: Programs) -> Result<Verdict> {
     let (git, version) = Git::find()?;
     let git = git.in_push();
     let settings = settings::start(&git)?;
-    programs.check()?;
-    git::check_version(version)?;
-    let mut rules = Rules::default();
-    rules.read(settings, &programs)?;
-    let checks = Checks {
-        programs,
-        git,
-        rules,
-        bounds: bounds(limits),
-    };
-
     let mut push = Push {
-        checks,
+        checks: Checks {
+            programs,
+            git,
+            rules: Rules::default(),
+            bounds: bounds(limits),
+        },
         quarantine,
         arguments: ["--not".into(), "--all".into()],
         ids: Vec::new(),
         findings: Vec::new(),
     };
-    let verdict = push.check().map_err(|it| explained(it, limits))?;
+    // (while that runs: starting Git takes most of the time that a small push does)
+    let list = push.checks.start_list(&push.arguments)?;
+    push.checks.programs.check()?;
+    git::check_version(version)?;
+    push.checks.rules.read(settings, &push.checks.programs)?;
+
+    let verdict = push.check(list).map_err(|it| explained(it, limits))?;
     if let Verdict::Refused = verdict {
         // (refused all the same, if nobody reads why)
         let _ = io::stdout().write_all(push.refusal().as_bytes());
@@ -103,51 +103,35 @@ struct Push {
 
 impl Push {
     /// Checks all names: those of references, those in trees, and those of submodules.
-    fn check(&mut self) -> Result<Verdict> {
+    fn check(&mut self, mut list: TreeList) -> Result<Verdict> {
         let Self {
             checks,
             quarantine,
             ids,
-            arguments,
             findings,
+            ..
         } = self;
-        let mut found = |finding| {
-            findings.push(finding);
-            if findings.len() < MOST_FINDINGS {
-                Continue(())
-            } else {
-                Break(())
-            }
-        };
+        let mut found = keep(findings);
+        let check_refs = checks.start_references()?;
+        let check_trees = checks.start_trees(&mut list)?;
         let mut lines = PushLines::new(checks.rules.replace);
         let references = checks.references(
+            check_refs,
             |to| lines.pass_on(io::stdin(), to),
             Place::Reference,
             ids,
             &mut found,
         )?;
-        let in_namespaces = match lines.in_namespaces.as_slice() {
-            [] => Report::of_none(0)?,
-            names => checks.references(
-                |to| write_lines(names, to),
-                Place::InNamespace,
-                ids,
-                &mut found,
-            )?,
-        };
+        let in_namespaces = check_in_namespaces(checks, &lines.in_namespaces, ids, &mut found)?;
         let mut modules = lines.replacements;
         let trees = match ids.as_slice() {
-            [] => Objects::of_none(0)?,
+            [] => Objects::of_none(0)?, // (the list isn't needed, and ends here)
             ids => {
                 headers::check(&checks.git, quarantine)?;
-                checks.trees(Selection { ids, arguments }, &mut modules, &mut found)?
+                checks.trees(list, check_trees, ids, &mut modules, &mut found)?
             }
         };
-        let submodules = if modules.is_empty() {
-            Objects::of_none(modules.len())?
-        } else {
-            checks.submodules(&modules, &mut found)?
-        };
+        let submodules = checks.submodules(&modules, &mut found)?;
         Ok(Verdict::of(Checked {
             references,
             in_namespaces,
@@ -171,4 +155,36 @@ impl Push {
             self.findings.len() < MOST_FINDINGS,
         )
     }
+}
+
+/// Keeps what is found, until it is very much.
+fn keep(findings: &mut Vec<Finding>) -> impl FnMut(Finding) -> ControlFlow<()> + '_ {
+    |finding| {
+        findings.push(finding);
+        if findings.len() < MOST_FINDINGS {
+            Continue(())
+        } else {
+            Break(())
+        }
+    }
+}
+
+/// Checks the names that references have inside of namespaces, in lines of a push.
+fn check_in_namespaces(
+    checks: &Checks,
+    lines: &[u8],
+    ids: &mut Vec<u8>,
+    found: OnFinding,
+) -> Result<Report> {
+    if lines.is_empty() {
+        return Report::of_none(lines.len());
+    }
+    let check = checks.start_references()?;
+    checks.references(
+        check,
+        |to| write_lines(lines, to),
+        Place::InNamespace,
+        ids,
+        found,
+    )
 }

@@ -69,12 +69,12 @@ const REFERENCE_ADVICE: &str = "\
 Push a refused ref under another name.
 ";
 const ENTRY_ADVICE: &str = "\
-If this push brings a name, rename it in the commits that bring it; a later commit doesn't help.
+If your push adds the name, rename the file in the commit that adds it (git rebase -i), not in a later one.
 If the server has it already, first push one commit on top of the server's branch that renames it. Or an
 administrator accepts the name, if only Windows forbids it: git config --add names.accept NAME
 ";
 const SUBMODULE_ADVICE: &str = "\
-If this push brings a .gitmodules file, mend it in the commits that bring it; a later commit doesn't help.
+If your push changes a .gitmodules file, mend it in the commit that does (git rebase -i), not in a later one.
 If the server has it already, first push one commit on top of the server's branch that mends it.
 ";
 

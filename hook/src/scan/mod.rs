@@ -16,7 +16,7 @@ mod to_accept;
 mod trees;
 mod watch;
 
-use crate::checks::{Bounds, Checks, Modules, Selection};
+use crate::checks::{Bounds, Checks, Modules, OnFinding, Selection};
 use crate::failure::{failed, printable, say, OrFail, Result};
 use crate::findings::{Finding, Kind, Place};
 use crate::git::{check_version, Git};
@@ -27,13 +27,14 @@ use crate::settings::Rules;
 use crate::system::{self, Limits};
 use crate::verdict::{Checked, Objects, Report, Verdict};
 use options::{Asked, Options};
-use references::{is_missing, References};
+use references::{is_missing, is_not_listed, References};
 use repository::Repository;
 use room::{Format, Room};
 use std::collections::HashSet;
 use std::ffi::OsString;
 use std::io::{self, Write};
-use std::ops::ControlFlow::Continue;
+use std::ops::ControlFlow::{self, Continue};
+use std::process::ChildStdin;
 use summary::Summary;
 use trees::Seen;
 
@@ -117,25 +118,10 @@ impl Scan {
         let room = Room::new(&git)?;
         let configuration = repository.configuration()?;
         let format = room.format_of(&configuration)?;
-        let mut rules = Rules {
-            accept: options.accept.clone(),
-            ..Rules::default()
-        };
-        if options.settings {
-            for settings in room.start_settings(&configuration)? {
-                rules.read(settings, &programs)?;
-            }
-        }
-        if let Some(protect) = &options.protect {
-            rules.protect.clone_from(protect);
-        }
-        // (a replacement is a name like any other here: Git shows the objects as they are)
-        rules.replace = true;
-        let git = room.git();
         let checks = Checks {
+            rules: rules(&options, &room, &configuration, &programs)?,
             programs,
-            git,
-            rules,
+            git: room.git(),
             bounds: BOUNDS,
         };
         let selected = Selected::of(&options, &repository, &room, format, &checks)?;
@@ -171,32 +157,45 @@ impl Scan {
     }
 
     fn check_all(&self, see: &mut dyn FnMut(NamedFinding)) -> Result<Verdict> {
-        let (selected, checks) = (&self.selected, &self.checks);
-        let references = if selected.references.is_empty() {
-            Report::of_none(selected.references.len())?
-        } else {
-            let write = |mut to: std::process::ChildStdin| {
-                to.write_all(&selected.references)
-                    .or_fail("check_refs did not read all references")
-            };
-            checks.references(write, Place::Reference, &mut Vec::new(), &mut |finding| {
-                see(NamedFinding {
-                    finding,
-                    name: None,
-                });
-                Continue(())
-            })?
-        };
+        let references = self.check_references(see)?;
+        let mut modules = Modules::new();
+        watch::show(self.selected.objects);
+        let trees = self.check_trees(&mut modules, see);
+        watch::hide();
+        let trees = trees?;
+        self.selected.add_replacements(&mut modules);
+        let submodules = self.checks.submodules(&modules, &mut without_name(see))?;
+        Ok(Verdict::of(Checked {
+            references,
+            in_namespaces: Report::of_none(0)?, // (each name that is there is a reference's)
+            trees,
+            submodules,
+        }))
+    }
+
+    fn check_references(&self, see: &mut dyn FnMut(NamedFinding)) -> Result<Report> {
+        let lines = &self.selected.references;
+        if lines.is_empty() {
+            return Report::of_none(lines.len());
+        }
+        check_names(&self.checks, lines, &mut without_name(see))
+    }
+
+    /// Checks the names in trees, and adds the files `.gitmodules`.
+    fn check_trees(
+        &self,
+        modules: &mut Modules,
+        see: &mut dyn FnMut(NamedFinding),
+    ) -> Result<Objects> {
         let selection = Selection {
-            ids: &selected.ids,
-            arguments: &selected.arguments,
+            ids: &self.selected.ids,
+            arguments: &self.selected.arguments,
         };
-        let (mut modules, mut paths) = (Modules::new(), 0);
-        watch::show(selected.objects);
-        let trees = trees::check(checks, selection, &mut |seen| {
+        let mut paths = 0;
+        trees::check(&self.checks, selection, &mut |seen| {
             match seen {
                 Seen::Refused(entry) => see(self.found(entry)),
-                Seen::Modules(..) if modules.len() == checks.bounds.modules => {
+                Seen::Modules(..) if modules.len() == self.checks.bounds.modules => {
                     return failed("there are too many .gitmodules files")
                 }
                 Seen::Modules(_, path) if paths + path.len() > PATHS => {
@@ -209,27 +208,7 @@ impl Scan {
                 }
             }
             Ok(())
-        });
-        watch::hide();
-        let trees = trees?;
-        selected.add_replacements(&mut modules);
-        let submodules = if modules.is_empty() {
-            Objects::of_none(modules.len())?
-        } else {
-            checks.submodules(&modules, &mut |finding| {
-                see(NamedFinding {
-                    finding,
-                    name: None,
-                });
-                Continue(())
-            })?
-        };
-        Ok(Verdict::of(Checked {
-            references,
-            in_namespaces: Report::of_none(0)?, // (each name that is there is a reference's)
-            trees,
-            submodules,
-        }))
+        })
     }
 
     fn found(&self, entry: trees::EntryWithPath) -> NamedFinding {
@@ -271,6 +250,41 @@ pub struct NamedFinding {
     name: Option<Vec<u8>>,
 }
 
+/// Sees what is refused, and is no entry.
+fn without_name(see: &mut dyn FnMut(NamedFinding)) -> impl FnMut(Finding) -> ControlFlow<()> + '_ {
+    |finding| {
+        see(NamedFinding {
+            finding,
+            name: None,
+        });
+        Continue(())
+    }
+}
+
+/// By which rules a scan checks names: those of its options, and of settings if it is to read them.
+fn rules(
+    options: &Options,
+    room: &Room,
+    configuration: &[u8],
+    programs: &Programs,
+) -> Result<Rules> {
+    let mut rules = Rules {
+        accept: options.accept.clone(),
+        ..Rules::default()
+    };
+    if options.settings {
+        for settings in room.start_settings(configuration)? {
+            rules.read(settings, programs)?;
+        }
+    }
+    if let Some(protect) = &options.protect {
+        rules.protect.clone_from(protect);
+    }
+    // (a replacement is a name like any other here: Git shows the objects as they are)
+    rules.replace = true;
+    Ok(rules)
+}
+
 impl Selected {
     /// Adds the blobs that Git shows in place of such files, as that files.
     fn add_replacements(&self, modules: &mut Modules) {
@@ -296,62 +310,61 @@ impl Selected {
             return Self::of_index(repository, room, format);
         }
         repository.check_history()?;
-        let (objects, limits) = room.use_objects(repository)?;
+        let mut selected = Self::nothing(room.use_objects(repository)?);
         let mut references = References::read(repository, format)?;
         let ids = references.ids();
         let missing = room.missing(ids.keys().copied())?;
-        let mut broken: Vec<_> = missing.iter().map(|id| is_missing(ids[id], id)).collect();
+        selected.broken = missing.iter().map(|id| is_missing(ids[id], id)).collect();
         if options.revisions.is_empty() {
-            let there = ids.keys().filter(|it| !missing.contains(**it));
-            let ids = there
-                .flat_map(|it| [it, b"\n".as_slice()].concat())
-                .collect();
-            let mut replacements = references.replacements();
-            replacements.retain(|(_, id)| !missing.contains(id));
-            let lines = references.lines();
-            broken.append(&mut references.broken);
-            return Ok(Self {
-                references: lines,
-                ids,
-                arguments: vec!["--".into()],
-                replacements,
-                broken,
-                objects,
-                limits,
-            });
+            selected.add_references(&references, &missing);
+            selected.broken.append(&mut references.broken);
+            return Ok(selected);
         }
         let refused = refused_names(checks, &references.lines())?;
-        broken.extend(refused.iter().map(|it| {
-            format!(
-                "{}: Git doesn't list it, since its name is invalid",
-                printable(it)
-            )
-        }));
+        selected
+            .broken
+            .extend(refused.iter().map(|it| is_not_listed(it)));
         for name in options.names() {
             repository.check_no_file(name)?;
         }
         room.use_references(&references.view(&refused, &missing))?;
         room.check_revisions(&options.revisions)?;
-        broken.append(&mut references.broken);
+        selected.broken.append(&mut references.broken);
         if options.has_only_ids(format.size() * 2) {
-            broken.clear(); // (Git looks for no reference)
+            selected.broken.clear(); // (Git looks for no reference)
         }
-        let mut arguments = options.revisions.clone();
-        arguments.push("--".into());
-        Ok(Self {
+        selected.arguments = [&options.revisions, &selected.arguments[..]].concat();
+        Ok(selected)
+    }
+
+    /// Nothing of so many objects, which may take so much.
+    fn nothing((objects, limits): (u64, Limits)) -> Self {
+        Self {
             references: Vec::new(),
             ids: Vec::new(),
-            arguments,
+            arguments: vec!["--".into()],
             replacements: Vec::new(),
-            broken,
+            broken: Vec::new(),
             objects,
             limits,
-        })
+        }
+    }
+
+    /// Adds all references, and the objects of those that aren't missing.
+    fn add_references(&mut self, references: &References, missing: &HashSet<Id>) {
+        let ids = references.ids();
+        let there = ids.keys().filter(|it| !missing.contains(**it));
+        self.ids = there
+            .flat_map(|it| [it, b"\n".as_slice()].concat())
+            .collect();
+        self.replacements = references.replacements();
+        self.replacements.retain(|(_, id)| !missing.contains(id));
+        self.references = references.lines();
     }
 
     /// The tree that Git makes of the entries, and those that it would take from the index.
     fn of_index(repository: &Repository, room: &Room, format: Format) -> Result<Self> {
-        let (objects, limits) = room.use_objects(repository)?;
+        let mut selected = Self::nothing(room.use_objects(repository)?);
         let (tree, cached) = room.trees_of_index(repository, format)?;
         // (in a partial clone, Git would bring such a tree and commit it)
         if let Some(id) = room.missing(cached.iter())?.iter().next() {
@@ -360,20 +373,23 @@ impl Selected {
                 printable(id)
             ));
         }
-        let mut ids = tree;
+        selected.ids = tree;
         for id in &cached {
-            ids.extend_from_slice(&[id, b"\n".as_slice()].concat());
+            let line = [id, b"\n".as_slice()].concat();
+            selected.ids.extend_from_slice(&line);
         }
-        Ok(Self {
-            references: Vec::new(),
-            ids,
-            arguments: vec!["--".into()],
-            replacements: Vec::new(),
-            broken: Vec::new(),
-            objects,
-            limits,
-        })
+        Ok(selected)
     }
+}
+
+/// Checks the names of references in these lines.
+fn check_names(checks: &Checks, lines: &[u8], found: OnFinding) -> Result<Report> {
+    let write = |mut to: ChildStdin| {
+        to.write_all(lines)
+            .or_fail("check_refs did not read all references")
+    };
+    let check = checks.start_references()?;
+    checks.references(check, write, Place::Reference, &mut Vec::new(), found)
 }
 
 /// The names that `check_refs` refuses and Git doesn't list, either.
@@ -382,12 +398,8 @@ fn refused_names(checks: &Checks, lines: &[u8]) -> Result<HashSet<Vec<u8>>> {
     if lines.is_empty() {
         return Ok(names);
     }
-    let write = |mut to: std::process::ChildStdin| {
-        to.write_all(lines)
-            .or_fail("check_refs did not read all references")
-    };
     // (the names are what is looked for, and no verdict hangs on this report)
-    let _ = checks.references(write, Place::Reference, &mut Vec::new(), &mut |finding| {
+    let _ = check_names(checks, lines, &mut |finding| {
         if let Place::Reference(name) = finding.place {
             names.insert(name);
         }

@@ -63,26 +63,11 @@ impl References {
         };
         let packed = reader.packed(&repository.common.join("packed-refs"));
         let main = reader.worktree(&repository.common);
-        let mut linked = Vec::new();
-        let mut current = None;
         let worktrees = repository.common.join("worktrees");
-        for (name, kind) in reader.folders.list(&worktrees)? {
-            let folder = worktrees.join(OsStr::from_bytes(&name));
-            if kind.is_symlink() {
-                reader.is_broken(
-                    &folder,
-                    "it is a symbolic link",
-                    "put the folder there to which it leads",
-                );
-            }
-            if !kind.is_dir() {
-                continue;
-            }
-            if folder == repository.folder {
-                current = Some(name.clone());
-            }
-            linked.push((name, reader.worktree(&folder)));
-        }
+        let linked = reader.linked(&worktrees)?;
+        let is_current =
+            |name: &&Name| worktrees.join(OsStr::from_bytes(name)) == repository.folder;
+        let current = linked.iter().map(|it| &it.0).find(is_current).cloned();
         if current.is_none() && repository.folder != repository.common {
             return failed(format!(
                 "{} is no worktree of {}",
@@ -250,6 +235,22 @@ impl Reader {
         self.broken.push(format!("{}: {why}: {helps}", shown(path)));
     }
 
+    /// Those of the linked worktrees, which have their folders in this one.
+    fn linked(&mut self, worktrees: &Path) -> Result<Vec<(Name, Values)>> {
+        let mut linked = Vec::new();
+        for (name, kind) in self.folders.list(worktrees)? {
+            let folder = worktrees.join(OsStr::from_bytes(&name));
+            if kind.is_symlink() {
+                let helps = "put the folder there to which it leads";
+                self.is_broken(&folder, "it is a symbolic link", helps);
+            }
+            if kind.is_dir() {
+                linked.push((name, self.worktree(&folder)));
+            }
+        }
+        Ok(linked)
+    }
+
     /// HEAD and all files below `refs` of a worktree.
     fn worktree(&mut self, folder: &Path) -> Values {
         let mut values = Values::new();
@@ -317,44 +318,26 @@ impl Reader {
                 return Values::new();
             }
         };
-        let (mut values, mut twice) = (Values::new(), HashSet::new());
-        let mut before = b"".as_slice();
+        let mut lines = PackedLines::default();
         let most = self.broken.len() + MOST_LINES;
         for (number, line) in content.split(|byte| *byte == b'\n').enumerate() {
-            match line.first() {
-                None | Some(b'#' | b'^') => continue,
-                Some(_) if self.broken.len() == most => {
-                    let why = format!("more lines than {MOST_LINES} are broken");
-                    self.is_broken(path, &why, "remove the lines");
-                    break;
-                }
-                Some(_) => {}
+            if matches!(line.first(), None | Some(b'#' | b'^')) {
+                continue;
             }
-            let (why, helps) = match self.of_line(line) {
-                None => ("has no object's id and name", "remove the line"),
-                Some((id, name)) => {
-                    let id = Value::Id(id.to_ascii_lowercase().into());
-                    // (of two, some commands of Git take the first one, some each; and Git looks for a name in the
-                    // middle, and then in one half)
-                    let (is_twice, is_after) =
-                        (values.insert(name.to_vec(), id).is_some(), before < name);
-                    before = name;
-                    if is_twice {
-                        twice.insert(name);
-                        ("has the name of another line", "remove one of them")
-                    } else if is_after {
-                        continue;
-                    } else {
-                        ("is not in the order of names", "move it to its place")
-                    }
-                }
+            if self.broken.len() == most {
+                let why = format!("more lines than {MOST_LINES} are broken");
+                self.is_broken(path, &why, "remove the lines");
+                break;
+            }
+            let fault = match self.of_line(line) {
+                None => Some(("has no object's id and name", "remove the line")),
+                Some((id, name)) => lines.add(id, name),
             };
-            self.is_broken(path, &format!("line {} {why}", number + 1), helps);
+            if let Some((why, helps)) = fault {
+                self.is_broken(path, &format!("line {} {why}", number + 1), helps);
+            }
         }
-        for name in twice {
-            values.remove(name);
-        }
-        values
+        lines.values()
     }
 
     /// The id and the name in a line of `packed-refs`.
@@ -362,6 +345,40 @@ impl Reader {
         let (id, name) = split_once(line, b' ')?;
         let is_whole = id.len() == self.digits && line.len() <= LINE;
         (is_whole && is_id(id) && name.starts_with(b"refs/")).then_some((id, name))
+    }
+}
+
+/// What is read of a file `packed-refs`.
+#[derive(Default)]
+struct PackedLines<'a> {
+    values: Values,
+    /// The names that more than one line has.
+    twice: HashSet<&'a [u8]>,
+    before: &'a [u8],
+}
+
+impl<'a> PackedLines<'a> {
+    /// Adds a line. Returns what is wrong with its name, and what helps. (Of two with one name, some
+    /// commands of Git take the first one, some each. And Git looks for a name in the middle, and then
+    /// in one half.)
+    fn add(&mut self, id: &[u8], name: &'a [u8]) -> Option<(&'static str, &'static str)> {
+        let id = Value::Id(id.to_ascii_lowercase().into());
+        let is_twice = self.values.insert(name.to_vec(), id).is_some();
+        let is_after = self.before < name;
+        self.before = name;
+        if is_twice {
+            self.twice.insert(name);
+            return Some(("has the name of another line", "remove one of them"));
+        }
+        (!is_after).then_some(("is not in the order of names", "move it to its place"))
+    }
+
+    /// The references, but for those that are there twice.
+    fn values(mut self) -> Values {
+        for name in self.twice {
+            self.values.remove(name);
+        }
+        self.values
     }
 }
 
@@ -388,6 +405,14 @@ fn is_space(byte: u8) -> bool {
 
 fn is_id(text: &[u8]) -> bool {
     text.iter().all(u8::is_ascii_hexdigit) && text.iter().any(|byte| *byte != b'0')
+}
+
+/// What is said of a reference whose name `check_refs` refuses.
+pub fn is_not_listed(name: &[u8]) -> String {
+    format!(
+        "{}: Git doesn't list it, since its name is invalid",
+        printable(name)
+    )
 }
 
 /// What is said of a reference whose object is missing.

@@ -23,7 +23,7 @@ use std::fs::{self, DirBuilder};
 use std::hash::{BuildHasher, Hasher};
 use std::io::{self, BufRead, BufReader, BufWriter, Write};
 use std::os::unix::fs::DirBuilderExt;
-use std::path::PathBuf;
+use std::path::{Path, PathBuf};
 use std::process::Stdio;
 use std::sync::atomic::Ordering;
 use std::sync::Mutex;
@@ -250,36 +250,46 @@ impl Room {
             .or_fail(NO_ROOM)?;
         let folder = self.path("index");
         if let Some(shared) = &found.shared {
-            let name = format!("sharedindex.{}", printable(shared));
-            let content = match files::read(&repository.folder.join(&name), INDEX)? {
-                Some(content) => content,
-                None => {
-                    return failed(format!("the index needs the file {name}, which is missing"))
-                }
-            };
-            // (Git takes no tree from the extension TREE of this file)
-            let rest = index::read(&content, format)?;
-            if rest.shared.is_some() {
-                return failed(format!("the file {name} is split again"));
-            }
-            fs::write(folder.join(name), content).or_fail(NO_ROOM)?;
+            copy_shared_index(shared, repository, format, &folder)?;
         }
         fs::write(folder.join("index"), content).or_fail(NO_ROOM)?;
-        let git = self.git.clone().with("GIT_DIR", &folder);
+        let tree = self.write_tree(&folder, format)?;
+        objects::add_store(&self.path("git"), "../../index/objects").or_fail(NO_ROOM)?;
+        Ok((tree, found.trees))
+    }
+
+    /// The tree that Git makes of the index in this repository, with a newline.
+    fn write_tree(&self, repository: &Path, format: Format) -> Result<Vec<u8>> {
+        let git = self.git.clone().with("GIT_DIR", repository);
         let said = run(
             "git write-tree",
             git.command(&["write-tree", "--missing-ok"]),
         )?;
         let id = said.output.strip_suffix(b"\n").and_then(crate::ids::id);
-        if said.status != 0
-            || !said.errors.is_empty()
-            || id.map_or(true, |it| it.len() != format.size() * 2)
-        {
+        let is_tree = id.map_or(false, |it| it.len() == format.size() * 2);
+        if said.status != 0 || !said.errors.is_empty() || !is_tree {
             return failed("git write-tree failed: the index has a conflict, or is broken");
         }
-        objects::add_store(&self.path("git"), "../../index/objects").or_fail(NO_ROOM)?;
-        Ok((said.output, found.trees))
+        Ok(said.output)
     }
+}
+
+/// Copies the file that has more entries of an index. (Git takes no tree from its extension TREE.)
+fn copy_shared_index(
+    shared: &Id,
+    repository: &Repository,
+    format: Format,
+    to: &Path,
+) -> Result<()> {
+    let name = format!("sharedindex.{}", printable(shared));
+    let content = match files::read(&repository.folder.join(&name), INDEX)? {
+        Some(content) => content,
+        None => return failed(format!("the index needs the file {name}, which is missing")),
+    };
+    if index::read(&content, format)?.shared.is_some() {
+        return failed(format!("the file {name} is split again"));
+    }
+    fs::write(to.join(name), content).or_fail(NO_ROOM)
 }
 
 /// Extensions that change nothing for the scan.

@@ -53,7 +53,7 @@ pub fn check(
         Stdio::piped(),
     )?;
     let check = start("check_trees", checks.check_trees(), cat_file.output()?)?;
-    let mut rev_list = checks.rev_list(selection, "--object-names", Stdio::piped())?;
+    let mut rev_list = checks.rev_list(selection.arguments, "--object-names", Stdio::piped())?;
     let (ids_to, list_from, list_to) = (rev_list.input()?, rev_list.output()?, cat_file.input()?);
     let folders = LongFolders::default();
     thread::scope(|scope| {

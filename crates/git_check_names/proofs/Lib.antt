@@ -1,4 +1,5 @@
 pub mod ReadNames
 pub mod InputReports
 pub mod GivenNames
+pub mod AllValid
 mod Rows

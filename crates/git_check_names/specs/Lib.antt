@@ -4,3 +4,4 @@ pub mod Problems
 pub mod Options
 pub mod Names
 pub mod Private
+pub mod ValidNames

@@ -8,9 +8,11 @@ ghost use Rattle.std.specs.String.{string_bytes};
 ghost use Rattle.cli.specs.Command.{EndsAs, Ran};
 ghost use Rattle.cli.specs.Messages.{AppendsPrefixOf};
 ghost use Rattle.git_check_names.specs.Names.{Runs, asked_of, given_said, has_nul, input_report};
-ghost use Rattle.git_check_names.specs.Names.{is_stopped, name_end, verdict_of};
+ghost use Rattle.git_check_names.specs.Names.{is_stopped, name_end, text_for};
+ghost use Rattle.git_check_names.specs.Names.{verdict_of};
 ghost use Rattle.git_check_names.specs.Options.{as_options};
 ghost use Rattle.git_check_names.specs.Problems.{end_of};
+ghost use Rattle.git_check_names.specs.ValidNames.{IsValidIff};
 
 use crate::input::{Next, next_name};
 use crate::kind::{Kind, is_repairable, kind_of};
@@ -42,6 +44,7 @@ impl<'a> Command<'a> for CheckOptions<'a> {
     ///
     /// It allocates memory for the longest name of the input, of at most 65,535 bytes, for the longest
     /// line or the lines of all names that are arguments, and for a repaired name, from `alloc`.
+    #[tactic(auto, using(crate::proofs::AllValid::valid_run))]
     fn run<R: BufRead, W: Write>(
         self,
         alloc: Global,
@@ -50,20 +53,17 @@ impl<'a> Command<'a> for CheckOptions<'a> {
     ) -> Result<Verdict, RunError>
         ensures runs { Runs (as_options self.entry) R.remaining W.contents
             input.old input.new output.old output.new result }
+        ensures valid { IfOk result (λ verdict.
+            IfSome (text_for (as_options self.entry) (R.remaining input.old))
+            (IsValidIff (as_options self.entry) verdict)) }
         ensures shown { (read rest output written : Option (List ℕ)) (ran : Ran Verdict)
             → ⟦<CheckOptions<'static> as Command<'static>>⟧.Runs self.entry _ _
             (λ known. known) (λ known. known) read rest output written ran
-            → Runs (as_options self.entry) (λ known. known) (λ known. known) read rest output written ran }
+            → Runs (as_options self.entry) (λ known. known) (λ known. known) read rest output written ran
+            × IfOk ran (λ verdict. IfSome (text_for (as_options self.entry) read)
+            (IsValidIff (as_options self.entry) verdict)) }
     {
-        let (kind, names) = match asked_of(self) {
-            Ok(asked) => asked,
-            Err(problem) => return Ok(Verdict::Stopped(problem)),
-        };
-        if self.reads {
-            check_input(alloc, self, kind, input, output)
-        } else {
-            check_given(alloc, self, kind, names, output)
-        }
+        check_names(alloc, self, input, output)
     }
 
     fn end<E: Write>(
@@ -79,6 +79,27 @@ impl<'a> Command<'a> for CheckOptions<'a> {
             Ok(Verdict::Stopped(problem)) => fail(name, problem, errors),
             Err(stop) => fail(name, stop, errors),
         }
+    }
+}
+
+/// Checks the names that the options ask for, as `run` does.
+fn check_names<R: BufRead, W: Write>(
+    alloc: Global,
+    options: CheckOptions<'_>,
+    input: &mut R,
+    output: &mut W,
+) -> Result<Verdict, RunError>
+    ensures runs { Runs (as_options options.entry) R.remaining W.contents
+        input.old input.new output.old output.new result }
+{
+    let (kind, names) = match asked_of(options) {
+        Ok(asked) => asked,
+        Err(problem) => return Ok(Verdict::Stopped(problem)),
+    };
+    if options.reads {
+        check_input(alloc, options, kind, input, output)
+    } else {
+        check_given(alloc, options, kind, names, output)
     }
 }
 

@@ -29,6 +29,7 @@ use failure::{say, Failure, Result};
 use programs::Programs;
 use std::env;
 use std::ffi::OsStr;
+use std::os::unix::ffi::OsStrExt;
 use std::path::Path;
 use std::process::ExitCode;
 use verdict::Verdict;
@@ -87,7 +88,17 @@ fn main() -> ExitCode {
             Ok(Some(Verdict::Refused)) => ExitCode::from(1),
             Err(failure) => report(role, failure),
         },
-        _ => unusable(&format!("no program has the name {}", file.display())),
+        _ => unusable(&why_not(&file)),
+    }
+}
+
+/// Why a program with this file isn't one of the two.
+fn why_not(file: &Path) -> String {
+    // (so Linux calls a file that is gone)
+    if file.as_os_str().as_bytes().ends_with(b" (deleted)") {
+        "the hook was just replaced: push again".into()
+    } else {
+        format!("no program has the name {}", file.display())
     }
 }
 

@@ -2,7 +2,7 @@
 
 import pytest
 
-from tests.hook.expected import ACCEPTED, not_checked
+from tests.hook.expected import ACCEPTED, Result, not_checked
 
 # The parts of the hook, with what it says if that part fails at once. (`git config` is
 # git, where its words are these.)
@@ -148,3 +148,11 @@ def test_an_old_git_refuses_every_push(hook, source, version):
 def test_a_git_that_is_new_enough_is_used(hook, source, version):
     hook.stand_in("git version", f"echo 'git version {version}'; exit")
     assert hook.run(source.pushes["clean"].lines) == ACCEPTED
+
+
+def test_a_hook_that_was_just_replaced_says_to_push_again(hook, source):
+    """Linux can run a file that is gone, and calls it by another name then."""
+    script = 'exec 3< "$1"; rm "$1"; exec /proc/self/fd/3'
+    through = ["bash", "-c", script, "bash"]
+    said = "push refused: the hook was just replaced: push again\n"
+    assert hook.run(source.push_of(source.clean), through=through) == Result(2, said)

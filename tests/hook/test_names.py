@@ -19,7 +19,10 @@ from tests.hook.expected import (
 from tests.hook.git import Repository, file, folder, program, submodule, symlink
 
 NARROW = "\u200c"  # a joiner of width zero, which HFS+ ignores
-BROKEN = "git rev-list failed (status 128): an object is missing or broken"
+BROKEN = (
+    "git rev-list failed (status 128): "
+    "an object is missing or broken, or the push is from a shallow clone"
+)
 
 
 def test_a_clean_push_of_all_kinds_of_objects_is_accepted_and_so_is_a_delete(
@@ -294,6 +297,14 @@ def test_a_shallow_push_to_a_server_that_has_the_history_is_accepted(
     assert server.push(new, GIT_DIR=clone.path) == ACCEPTED
 
 
+def test_a_shallow_push_is_refused_with_this_reason_if_the_server_takes_none(
+    server, shallow
+):
+    """As by default. Git doesn't tell the hook that the push is shallow."""
+    clone, last = shallow
+    assert server.push(last, GIT_DIR=clone.path) == not_checked(BROKEN, status=1)
+
+
 def test_a_shallow_push_that_leaves_out_commits_is_refused_with_what_helps(
     server, shallow
 ):
@@ -305,3 +316,38 @@ def test_a_shallow_push_that_leaves_out_commits_is_refused_with_what_helps(
         "that the server lacks: push from a full clone",
         status=1,
     )
+
+
+# A fork that borrows the objects of another repository.
+@pytest.fixture
+def upstream(room, source):
+    """A repository with a name that was never checked."""
+    upstream = Repository(room / "upstream", source.object_format, "--bare")
+    borrow(upstream, source)
+    upstream.git("update-ref", "refs/heads/main", source.device)
+    return upstream
+
+
+@pytest.fixture
+def fork(server, upstream):
+    borrow(server, upstream)
+    return server
+
+
+def borrow(borrower, owner):
+    alternates = borrower.path / "objects/info/alternates"
+    alternates.write_text(f"{owner.path}/objects\n")
+
+
+def test_the_history_that_a_fork_borrows_is_checked(fork, source):
+    new = source.commit_of("a", on=[source.device])
+    assert fork.push(new) == refused(bad_name("aux.c", DEVICE), RENAME_THE_FILE)
+
+
+def test_the_history_that_a_fork_borrows_is_old_if_the_fork_has_references_to_it(
+    fork, upstream, source
+):
+    fork.git("fetch", "-q", upstream.path, "+refs/heads/*:refs/upstream/*")
+    fork.git("config", "--add", "transfer.hideRefs", "refs/upstream")
+    new = source.commit_of("a", on=[source.device])
+    assert fork.push(new) == ACCEPTED

@@ -79,10 +79,10 @@ pub fn run(programs: Programs) -> Result<Verdict> {
 fn explained(failure: Failure, limits: Limits) -> Failure {
     match failure {
         Failure::Failed(what) if what == "git rev-list failed (status 128)" => {
-            // (receive-pack sets this, if receive.shallowUpdate allows such a push)
+            // (receive-pack sets this only if receive.shallowUpdate allows a push from a shallow clone)
             let why = match env::var_os("GIT_SHALLOW_FILE") {
                 Some(_) => "the push is shallow, and leaves out commits that the server lacks: push from a full clone",
-                None => "an object is missing or broken",
+                None => "an object is missing or broken, or the push is from a shallow clone",
             };
             Failure::Failed(format!("{what}: {why}"))
         }

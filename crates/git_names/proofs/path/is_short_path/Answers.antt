@@ -43,5 +43,5 @@ returns c =
     let rest = c.loop-slashes.rest.now in
     let none = none_marked rest c.loop-slashes.slashes c.loop-slashes.invariant.marks
     (omega (arith, c.loop-slashes-test.false)) in
-    c.is_component-2.ensures
+    c.is_last_part.ensures
     ∙ sym (c.loop-slashes.invariant.same ∙ path_of_one_part (switches c.args.windows c.args.hfs c.args.ntfs) c.args.mode rest none)

@@ -1,4 +1,5 @@
-use Rattle.gix_validate.proofs.Common.{◌≡◌, ◌-◌, ◌∙◌, true, false, None, arith, drop, length, sym, take}
+use Rattle.gix_validate.proofs.Common.{◌≡◌, ◌-◌, ◌∙◌, true, false, None, arith, drop}
+use Rattle.gix_validate.proofs.Common.{length, sym, take}
 use Rattle.gix_validate.specs.Component.{is_component}
 use Rattle.gix_validate.specs.Private.Classes.{switches}
 use Rattle.git_names.proofs.PathLemmas.{LeftOf-start, LeftOf-after, LeftOf-fault, LeftOf-last}

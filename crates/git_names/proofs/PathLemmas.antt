@@ -259,7 +259,8 @@ path_by_first_part options mode x end first =
 pub path_of_one_part : (options : ComponentOptions) (mode : Option ComponentMode) (x : List ℕ)
     → NoSlash x 0 (length x) → is_path options mode x ≡ is_component options mode x
 unfolding is_path
-path_of_one_part options mode x none = ap (are_components options mode) (last_piece_from x 0 (omega arith) none)
+path_of_one_part options mode x none =
+    ap (are_components options mode) (last_piece_from x 0 (omega arith) none)
 
 -- a part's fault is at the offset at which the part begins
 pub fault_begins : (options : ComponentOptions) (mode : Option ComponentMode) (at : ℕ) (part : List ℕ)

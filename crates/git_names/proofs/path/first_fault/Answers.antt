@@ -1,4 +1,5 @@
-use Rattle.gix_validate.proofs.Common.{◌≡◌, ◌-◌, ◌∙◌, true, false, None, arith, drop, length, sym, take}
+use Rattle.gix_validate.proofs.Common.{◌≡◌, ◌-◌, ◌∙◌, true, false, None, arith, drop}
+use Rattle.gix_validate.proofs.Common.{length, sym, take}
 use Rattle.gix_validate.specs.Component.{is_component}
 use Rattle.gix_validate.specs.Private.Classes.{switches}
 use Rattle.git_names.proofs.PathLemmas.{LeftOf-start, LeftOf-after, LeftOf-fault, LeftOf-last}
@@ -17,7 +18,7 @@ returns-then-not-is_component c =
     grind (arith, c.is_component.ensures, c.if-not-is_component.true) in
     c.fault_of_part.ensures
     ∙ sym (
-      LeftOf-fault options c.args.mode x start c.in-Some.end c.loop-end.invariant c.in-Some.ensures invalid
+    LeftOf-fault options c.args.mode x start c.in-Some.end c.loop-end.invariant c.in-Some.ensures invalid
     )
 
 pub loop-end-preserved : goal.loop-end-preserved
@@ -43,5 +44,5 @@ returns c =
     let options = switches c.args.windows c.args.hfs c.args.ntfs in
     c.fault_of_part-2.ensures
     ∙ sym (
-      LeftOf-last options c.args.mode c.args.path.now c.loop-end.start c.loop-end.invariant c.in_default.ensures
+    LeftOf-last options c.args.mode c.args.path.now c.loop-end.start c.loop-end.invariant c.in_default.ensures
     )

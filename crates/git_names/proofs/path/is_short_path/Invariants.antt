@@ -6,10 +6,12 @@ use Rattle.git_names.specs.Private.Slashes.{MarksSlashes}
 use Rattle.git_names.proofs.path.is_short_path.Given as goal
 
 abbrev pub invariant-loop-slashes : goal.invariant-loop-slashes
-invariant-loop-slashes l = record {
-  marks : MarksSlashes l.rest l.slashes;
-  same : is_path (switches l.fn.windows l.fn.hfs l.fn.ntfs) l.fn.mode l.fn.path ≡ is_path (switches l.fn.windows l.fn.hfs l.fn.ntfs) l.fn.mode l.rest;
-}
+invariant-loop-slashes l =
+    let options = switches l.fn.windows l.fn.hfs l.fn.ntfs in
+    record {
+      marks : MarksSlashes l.rest l.slashes;
+      same : is_path options l.fn.mode l.fn.path ≡ is_path options l.fn.mode l.rest;
+    }
 
 abbrev pub decreases-loop-slashes : goal.decreases-loop-slashes
 decreases-loop-slashes l = length l.rest

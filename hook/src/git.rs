@@ -15,17 +15,24 @@ pub struct Git {
 }
 
 impl Git {
-    /// The first `git` in the absolute folders of PATH that can be run, and its version, which starts
-    /// to be read. (One that isn't executable is passed over, as `execvp` does.)
-    pub fn find() -> Result<(Self, Running)> {
+    /// The first `git` in the absolute folders of PATH that can be run, where it is to work, and a
+    /// first command of it. That is started, and says Git's version, too. (A `git` that isn't executable is
+    /// passed over, as `execvp` does.)
+    pub fn find(
+        place: fn(Self) -> Self,
+        name: &'static str,
+        words: &[&str],
+    ) -> Result<(Self, Running)> {
         let path = env::var_os("PATH").unwrap_or_default();
         let folders = env::split_paths(&path).filter(|it| it.is_absolute());
         for program in folders.map(|it| it.join("git")).filter(|it| it.is_file()) {
-            let git = Self::at(program);
-            let version = Running::spawn("git version", git.command(&["version"]));
-            match version.as_ref().map_err(io::Error::kind) {
+            let git = place(Self::at(program));
+            let mut command = git.command(words);
+            command.envs([("GIT_TRACE2", "1"), ("GIT_TRACE2_BRIEF", "1")]);
+            let first = Running::spawn(name, command);
+            match first.as_ref().map_err(io::Error::kind) {
                 Err(ErrorKind::PermissionDenied | ErrorKind::NotFound) => {}
-                _ => return Ok((git, version.or_fail("git version could not be started")?)),
+                _ => return Ok((git, first.or_fail(format!("{name} could not be started"))?)),
             }
         }
         failed("there is no git on the PATH")
@@ -84,16 +91,20 @@ impl Git {
 }
 
 /// Fails if Git is too old. (Before 2.39 it can believe a tag that calls a commit a blob, and then
-/// lists no tree of it.)
-pub fn check_version(version: Running) -> Result<()> {
-    let said = version.said()?;
-    let line = printable(said.output.strip_suffix(b"\n").unwrap_or(&said.output));
-    let version = line.strip_prefix("git version ").and_then(first_numbers);
-    match version {
-        _ if said.status != 0 => failed("git version failed"),
-        Some(version) if version >= (2, 39) => Ok(()),
-        Some(_) => failed(format!("{line} is too old: it has to be 2.39 or later")),
-        None => failed("git version failed"),
+/// lists no tree of it.) Its version is in a line `version 2.39.5` of what it traced.
+pub fn check_version(traced: &[u8]) -> Result<()> {
+    let mut lines = traced.split(|byte| *byte == b'\n');
+    let version = lines.find_map(|line| line.strip_prefix(b"version "));
+    let version = match version.map(printable) {
+        Some(version) => version,
+        None => return failed("Git does not trace its version: it has to be 2.39 or later"),
+    };
+    match first_numbers(&version) {
+        Some(numbers) if numbers >= (2, 39) => Ok(()),
+        Some(_) => failed(format!(
+            "git version {version} is too old: it has to be 2.39 or later"
+        )),
+        None => failed(format!("git version {version} is unknown")),
     }
 }
 

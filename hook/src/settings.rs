@@ -1,8 +1,7 @@
 //! The rules of a repository: its settings and the system's. Those of the account that pushes are ignored.
 
-use crate::child::Running;
+use crate::child::Said;
 use crate::failure::{failed, printable, Result};
-use crate::git::Git;
 use crate::ids::split_once;
 use crate::programs::Programs;
 use std::ffi::{OsStr, OsString};
@@ -37,7 +36,7 @@ impl Rules {
 
     /// Changes these rules by the settings `names.*`. One that is unknown may be misspelled, and so is
     /// a failure.
-    pub fn read(&mut self, settings: Running, programs: &Programs) -> Result<()> {
+    pub fn read(&mut self, settings: &Said, programs: &Programs) -> Result<()> {
         for setting in output(settings)?.split_inclusive(|byte| *byte == 0) {
             match setting
                 .strip_suffix(b"\0")
@@ -96,20 +95,14 @@ fn unknown<T>(key: &[u8]) -> Result<T> {
     failed(format!("the setting {} is unknown", printable(key)))
 }
 
-/// Starts to read the settings of the repository and the system.
-pub fn start(git: &Git) -> Result<Running> {
-    Running::start(
-        "git config",
-        git.command(&["config", "--null", "--get-regexp", "^names\\."]),
-    )
-}
+/// The words by which Git prints the settings of the repository and the system.
+pub const WORDS: [&str; 4] = ["config", "--null", "--get-regexp", "^names\\."];
 
 /// The settings, each as a key, a newline and a value, or as a key alone, and then a NUL.
-fn output(settings: Running) -> Result<Vec<u8>> {
-    let said = settings.said()?;
+fn output(said: &Said) -> Result<&[u8]> {
     match said.status {
-        0 => Ok(said.output),
-        1 if said.output.is_empty() => Ok(said.output), // (there is none)
+        0 => Ok(&said.output),
+        1 if said.output.is_empty() => Ok(&said.output), // (there is none)
         _ => failed("git config failed"),
     }
 }

@@ -7,7 +7,6 @@ from tests.hook.expected import ACCEPTED, Result, not_checked
 # The parts of the hook, with what it says if that part fails at once. (`git config` is
 # git, where its words are these.)
 REASONS = {
-    "git version": "git version failed",
     "git config": "git config failed",
     "git rev-list": "git rev-list failed (status 9)",
     "git cat-file --batch=": "git cat-file failed (status 9)",
@@ -16,6 +15,8 @@ REASONS = {
     "check_trees": "check_trees failed (status 9)",
     "check_submodules": "check_submodules failed (status 9)",
 }
+# The scan also runs this.
+OF_THE_SCAN = {"git version": "git version failed"} | REASONS
 
 # The ways in which a part fails. "$real" "$@" is the part itself, and $grand the parent
 # of its parent.
@@ -76,7 +77,7 @@ def test_a_clean_push_is_refused_if_a_part_is_killed_when_it_has_done_all(
     assert hook.run(source.pushes["clean"].lines).status == 2
 
 
-@failures(REASONS)
+@failures(OF_THE_SCAN)
 def test_the_scan_finds_no_hostile_repository_clean_if_a_part(
     scan, hook, server, source, part, way
 ):
@@ -134,7 +135,7 @@ def test_the_hook_needs_no_room_for_files(hook, push):
 
 @pytest.mark.parametrize("version", ["1.9.5", "2.9.0", "2.38.5", "2.4.12", "2.3"])
 def test_an_old_git_refuses_every_push(hook, source, version):
-    hook.stand_in("git version", f"echo git version {version}; exit")
+    hook.stand_in("git config", f"echo version {version} >&2; exit 1")
     too_old = not_checked(
         f"git version {version} is too old: it has to be 2.39 or later"
     )
@@ -146,7 +147,7 @@ def test_an_old_git_refuses_every_push(hook, source, version):
     ["2.39.0.rc1", "2.39.5 (Apple Git-154)", "2.50.1", "2.100", "3.0", "10.2.1"],
 )
 def test_a_git_that_is_new_enough_is_used(hook, source, version):
-    hook.stand_in("git version", f"echo 'git version {version}'; exit")
+    hook.stand_in("git config", f"echo 'version {version}' >&2; exit 1")
     assert hook.run(source.pushes["clean"].lines) == ACCEPTED
 
 

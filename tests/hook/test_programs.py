@@ -75,7 +75,7 @@ def test_a_git_that_is_no_program_is_not_run_as_a_script(hook, source, text):
     git.write_text(text)
     git.chmod(0o755)
     assert hook.run(source.pushes["clean"].lines) == not_checked(
-        f"git version {NO_PROGRAM}"
+        f"git config {NO_PROGRAM}"
     )
 
 
@@ -129,4 +129,6 @@ def test_no_program_gets_a_variable_of_the_caller(hook, source, room):
         "GIT_DIR",
         "GIT_NO_LAZY_FETCH",
         "GIT_NO_REPLACE_OBJECTS",
+        "GIT_TRACE2",
+        "GIT_TRACE2_BRIEF",
     }

@@ -46,9 +46,7 @@ fn bounds(limits: Limits) -> Bounds {
 pub fn run(programs: Programs) -> Result<Verdict> {
     let quarantine = Quarantine::find()?;
     let limits = quarantine.limit_push()?;
-    let (git, version) = Git::find()?;
-    let git = git.in_push();
-    let settings = settings::start(&git)?;
+    let (git, settings) = Git::find(Git::in_push, "git config", &settings::WORDS)?;
     let mut push = Push {
         checks: Checks {
             programs,
@@ -64,8 +62,9 @@ pub fn run(programs: Programs) -> Result<Verdict> {
     // (while that runs: starting Git takes most of the time that a small push does)
     let list = push.checks.start_list(&push.arguments)?;
     push.checks.programs.check()?;
-    git::check_version(version)?;
-    push.checks.rules.read(settings, &push.checks.programs)?;
+    let settings = settings.said()?;
+    push.checks.rules.read(&settings, &push.checks.programs)?;
+    git::check_version(&settings.errors)?;
 
     let verdict = push.check(list).map_err(|it| explained(it, limits))?;
     if let Verdict::Refused = verdict {

@@ -106,8 +106,12 @@ pub struct Selected {
 impl Scan {
     fn new(options: Options, programs: Programs) -> Result<Self> {
         programs.check()?;
-        let (git, version) = Git::find()?;
-        check_version(version)?;
+        let (git, version) = Git::find(|it| it, "git version", &["version"])?;
+        let version = version.said()?;
+        if version.status != 0 {
+            return failed("git version failed");
+        }
+        check_version(&version.errors)?;
         if let Some(protect) = &options.protect {
             if let Some(fault) = programs.fault_of_list(protect)? {
                 return Err(options::misuse(&fault));
@@ -274,7 +278,7 @@ fn rules(
     };
     if options.settings {
         for settings in room.start_settings(configuration)? {
-            rules.read(settings, programs)?;
+            rules.read(&settings.said()?, programs)?;
         }
     }
     if let Some(protect) = &options.protect {

@@ -1,12 +1,13 @@
 -- The verdict is that all names are valid if and only if they are, by the grammar.
-use Rattle.gix_validate.proofs.Common.{◌≡◌, ◌≢◌, ◌↔◌, ℕ, ◌+◌, ◌≤◌, ◌==◌, Bool, true, false, not, ◌&&◌, ◌||◌}
-use Rattle.gix_validate.proofs.Common.{List, [], ◌∷◌, Option, None, Some, Result, Ok, Err, refl, arith, nat_tests}
-use Rattle.gix_validate.proofs.Common.{IfOk-weaker, IfSome_then}
-use Rattle.gix_validate.proofs.Common.{is_none, sym, ◌∙◌, IfOk, IfSome}
+use Rattle.gix_validate.proofs.Common.{◌≡◌, ◌≢◌, ℕ, ◌+◌, ◌≤◌, ◌==◌, Bool, true, false, not, ◌&&◌}
+use Rattle.gix_validate.proofs.Common.{◌||◌, List, [], ◌∷◌, Option, None, Some, Result, Ok, Err}
+use Rattle.gix_validate.proofs.Common.{refl, arith, nat_tests, IfOk-weaker, IfSome_then, is_none}
+use Rattle.gix_validate.proofs.Common.{sym, ◌∙◌, IfOk, IfSome}
 use Rattle.std.specs.List.{list_all}
 use Rattle.gix_validate.proofs.TagNames.Grammar.{tag_grammar_law}
 use Rattle.gix_validate.proofs.Components.Laws.{component_grammar_law}
-use Rattle.gix_validate.specs.Reference.{is_partial_name, is_full_name, partial_fault_of, full_fault_of}
+use Rattle.gix_validate.specs.Reference.{is_partial_name, is_full_name, partial_fault_of}
+use Rattle.gix_validate.specs.Reference.{full_fault_of}
 use Rattle.gix_validate.specs.Submodule.{is_submodule_name, fault_of as submodule_fault_of}
 use Rattle.gix_validate.specs.Pieces.{names_in}
 use Rattle.gix_validate.specs.declared.path.ComponentOptions.{ComponentOptions}
@@ -21,11 +22,13 @@ use Rattle.git_check_names.specs.declared.problem.Problem.{Problem}
 use Rattle.git_check_names.specs.declared.problem.Verdict.{Verdict}
 use Rattle.git_check_names.specs.declared.problem.Verdict.TheVariants.{Valid}
 use Rattle.git_check_names.specs.Faults.{fault_of, is_name}
-use Rattle.git_check_names.specs.Names.{Report, asked_by, asked_in, asked_of, given_said, input_report, is_none_of, name_end}
-use Rattle.git_check_names.specs.Names.{Runs, problem_of, read_from, report_of, said_first, said_of, text_for}
+use Rattle.git_check_names.specs.Names.{Report, asked_by, asked_in, asked_of, given_said}
+use Rattle.git_check_names.specs.Names.{input_report, is_none_of, name_end, Runs, problem_of}
+use Rattle.git_check_names.specs.Names.{read_from, report_of, said_first, said_of, text_for}
 use Rattle.git_check_names.specs.Names.{verdict_of}
 use Rattle.git_check_names.specs.Options.{Options}
-use Rattle.git_check_names.specs.ValidNames.{AreAllValid, IsValidIff, is_readable, is_valid, names_of}
+use Rattle.git_check_names.specs.ValidNames.{AreAllValid, IsValidIff, is_readable, is_valid}
+use Rattle.git_check_names.specs.ValidNames.{names_of}
 
 -- ---- a name
 
@@ -99,9 +102,6 @@ module _ (options : Options) (kind : Kind) where
       (list_all (is_valid options kind) names) (not (is_none_of names)) (number + 1 == 1)
       (problem_law number name) (refused_law name)
       (read_law (number + 1) names (omega (arith, some))) (later number some)
-
-valid_law : (report : Report) → (verdict_of report ≡ Valid) ↔ ((is_none report.1 && not report.0.refused) ≡ true)
-valid_law report = (λ e. grind arith, λ e. grind arith)
 
 -- ---- a run
 

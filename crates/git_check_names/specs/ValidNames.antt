@@ -1,6 +1,6 @@
 -- The runs that find all names valid: by the grammar of their kind, and without the report.
-use Rattle.std.specs.Prelude.{◌≡◌, ◌≢◌, ◌↔◌, ℕ, Bool, true, ◌&&◌, ◌||◌, not, nat_lt, if◌then◌else◌, IsTrue}
-use Rattle.std.specs.Prelude.{List, [], length, Ok}
+use Rattle.std.specs.Prelude.{◌≡◌, ◌≢◌, ◌↔◌, ℕ, Bool, true, ◌&&◌, ◌||◌, not, nat_lt, if◌then◌else◌}
+use Rattle.std.specs.Prelude.{IsTrue, List, [], length, Ok}
 use Rattle.std.specs.List.{list_all}
 use Rattle.gix_validate.specs.Pieces.{names_in}
 use Rattle.gix_validate.specs.Sanitized.{sanitized}
@@ -32,7 +32,8 @@ pub record AreAllValid (options : Options) (text : List ℕ) : Type 0 where
   pub given : List (List ℕ)
   pub asked : asked_of options ≡ Ok (kind, given)
   pub some : names_of options given text ≢ []
-  pub readable : options.reads ≡ true → IsTrue (list_all (is_readable options) (names_in (name_end options) text))
+  pub readable : options.reads ≡ true
+      → IsTrue (list_all (is_readable options) (names_in (name_end options) text))
   pub valid : IsTrue (list_all (is_valid options kind) (names_of options given text))
 
 -- The status is 0 if and only if all names are valid.

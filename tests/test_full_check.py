@@ -278,12 +278,12 @@ def test_a_check_of_which_any_process_is_killed_at_any_time_fails(copy, seed):
     time.sleep(chance.uniform(0.2, 1.5))
     while not is_stopped(victim := chance.choice([check.pid, *children_of(check.pid)])):
         assert check.poll() is None, "the check ended before anything was killed"
-    # (It keeps the release if all other parts had passed before.)
-    kept = copy.keeps_the_release
+    # (It keeps the release, as its last part, if all others have passed.)
+    others_passed = copy.keeps_the_release or b"--keep" in command_of(victim)
     os.kill(victim, signal.SIGKILL)
     printed, _ = check.communicate(timeout=60)
     assert check.returncode != 0, printed
-    assert copy.keeps_the_release == kept
+    assert others_passed or not copy.keeps_the_release
 
 
 def children_of(process):
@@ -301,6 +301,10 @@ def is_stopped(process):
     except OSError:  # (it is gone)
         return False
     return state == "T"
+
+
+def command_of(process):
+    return Path(f"/proc/{process}/cmdline").read_bytes()
 
 
 def state_of(process):

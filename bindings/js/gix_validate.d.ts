@@ -201,5 +201,5 @@ export function firstInvalid(
     names: Iterable<Name>, kind: "component"|"path",
     options?: ComponentOptions): number;
 
-/** The version of the functions, such as "2.1.0". */
+/** The version of the functions, such as "3.0.0". */
 export function version(): string;

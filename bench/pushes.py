@@ -203,6 +203,29 @@ def files(pack, count):
     pack.refs = [(*commit, b"main")]
 
 
+def nested(pack, count, size):
+    """Folders with files of long names, each folder in the one before."""
+    blob, inner = pack.add("blob", b"x"), ()
+    for _ in range(count):
+        names = (b"f%06d" % n + b"x" * 60000 for n in range(size // 60000))
+        entries = ((0o100644, name, blob) for name in names)
+        inner = ((0o40000, b"d", pack.tree(*inner, *entries)),)
+    pack.commit(pack.tree(*inner), ref=b"main")
+
+
+def versions(pack, commits, files):
+    """Commits that change a file each, in a folder with so many. Git packs a version of such a folder into little."""
+    blob, commit = pack.add("blob", b"x"), ()
+    rest = b"".join(b"100644 f%06d.txt\0%s" % (n, blob) for n in range(1, files))
+    base = None
+    for n in range(commits):
+        data = b"100644 f%06d.txt\0%s" % (0, pack.add("blob", b"%d" % n)) + rest
+        tree = pack.add("tree", data, base, len(rest))
+        base = base or (tree, len(data))
+        commit = (pack.commit(pack.tree((0o40000, b"folder", tree)), *commit),)
+    pack.refs = [(*commit, b"main")]
+
+
 def spellings(pack, count, characters):
     """A tree of files .gitmodules, each with so many characters that HFS+ ignores."""
     blob = pack.add("blob", b'[submodule "a"]\n')
@@ -247,6 +270,8 @@ PUSHES = {
     "3,000 tags of tags": lambda: Pack(tags, 3000),
     "10 merges of 20,000 commits": lambda: Pack(merges, 10, 20000),
     "17,000 files": lambda: Pack(files, 17000),
+    "1,000 commits to a folder of 20,000 files": lambda: Pack(versions, 1000, 20000),
+    "8 folders of 60 MB in each other": lambda: Pack(nested, 8, 60_000_000),
     "3,000 .gitmodules in spellings of 60 kB": lambda: Pack(spellings, 3000, 20000),
     "6,000 .gitmodules in spellings of 15 kB": lambda: Pack(spellings, 6000, 5000),
     "300 MB of refused entries": lambda: Pack(refused, 4600, 65000),

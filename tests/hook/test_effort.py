@@ -232,6 +232,108 @@ def test_nine_branches_with_messages_of_12_MB_are_accepted(incoming, measured_pu
     assert megabytes < 192
 
 
+# Folders that lie in each other. Git holds the trees of all that it is in.
+def nested(incoming, count, size, *inner):
+    """A tree of so many bytes, in one of so many bytes, and so on; the inmost has these
+    entries, too."""
+    for n in range(count):
+        files = (f"{n}-{k:06d}".ljust(60_000, "x") for k in range(size // 60_000))
+        inner = [folder("a", incoming.tree(*inner, *files))]
+    return inner[0].id
+
+
+def three_large_ones(incoming):
+    return nested(incoming, 3, 45_000_000)
+
+
+def hundreds_of_smaller_ones(incoming):
+    return nested(incoming, 300, 500_000)
+
+
+def with_small_ones_between(incoming):
+    tree = nested(incoming, 1, 45_000_000)
+    for _ in range(2):
+        between = nested(incoming, 20, 1000, folder("b", tree))
+        tree = nested(incoming, 1, 45_000_000, folder("b", between))
+    return tree
+
+
+def that_are_heavy_on_one_of_two_paths(incoming):
+    """The lighter one comes first."""
+    inmost = folder("c", nested(incoming, 2, 45_000_000))
+    light, heavy = incoming.tree(inmost), nested(incoming, 1, 45_000_000, inmost)
+    return incoming.tree(folder("a", light), folder("b", heavy))
+
+
+@pytest.mark.parametrize(
+    "make",
+    [
+        three_large_ones,
+        hundreds_of_smaller_ones,
+        with_small_ones_between,
+        that_are_heavy_on_one_of_two_paths,
+    ],
+)
+def test_folders_in_each_other_above_112_MB_refuse_the_push(
+    incoming, measured_push, make
+):
+    result, megabytes = measured_push(incoming.commit(make(incoming)))
+    assert result.status == 2
+    assert re.fullmatch(
+        rf"{UNCHECKED}: the commits and tags of the push, and folders that lie in each "
+        r"other, have more than 1\d\d MB\n",
+        result.said,
+    )
+    assert megabytes < 96
+
+
+def test_commits_and_folders_in_each_other_count_together(incoming, measured_push):
+    commit = large_commit(incoming, 62_000_000)
+    tree = nested(incoming, 2, 30_000_000)
+    result, _ = measured_push(commit, incoming.commit(tree))
+    assert result.status == 2
+    assert "folders that lie in each other, have more than 1" in result.said
+
+
+def test_folders_in_each_other_below_112_MB_are_accepted(incoming, measured_push):
+    commit = incoming.commit(nested(incoming, 200, 500_000))
+    result, megabytes = measured_push(commit)
+    assert result == ACCEPTED
+    assert megabytes < 192
+
+
+def test_many_versions_of_a_large_folder_are_accepted(incoming, measured_push):
+    """Those on a path count together, and not all."""
+    folders = []
+    for n in range(20):
+        version = folder("folder", nested(incoming, 1, 6_000_000 + 60_000 * n))
+        folders.append(folder(f"{n}", incoming.tree(version)))
+    result, megabytes = measured_push(incoming.commit_of(*folders))
+    assert result == ACCEPTED
+    assert megabytes < 96
+
+
+@pytest.mark.parametrize(
+    "way, why",
+    [
+        ("exit 9", "git cat-file failed (status 9)"),
+        ("kill -9 $$", "git cat-file failed (status 137)"),
+        ("exit 0", "the trees could not be read"),
+        ("echo tree 10; exit 0", "the trees could not be read"),
+        ("echo commit 10; cat", "the trees could not be read"),
+        ('"$real" "$@" | head -c 1000; exit 0', "the trees could not be read"),
+    ],
+)
+def test_if_trees_cannot_be_read_for_their_folders_the_push_is_refused(
+    hook, incoming, measured_push, way, why
+):
+    tree = nested(incoming, 3, 45_000_000)
+    hook.stand_in("git cat-file --batch=%(objecttype)", way)
+    result, _ = measured_push(incoming.commit(tree))
+    assert result.status == 2
+    assert result.said.startswith(f"{UNCHECKED}: {why}")
+
+
 def test_large_files_do_not_count_as_commits(incoming, measured_push):
     files = (file(f"{n}", incoming.blob(f"{n}" * 62_000_000)) for n in range(2))
     result, _ = measured_push(incoming.commit_of(*files))

@@ -456,7 +456,8 @@ def test_a_signal_at_any_time_leaves_no_folder(hook, work, source, room, number)
     rooms = room / "rooms"
     rooms.mkdir()
     env = hook.environment({"TMPDIR": rooms})
-    command = [hook.folder / "scan"]
+    # (what runs in the background of a shell would ignore SIGINT)
+    command = ["env", "--default-signal", hook.folder / "scan"]
     began = time.monotonic()
     assert end(start(command, work.path, env)) == 1
     whole = time.monotonic() - began

@@ -55,7 +55,9 @@ def test_who_may_not_write_there_is_told_so(tree, room, target, why):
     (room / "kept").chmod(0o755)
     (room / "kept/bin").chmod(0o555)
     kept = f"{room}/kept"
-    status, said = run(*as_nobody(), tree / "install", kept + target)
+    command = [*as_nobody(), tree / "install", kept + target]
+    # (nobody may not write into every TMPDIR)
+    status, said = run(*command, TMPDIR="/tmp")
     assert status == 1
     line = f"install: {kept}/{why}: run this as root, or give another PREFIX\n"
     assert line in said

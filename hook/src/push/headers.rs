@@ -1,23 +1,26 @@
 //! The headers of the objects that a push brings.
 //!
 //! Git lists the objects of a push, reads its trees and prints them. What takes it long, or much
-//! memory, is told by headers: so Git unpacks nothing for this. (`git verify-pack` would need memory
-//! for the largest file, of which a push can have much in few megabytes.)
+//! memory, is told by headers: so Git unpacks nothing for this, but trees if they have very much
+//! together. (`git verify-pack` would need memory for the largest file, of which a push can have much in
+//! few megabytes.)
 
 use super::chains::{self, Delta};
+use super::paths::{RawId, Trees};
 use super::size::Quarantine;
+use super::trees::Reader;
 use crate::child::Child;
-use crate::failure::{failed, OrFail, Result};
+use crate::failure::{failed, first_of, OrFail, Result};
 use crate::git::Git;
 use std::io::{BufRead, BufReader};
 use std::process::Stdio;
 
 /// How large a tree, a commit or a tag may be: Git holds it whole.
 const LARGEST: u64 = 64 << 20;
-/// How many megabytes all commits and tags of a push may have, and how many more for each that the
-/// push has. `git rev-list` holds the commits that references name, the names of tags, and of each
-/// commit a list of its parents.
-const ALL: (u64, u64) = (112, 8);
+/// How many megabytes `git rev-list` may hold of a push, and how many more for each that the push has. It
+/// holds the commits that references name, the names of tags, of each commit a list of its parents, and
+/// all trees on the path of a folder.
+const HELD: (u64, u64) = (112, 8);
 /// Objects in smaller files are smaller than that: deflate makes of 1032 bytes at least one.
 const SMALLEST_FILES: u64 = LARGEST / 1032;
 /// How many digits of an id are kept.
@@ -40,7 +43,7 @@ pub fn check(git: &Git, quarantine: &Quarantine) -> Result<()> {
         ));
     }
     if headers.bytes > LARGEST {
-        check_kinds(&git, quarantine.megabytes(ALL.0, ALL.1))?;
+        check_kinds(&git, quarantine.megabytes(HELD.0, HELD.1))?;
     }
     Ok(())
 }
@@ -73,30 +76,65 @@ impl Headers {
     }
 }
 
-/// Fails if a tree, a commit or a tag is too large, or if all commits and tags have more than so many
-/// megabytes. (To know what a delta is, Git walks along its chain. So no chain may be long.)
+/// Fails if a tree, a commit or a tag is too large, or if `git rev-list` would hold more than so many
+/// megabytes of the push. (To know what a delta is, Git walks along its chain. So no chain may be long.)
 fn check_kinds(git: &Git, megabytes: u64) -> Result<()> {
-    let mut sum = 0;
+    let mut kinds = Kinds::default();
     list(git, "%(objecttype) %(objectname) %(objectsize)", |line| {
         let [kind, id, size] = words(line)?;
-        let size = bytes(size)?;
+        kinds.add(kind, id, bytes(size)?)
+    })?;
+    kinds.check(git, megabytes)
+}
+
+/// What is kept of objects that `git rev-list` holds.
+#[derive(Default)]
+struct Kinds {
+    /// How many bytes all commits and tags have.
+    commits: u64,
+    trees: Trees,
+    /// How many bytes an id has.
+    id_length: usize,
+}
+
+impl Kinds {
+    fn add(&mut self, kind: &str, id: &str, size: u64) -> Result<()> {
         if kind != "blob" && size > LARGEST {
             return failed(format!(
                 "the {kind} {id} has more than {} MB",
                 LARGEST >> 20
             ));
         }
-        if matches!(kind, "commit" | "tag") {
-            sum += size;
+        match kind {
+            "commit" | "tag" => self.commits += size,
+            "tree" => self.trees.add(raw(id)?, size),
+            _ => {}
         }
+        self.id_length = id.len() / 2;
         Ok(())
-    })?;
-    if sum > megabytes << 20 {
-        return failed(format!(
-            "the commits and tags of the push have more than {megabytes} MB: push fewer at once"
-        ));
     }
-    Ok(())
+
+    fn check(self, git: &Git, megabytes: u64) -> Result<()> {
+        let most = megabytes << 20;
+        if self.commits > most {
+            return failed(format!(
+                "the commits and tags of the push have more than {megabytes} MB: push fewer at once"
+            ));
+        }
+        if self.commits + self.trees.bytes <= most {
+            return Ok(());
+        }
+        let mut reader = Reader::start(git, self.id_length)?;
+        let mut read = |id: &RawId, folder_is: &mut dyn FnMut(&RawId)| reader.read(id, folder_is);
+        let heavy = self.trees.have_heavy_path(most - self.commits, &mut read);
+        match (heavy, reader.end()) {
+            (Ok(false), ended) => ended,
+            (Ok(true), _) => failed(format!(
+                "the commits and tags of the push, and folders that lie in each other, have more than {megabytes} MB"
+            )),
+            (Err(failure), ended) => Err(first_of([ended.err(), Some(failure)])),
+        }
+    }
 }
 
 /// Has Git list all objects of the push, each in a line of this format.
@@ -126,6 +164,19 @@ fn number(id: &str) -> Result<u64> {
         .get(..DIGITS)
         .and_then(|it| u64::from_str_radix(it, 16).ok());
     digits.map_or_else(|| failed(UNREAD), Ok)
+}
+
+/// The bytes that the digits of an id stand for.
+fn raw(id: &str) -> Result<RawId> {
+    let mut raw = RawId::default();
+    for (at, byte) in raw.iter_mut().enumerate().take(id.len() / 2) {
+        let digits = id.get(2 * at..2 * at + 2);
+        match digits.map(|it| u8::from_str_radix(it, 16)) {
+            Some(Ok(value)) => *byte = value,
+            _ => return failed(UNREAD),
+        }
+    }
+    Ok(raw)
 }
 
 fn bytes(size: &str) -> Result<u64> {

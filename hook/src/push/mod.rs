@@ -4,8 +4,10 @@
 mod chains;
 mod headers;
 mod lines;
+mod paths;
 mod refusal;
 mod size;
+mod trees;
 
 use crate::checks::{Bounds, Checks, OnFinding, Selection, TreeList};
 use crate::failure::{Failure, Result};
@@ -25,8 +27,9 @@ use std::ops::ControlFlow::{self, Break, Continue};
 
 /// How many refused names are looked at. (A push can have millions.)
 const MOST_FINDINGS: usize = 10_000;
-/// What a push may take, so that what is kept of its names and ids has less than 64 MB. (chains.rs
-/// keeps 20 bytes for each delta besides, which has at least 40 in the push.)
+/// What a push may take, so that what is kept of its names and ids has less than 64 MB. (Besides, chains.rs
+/// keeps 20 bytes for each delta, which has at least 40 in the push, and then paths.rs 52 for each tree,
+/// which has at least 48.)
 fn bounds(limits: Limits) -> Bounds {
     // (a push has a long report if it has long names; each program writes at most so much)
     let lengths = Lengths {

@@ -53,7 +53,8 @@ history that git rev-list selects. REVISION is a commit, a range (v1..v2,
 reference is broken, the scan fails unless each REVISION is a whole id.
 
     --protect LIST    the file systems to protect, separated by commas:
-                      windows, hfs and ntfs, or none. The default is all three
+                      windows, hfs and ntfs, or none. The default is all three.
+                      For Windows give windows,ntfs
     --accept NAMES    names, separated by slashes, that are checked without
                       windows: aux.c/con.h accepts these two
     --settings        begins with names.protect and names.accept of the

@@ -39,7 +39,7 @@ The other arguments are names and options, in any order:
     -h, --help        prints this text
     --version         prints the version
 
-A name in a line is between double quotes, with escapes such as \\n, if it is
+A name in a line is in double quotes, with the escapes of git ls-files, if it is
 empty or has a double quote, a backslash or a byte that is not printable ASCII.
 
 The status is 0 if all names are valid, or were repaired. It is 1 if a name is

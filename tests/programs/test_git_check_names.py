@@ -177,6 +177,12 @@ REPAIRED = [
         1,
         'HEAD: Reference name is reserved and cannot be used: "HEAD"\n',
     ),
+    row_of(
+        ["branch", "--repair", "", ".a", " a", "--", "-"],
+        1,
+        f'"": {DASH}\n.a: {DASH}\n a: {DASH}\n-: {DASH}\n',
+    ),
+    row_of(["ref", "--repair", ""], 1, f'"": {LOWERCASE}\n'),
     row_of(["branch", "--repair", "--stdin"], 0, "a-b\nc\n", given="a b\nc"),
     row_of(["branch", "--repair", "-z"], 0, "a-b\0c\0", given="a\nb\0c"),
     row_of(

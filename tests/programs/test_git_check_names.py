@@ -65,7 +65,7 @@ KINDS = [
 ORDER = [
     invalid(["ref", "b", "HEAD", "a", "b"], *(f"{it}: {LOWERCASE}" for it in "bab")),
 ]
-# A name is quoted only if it has to be.
+# A name is quoted only if it has to be, and as Git quotes it.
 QUOTED = [
     invalid(["branch", name], f"{shown}: {why}")
     for name, shown, why in [
@@ -75,7 +75,10 @@ QUOTED = [
         ("a\tb", '"a\\tb"', 'Reference name contains invalid byte: "\\t"'),
         ("a\\b", '"a\\\\b"', 'Reference name contains invalid byte: "\\\\"'),
         ('"//', '"\\"//"', "Reference name cannot end with a slash"),
-        ("\u00e9//a", '"\\xc3\\xa9//a"', SLASHES),
+        ("\u00e9//a", '"\\303\\251//a"', SLASHES),
+        ("a\x07b", '"a\\ab"', 'Reference name contains invalid byte: "\\x07"'),
+        ("a\x1bb", '"a\\033b"', 'Reference name contains invalid byte: "\\x1b"'),
+        ("a\x7fb", '"a\\177b"', 'Reference name contains invalid byte: "\\x7f"'),
         ("a: b", "a: b", 'Reference name contains invalid byte: ":"'),
     ]
 ]
@@ -174,6 +177,12 @@ REPAIRED = [
         1,
         'HEAD: Reference name is reserved and cannot be used: "HEAD"\n',
     ),
+    row_of(
+        ["branch", "--repair", "", ".a", " a", "--", "-"],
+        1,
+        f'"": {DASH}\n.a: {DASH}\n a: {DASH}\n-: {DASH}\n',
+    ),
+    row_of(["ref", "--repair", ""], 1, f'"": {LOWERCASE}\n'),
     row_of(["branch", "--repair", "--stdin"], 0, "a-b\nc\n", given="a b\nc"),
     row_of(["branch", "--repair", "-z"], 0, "a-b\0c\0", given="a\nb\0c"),
     row_of(
@@ -275,6 +284,20 @@ def test_git_finds_it_as_a_command(git_check_names, tmp_path):
     )
     assert ran.returncode == 1
     assert ran.stdout.decode() == f"feature//login: {SLASHES}\n"
+
+
+def test_a_name_is_quoted_as_git_quotes_it(git_check_names, tmp_path):
+    """Each byte that can be in a file's name is in one, and none is a reference."""
+    names = [b"a%cb" % byte for byte in range(1, 256) if byte != ord("/")]
+    subprocess.run(["git", "init", "-q", tmp_path], check=True)
+    entries = b"".join(b"100644 %s\t%s\0" % (ID.encode(), it) for it in names)
+    index = ["git", "-C", tmp_path, "update-index", "-z", "--index-info"]
+    subprocess.run(index, input=entries, check=True)
+    by_git = git("-C", tmp_path, "-c", "core.quotePath=true", "ls-files")
+    ran = git_check_names.run(b"\0".join(names), "ref", "-z")
+    shown = [line.split(b": ")[0] for line in ran.output.splitlines()]
+    assert shown == by_git.stdout.splitlines()
+    assert (len(shown), ran.status) == (len(names), 1)
 
 
 BRANCHES = [

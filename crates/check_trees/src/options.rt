@@ -19,7 +19,8 @@ it is refused, and the rest of the tree's header line, if it is not empty: its
 first 128 bytes, with '...' after them if it has more.
 
     --protect LIST    the file systems to protect, separated by commas: windows,
-                      hfs and ntfs, or none. The default is all three
+                      hfs and ntfs, or none. The default is all three. For
+                      Windows give windows,ntfs (see below)
     --modules         also prints a line for each file that a checkout reads as
                       .gitmodules: 'modules', its id, and then the tree, the
                       mode, the name and the rest as above

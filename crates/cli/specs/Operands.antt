@@ -1,5 +1,5 @@
--- The words of a command line, told apart: the options, each with its value if it needs one, and the
--- operands.
+-- The words of a command line, split into two lists: the options, each followed by its value if it needs
+-- one, and the operands.
 use Rattle.std.specs.Prelude.{ℕ, Bool, true, false, ◌&&◌, not, if◌then◌else◌, List, [], ◌∷◌, codes}
 use Rattle.std.specs.Prelude.{None, take}
 use Rattle.std.specs.Str.{bytes_eq}
@@ -7,7 +7,7 @@ use Rattle.cli.specs.Arguments.{OptionRule, Effect, NeedsValue}
 use Rattle.cli.specs.declared.operands.Place.{Place}
 use Rattle.cli.specs.declared.operands.Place.TheVariants as place
 
--- words that are told apart
+-- the two lists, each in the order of the command line
 pub record Words : Type 0 where
   pub options : List (List ℕ)
   pub operands : List (List ℕ)

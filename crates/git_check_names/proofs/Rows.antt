@@ -9,7 +9,7 @@ use Rattle.git_check_names.specs.declared.problem.Problem.TheVariants.{NoKind, N
 use Rattle.git_check_names.specs.Names.{asked_of, shown}
 use Rattle.git_check_names.specs.Options.{Options, rule, without_options}
 
--- the words of a command line, told apart
+-- the words of a command line, split into options and operands
 split : Gives (λ words. split_words rule (without_options []) words)
     ((
       codes "tag" ∷ codes "-v" ∷ codes "a" ∷ [],
@@ -30,9 +30,14 @@ split = refl
 shown_names : Gives shown
     ((codes "a b", codes "a b")
     ∷ ([], codes "\"\"")  -- empty
-    ∷ (codes "a\nb", codes "\"a\\nb\"")  -- a newline
     ∷ (codes "a\"b", codes "\"a\\\"b\"")
-    ∷ (0xC3 ∷ 0xA9 ∷ [], codes "\"\\xc3\\xa9\"")
+    ∷ (codes "a\\b", codes "\"a\\\\b\"")
+    ∷ (0xC3 ∷ 0xA9 ∷ [], codes "\"\\303\\251\"")  -- é
+    ∷ (0x07 ∷ 0x08 ∷ 0x09 ∷ 0x0A ∷ 0x0B ∷ 0x0C ∷ 0x0D ∷ [], codes "\"\\a\\b\\t\\n\\v\\f\\r\"")
+    ∷ (0x00 ∷ codes "7", codes "\"\\0007\"")  -- NUL
+    ∷ (0x1B ∷ codes "[m", codes "\"\\033[m\"")  -- ESC
+    ∷ (0x7F ∷ [], codes "\"\\177\"")  -- DEL
+    ∷ (0xFF ∷ [], codes "\"\\377\"")
     ∷ [])
 shown_names = refl
 

@@ -10,7 +10,6 @@ use Rattle.std.specs.Str.{byte}
 use Rattle.gix_validate.specs.Bytes.{is_among, is_empty}
 use Rattle.gix_validate.specs.Faults.{when, ◌orelse◌}
 use Rattle.gix_validate.specs.Pieces.{names_in}
-use Rattle.gix_validate.specs.Quoted.{quoted}
 use Rattle.gix_validate.specs.Sanitized.{sanitized}
 use Rattle.cli.specs.Command.{Ran}
 use Rattle.cli.specs.Lines.{line_end}
@@ -25,6 +24,7 @@ use Rattle.git_check_names.specs.declared.problem.Problem.TheVariants.{TwoSource
 use Rattle.git_check_names.specs.declared.problem.Verdict.{Verdict}
 use Rattle.git_check_names.specs.declared.problem.Verdict.TheVariants.{Valid, Invalid, Stopped}
 use Rattle.git_check_names.specs.Faults.{fault_of, fault_word, offset_of, text_of}
+use Rattle.git_check_names.specs.GitQuoted.{git_quoted}
 use Rattle.git_check_names.specs.Kinds.{is_repairable, kind_of}
 use Rattle.git_check_names.specs.Options.{Options}
 
@@ -34,9 +34,9 @@ use Rattle.git_check_names.specs.Options.{Options}
 abbrev pub is_plain_byte : ℕ → Bool
 is_plain_byte b = nat_le 0x20 b && nat_le b 0x7E && not (b == byte "\"" || b == byte "\\")
 
--- how a name is shown: as it is, or quoted, if it is empty or a byte has an escape
+-- how a name is shown: as it is, or as Git quotes it, if it is empty or a byte has an escape
 abbrev pub shown : List ℕ → List ℕ
-shown name = if not (is_empty name) && list_all is_plain_byte name then name else quoted name
+shown name = if not (is_empty name) && list_all is_plain_byte name then name else git_quoted name
 
 -- the byte that ends what is printed: the names that are printed end as those that are read do
 abbrev pub print_end : Options → ℕ

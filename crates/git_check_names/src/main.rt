@@ -7,6 +7,7 @@ mod input;
 mod kind;
 mod options;
 mod problem;
+mod quote;
 mod report;
 
 use cli::command::Command;

@@ -30,16 +30,20 @@ The other arguments are names and options, in any order:
     -z                reads them too, but each name ends with a NUL
     --protect LIST    the file systems to protect from paths and components,
                       separated by commas: windows, hfs and ntfs, or none. The
-                      default is all three
+                      default is all three. For Windows give windows,ntfs: with
+                      windows alone, aux.c is valid
     --repair          prints each name of a branch or a ref, repaired if it is
-                      invalid; after -z each with a NUL at its end
-    -v, --verbose     adds the name of the error, and where in the name it is,
-                      in bytes, if it is at one place
+                      invalid; after -z each with a NUL at its end. Some have no
+                      valid repair: the branch HEAD, an empty name, a branch
+                      that begins with a dash, a dot or a space, a ref like main
+    -v, --verbose     adds the name of the error, and its offset, if it has one:
+                      in bytes, from 0. In a path this is where the invalid part
+                      begins
     --                ends the options, for names that begin with a dash
     -h, --help        prints this text
     --version         prints the version
 
-A name in a line is between double quotes, with escapes such as \\n, if it is
+A name in a line is in double quotes, with the escapes of git ls-files, if it is
 empty or has a double quote, a backslash or a byte that is not printable ASCII.
 
 The status is 0 if all names are valid, or were repaired. It is 1 if a name is

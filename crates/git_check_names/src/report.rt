@@ -10,10 +10,10 @@ ghost use Rattle.git_check_names.specs.Options.{as_options};
 use crate::fault::{Fault, fault_of, fault_word, offset_of};
 use crate::kind::Kind;
 use crate::options::CheckOptions;
+use crate::quote::push_git_quoted;
 use bstr::BStr;
-use git_input::output::push_quoted;
 use gix_validate::reference::name_partial_or_sanitize;
-use std::alloc::Global;
+use std::alloc::{AllocError, Global};
 use std::io::{self, Write};
 
 /// Appends what is said of a name, and returns whether it is invalid, and has no valid repair if that is
@@ -98,15 +98,14 @@ fn push_details(lines: &mut Vec<u8>, checked: &[u8], fault: Fault) -> io::Result
 }
 
 /// Appends a name as it is, or quoted if it has to be.
-fn push_shown(lines: &mut Vec<u8>, name: &[u8]) -> io::Result<()>
+fn push_shown(lines: &mut Vec<u8>, name: &[u8]) -> Result<(), AllocError>
     ensures { OnOk result (lines.new.items ≡ lines.old.items ++ shown name.now) }
 {
     if !name.is_empty() && are_plain(name) {
-        lines.extend_from_slice(name)?;
+        lines.extend_from_slice(name)
     } else {
-        push_quoted(lines, name)?;
+        push_git_quoted(lines, name)
     }
-    Ok(())
 }
 
 /// Whether each byte is shown as it is in a name without quotes.

@@ -57,7 +57,7 @@ pub mod reference {
         11 Empty: "Reference name cannot be empty",
         /// It has no slash, and a byte other than `A` to `Z` and `_`, as a digit.
         12 SomeLowercase: "Standalone references must be all uppercased, like 'HEAD'",
-        /// It is reserved: `@`, or as a branch `refs/heads/HEAD`.
+        /// It is reserved: `@`, or as a branch `HEAD`, which is `refs/heads/HEAD` in full.
         13 Reserved { name }: "Reference name is reserved and cannot be used: {name:?}",
     }
 }

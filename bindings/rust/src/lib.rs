@@ -4,7 +4,7 @@
 //! each with a contract that is proved. `docs/ASSURANCE.md` says what that covers, `README.md` what differs from
 //! gix-validate.
 //! Beyond that API, [`branch::short_name()`] checks a branch as people write it, [`path::whole()`] a whole path, and
-//! [`reference::names`], [`tag::names`] and [`submodule::names`] check the names in a buffer.
+//! [`reference::names`], [`tag::names`], [`branch::short_names`] and [`submodule::names`] check the names in a buffer.
 //!
 //! ```
 //! use bstr::ByteSlice;

@@ -28,7 +28,8 @@ pub fn name(input: &BStr) -> Result<&BStr, name::Error> {
 }
 
 /// The offset of the fault of a tag's name in bytes, or `None` if it is valid. A fault of the end is at the last byte, that of
-/// an empty name at 0. It serves for references, too: what is invalid as a tag is so at the same offset.
+/// an empty name at 0. It serves for references and short branches, too: what is invalid as a tag is so at the same
+/// offset. What is valid as a tag and not as these, such as `HEAD` or `-d`, has no offset.
 ///
 /// ```
 /// use bstr::ByteSlice;

@@ -51,7 +51,7 @@ pub enum NameError {
     Empty,
     /// It has no slash, and a byte other than `A` to `Z` and `_`, as a digit.
     SomeLowercase,
-    /// It is reserved: `@`, or as a branch `refs/heads/HEAD`.
+    /// It is reserved: `@`, or as a branch `HEAD`, which is `refs/heads/HEAD` in full.
     Reserved { name: ArrayVec<u8, 15> },
 }
 

@@ -47,6 +47,8 @@ WAY = re.compile(rf"([\d.]+) (?:ns )?({'|'.join(WAYS)})")
 # The heads of tables.
 CALL_COLUMNS = ["Call", "Names", "Dihareku, ns", "Crate, ns", "libgit2, ns"]
 CALL_COLUMNS += ["Dihareku, instructions", "Crate, instructions"]
+LANGUAGE_COLUMNS = ["Language", "The loop alone", "A short branch name"]
+LANGUAGE_COLUMNS += ["A path of three parts", "Its parts, a call for each"]
 PUSH_COLUMNS = ["What is pushed", "Without a hook", "The shell script", "The hook"]
 ATTACK_COLUMNS = ["What is pushed", "Bytes", "`receive.fsckObjects`", *PUSH_COLUMNS[2:]]
 # The pages of marks that aren't on bench/README.md.
@@ -121,6 +123,12 @@ def ways(lines):
     return f"{version}:\n\n{cells}" + "".join(f"\n\n{it}." for it in lines[1:])
 
 
+def languages(lines):
+    """The rows of the table of instructions in each language."""
+    for name, *counts in cells_of(lines):
+        yield name, *(shown(it) for it in counts)
+
+
 def cells_of(lines):
     """The cells of each line but the first, the head."""
     return (re.split("  +", it) for it in lines[1:])
@@ -153,6 +161,7 @@ def made(figures):
         "python": ways(figures["python"]),
         "javascript": ways(figures["javascript"]),
         "go": ways(figures["go"]),
+        "languages": table(LANGUAGE_COLUMNS, *languages(figures["languages"])),
         "gitoxide": f"{figures['gitoxide'][0]}:\n\n{gitoxide}",
         "push": table(PUSH_COLUMNS, *cells_of(figures["push"])),
         "pushes": table(ATTACK_COLUMNS, *cells_of(figures["pushes"])),

@@ -132,7 +132,9 @@ mod tests {
         }
         let mut read = |tree: &RawId, folder_is: &mut dyn FnMut(&RawId)| {
             let folders = unread.remove(tree).expect("it is read once");
-            folders.iter().for_each(|name| folder_is(&id(*name)));
+            for name in folders {
+                folder_is(&id(*name));
+            }
             Ok(())
         };
         all.have_heavy_path(most, &mut read).unwrap()

@@ -17,9 +17,9 @@ use std::process::Stdio;
 
 /// How large a tree, a commit or a tag may be: Git holds it whole.
 const LARGEST: u64 = 64 << 20;
-/// How many megabytes `git rev-list` may hold of a push, and how many more for each that the push has. It
-/// holds the commits that references name, the names of tags, of each commit a list of its parents, and
-/// all trees on the path of a folder.
+/// How many megabytes `git rev-list` may hold of a push, and how many more for each that the push has. This
+/// bounds the commits that references name, the names of tags, of each commit a list of its parents, and
+/// all trees on the path of a folder. (docs/DECISIONS.md says what isn't bounded.)
 const HELD: (u64, u64) = (112, 8);
 /// Objects in smaller files are smaller than that: deflate makes of 1032 bytes at least one.
 const SMALLEST_FILES: u64 = LARGEST / 1032;

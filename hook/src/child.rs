@@ -5,7 +5,7 @@
 //! program to a shell, as `execvp` would.
 
 use crate::failure::{failed, printable, Failure, OrFail, Result};
-use crate::system::{free_other, limit_other, Resource};
+use crate::system::{free_other, limit_other, relimit_other, Resource};
 use std::ffi::OsString;
 use std::io::{self, Read};
 use std::os::unix::process::ExitStatusExt;
@@ -79,6 +79,12 @@ impl Child {
     pub fn limit_time(&mut self, seconds: u64) -> Result<()> {
         self.seconds = Some(seconds);
         limit_other(self.process.id(), Resource::Time, seconds)
+            .or_fail(format!("{} could not be limited", self.name))
+    }
+
+    /// Gives it so many bytes of memory, which may be more than this process has.
+    pub fn limit_memory(&self, bytes: u64) -> Result<()> {
+        relimit_other(self.process.id(), Resource::Memory, bytes)
             .or_fail(format!("{} could not be limited", self.name))
     }
 

@@ -52,6 +52,11 @@ pub fn limit_other(process: u32, resource: Resource, most: u64) -> io::Result<()
     set_limit(number(process)?, resource, |old| most.min(old.soft))
 }
 
+/// Limits another process, which may get more than it has from this one.
+pub fn relimit_other(process: u32, resource: Resource, most: u64) -> io::Result<()> {
+    set_limit(number(process)?, resource, |old| most.min(old.hard))
+}
+
 /// Frees another process of the limits that it has from this one, as far as it may be.
 pub fn free_other(process: u32) -> io::Result<()> {
     for resource in [Resource::Time, Resource::Memory] {

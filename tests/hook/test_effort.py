@@ -1,7 +1,10 @@
 """How much work a push can make: the hook has Git list the trees twice, however many
 references there are, and it bounds what a hostile .gitmodules file or pack can take."""
+import hashlib
 import re
+import struct
 import sys
+import zlib
 
 import pytest
 
@@ -82,7 +85,7 @@ def test_a_long_chain_of_deltas_is_refused_but_not_as_git_push_sends_it(server, 
     )
     assert result.status == 1
     assert re.fullmatch(
-        rf"{UNCHECKED}: a chain of more than 250 deltas is too long: "
+        rf"{UNCHECKED}: a chain of more than 50 deltas is too long: "
         r"push with git -c pack.depth=50\n",
         result.said,
     )
@@ -318,10 +321,10 @@ def test_many_versions_of_a_large_folder_are_accepted(incoming, measured_push):
     [
         ("exit 9", "git cat-file failed (status 9)"),
         ("kill -9 $$", "git cat-file failed (status 137)"),
-        ("exit 0", "the trees could not be read"),
-        ("echo tree 10; exit 0", "the trees could not be read"),
-        ("echo commit 10; cat", "the trees could not be read"),
-        ('"$real" "$@" | head -c 1000; exit 0', "the trees could not be read"),
+        ("exit 0", "the objects could not be read"),
+        ("echo tree 10; exit 0", "the objects could not be read"),
+        ("echo commit 10; cat", "the objects could not be read"),
+        ('"$real" "$@" | head -c 1000; exit 0', "the objects could not be read"),
     ],
 )
 def test_if_trees_cannot_be_read_for_their_folders_the_push_is_refused(
@@ -332,6 +335,111 @@ def test_if_trees_cannot_be_read_for_their_folders_the_push_is_refused(
     result, _ = measured_push(incoming.commit(tree))
     assert result.status == 2
     assert result.said.startswith(f"{UNCHECKED}: {why}")
+
+
+# Packs that Git would not make.
+TREE, BLOB, DELTA = 2, 3, 7
+
+
+def in_pack(kind, content, base=""):
+    """An object as a pack has it. A delta has the id of its base."""
+    size = len(content) >> 4
+    head = [kind << 4 | len(content) & 15]
+    while size:
+        head[-1] |= 128
+        head.append(size & 127)
+        size >>= 7
+    return bytes(head) + bytes.fromhex(base) + zlib.compress(content)
+
+
+def bring(incoming, *objects):
+    """Brings these objects in a pack."""
+    pack = b"PACK" + struct.pack(">II", 2, len(objects)) + b"".join(objects)
+    pack += hashlib.new(incoming.object_format, pack).digest()
+    path = incoming.path / "objects/pack/pack-a.pack"
+    path.write_bytes(pack)
+    incoming.git("index-pack", str(path))
+
+
+def id_of(incoming, kind, content):
+    """The id of an object that is not written."""
+    whole = f"{kind} {len(content)}\0".encode() + content
+    return hashlib.new(incoming.object_format, whole).hexdigest()
+
+
+# What references name, or tags. Git parses all of it before it lists trees.
+def a_blob(incoming):
+    content = b"x" * 150_000_000
+    bring(incoming, in_pack(BLOB, content))
+    return [id_of(incoming, "blob", content)]
+
+
+def trees(incoming):
+    return [nested(incoming, 1, 45_000_000 + n * 60_000) for n in range(4)]
+
+
+def tags_of_trees(incoming):
+    return [tag(incoming, it, "tree", "large") for it in trees(incoming)]
+
+
+@pytest.mark.parametrize("make", [a_blob, trees, tags_of_trees])
+def test_references_that_name_more_than_128_MB_refuse_the_push(
+    incoming, measured_push, make
+):
+    result, megabytes = measured_push(*make(incoming))
+    assert result.status == 2
+    assert re.fullmatch(
+        rf"{UNCHECKED}: what references name needs more than 1\d\d MB, "
+        r"or an object is missing or broken\n",
+        result.said,
+    )
+    assert megabytes < 160
+
+
+def test_a_tag_of_a_commit_with_a_large_file_is_accepted(incoming, measured_push):
+    large = file("large", incoming.blob("x" * 150_000_000))
+    commit = incoming.commit_of(large)
+    result, megabytes = measured_push(commit, tag(incoming, commit, "commit", "v1"))
+    assert result == ACCEPTED
+    assert megabytes < 96
+
+
+def test_a_pack_that_has_an_object_twice_is_refused(incoming, measured_push):
+    """Git may read the one that the hook did not look at."""
+    bring(incoming, *[in_pack(BLOB, b"a")] * 2)
+    result, _ = measured_push(incoming.commit_of("a"))
+    assert result == not_checked("the pack has an object twice")
+
+
+def test_a_tree_whose_delta_needs_much_more_than_the_tree_refuses_the_push(
+    incoming, measured_push
+):
+    """It is a tree with a long name, of which each byte is copied by itself."""
+    id_ = bytes.fromhex(incoming.text)
+    base, length = b"100644 x\0" + id_, 14_000_000
+    tree = base.replace(b"x", b"x" * length)
+
+    def varint(value):
+        return bytes(
+            [value & 127 | 128, *varint(value >> 7)] if value >> 7 else [value]
+        )
+
+    def copied(start, size):
+        return b"\xff" + struct.pack("<I", start) + struct.pack("<I", size)[:3]
+
+    name = copied(7, 1) * length
+    delta = varint(len(base)) + varint(len(tree)) + copied(0, 7) + name
+    delta += copied(8, len(base) - 8)
+    base_id = id_of(incoming, "tree", base)
+    bring(incoming, in_pack(TREE, base), in_pack(DELTA, delta, base_id))
+    result, megabytes = measured_push(incoming.commit(id_of(incoming, "tree", tree)))
+    assert result.status == 2
+    assert re.fullmatch(
+        rf"{UNCHECKED}: git cat-file failed \(status 128\): "
+        r"an object is missing or broken, or it needs more than \d+ MB\n",
+        result.said,
+    )
+    assert megabytes < 128
 
 
 def test_large_files_do_not_count_as_commits(incoming, measured_push):

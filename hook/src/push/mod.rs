@@ -129,7 +129,7 @@ impl Push {
         let trees = match ids.as_slice() {
             [] => Objects::of_none(0)?, // (the list isn't needed, and ends here)
             ids => {
-                headers::check(&checks.git, quarantine)?;
+                headers::check(&checks.git, quarantine, ids)?;
                 checks.trees(list, check_trees, ids, &mut modules, &mut found)?
             }
         };

@@ -6,11 +6,13 @@ use crate::failure::{OrFail, Result};
 use crate::system::{limit_this, Limits, Resource};
 use std::env;
 use std::ffi::OsStr;
-use std::fs;
-use std::io;
+use std::fs::{self, File};
+use std::io::{self, Read};
 use std::path::{Path, PathBuf};
 
 const MEGABYTE: u64 = 1 << 20;
+/// How a pack begins: `PACK`, the version of its format, and how many objects it has.
+const PACK_HEADER: usize = 12;
 
 /// Where the objects are that a push brings, as they came: in a pack, or each in a file.
 pub struct Quarantine {
@@ -18,6 +20,8 @@ pub struct Quarantine {
     pub folder: Option<PathBuf>,
     pub bytes: u64,
     pub has_pack: bool,
+    /// How many objects there are, those that are there twice included.
+    pub objects: u64,
 }
 
 impl Quarantine {
@@ -27,6 +31,7 @@ impl Quarantine {
             folder: env::var_os("GIT_QUARANTINE_PATH").map(PathBuf::from),
             bytes: 0,
             has_pack: false,
+            objects: 0,
         };
         if let Some(folder) = found.folder.clone() {
             found
@@ -43,7 +48,12 @@ impl Quarantine {
                 self.look_in(&path)?;
             } else {
                 self.bytes += file.len();
-                self.has_pack |= path.extension() == Some(OsStr::new("pack"));
+                if path.extension() == Some(OsStr::new("pack")) {
+                    self.has_pack = true;
+                    self.objects += objects_in(&path)?;
+                } else if folder.file_name().map_or(0, OsStr::len) == 2 {
+                    self.objects += 1; // (each is a file in a folder with two digits of its id)
+                }
             }
         }
         Ok(())
@@ -65,4 +75,12 @@ impl Quarantine {
             .or_fail("the memory could not be limited")?;
         Ok(limits)
     }
+}
+
+/// How many objects this pack says that it has.
+fn objects_in(pack: &Path) -> io::Result<u64> {
+    let mut header = [0; PACK_HEADER];
+    File::open(pack)?.read_exact(&mut header)?;
+    let count = header[8..].iter();
+    Ok(count.fold(0, |count, byte| count << 8 | u64::from(*byte)))
 }

@@ -1,4 +1,4 @@
-//! The folders in a tree, as Git prints it.
+//! Objects as Git prints them, and the folders in a tree.
 
 use super::paths::RawId;
 use crate::child::Child;
@@ -7,11 +7,11 @@ use crate::git::Git;
 use std::io::{self, BufRead, BufReader, ErrorKind, Read, Write};
 use std::process::{ChildStdin, ChildStdout, Stdio};
 
-/// `git cat-file`, which prints each tree whose id it gets.
+/// `git cat-file`, which prints each object whose id it gets, under the limits of this process.
 pub struct Reader {
     git: Child,
     ids: ChildStdin,
-    trees: BufReader<ChildStdout>,
+    objects: BufReader<ChildStdout>,
     /// How many bytes an id has.
     id_length: usize,
 }
@@ -23,7 +23,7 @@ impl Reader {
         let mut git = Child::start("git cat-file", command)?;
         Ok(Self {
             ids: git.input()?,
-            trees: BufReader::with_capacity(1 << 16, git.output()?),
+            objects: BufReader::with_capacity(1 << 16, git.output()?),
             git,
             id_length,
         })
@@ -31,6 +31,22 @@ impl Reader {
 
     /// Reads a tree, and calls the function with the id of each folder in it.
     pub fn read(&mut self, id: &RawId, folder_is: &mut dyn FnMut(&RawId)) -> Result<()> {
+        let size = self.start_object(id, "tree")?;
+        let mut tree = self.objects.by_ref().take(size);
+        each_folder(&mut tree, self.id_length, folder_is).or_fail(UNREAD)?;
+        self.end_object()
+    }
+
+    /// Reads an object of any kind, to see that Git can.
+    pub fn pass_over(&mut self, id: &RawId) -> Result<()> {
+        let size = self.start_object(id, "")?;
+        let mut object = self.objects.by_ref().take(size);
+        io::copy(&mut object, &mut io::sink()).or_fail(UNREAD)?;
+        self.end_object()
+    }
+
+    /// Has Git print an object, whose kind begins so, and returns its size.
+    fn start_object(&mut self, id: &RawId, kind: &str) -> Result<u64> {
         let digit = |value: u8| b"0123456789abcdef"[usize::from(value)];
         let bytes = id[..self.id_length].iter();
         let mut line: Vec<u8> = bytes
@@ -40,27 +56,26 @@ impl Reader {
         self.ids.write_all(&line).or_fail(UNREAD)?;
 
         let mut header = String::new();
-        self.trees.read_line(&mut header).or_fail(UNREAD)?;
-        let size = header.strip_prefix("tree ").map(|it| it.trim_end().parse());
-        let mut tree = match size {
-            Some(Ok(size)) => self.trees.by_ref().take(size),
-            _ => return failed(UNREAD),
-        };
-        each_folder(&mut tree, self.id_length, folder_is).or_fail(UNREAD)?;
-        self.trees.read_exact(&mut [0]).or_fail(UNREAD) // (a newline)
+        self.objects.read_line(&mut header).or_fail(UNREAD)?;
+        let (found, size) = header.trim_end().split_once(' ').unwrap_or_default();
+        match size.parse() {
+            Ok(size) if found.starts_with(kind) => Ok(size),
+            _ => failed(UNREAD),
+        }
+    }
+
+    fn end_object(&mut self) -> Result<()> {
+        self.objects.read_exact(&mut [0]).or_fail(UNREAD) // (a newline)
     }
 
     /// Closes both pipes, and waits for Git.
     pub fn end(self) -> Result<()> {
-        let Self {
-            git, ids, trees, ..
-        } = self;
-        drop((ids, trees));
-        git.succeed()
+        drop((self.ids, self.objects));
+        self.git.succeed()
     }
 }
 
-const UNREAD: &str = "the trees could not be read";
+const UNREAD: &str = "the objects could not be read";
 
 /// Calls the function with the id of each folder in this tree, whose entries are `MODE NAME`, a NUL, and an
 /// id. No name is kept.

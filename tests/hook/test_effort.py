@@ -85,8 +85,8 @@ def test_a_long_chain_of_deltas_is_refused_but_not_as_git_push_sends_it(server, 
     )
     assert result.status == 1
     assert re.fullmatch(
-        rf"{UNCHECKED}: a chain of more than 50 deltas is too long: "
-        r"push with git -c pack.depth=50\n",
+        rf"{UNCHECKED}: a chain of more than 250 deltas is too long: push with "
+        r"git -c pack.depth=50 -c pack.allowPackReuse=false\n",
         result.said,
     )
     assert server.push(chain) == ACCEPTED

@@ -1,8 +1,8 @@
 //! Chains of deltas.
 
-/// The longest chain that is accepted: the longest that `git push` makes, unless `pack.depth` is set. (To
-/// read an object, Git walks along its chain, and a push can be made so that it does so for each.)
-pub const LONGEST: u8 = 50;
+/// The longest chain that is accepted. `git push` makes none above 50, unless `pack.depth` is set. But from a
+/// bare repository it may send a pack as that is, whose chains are those of an earlier `git repack`.
+pub const LONGEST: u8 = 250;
 
 /// An object that is a delta, and its base: of each id the first digits.
 #[derive(Clone, Copy, PartialEq, Eq, PartialOrd, Ord)]
@@ -71,15 +71,15 @@ mod tests {
     }
 
     #[test]
-    fn a_chain_above_50_deltas_is_long_in_any_order() {
+    fn a_chain_above_250_deltas_is_long_in_any_order() {
         let orders: [fn(&mut [Delta]); 3] = [
             |_| (),
             <[Delta]>::reverse,
             |it| it.sort_by_key(|delta| delta.object % 7),
         ];
         for order in orders {
-            assert!(!has_long(chain(0, order)) && !has_long(chain(50, order)));
-            assert!(has_long(chain(51, order)) && has_long(chain(3000, order)));
+            assert!(!has_long(chain(0, order)) && !has_long(chain(250, order)));
+            assert!(has_long(chain(251, order)) && has_long(chain(3000, order)));
         }
     }
 

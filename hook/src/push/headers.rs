@@ -49,7 +49,8 @@ pub fn check(git: &Git, quarantine: &Quarantine, ids: &[u8]) -> Result<()> {
     }
     if chains::has_long(headers.deltas) {
         return failed(format!(
-            "a chain of more than {} deltas is too long: push with git -c pack.depth=50",
+            "a chain of more than {} deltas is too long: push with \
+             git -c pack.depth=50 -c pack.allowPackReuse=false",
             chains::LONGEST
         ));
     }

@@ -396,6 +396,17 @@ def test_references_that_name_more_than_128_MB_refuse_the_push(
     assert megabytes < 160
 
 
+@pytest.mark.parametrize("way", ["exit 9", "kill -9 $$", "cat > /dev/null; exit 1"])
+def test_if_what_references_name_cannot_be_parsed_the_push_is_refused(
+    hook, incoming, measured_push, way
+):
+    large = file("large", incoming.blob("x" * 80_000_000))
+    hook.stand_in("git rev-list --no-walk", way)
+    result, _ = measured_push(incoming.commit_of(large))
+    assert result.status == 2
+    assert result.said.startswith(f"{UNCHECKED}: what references name needs more than ")
+
+
 def test_a_tag_of_a_commit_with_a_large_file_is_accepted(incoming, measured_push):
     large = file("large", incoming.blob("x" * 150_000_000))
     commit = incoming.commit_of(large)

@@ -12,6 +12,7 @@ use crate::lines::{Lengths, Line};
 use crate::programs::Programs;
 use crate::quoting::beginning;
 use crate::settings::Rules;
+use crate::system::Limits;
 use crate::verdict::{List, Objects, Report, Says};
 use std::collections::HashMap;
 use std::ffi::OsString;
@@ -23,6 +24,16 @@ use std::thread::{self, Scope, ScopedJoinHandle};
 
 /// What `git cat-file` prints of an object, before its content.
 const BATCH: &str = "--batch=%(objectname) %(objecttype) %(objectsize)";
+/// The beginning of each list. (Its cache is as large as that of the list which receive-pack makes before it
+/// starts the hook. So it takes as long, however the deltas of a push depend on each other.)
+const LIST: [&str; 6] = [
+    "-c",
+    "core.warnAmbiguousRefs=false",
+    "-c",
+    "core.deltaBaseCacheLimit=96m",
+    "rev-list",
+    "--stdin",
+];
 /// How much of the name of a `.gitmodules` file is kept.
 const LONGEST_FILE: usize = 80;
 
@@ -43,15 +54,14 @@ pub struct Bounds {
     pub ids: usize,
     /// How many different `.gitmodules` files there may be.
     pub modules: usize,
-    /// How many seconds of processor time Git may take to read these. (Deltas can be made so that it
-    /// takes minutes to read a kilobyte.)
-    pub seconds: Option<u64>,
-    /// Whether the limits of this process also hold for `git rev-list`.
-    pub limit_lists: bool,
+    /// What `git rev-list` may take, if it has limits of its own.
+    pub list: Option<Limits>,
+    /// The same of `git cat-file`, once to print trees, and once to print `.gitmodules` files.
+    pub print: Option<Limits>,
 }
 
 /// Which trees are checked: what `git rev-list` selects by these ids, one on each line, and
-/// arguments. (An id that was pushed has `^{}` at its end.)
+/// arguments.
 #[derive(Clone, Copy)]
 pub struct Selection<'a> {
     pub ids: &'a [u8],
@@ -73,6 +83,19 @@ pub type Modules = HashMap<Id, Place>;
 /// What is done with a finding. After `Break` no more are wanted.
 pub type OnFinding<'a> = &'a mut dyn FnMut(Finding) -> ControlFlow<()>;
 
+impl TreeList {
+    /// Gives both the limits that they have of their own.
+    pub fn limit(&mut self, bounds: &Bounds) -> Result<()> {
+        if let Some(limits) = bounds.list {
+            self.rev_list.limit(limits)?;
+        }
+        if let Some(limits) = bounds.print {
+            self.cat_file.limit(limits)?;
+        }
+        Ok(())
+    }
+}
+
 impl Checks {
     /// Starts the program that checks the names of references.
     pub fn start_references(&self) -> Result<Child> {
@@ -83,8 +106,7 @@ impl Checks {
     }
 
     /// Checks the names of references, in lines `OLD NEW REF` that `write` writes. To `ids` it adds
-    /// the new ones of those that are allowed and not deleted, each on a line, as `ID^{}`: of a tag,
-    /// this is what is tagged. (For a chain of tags Git would keep the chain of each.)
+    /// the new ones of those that are allowed and not deleted, each on a line.
     pub fn references(
         &self,
         mut check: Child,
@@ -99,7 +121,7 @@ impl Checks {
             let report = Report::read(check, self.bounds.lengths, |line| match id(&line.front) {
                 Some(id) if ids.len() < self.bounds.ids => {
                     ids.extend_from_slice(&id);
-                    ids.extend_from_slice(b"^{}\n");
+                    ids.push(b'\n');
                     Ok(Says::Else)
                 }
                 Some(_) => failed("there are too many references"),
@@ -176,8 +198,8 @@ impl Checks {
             return Objects::of_none(modules.len());
         }
         let mut cat_file = self.cat_file(&["cat-file", "--buffer", BATCH])?;
-        if let Some(seconds) = self.bounds.seconds {
-            cat_file.limit_time(seconds)?;
+        if let Some(limits) = self.bounds.print {
+            cat_file.limit(limits)?;
         }
         let mut command = self.programs.command("check_submodules");
         command.arg("--end");
@@ -219,9 +241,7 @@ impl Checks {
         names: &str,
         output: impl Into<Stdio>,
     ) -> Result<Child> {
-        let mut command =
-            self.git
-                .command(&["-c", "core.warnAmbiguousRefs=false", "rev-list", "--stdin"]);
+        let mut command = self.git.command(&LIST);
         command.args([
             "--objects",
             names,
@@ -230,9 +250,9 @@ impl Checks {
         ]);
         command.args(arguments);
         command.stdin(Stdio::piped()).stdout(output);
-        let rev_list = Child::start("git rev-list", command)?;
-        if !self.bounds.limit_lists {
-            rev_list.free()?;
+        let mut rev_list = Child::start("git rev-list", command)?;
+        if let Some(limits) = self.bounds.list {
+            rev_list.limit(limits)?;
         }
         Ok(rev_list)
     }

@@ -4,8 +4,8 @@
 //! fork and exec. So the standard library calls `posix_spawn`, which gives no file that isn't a
 //! program to a shell, as `execvp` would.
 
-use crate::failure::{failed, printable, Failure, OrFail, Result};
-use crate::system::{free_other, limit_other, relimit_other, Resource};
+use crate::failure::{printable, Failure, OrFail, Result};
+use crate::system::{limit_other, Limits};
 use std::ffi::OsString;
 use std::io::{self, Read};
 use std::os::unix::process::ExitStatusExt;
@@ -33,16 +33,14 @@ pub fn command(program: &Path, environment: &[Variable]) -> Command {
 pub struct Child {
     pub name: &'static str,
     process: process::Child,
-    /// How much processor time it may take, if that is limited.
-    seconds: Option<u64>,
+    /// What it may take, if it has limits of its own.
+    limits: Option<Limits>,
 }
 
 /// How much of a program's message is shown.
 const LONGEST_MESSAGE: usize = 1000;
 /// The status of a process that wrote into a pipe that nobody read.
 const UNREAD: i32 = 128 + 13;
-/// The status of a process that took more processor time than it may.
-const LATE: i32 = 128 + 24;
 
 impl Child {
     /// Starts it. This takes the command, and so closes our ends of the pipes that were given to
@@ -54,7 +52,7 @@ impl Child {
         Ok(Self {
             name,
             process,
-            seconds: None,
+            limits: None,
         })
     }
 
@@ -75,22 +73,11 @@ impl Child {
         Failure::Failed(format!("{} has no pipe", self.name))
     }
 
-    /// Gives it so many seconds of processor time in all.
-    pub fn limit_time(&mut self, seconds: u64) -> Result<()> {
-        self.seconds = Some(seconds);
-        limit_other(self.process.id(), Resource::Time, seconds)
+    /// Gives it limits of its own, which may be above those of this process.
+    pub fn limit(&mut self, limits: Limits) -> Result<()> {
+        self.limits = Some(limits);
+        limit_other(self.process.id(), limits)
             .or_fail(format!("{} could not be limited", self.name))
-    }
-
-    /// Gives it so many bytes of memory, which may be more than this process has.
-    pub fn limit_memory(&self, bytes: u64) -> Result<()> {
-        relimit_other(self.process.id(), Resource::Memory, bytes)
-            .or_fail(format!("{} could not be limited", self.name))
-    }
-
-    /// Frees it of the limits of this process.
-    pub fn free(&self) -> Result<()> {
-        free_other(self.process.id()).or_fail(format!("{} could not be freed of limits", self.name))
     }
 
     /// Waits until it has ended, and returns its status.
@@ -113,15 +100,15 @@ impl Child {
 
     /// Waits until it has ended. Any status but 0 is a failure.
     pub fn succeed(self) -> Result<()> {
-        let name = self.name;
-        let seconds = self.seconds.unwrap_or_default();
+        let (name, limits) = (self.name, self.limits);
+        let failure = |status| format!("{name} failed (status {status})");
         match self.wait()? {
             0 => Ok(()),
-            UNREAD => Err(Failure::Unread(format!("{name} failed (status {UNREAD})"))),
-            LATE if seconds > 0 => failed(format!(
-                "{name} failed (status {LATE}): it may take {seconds} seconds"
-            )),
-            status => failed(format!("{name} failed (status {status})")),
+            UNREAD => Err(Failure::Unread(failure(UNREAD))),
+            status => match (Failure::Failed(failure(status)), limits) {
+                (failure, Some(limits)) => Err(failure.explained(limits)),
+                (failure, None) => Err(failure),
+            },
         }
     }
 }

@@ -24,9 +24,9 @@ impl Failure {
                     format!("an object is missing or broken, or it needs more than {megabytes} MB");
                 Self::Failed(format!("{what}: {why}"))
             }
-            Self::Failed(what) if what.ends_with("(status 152)") => {
-                Self::Failed(format!("{what}: it takes more than {seconds} seconds"))
-            }
+            Self::Failed(what) if what.ends_with("(status 152)") => Self::Failed(format!(
+                "{what}: it needs more than {seconds} s of processor time"
+            )),
             other => other,
         }
     }

@@ -16,7 +16,12 @@ pub struct Rules {
     pub accept: OsString,
     /// Whether references below refs/replace/ are allowed.
     pub replace: bool,
+    /// How many times as much as usual a push may take.
+    pub limits: u64,
 }
+
+/// The largest number that `names.limits` may have.
+const MOST_LIMITS: u64 = 1000;
 
 impl Default for Rules {
     fn default() -> Self {
@@ -24,6 +29,7 @@ impl Default for Rules {
             protect: "windows,hfs,ntfs".into(),
             accept: OsString::new(),
             replace: false,
+            limits: 1,
         }
     }
 }
@@ -72,6 +78,14 @@ impl Rules {
                 Some(value) => self.replace = value,
                 None => return failed("the setting names.replace is neither true nor false"),
             },
+            b"names.limits" => match number(value) {
+                Some(value) => self.limits = value,
+                None => {
+                    return failed(format!(
+                        "the setting names.limits is no number from 1 to {MOST_LIMITS}"
+                    ))
+                }
+            },
             _ => return unknown(key),
         }
         Ok(())
@@ -87,8 +101,17 @@ fn boolean(value: &[u8]) -> Option<bool> {
     }
 }
 
+/// A whole number from 1 on, in decimal digits.
+fn number(value: &[u8]) -> Option<u64> {
+    let is_number = value.iter().all(u8::is_ascii_digit);
+    let number = std::str::from_utf8(value).ok()?.parse().ok()?;
+    (is_number && (1..=MOST_LIMITS).contains(&number)).then_some(number)
+}
+
 fn is_known(key: &[u8]) -> bool {
-    matches!(key, b"names.protect" | b"names.accept" | b"names.replace")
+    let words = ["protect", "accept", "replace", "limits"];
+    let word = key.strip_prefix(b"names.");
+    words.iter().any(|it| word == Some(it.as_bytes()))
 }
 
 fn unknown<T>(key: &[u8]) -> Result<T> {
@@ -109,7 +132,7 @@ fn output(said: &Said) -> Result<&[u8]> {
 
 #[cfg(test)]
 mod tests {
-    use super::boolean;
+    use super::{boolean, number};
 
     #[test]
     fn a_boolean_is_as_git_config_describes_it() {
@@ -121,6 +144,27 @@ mod tests {
         }
         for value in ["2", "y", "t", " true", "none"] {
             assert_eq!(boolean(value.as_bytes()), None, "{value}");
+        }
+    }
+
+    #[test]
+    fn a_factor_is_a_number_from_1_to_1000() {
+        for (value, is) in [("1", 1), ("8", 8), ("010", 10), ("1000", 1000)] {
+            assert_eq!(number(value.as_bytes()), Some(is), "{value}");
+        }
+        for value in [
+            "",
+            "0",
+            "1001",
+            "-1",
+            "+1",
+            "1.5",
+            "2k",
+            " 2",
+            "2 ",
+            "99999999999999999999",
+        ] {
+            assert_eq!(number(value.as_bytes()), None, "{value}");
         }
     }
 }

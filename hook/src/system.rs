@@ -25,58 +25,54 @@ struct Limit {
     hard: u64,
 }
 
-/// What is limited. The numbers are those of Linux on every processor but SPARC and MIPS.
-#[derive(Clone, Copy)]
-pub enum Resource {
-    /// Seconds of processor time.
-    Time = 0,
-    /// Bytes of memory that a process writes to. (Packs that Git maps don't count.)
-    Memory = 2,
-}
-
-/// What each process may take.
+/// What a process may take.
 #[derive(Clone, Copy)]
 pub struct Limits {
+    /// Of processor time.
     pub seconds: u64,
+    /// Of memory that it writes to. (Packs that Git maps don't count.)
     pub megabytes: u64,
 }
 
-/// Limits this process and all that it starts from now on, unless they are freed. A stricter limit
-/// stays.
-pub fn limit_this(resource: Resource, most: u64) -> io::Result<()> {
-    set_limit(0, resource, |old| most.min(old.soft))
-}
-
-/// Limits another process, with this number.
-pub fn limit_other(process: u32, resource: Resource, most: u64) -> io::Result<()> {
-    set_limit(number(process)?, resource, |old| most.min(old.soft))
-}
-
-/// Limits another process, which may get more than it has from this one.
-pub fn relimit_other(process: u32, resource: Resource, most: u64) -> io::Result<()> {
-    set_limit(number(process)?, resource, |old| most.min(old.hard))
-}
-
-/// Frees another process of the limits that it has from this one, as far as it may be.
-pub fn free_other(process: u32) -> io::Result<()> {
-    for resource in [Resource::Time, Resource::Memory] {
-        set_limit(number(process)?, resource, |old| old.hard)?;
+impl Limits {
+    pub fn times(self, factor: u64) -> Self {
+        Self {
+            seconds: self.seconds * factor,
+            megabytes: self.megabytes * factor,
+        }
     }
-    Ok(())
 }
 
-fn number(process: u32) -> io::Result<c_int> {
-    c_int::try_from(process).map_err(|it| io::Error::new(io::ErrorKind::Other, it))
+/// The numbers of both resources, on every processor but SPARC and MIPS.
+const TIME: c_uint = 0;
+const MEMORY: c_uint = 2;
+
+/// Limits this process and all that it starts from now on. A stricter limit stays.
+pub fn limit_this(limits: Limits) -> io::Result<()> {
+    set_limits(0, limits, |old| old.soft)
+}
+
+/// Limits another process, which may get more than this one has.
+pub fn limit_other(process: u32, limits: Limits) -> io::Result<()> {
+    let process = c_int::try_from(process);
+    let process = process.map_err(|it| io::Error::new(io::ErrorKind::Other, it))?;
+    set_limits(process, limits, |old| old.hard)
+}
+
+fn set_limits(process: c_int, limits: Limits, most: fn(&Limit) -> u64) -> io::Result<()> {
+    set_limit(process, TIME, |old| limits.seconds.min(most(old)))?;
+    set_limit(process, MEMORY, |old| {
+        (limits.megabytes << 20).min(most(old))
+    })
 }
 
 /// Sets the soft limit, at which a process gets a signal that says why, or no more memory. (The hard
 /// one can't be raised again.)
 fn set_limit(
     process: c_int,
-    resource: Resource,
+    resource: c_uint,
     limit: impl FnOnce(&Limit) -> u64,
 ) -> io::Result<()> {
-    let resource = resource as c_uint;
     let mut old = Limit { soft: 0, hard: 0 };
     // SAFETY: both pointers are null, or lead to a value that is alive and has the layout of
     // struct rlimit.

@@ -1,22 +1,19 @@
 //! The hook: refuses a push that brings a hostile name, and says which. hook/README.md says what it
 //! checks and what it doesn't.
 
-mod chains;
-mod headers;
 mod lines;
-mod paths;
 mod refusal;
 mod size;
-mod trees;
+mod unpacked;
 
 use crate::checks::{Bounds, Checks, OnFinding, Selection, TreeList};
-use crate::failure::{Failure, Result};
+use crate::failure::{Failure, OrFail, Result};
 use crate::findings::{Finding, Place};
 use crate::git::{self, Git};
 use crate::lines::Lengths;
 use crate::programs::Programs;
 use crate::settings::{self, Rules};
-use crate::system::Limits;
+use crate::system::{limit_this, Limits};
 use crate::verdict::{Checked, Objects, Report, Verdict};
 use lines::{write_lines, PushLines};
 use size::Quarantine;
@@ -24,38 +21,32 @@ use std::env;
 use std::ffi::OsString;
 use std::io::{self, Write};
 use std::ops::ControlFlow::{self, Break, Continue};
+use unpacked::Unpacked;
 
 /// How many refused names are looked at. (A push can have millions.)
 const MOST_FINDINGS: usize = 10_000;
-/// What a push may take, so that what is kept of its names and ids has less than 64 MB. (Besides, chains.rs
-/// keeps 20 bytes for each delta, which has at least 40 in the push, and then paths.rs 52 for each tree,
-/// which has at least 48.)
-fn bounds(limits: Limits) -> Bounds {
-    // (a push has a long report if it has long names; each program writes at most so much)
-    let lengths = Lengths {
-        report: limits.megabytes << 20,
+/// What a push may take, so that what is kept of its names and ids has less than 64 MB.
+const BOUNDS: Bounds = Bounds {
+    lengths: Lengths {
+        report: 0, // (and more when the push's size is known, as for the last two)
         name: 200,
-    };
-    Bounds {
-        lengths,
-        ids: 24_000_000,
-        modules: 100_000,
-        seconds: Some(2),
-        limit_lists: false,
-    }
-}
+    },
+    ids: 24_000_000,
+    modules: 100_000,
+    list: None,
+    print: None,
+};
 
 /// Checks the push whose lines are on standard input.
 pub fn run(programs: Programs) -> Result<Verdict> {
     let quarantine = Quarantine::find()?;
-    let limits = quarantine.limit_push()?;
     let (git, settings) = Git::find(Git::in_push, "git config", &settings::WORDS)?;
     let mut push = Push {
         checks: Checks {
             programs,
             git,
             rules: Rules::default(),
-            bounds: bounds(limits),
+            bounds: BOUNDS,
         },
         quarantine,
         arguments: ["--not".into(), "--all".into()],
@@ -69,6 +60,7 @@ pub fn run(programs: Programs) -> Result<Verdict> {
     push.checks.rules.read(&settings, &push.checks.programs)?;
     git::check_version(&settings.errors)?;
 
+    let limits = push.limit()?;
     let verdict = push.check(list).map_err(|it| explained(it, limits))?;
     if let Verdict::Refused = verdict {
         // (refused all the same, if nobody reads why)
@@ -77,16 +69,16 @@ pub fn run(programs: Programs) -> Result<Verdict> {
     Ok(verdict)
 }
 
-/// What a failure may come from. (Git's list has no limits.)
+/// What a failure may come from.
 fn explained(failure: Failure, limits: Limits) -> Failure {
+    const LIST_FAILED: &str = "git rev-list failed (status 128)";
     match failure {
-        Failure::Failed(what) if what == "git rev-list failed (status 128)" => {
+        Failure::Failed(what) if what.starts_with(LIST_FAILED) => {
             // (receive-pack sets this only if receive.shallowUpdate allows a push from a shallow clone)
-            let why = match env::var_os("GIT_SHALLOW_FILE") {
-                Some(_) => "the push is shallow, and leaves out commits that the server lacks: push from a full clone",
-                None => "an object is missing or broken, or the push is from a shallow clone",
-            };
-            Failure::Failed(format!("{what}: {why}"))
+            Failure::Failed(match env::var_os("GIT_SHALLOW_FILE") {
+                Some(_) => format!("{LIST_FAILED}: the push is shallow, and leaves out commits that the server lacks: push from a full clone"),
+                None => format!("{what}, or the push is from a shallow clone"),
+            })
         }
         other => other.explained(limits),
     }
@@ -104,6 +96,19 @@ struct Push {
 }
 
 impl Push {
+    /// Limits all that reads the push, but what is limited when the sizes of its objects are known.
+    fn limit(&mut self) -> Result<Limits> {
+        let Self {
+            checks, quarantine, ..
+        } = self;
+        let limits = quarantine.limits().times(checks.rules.limits);
+        // (a push has a long report if it has long names; each program writes at most so much)
+        checks.bounds.lengths.report = limits.megabytes << 20;
+        checks.bounds.list = Some(quarantine.limits_of_list().times(checks.rules.limits));
+        limit_this(limits).or_fail("time and memory could not be limited")?;
+        Ok(limits)
+    }
+
     /// Checks all names: those of references, those in trees, and those of submodules.
     fn check(&mut self, mut list: TreeList) -> Result<Verdict> {
         let Self {
@@ -129,7 +134,10 @@ impl Push {
         let trees = match ids.as_slice() {
             [] => Objects::of_none(0)?, // (the list isn't needed, and ends here)
             ids => {
-                headers::check(&checks.git, quarantine, ids)?;
+                let unpacked = Unpacked::list(&checks.git, quarantine)?;
+                let limits = quarantine.limits_to_print(&unpacked);
+                checks.bounds.print = Some(limits.times(checks.rules.limits));
+                list.limit(&checks.bounds)?;
                 checks.trees(list, check_trees, ids, &mut modules, &mut found)?
             }
         };

@@ -1,18 +1,18 @@
-//! What each process may take that reads the push: processor time and memory, by the push's size.
-//!
-//! These limits are for what nobody has thought of. They are far above what any honest push takes.
+//! What the processes that check a push may take: processor time and memory, by the size of the push.
 
+use super::unpacked::Unpacked;
 use crate::failure::{OrFail, Result};
-use crate::system::{limit_this, Limits, Resource};
+use crate::system::Limits;
 use std::env;
 use std::ffi::OsStr;
-use std::fs::{self, File};
-use std::io::{self, Read};
+use std::fs;
+use std::io;
+use std::os::unix::ffi::OsStrExt;
 use std::path::{Path, PathBuf};
 
 const MEGABYTE: u64 = 1 << 20;
-/// How a pack begins: `PACK`, the version of its format, and how many objects it has.
-const PACK_HEADER: usize = 12;
+/// How deep Git follows alternates.
+const DEEPEST: u32 = 5;
 
 /// Where the objects are that a push brings, as they came: in a pack, or each in a file.
 pub struct Quarantine {
@@ -20,8 +20,6 @@ pub struct Quarantine {
     pub folder: Option<PathBuf>,
     pub bytes: u64,
     pub has_pack: bool,
-    /// How many objects there are, those that are there twice included.
-    pub objects: u64,
 }
 
 impl Quarantine {
@@ -31,7 +29,6 @@ impl Quarantine {
             folder: env::var_os("GIT_QUARANTINE_PATH").map(PathBuf::from),
             bytes: 0,
             has_pack: false,
-            objects: 0,
         };
         if let Some(folder) = found.folder.clone() {
             found
@@ -48,39 +45,68 @@ impl Quarantine {
                 self.look_in(&path)?;
             } else {
                 self.bytes += file.len();
-                if path.extension() == Some(OsStr::new("pack")) {
-                    self.has_pack = true;
-                    self.objects += objects_in(&path)?;
-                } else if folder.file_name().map_or(0, OsStr::len) == 2 {
-                    self.objects += 1; // (each is a file in a folder with two digits of its id)
-                }
+                self.has_pack |= path.extension() == Some(OsStr::new("pack"));
             }
         }
         Ok(())
     }
 
-    /// This many megabytes, and so many more for each that the push has.
-    pub fn megabytes(&self, least: u64, more: u64) -> u64 {
-        least + more * self.bytes / MEGABYTE
+    /// What each process may take that reads the push.
+    pub fn limits(&self) -> Limits {
+        let megabytes = self.bytes / MEGABYTE;
+        Limits {
+            seconds: 10 + megabytes,
+            megabytes: 96 + 8 * megabytes,
+        }
     }
 
-    /// Limits this process and all that it starts.
-    pub fn limit_push(&self) -> Result<Limits> {
-        let limits = Limits {
-            seconds: 10 + self.bytes / MEGABYTE,
-            megabytes: self.megabytes(96, 8),
-        };
-        limit_this(Resource::Time, limits.seconds).or_fail("the time could not be limited")?;
-        limit_this(Resource::Memory, limits.megabytes * MEGABYTE)
-            .or_fail("the memory could not be limited")?;
-        Ok(limits)
+    /// What `git cat-file` may take to print some of these objects. (Deltas can be made so that it takes
+    /// minutes to print a few.)
+    pub fn limits_to_print(&self, unpacked: &Unpacked) -> Limits {
+        Limits {
+            seconds: 1 + unpacked.bytes / (128 * MEGABYTE) + unpacked.objects / 50_000,
+            megabytes: 80 + 8 * self.bytes / MEGABYTE,
+        }
+    }
+
+    /// What `git rev-list` may take. It also reads what the server has: so it gets more for the server's
+    /// packs, by their indexes, and for its references.
+    pub fn limits_of_list(&self) -> Limits {
+        let objects = self.folder.as_deref().and_then(Path::parent);
+        let bytes = self.bytes + objects.map_or(0, bytes_of_server);
+        let megabytes = bytes / MEGABYTE;
+        Limits {
+            seconds: 10 + megabytes,
+            megabytes: 136 + 8 * megabytes,
+        }
     }
 }
 
-/// How many objects this pack says that it has.
-fn objects_in(pack: &Path) -> io::Result<u64> {
-    let mut header = [0; PACK_HEADER];
-    File::open(pack)?.read_exact(&mut header)?;
-    let count = header[8..].iter();
-    Ok(count.fold(0, |count, byte| count << 8 | u64::from(*byte)))
+/// How many bytes the file of packed references has next to this folder of objects, and the indexes of packs
+/// in it, and in those from which it borrows. (What can't be read counts as nothing.)
+fn bytes_of_server(objects: &Path) -> u64 {
+    let references = objects.with_file_name("packed-refs");
+    fs::metadata(references).map_or(0, |it| it.len()) + bytes_of_indexes(objects, 0)
+}
+
+fn bytes_of_indexes(objects: &Path, depth: u32) -> u64 {
+    let packs = fs::read_dir(objects.join("pack")).into_iter().flatten();
+    let indexes = packs
+        .flatten()
+        .filter(|it| it.path().extension() == Some(OsStr::new("idx")));
+    let bytes: u64 = indexes
+        .map(|it| it.metadata().map_or(0, |it| it.len()))
+        .sum();
+    if depth == DEEPEST {
+        return bytes;
+    }
+    let alternates = fs::read(objects.join("info/alternates")).unwrap_or_default();
+    let folders = alternates
+        .split(|byte| *byte == b'\n')
+        .filter(|it| !it.is_empty());
+    let folders = folders.map(|it| objects.join(OsStr::from_bytes(it)));
+    bytes
+        + folders
+            .map(|it| bytes_of_indexes(&it, depth + 1))
+            .sum::<u64>()
 }

@@ -47,8 +47,8 @@ const BOUNDS: Bounds = Bounds {
     },
     ids: usize::MAX,
     modules: 100_000,
-    seconds: None,
-    limit_lists: true,
+    list: None,
+    print: None,
 };
 /// How many replacements Git follows, one to the next.
 const MOST_REPLACED: usize = 5;

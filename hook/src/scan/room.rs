@@ -14,7 +14,7 @@ use crate::child::{run, Running};
 use crate::failure::{failed, printable, OrFail, Result};
 use crate::git::Git;
 use crate::ids::{split_once, Id};
-use crate::system::{limit_this, Limits, Resource};
+use crate::system::{limit_this, Limits};
 use std::collections::hash_map::RandomState;
 use std::collections::HashSet;
 use std::env;
@@ -165,9 +165,7 @@ impl Room {
             megabytes: 2048 + 4 * stores.megabytes,
         };
         watch::SECONDS.store(limits.seconds * 4, Ordering::Relaxed);
-        limit_this(Resource::Time, limits.seconds)
-            .and_then(|()| limit_this(Resource::Memory, limits.megabytes << 20))
-            .or_fail("time and memory could not be limited")?;
+        limit_this(limits).or_fail("time and memory could not be limited")?;
         Ok((stores.objects, limits))
     }
 

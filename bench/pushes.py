@@ -31,6 +31,11 @@ def copied(start, size):
     return out
 
 
+def given(data):
+    """An instruction of a delta that has up to 127 bytes itself."""
+    return bytes([len(data)]) + data
+
+
 class Pack:
     """A pack that a function fills, and the references that are pushed with it."""
 
@@ -43,6 +48,12 @@ class Pack:
 
     def add(self, kind, data, base=None, keep=0):
         """Adds an object, as it is or as a delta: what it doesn't share with the last `keep` bytes of a base, and those."""
+        fresh = data[: len(data) - keep]
+        made = base and given(fresh) + copied(base[1] - keep, keep)
+        return self.add_made(kind, data, base, made)
+
+    def add_made(self, kind, data, base, made):
+        """Adds an object, as it is or as a delta, which are instructions for a base (its id and its size)."""
         name = self.sum(f"{kind} {len(data)}\0".encode() + data)
         if name in self.ids:
             return name
@@ -50,15 +61,8 @@ class Pack:
         code, before = KINDS[kind], b""
         body = data
         if base:
-            size, code, before = base[1], 7, base[0]
-            fresh = data[: len(data) - keep]
-            body = (
-                number(size)
-                + number(len(data))
-                + bytes([len(fresh)])
-                + fresh
-                + copied(size - keep, keep)
-            )
+            code, before = 7, base[0]
+            body = number(base[1]) + number(len(data)) + made
         first = bytearray(number(len(body) >> 4) if len(body) >> 4 else b"")
         head = bytes([code << 4 | len(body) & 15 | (128 if first else 0)])
         self.parts.append(head + first + before + zlib.compress(body, 1))
@@ -159,6 +163,42 @@ def chain(pack, count):
         base = pack.add("tree", data, base, len(blob)), len(data)
         trees.append((0o40000, b"d%06d" % n, base[0]))
     pack.commit(pack.tree(*trees), ref=b"main")
+
+
+def slow_deltas(pack, count, depth, length):
+    """Trees in chains of deltas, which copy a long name byte by byte. They are listed in random order."""
+    blob, base, ids = pack.add("blob", b"x"), None, []
+    for n in range(count):
+        start = b"100644 f%06d\0%s100644 x" % (n, blob)
+        data = start + b"x" * length + b"\0" + blob
+        base = base if n % depth else None
+        name = copied(len(start), 1) * length
+        made = given(start) + name + given(b"\0" + blob)
+        base = pack.add_made("tree", data, base, made), len(data)
+        ids.append(base[0])
+    random.Random(1).shuffle(ids)
+    pack.commit(
+        pack.tree(*((0o40000, b"d%06d" % n, it) for n, it in enumerate(ids))),
+        ref=b"main",
+    )
+
+
+def from_the_ends(pack, chains, depth, length):
+    """Trees in chains of deltas. The ends of all chains are listed first, and then what is before them."""
+    blob, found = pack.add("blob", b"x"), [[] for _ in range(depth)]
+    rest = b"100644 x" + b"x" * length + b"\0" + blob
+    for n in range(chains):
+        base = None
+        for ids in reversed(found):
+            data = b"100644 f%06d\0%s" % (n, blob) + rest
+            n += chains
+            base = pack.add("tree", data, base, len(rest)), len(data)
+            ids.append(base[0])
+    ids = (it for ids in found for it in ids)
+    pack.commit(
+        pack.tree(*((0o40000, b"d%06d" % n, it) for n, it in enumerate(ids))),
+        ref=b"main",
+    )
 
 
 def tags(pack, count):
@@ -267,6 +307,12 @@ PUSHES = {
     "the same with SHA-256": lambda: Pack(folders, 100000, algorithm="sha256"),
     "100,000 small .gitmodules": lambda: Pack(small_modules, 100000),
     "a chain of 30,000 deltas": lambda: Pack(chain, 30000),
+    "2,500 trees of 60 kB in 10 chains of 250 deltas": lambda: Pack(
+        from_the_ends, 10, 250, 60000
+    ),
+    "17,000 trees of 2 kB that deltas copy byte by byte": lambda: Pack(
+        slow_deltas, 17000, 50, 2000
+    ),
     "3,000 tags of tags": lambda: Pack(tags, 3000),
     "10 merges of 20,000 commits": lambda: Pack(merges, 10, 20000),
     "17,000 files": lambda: Pack(files, 17000),

@@ -187,10 +187,31 @@ def test_what_git_rev_list_may_take_grows_with_what_the_server_has(
     write_file(objects / "pack/a.pack", megabytes=1000)
     (objects / "info").mkdir()
     (objects / "info/alternates").write_text(f"../borrowed\n{room}/objects\n")
+    (room / "borrowed/info").mkdir(parents=True)
+    (room / "borrowed/info/alternates").write_text(f"# a comment\n{room}/third\n")
     write_file(room / "borrowed/pack/b.idx", megabytes=4)
-    # (what leads back here counts again, as deep as Git follows it)
-    assert limits("git rev-list") == (10 + 1 + 6 * 2 + 4 * 5, 136 + 8 * 33)
+    write_file(room / "third/pack/c.idx", megabytes=8)
+    assert limits("git rev-list") == (10 + 15, 136 + 8 * 15)
     assert limits("check_trees") == (10, 96)
+
+
+@pytest.mark.parametrize(
+    "part, seconds, megabytes",
+    [
+        ("check_trees", 30, 288),
+        ("git rev-list", 30, 408),
+        ("git cat-file --batch=", 3, 240),
+    ],
+)
+def test_a_setting_multiplies_what_a_part_may_take(
+    hook, server, source, room, part, seconds, megabytes
+):
+    server.configure("limits = 3")
+    hook.stand_in(part, LIMITS.format(room / "limits"))
+    objects = source.path / "objects"
+    lines = source.push_of(source.clean)
+    hook.run(lines, cwd=server.path, GIT_OBJECT_DIRECTORY=objects)
+    assert (room / "limits").read_text() == f"{seconds} {megabytes * 1024}\n"
 
 
 # What Git holds whole while it lists trees.

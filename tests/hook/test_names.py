@@ -21,7 +21,8 @@ from tests.hook.git import Repository, file, folder, program, submodule, symlink
 NARROW = "\u200c"  # a joiner of width zero, which HFS+ ignores
 BROKEN = (
     "git rev-list failed (status 128): "
-    "an object is missing or broken, or the push is from a shallow clone"
+    "an object is missing or broken, or it needs more than 136 MB, "
+    "or the push is from a shallow clone"
 )
 
 

@@ -89,6 +89,11 @@ def test_the_option_protect_wins_over_the_settings(scan, server, hostile):
     )
 
 
+def test_the_limits_of_pushes_are_no_settings_of_the_scan(scan, server):
+    server.configure("limits = 2")
+    assert scan(server, "--settings") == ALL_IS_WELL
+
+
 def test_accept_accepts_what_windows_alone_forbids_and_no_spelling_of_git(
     scan, server, hostile
 ):

@@ -1,5 +1,5 @@
-"""The settings names.protect, names.accept and names.replace, and that the account
-which pushes has no say."""
+"""The settings names.protect, names.accept, names.replace and names.limits, and that
+the account which pushes has no say."""
 import pytest
 
 from tests.hook.expected import (
@@ -217,6 +217,10 @@ def test_names_are_accepted_that_windows_alone_forbids(server, source):
         (r"accept = aux.c\ncon.h", "a setting names.accept has a newline"),
         ("accept-existing = true", "the setting names.accept-existing is unknown"),
         ("replace = maybe", "the setting names.replace is neither true nor false"),
+        ("limits = 0", "the setting names.limits is no number from 1 to 1000"),
+        ("limits = 1001", "the setting names.limits is no number from 1 to 1000"),
+        ("limits = 2k", "the setting names.limits is no number from 1 to 1000"),
+        ("limits", "the setting names.limits has no value"),
     ],
 )
 def test_a_setting_without_a_clear_meaning_refuses_every_push(server, setting, why):

@@ -11,8 +11,6 @@ use std::os::unix::ffi::OsStrExt;
 use std::path::{Path, PathBuf};
 
 const MEGABYTE: u64 = 1 << 20;
-/// How deep Git follows alternates.
-const DEEPEST: u32 = 5;
 
 /// Where the objects are that a push brings, as they came: in a pack, or each in a file.
 pub struct Quarantine {
@@ -53,11 +51,7 @@ impl Quarantine {
 
     /// What each process may take that reads the push.
     pub fn limits(&self) -> Limits {
-        let megabytes = self.bytes / MEGABYTE;
-        Limits {
-            seconds: 10 + megabytes,
-            megabytes: 96 + 8 * megabytes,
-        }
+        limits(96, self.bytes)
     }
 
     /// What `git cat-file` may take to print some of these objects. (Deltas can be made so that it takes
@@ -65,7 +59,7 @@ impl Quarantine {
     pub fn limits_to_print(&self, unpacked: &Unpacked) -> Limits {
         Limits {
             seconds: 1 + unpacked.bytes / (128 * MEGABYTE) + unpacked.objects / 50_000,
-            megabytes: 80 + 8 * self.bytes / MEGABYTE,
+            ..limits(80, self.bytes)
         }
     }
 
@@ -73,40 +67,48 @@ impl Quarantine {
     /// packs, by their indexes, and for its references.
     pub fn limits_of_list(&self) -> Limits {
         let objects = self.folder.as_deref().and_then(Path::parent);
-        let bytes = self.bytes + objects.map_or(0, bytes_of_server);
-        let megabytes = bytes / MEGABYTE;
-        Limits {
-            seconds: 10 + megabytes,
-            megabytes: 136 + 8 * megabytes,
-        }
+        limits(136, self.bytes + objects.map_or(0, bytes_of_server))
+    }
+}
+
+/// Ten seconds, and so many megabytes, and more for each megabyte of these bytes.
+fn limits(megabytes: u64, bytes: u64) -> Limits {
+    Limits {
+        seconds: 10 + bytes / MEGABYTE,
+        megabytes: megabytes + 8 * bytes / MEGABYTE,
     }
 }
 
 /// How many bytes the file of packed references has next to this folder of objects, and the indexes of packs
-/// in it, and in those from which it borrows. (What can't be read counts as nothing.)
+/// in it, and in all from which it borrows. (What can't be read counts as nothing.)
 fn bytes_of_server(objects: &Path) -> u64 {
-    let references = objects.with_file_name("packed-refs");
-    fs::metadata(references).map_or(0, |it| it.len()) + bytes_of_indexes(objects, 0)
+    let mut bytes = size(&objects.with_file_name("packed-refs"));
+    let mut folders: Vec<_> = fs::canonicalize(objects).into_iter().collect();
+    let mut looked_in = 0;
+    while let Some(folder) = folders.get(looked_in).cloned() {
+        looked_in += 1;
+        let packs = fs::read_dir(folder.join("pack")).into_iter().flatten();
+        let packs = packs.flatten().map(|it| it.path());
+        let indexes = packs.filter(|it| it.extension() == Some(OsStr::new("idx")));
+        bytes += indexes.map(|it| size(&it)).sum::<u64>();
+        for borrowed in alternates(&folder) {
+            if !folders.contains(&borrowed) {
+                folders.push(borrowed);
+            }
+        }
+    }
+    bytes
 }
 
-fn bytes_of_indexes(objects: &Path, depth: u32) -> u64 {
-    let packs = fs::read_dir(objects.join("pack")).into_iter().flatten();
-    let indexes = packs
-        .flatten()
-        .filter(|it| it.path().extension() == Some(OsStr::new("idx")));
-    let bytes: u64 = indexes
-        .map(|it| it.metadata().map_or(0, |it| it.len()))
-        .sum();
-    if depth == DEEPEST {
-        return bytes;
-    }
-    let alternates = fs::read(objects.join("info/alternates")).unwrap_or_default();
-    let folders = alternates
-        .split(|byte| *byte == b'\n')
-        .filter(|it| !it.is_empty());
-    let folders = folders.map(|it| objects.join(OsStr::from_bytes(it)));
-    bytes
-        + folders
-            .map(|it| bytes_of_indexes(&it, depth + 1))
-            .sum::<u64>()
+fn size(file: &Path) -> u64 {
+    fs::metadata(file).map_or(0, |it| it.len())
+}
+
+/// The folders that a folder of objects names as its alternates.
+fn alternates(objects: &Path) -> Vec<PathBuf> {
+    let file = fs::read(objects.join("info/alternates")).unwrap_or_default();
+    let lines = file.split(|byte| *byte == b'\n').map(OsStr::from_bytes);
+    let folders = lines.filter(|it| !it.is_empty());
+    let folders = folders.filter_map(|it| fs::canonicalize(objects.join(it)).ok());
+    folders.collect()
 }

@@ -143,27 +143,60 @@ def limits(hook, source, room, objects):
     return run
 
 
-def write_file(path, megabytes):
+def write_file(path, size, start=b""):
     path.parent.mkdir(parents=True, exist_ok=True)
     with open(path, "wb") as file:
-        file.truncate(megabytes << 20)
+        file.write(start)
+        file.truncate(size)
+
+
+def write_index(path, objects):
+    """A file that is as large as the index of a pack with so many objects."""
+    write_file(path, 28 * objects)
 
 
 @pytest.mark.parametrize(
     "part, small, large",
     [
-        ("check_refs", (10, 96), (26, 224)),
-        ("check_trees", (10, 96), (26, 224)),
-        ("check_submodules", (10, 96), (26, 224)),
-        ("git rev-list", (10, 136), (26, 264)),
-        ("git cat-file --batch=", (1, 80), (1, 208)),
-        ("git cat-file --buffer", (1, 80), (1, 208)),
+        ("check_refs", (10, 96), (26, 112)),
+        ("check_trees", (10, 96), (26, 112)),
+        ("check_submodules", (10, 96), (26, 112)),
+        ("git rev-list", (10, 136), (26, 152)),
+        ("git cat-file --batch=", (1, 80), (1, 96)),
+        ("git cat-file --buffer", (1, 80), (1, 96)),
     ],
 )
-def test_what_a_part_may_take_grows_with_the_push(limits, objects, part, small, large):
+def test_what_a_part_may_take_grows_with_the_objects_of_the_push(
+    limits, objects, part, small, large
+):
     assert limits(part) == small
-    write_file(objects / "incoming/a file", megabytes=16)
+    header = b"PACK" + struct.pack(">II", 2, 64_000)
+    write_file(objects / "incoming/pack/a.pack", 100, header)
     assert limits(part) == large
+
+
+def test_what_a_part_may_take_does_not_grow_with_large_files(limits, objects):
+    """A small push can become some of a gigabyte, as Git unpacks it."""
+    header = b"PACK" + struct.pack(">II", 2, 1)
+    write_file(objects / "incoming/pack/a.pack", 1 << 30, header)
+    write_file(objects / "incoming/01/a file", 1 << 30)
+    assert limits("git rev-list") == (10, 136)
+
+
+def test_what_git_rev_list_may_take_grows_with_what_the_server_has(
+    limits, objects, room
+):
+    write_file(room / "packed-refs", 60 * 4_000)
+    write_index(objects / "pack/a.idx", 8_000)
+    write_file(objects / "pack/a.pack", 1 << 30)
+    (objects / "info").mkdir()
+    (objects / "info/alternates").write_text(f"../borrowed\n{room}/objects\n")
+    (room / "borrowed/info").mkdir(parents=True)
+    (room / "borrowed/info/alternates").write_text(f"# a comment\n{room}/third\n")
+    write_index(room / "borrowed/pack/b.idx", 16_000)
+    write_index(room / "third/pack/c.idx", 32_000)
+    assert limits("git rev-list") == (10 + 15, 136 + 15)
+    assert limits("check_trees") == (10, 96)
 
 
 def test_what_git_cat_file_may_take_grows_with_the_size_of_the_objects(
@@ -175,24 +208,18 @@ def test_what_git_cat_file_may_take_grows_with_the_size_of_the_objects(
     names = "GIT_QUARANTINE_PATH", "GIT_OBJECT_DIRECTORY"
     env = dict.fromkeys(names, incoming.path / "objects")
     hook.run(source.push_of(commit), **env)
-    seconds, _ = (room / "limits").read_text().split()
-    assert seconds == "4"
+    assert (room / "limits").read_text() == f"4 {80 * 1024}\n"
 
 
-def test_what_git_rev_list_may_take_grows_with_what_the_server_has(
+def test_what_git_cat_file_may_take_grows_with_what_the_server_borrows(
     limits, objects, room
 ):
-    write_file(room / "packed-refs", megabytes=1)
-    write_file(objects / "pack/a.idx", megabytes=2)
-    write_file(objects / "pack/a.pack", megabytes=1000)
+    """It may be that no reference leads to it, and it counts as new."""
     (objects / "info").mkdir()
-    (objects / "info/alternates").write_text(f"../borrowed\n{room}/objects\n")
-    (room / "borrowed/info").mkdir(parents=True)
-    (room / "borrowed/info/alternates").write_text(f"# a comment\n{room}/third\n")
-    write_file(room / "borrowed/pack/b.idx", megabytes=4)
-    write_file(room / "third/pack/c.idx", megabytes=8)
-    assert limits("git rev-list") == (10 + 15, 136 + 8 * 15)
-    assert limits("check_trees") == (10, 96)
+    (objects / "info/alternates").write_text("../borrowed\n")
+    write_index(objects / "pack/a.idx", 200_000)
+    write_index(room / "borrowed/pack/b.idx", 80_000)
+    assert limits("git cat-file --batch=") == (3, 80)
 
 
 @pytest.mark.parametrize(

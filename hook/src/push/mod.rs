@@ -16,7 +16,7 @@ use crate::settings::{self, Rules};
 use crate::system::{limit_this, Limits};
 use crate::verdict::{Checked, Objects, Report, Verdict};
 use lines::{write_lines, PushLines};
-use size::Quarantine;
+use size::{Quarantine, Server};
 use std::env;
 use std::ffi::OsString;
 use std::io::{self, Write};
@@ -48,6 +48,7 @@ pub fn run(programs: Programs) -> Result<Verdict> {
             rules: Rules::default(),
             bounds: BOUNDS,
         },
+        server: Server::find(&quarantine),
         quarantine,
         arguments: ["--not".into(), "--all".into()],
         ids: Vec::new(),
@@ -87,6 +88,7 @@ fn explained(failure: Failure, limits: Limits) -> Failure {
 struct Push {
     checks: Checks,
     quarantine: Quarantine,
+    server: Server,
     /// The new ids of the references that are allowed, each on a line.
     ids: Vec<u8>,
     /// What the server has already.
@@ -98,13 +100,12 @@ struct Push {
 impl Push {
     /// Limits all that reads the push, but what is limited when the sizes of its objects are known.
     fn limit(&mut self) -> Result<Limits> {
-        let Self {
-            checks, quarantine, ..
-        } = self;
-        let limits = quarantine.limits().times(checks.rules.limits);
+        let Checks { rules, bounds, .. } = &mut self.checks;
+        let limits = size::to_check(&self.quarantine).times(rules.limits);
         // (a push has a long report if it has long names; each program writes at most so much)
-        checks.bounds.lengths.report = limits.megabytes << 20;
-        checks.bounds.list = Some(quarantine.limits_of_list().times(checks.rules.limits));
+        bounds.lengths.report = limits.megabytes << 20;
+        let list = size::to_list(&self.quarantine, &self.server);
+        bounds.list = Some(list.times(rules.limits));
         limit_this(limits).or_fail("time and memory could not be limited")?;
         Ok(limits)
     }
@@ -114,6 +115,7 @@ impl Push {
         let Self {
             checks,
             quarantine,
+            server,
             ids,
             findings,
             ..
@@ -135,8 +137,8 @@ impl Push {
             [] => Objects::of_none(0)?, // (the list isn't needed, and ends here)
             ids => {
                 let unpacked = Unpacked::list(&checks.git, quarantine)?;
-                let limits = quarantine.limits_to_print(&unpacked);
-                checks.bounds.print = Some(limits.times(checks.rules.limits));
+                let print = size::to_print(quarantine, server, &unpacked);
+                checks.bounds.print = Some(print.times(checks.rules.limits));
                 list.limit(&checks.bounds)?;
                 checks.trees(list, check_trees, ids, &mut modules, &mut found)?
             }

@@ -1,16 +1,23 @@
-//! What the processes that check a push may take: processor time and memory, by the size of the push.
+//! What the processes that check a push may take: processor time and memory, by how many objects there are.
+//!
+//! (Their bytes say too little. A pack of some kilobytes can become gigabytes of files, if Git unpacks it, and
+//! gets the large files of the server that it needs.)
 
 use super::unpacked::Unpacked;
 use crate::failure::{OrFail, Result};
 use crate::system::Limits;
 use std::env;
 use std::ffi::OsStr;
-use std::fs;
-use std::io;
+use std::fs::{self, File};
+use std::io::{self, Read};
 use std::os::unix::ffi::OsStrExt;
 use std::path::{Path, PathBuf};
 
-const MEGABYTE: u64 = 1 << 20;
+/// For so many objects or references there are a second and a megabyte more.
+const STEP: u64 = 4_000;
+/// How many bytes an object has in the index of a pack, and a reference in `packed-refs`, or a few less.
+const INDEXED: u64 = 28;
+const PACKED_REFERENCE: u64 = 60;
 
 /// Where the objects are that a push brings, as they came: in a pack, or each in a file.
 pub struct Quarantine {
@@ -18,6 +25,7 @@ pub struct Quarantine {
     pub folder: Option<PathBuf>,
     pub bytes: u64,
     pub has_pack: bool,
+    pub objects: u64,
 }
 
 impl Quarantine {
@@ -27,6 +35,7 @@ impl Quarantine {
             folder: env::var_os("GIT_QUARANTINE_PATH").map(PathBuf::from),
             bytes: 0,
             has_pack: false,
+            objects: 0,
         };
         if let Some(folder) = found.folder.clone() {
             found
@@ -43,65 +52,73 @@ impl Quarantine {
                 self.look_in(&path)?;
             } else {
                 self.bytes += file.len();
-                self.has_pack |= path.extension() == Some(OsStr::new("pack"));
+                if path.extension() == Some(OsStr::new("pack")) {
+                    self.has_pack = true;
+                    self.objects += objects_in(&path)?;
+                } else if folder.file_name().map_or(0, OsStr::len) == 2 {
+                    self.objects += 1; // (each is a file in a folder with two digits of its id)
+                }
             }
         }
         Ok(())
     }
-
-    /// What each process may take that reads the push.
-    pub fn limits(&self) -> Limits {
-        limits(96, self.bytes)
-    }
-
-    /// What `git cat-file` may take to print some of these objects. (Deltas can be made so that it takes
-    /// minutes to print a few.)
-    pub fn limits_to_print(&self, unpacked: &Unpacked) -> Limits {
-        Limits {
-            seconds: 1 + unpacked.bytes / (128 * MEGABYTE) + unpacked.objects / 50_000,
-            ..limits(80, self.bytes)
-        }
-    }
-
-    /// What `git rev-list` may take. It also reads what the server has: so it gets more for the server's
-    /// packs, by their indexes, and for its references.
-    pub fn limits_of_list(&self) -> Limits {
-        let objects = self.folder.as_deref().and_then(Path::parent);
-        limits(136, self.bytes + objects.map_or(0, bytes_of_server))
-    }
 }
 
-/// Ten seconds, and so many megabytes, and more for each megabyte of these bytes.
-fn limits(megabytes: u64, bytes: u64) -> Limits {
-    Limits {
-        seconds: 10 + bytes / MEGABYTE,
-        megabytes: megabytes + 8 * bytes / MEGABYTE,
-    }
+/// How many objects this pack says that it has: in its header, after `PACK` and the version of its format.
+fn objects_in(pack: &Path) -> io::Result<u64> {
+    let mut header = [0; 12];
+    File::open(pack)?.read_exact(&mut header)?;
+    let count = header[8..].iter();
+    Ok(count.fold(0, |count, byte| count << 8 | u64::from(*byte)))
 }
 
-/// How many bytes the file of packed references has next to this folder of objects, and the indexes of packs
-/// in it, and in all from which it borrows. (What can't be read counts as nothing.)
-fn bytes_of_server(objects: &Path) -> u64 {
-    let mut bytes = size(&objects.with_file_name("packed-refs"));
-    let mut folders: Vec<_> = fs::canonicalize(objects).into_iter().collect();
-    let mut looked_in = 0;
-    while let Some(folder) = folders.get(looked_in).cloned() {
-        looked_in += 1;
-        let packs = fs::read_dir(folder.join("pack")).into_iter().flatten();
-        let packs = packs.flatten().map(|it| it.path());
-        let indexes = packs.filter(|it| it.extension() == Some(OsStr::new("idx")));
-        bytes += indexes.map(|it| size(&it)).sum::<u64>();
-        for borrowed in alternates(&folder) {
-            if !folders.contains(&borrowed) {
-                folders.push(borrowed);
+/// What the server has already, by the sizes of files.
+#[derive(Default)]
+pub struct Server {
+    /// How many objects and references it has, about. (Those that are in files of their own don't count.)
+    all: u64,
+    /// How many of the objects it borrows.
+    borrowed: u64,
+}
+
+impl Server {
+    /// That which gets this push. (What can't be read counts as nothing.)
+    pub fn find(quarantine: &Quarantine) -> Self {
+        let objects = quarantine.folder.as_deref().and_then(Path::parent);
+        let objects = match objects.map(fs::canonicalize) {
+            Some(Ok(objects)) => objects,
+            _ => return Self::default(),
+        };
+        let references = size(&objects.with_file_name("packed-refs")) / PACKED_REFERENCE;
+        let own = indexed_in(&objects);
+        let mut folders = vec![objects];
+        let (mut borrowed, mut looked_in) = (0, 0);
+        while let Some(folder) = folders.get(looked_in) {
+            for other in alternates(folder) {
+                if !folders.contains(&other) {
+                    borrowed += indexed_in(&other);
+                    folders.push(other);
+                }
             }
+            looked_in += 1;
+        }
+        Self {
+            all: references + own + borrowed,
+            borrowed,
         }
     }
-    bytes
 }
 
 fn size(file: &Path) -> u64 {
     fs::metadata(file).map_or(0, |it| it.len())
+}
+
+/// How many objects the packs in a folder of objects have.
+fn indexed_in(objects: &Path) -> u64 {
+    let packs = fs::read_dir(objects.join("pack")).into_iter().flatten();
+    let packs = packs.flatten().map(|it| it.path());
+    let indexes = packs.filter(|it| it.extension() == Some(OsStr::new("idx")));
+    indexes.map(|it| size(&it) / INDEXED).sum()
 }
 
 /// The folders that a folder of objects names as its alternates.
@@ -111,4 +128,32 @@ fn alternates(objects: &Path) -> Vec<PathBuf> {
     let folders = lines.filter(|it| !it.is_empty());
     let folders = folders.filter_map(|it| fs::canonicalize(objects.join(it)).ok());
     folders.collect()
+}
+
+/// What `git rev-list` may take. It also reads what the server has.
+pub fn to_list(quarantine: &Quarantine, server: &Server) -> Limits {
+    limits(136, quarantine.objects + server.all)
+}
+
+/// What `git cat-file` may take to print some of these objects. (Deltas can be made so that it takes minutes
+/// to print a few. What is borrowed may be new, too.)
+pub fn to_print(quarantine: &Quarantine, server: &Server, unpacked: &Unpacked) -> Limits {
+    let of_bytes = unpacked.bytes / (128 << 20);
+    let of_objects = (unpacked.objects + server.borrowed) / 40_000;
+    Limits {
+        seconds: 1 + of_bytes + of_objects,
+        ..limits(80, quarantine.objects)
+    }
+}
+
+/// What any other process may take that reads the push.
+pub fn to_check(quarantine: &Quarantine) -> Limits {
+    limits(96, quarantine.objects)
+}
+
+fn limits(megabytes: u64, count: u64) -> Limits {
+    Limits {
+        seconds: 10 + count / STEP,
+        megabytes: megabytes + count / STEP,
+    }
 }

@@ -1,6 +1,7 @@
 """How much work a push can make: the hook has Git list the trees twice, however many
 references there are, and it bounds what a hostile .gitmodules file or pack can take."""
 import hashlib
+import random
 import re
 import struct
 import sys
@@ -209,6 +210,23 @@ def test_what_git_cat_file_may_take_grows_with_the_size_of_the_objects(
     env = dict.fromkeys(names, incoming.path / "objects")
     hook.run(source.push_of(commit), **env)
     assert (room / "limits").read_text() == f"4 {80 * 1024}\n"
+
+
+@pytest.mark.parametrize(
+    "way, why",
+    [
+        ("exit 9", "git cat-file failed (status 9)"),
+        ("echo 10; kill -9 $$", "git cat-file failed (status 137)"),
+        ("echo x; exit 0", "the sizes of the objects could not be read"),
+    ],
+)
+def test_if_the_sizes_of_objects_cannot_be_listed_the_push_is_refused(
+    hook, incoming, measured_push, way, why
+):
+    hook.stand_in("git cat-file --batch-all-objects", way)
+    large = file("large", incoming.blob(random.Random(1).randbytes(100_000)))
+    result, _ = measured_push(incoming.commit_of(large))
+    assert result == not_checked(why)
 
 
 def test_what_git_cat_file_may_take_grows_with_what_the_server_borrows(

@@ -49,10 +49,10 @@ impl Git {
         git
             // (the settings of the account; it also needs no HOME then)
             .with("GIT_CONFIG_GLOBAL", "/dev/null")
-            // (of its caches, which have 96 MB otherwise, as much as a push may take in all)
+            // (of its cache, which has 96 MB otherwise: of a push two processes have one)
             .with("GIT_CONFIG_COUNT", "1")
             .with("GIT_CONFIG_KEY_0", "core.deltaBaseCacheLimit")
-            .with("GIT_CONFIG_VALUE_0", "16m")
+            .with("GIT_CONFIG_VALUE_0", "48m")
             // (the objects as they are, not what refs/replace/ shows in their place)
             .with("GIT_NO_REPLACE_OBJECTS", "1")
             // (of a partial clone: a missing object is missing)

@@ -204,12 +204,12 @@ def test_what_git_cat_file_may_take_grows_with_the_size_of_the_objects(
     hook, source, room, incoming
 ):
     """A pack of some kilobytes can have gigabytes."""
-    commit = incoming.commit_of(file("zeros", incoming.blob(bytes(400 << 20))))
+    commit = incoming.commit_of(file("zeros", incoming.blob(bytes(1 << 30))))
     hook.stand_in("git cat-file --batch=", LIMITS.format(room / "limits"))
     names = "GIT_QUARANTINE_PATH", "GIT_OBJECT_DIRECTORY"
     env = dict.fromkeys(names, incoming.path / "objects")
     hook.run(source.push_of(commit), **env)
-    assert (room / "limits").read_text() == f"4 {80 * 1024}\n"
+    assert (room / "limits").read_text() == f"3 {80 * 1024}\n"
 
 
 @pytest.mark.parametrize(
@@ -236,8 +236,9 @@ def test_what_git_cat_file_may_take_grows_with_what_the_server_borrows(
     (objects / "info").mkdir()
     (objects / "info/alternates").write_text("../borrowed\n")
     write_index(objects / "pack/a.idx", 200_000)
-    write_index(room / "borrowed/pack/b.idx", 80_000)
-    assert limits("git cat-file --batch=") == (3, 80)
+    write_index(room / "borrowed/pack/b.idx", 100_000)
+    assert limits("git cat-file --batch=") == (3, 80 + 75)
+    assert limits("git cat-file --buffer") == (1, 80 + 75)
 
 
 @pytest.mark.parametrize(

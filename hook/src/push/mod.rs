@@ -6,7 +6,8 @@ mod refusal;
 mod size;
 mod unpacked;
 
-use crate::checks::{Bounds, Checks, OnFinding, Selection, TreeList};
+use crate::checks::{Bounds, Checks, Modules, OnFinding, Selection, TreeList};
+use crate::child::Child;
 use crate::failure::{Failure, OrFail, Result};
 use crate::findings::{Finding, Place};
 use crate::git::{self, Git};
@@ -98,7 +99,7 @@ struct Push {
 }
 
 impl Push {
-    /// Limits all that reads the push, but what is limited when the sizes of its objects are known.
+    /// Limits all that reads the push, but for `git cat-file`.
     fn limit(&mut self) -> Result<Limits> {
         let Checks { rules, bounds, .. } = &mut self.checks;
         let limits = size::to_check(&self.quarantine).times(rules.limits);
@@ -110,19 +111,49 @@ impl Push {
         Ok(limits)
     }
 
+    /// Limits `git cat-file`, which is to print at most so many objects.
+    fn limit_print(&mut self, objects: u64, unpacked: &Unpacked) {
+        let limits = size::to_print(&self.quarantine, &self.server, objects, unpacked.bytes);
+        self.checks.bounds.print = Some(limits.times(self.checks.rules.limits));
+    }
+
     /// Checks all names: those of references, those in trees, and those of submodules.
     fn check(&mut self, mut list: TreeList) -> Result<Verdict> {
+        let check_refs = self.checks.start_references()?;
+        let check_trees = self.checks.start_trees(&mut list)?;
+        let (references, in_namespaces, mut modules) = self.check_references(check_refs)?;
+        let unpacked = Unpacked::list(&self.checks.git, &self.quarantine)?;
+        let trees = if self.ids.is_empty() {
+            Objects::of_none(self.ids.len())? // (the list isn't needed, and ends here)
+        } else {
+            // (what is borrowed may be new)
+            self.limit_print(unpacked.objects + self.server.borrowed, &unpacked);
+            list.limit(&self.checks.bounds)?;
+            let mut found = keep(&mut self.findings);
+            self.checks
+                .trees(list, check_trees, &self.ids, &mut modules, &mut found)?
+        };
+        self.limit_print(modules.len() as u64, &unpacked);
+        let mut found = keep(&mut self.findings);
+        let submodules = self.checks.submodules(&modules, &mut found)?;
+        Ok(Verdict::of(Checked {
+            references,
+            in_namespaces,
+            trees,
+            submodules,
+        }))
+    }
+
+    /// Checks the names of references, also inside of namespaces. Returns what is to be read as
+    /// `.gitmodules` because of a replacement, too.
+    fn check_references(&mut self, check_refs: Child) -> Result<(Report, Report, Modules)> {
         let Self {
             checks,
-            quarantine,
-            server,
             ids,
             findings,
             ..
         } = self;
         let mut found = keep(findings);
-        let check_refs = checks.start_references()?;
-        let check_trees = checks.start_trees(&mut list)?;
         let mut lines = PushLines::new(checks.rules.replace);
         let references = checks.references(
             check_refs,
@@ -132,24 +163,7 @@ impl Push {
             &mut found,
         )?;
         let in_namespaces = check_in_namespaces(checks, &lines.in_namespaces, ids, &mut found)?;
-        let mut modules = lines.replacements;
-        let trees = match ids.as_slice() {
-            [] => Objects::of_none(0)?, // (the list isn't needed, and ends here)
-            ids => {
-                let unpacked = Unpacked::list(&checks.git, quarantine)?;
-                let print = size::to_print(quarantine, server, &unpacked);
-                checks.bounds.print = Some(print.times(checks.rules.limits));
-                list.limit(&checks.bounds)?;
-                checks.trees(list, check_trees, ids, &mut modules, &mut found)?
-            }
-        };
-        let submodules = checks.submodules(&modules, &mut found)?;
-        Ok(Verdict::of(Checked {
-            references,
-            in_namespaces,
-            trees,
-            submodules,
-        }))
+        Ok((references, in_namespaces, lines.replacements))
     }
 
     /// What the hook says of a push that is refused.

@@ -3,7 +3,6 @@
 //! (Their bytes say too little. A pack of some kilobytes can become gigabytes of files, if Git unpacks it, and
 //! gets the large files of the server that it needs.)
 
-use super::unpacked::Unpacked;
 use crate::failure::{OrFail, Result};
 use crate::system::Limits;
 use std::env;
@@ -77,8 +76,8 @@ fn objects_in(pack: &Path) -> io::Result<u64> {
 pub struct Server {
     /// How many objects and references it has, about. (Those that are in files of their own don't count.)
     all: u64,
-    /// How many of the objects it borrows.
-    borrowed: u64,
+    /// How many of the objects it borrows. (They may be new to it.)
+    pub borrowed: u64,
 }
 
 impl Server {
@@ -135,14 +134,12 @@ pub fn to_list(quarantine: &Quarantine, server: &Server) -> Limits {
     limits(136, quarantine.objects + server.all)
 }
 
-/// What `git cat-file` may take to print some of these objects. (Deltas can be made so that it takes minutes
-/// to print a few. What is borrowed may be new, too.)
-pub fn to_print(quarantine: &Quarantine, server: &Server, unpacked: &Unpacked) -> Limits {
-    let of_bytes = unpacked.bytes / (128 << 20);
-    let of_objects = (unpacked.objects + server.borrowed) / 40_000;
+/// What `git cat-file` may take to print at most so many objects. (Deltas can be made so that it takes minutes
+/// to print a few.) All that the push brings have so many bytes.
+pub fn to_print(quarantine: &Quarantine, server: &Server, objects: u64, bytes: u64) -> Limits {
     Limits {
-        seconds: 1 + of_bytes + of_objects,
-        ..limits(80, quarantine.objects)
+        seconds: 1 + bytes / (512 << 20) + objects / 50_000,
+        ..limits(80, quarantine.objects + server.all)
     }
 }
 

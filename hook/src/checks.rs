@@ -25,7 +25,7 @@ use std::thread::{self, Scope, ScopedJoinHandle};
 /// What `git cat-file` prints of an object, before its content.
 const BATCH: &str = "--batch=%(objectname) %(objecttype) %(objectsize)";
 /// The beginning of each list. (Its cache is as large as that of the list which receive-pack makes before it
-/// starts the hook. So it takes as long, however the deltas of a push depend on each other.)
+/// starts the hook. With a smaller one a push could be made so that this list takes much longer.)
 const LIST: [&str; 6] = [
     "-c",
     "core.warnAmbiguousRefs=false",

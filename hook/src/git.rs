@@ -49,7 +49,7 @@ impl Git {
         git
             // (the settings of the account; it also needs no HOME then)
             .with("GIT_CONFIG_GLOBAL", "/dev/null")
-            // (of its cache, which has 96 MB otherwise: of a push two processes have one)
+            // (Its cache of deltas has 96 MB otherwise. Two of its processes run at once.)
             .with("GIT_CONFIG_COUNT", "1")
             .with("GIT_CONFIG_KEY_0", "core.deltaBaseCacheLimit")
             .with("GIT_CONFIG_VALUE_0", "48m")

@@ -43,9 +43,10 @@ impl Limits {
     }
 }
 
-/// The numbers of both resources, on every processor but SPARC and MIPS.
+/// The numbers of `RLIMIT_CPU`, `RLIMIT_DATA` and `RLIMIT_CORE`.
 const TIME: c_uint = 0;
 const MEMORY: c_uint = 2;
+const CORE: c_uint = 4;
 
 /// Limits this process and all that it starts from now on. A stricter limit stays.
 pub fn limit_this(limits: Limits) -> io::Result<()> {
@@ -63,7 +64,9 @@ fn set_limits(process: c_int, limits: Limits, most: fn(&Limit) -> u64) -> io::Re
     set_limit(process, TIME, |old| limits.seconds.min(most(old)))?;
     set_limit(process, MEMORY, |old| {
         (limits.megabytes << 20).min(most(old))
-    })
+    })?;
+    // (at its limit of time a process could write a core file, as large as its memory)
+    set_limit(process, CORE, |_| 0)
 }
 
 /// Sets the soft limit, at which a process gets a signal that says why, or no more memory. (The hard

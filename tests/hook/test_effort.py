@@ -1,5 +1,5 @@
-"""How much work a push can make: the hook has Git list the trees twice, however many
-references there are, and it bounds what a hostile .gitmodules file or pack can take."""
+"""How much work a push can make: the hook has Git list the trees once, and of a push
+that is refused twice, however many references there are. Each process has limits."""
 import hashlib
 import random
 import re
@@ -124,20 +124,25 @@ LIMITS = """read -r line; echo "$(ulimit -t) $(ulimit -d)" > '{}'"""
 
 
 @pytest.fixture
-def objects(room):
+def objects(server):
     """The folder of objects of a server, with an empty folder for those of a push."""
-    (room / "objects/incoming").mkdir(parents=True)
-    return room / "objects"
+    (server.path / "objects/incoming").mkdir()
+    return server.path / "objects"
 
 
 @pytest.fixture
 def limits(hook, source, room, objects):
-    """Runs the hook, and returns the seconds and megabytes that a part of it may take."""
+    """Runs the hook, and returns the seconds and megabytes that a part of it may take.
+    (Git gets its objects elsewhere, since files for their sizes are no packs.)"""
 
     def run(part):
         hook.stand_in(part, LIMITS.format(room / "limits"))
-        lines = source.pushes["submodule"].lines
-        hook.run(lines, GIT_QUARANTINE_PATH=objects / "incoming")
+        hook.run(
+            source.pushes["submodule"].lines,
+            cwd=objects.parent,
+            GIT_QUARANTINE_PATH=objects / "incoming",
+            GIT_OBJECT_DIRECTORY=source.path / "objects",
+        )
         seconds, kilobytes = map(int, (room / "limits").read_text().split())
         return seconds, kilobytes / 1024
 
@@ -187,17 +192,44 @@ def test_what_a_part_may_take_does_not_grow_with_large_files(limits, objects):
 def test_what_git_rev_list_may_take_grows_with_what_the_server_has(
     limits, objects, room
 ):
-    write_file(room / "packed-refs", 60 * 4_000)
+    write_file(objects.parent / "packed-refs", 60 * 4_000)
     write_index(objects / "pack/a.idx", 8_000)
     write_file(objects / "pack/a.pack", 1 << 30)
-    (objects / "info").mkdir()
-    (objects / "info/alternates").write_text(f"../borrowed\n{room}/objects\n")
+    (objects / "info/alternates").write_text(f"{room}/borrowed\n../objects\n")
     (room / "borrowed/info").mkdir(parents=True)
     (room / "borrowed/info/alternates").write_text(f"# a comment\n{room}/third\n")
     write_index(room / "borrowed/pack/b.idx", 16_000)
     write_index(room / "third/pack/c.idx", 32_000)
     assert limits("git rev-list") == (10 + 15, 136 + 15)
     assert limits("check_trees") == (10, 96)
+
+
+def test_the_objects_of_a_push_are_found_without_the_name_of_the_quarantine(
+    hook, server, source, room, incoming
+):
+    """Some servers call hooks themselves, and say only where Git is to read objects."""
+    commit = incoming.commit_of("a")
+    blobs = "".join(f"blob\ndata {len(str(n))}\n{n}\n" for n in range(9_000))
+    incoming.git("-c", "fastimport.unpackLimit=0", "fast-import", stdin=blobs)
+    write_index(server.path / "objects/pack/a.idx", 8_000)
+    hook.stand_in("git rev-list", LIMITS.format(room / "limits"))
+    hook.run(
+        source.push_of(commit),
+        cwd=server.path,
+        GIT_OBJECT_DIRECTORY=incoming.path / "objects",
+        GIT_ALTERNATE_OBJECT_DIRECTORIES=source.path / "objects",
+    )
+    seconds, kilobytes = map(int, (room / "limits").read_text().split())
+    assert seconds >= 10 + 4 and kilobytes >= (136 + 4) << 10
+
+
+def test_no_part_leaves_a_core_file(hook, source, room):
+    hook.stand_in("check_trees", f"""ulimit -c > '{room}/limit'""")
+    hook.run(
+        source.push_of(source.clean),
+        through=["prlimit", "--core=unlimited:unlimited"],
+    )
+    assert (room / "limit").read_text() == "0\n"
 
 
 def test_what_git_cat_file_may_take_grows_with_the_size_of_the_objects(
@@ -233,8 +265,7 @@ def test_what_git_cat_file_may_take_grows_with_what_the_server_borrows(
     limits, objects, room
 ):
     """It may be that no reference leads to it, and it counts as new."""
-    (objects / "info").mkdir()
-    (objects / "info/alternates").write_text("../borrowed\n")
+    (objects / "info/alternates").write_text(f"{room}/borrowed\n")
     write_index(objects / "pack/a.idx", 200_000)
     write_index(room / "borrowed/pack/b.idx", 100_000)
     assert limits("git cat-file --batch=") == (3, 80 + 75)

@@ -29,7 +29,7 @@ const MOST_FINDINGS: usize = 10_000;
 /// What a push may take, so that what is kept of its names and ids has less than 64 MB.
 const BOUNDS: Bounds = Bounds {
     lengths: Lengths {
-        report: 0, // (and more when the push's size is known, as for the last two)
+        report: 0, // (`Push::limit` sets it, and the last two)
         name: 200,
     },
     ids: 24_000_000,
@@ -49,7 +49,7 @@ pub fn run(programs: Programs) -> Result<Verdict> {
             rules: Rules::default(),
             bounds: BOUNDS,
         },
-        server: Server::find(&quarantine),
+        server: Server::find(),
         quarantine,
         arguments: ["--not".into(), "--all".into()],
         ids: Vec::new(),
@@ -124,7 +124,8 @@ impl Push {
         let (references, in_namespaces, mut modules) = self.check_references(check_refs)?;
         let unpacked = Unpacked::list(&self.checks.git, &self.quarantine)?;
         let trees = if self.ids.is_empty() {
-            Objects::of_none(self.ids.len())? // (the list isn't needed, and ends here)
+            drop(list); // (this kills it)
+            Objects::of_none(self.ids.len())?
         } else {
             // (what is borrowed may be new)
             self.limit_print(unpacked.objects + self.server.borrowed, &unpacked);

@@ -1,7 +1,7 @@
 //! What the processes that check a push may take: processor time and memory, by how many objects there are.
 //!
-//! (Their bytes say too little. A pack of some kilobytes can become gigabytes of files, if Git unpacks it, and
-//! gets the large files of the server that it needs.)
+//! (Their bytes say too little. Git may unpack a pack of some kilobytes into gigabytes of files. It adds to a
+//! pack the server's objects on which its deltas depend, and these may be large files.)
 
 use crate::failure::{OrFail, Result};
 use crate::system::Limits;
@@ -14,7 +14,7 @@ use std::path::{Path, PathBuf};
 
 /// For so many objects or references there are a second and a megabyte more.
 const STEP: u64 = 4_000;
-/// How many bytes an object has in the index of a pack, and a reference in `packed-refs`, or a few less.
+/// How many bytes an object has in the index of a pack, at least, and a reference in `packed-refs`, about.
 const INDEXED: u64 = 28;
 const PACKED_REFERENCE: u64 = 60;
 
@@ -30,8 +30,12 @@ pub struct Quarantine {
 impl Quarantine {
     /// That of this push.
     pub fn find() -> Result<Self> {
+        // (a server that calls hooks itself may only say where objects are to be read)
+        let has_other = env::var_os("GIT_ALTERNATE_OBJECT_DIRECTORIES").is_some();
+        let read = env::var_os("GIT_OBJECT_DIRECTORY").filter(|_| has_other);
+        let folder = env::var_os("GIT_QUARANTINE_PATH").or(read);
         let mut found = Self {
-            folder: env::var_os("GIT_QUARANTINE_PATH").map(PathBuf::from),
+            folder: folder.map(PathBuf::from),
             bytes: 0,
             has_pack: false,
             objects: 0,
@@ -72,7 +76,6 @@ fn objects_in(pack: &Path) -> io::Result<u64> {
 }
 
 /// What the server has already, by the sizes of files.
-#[derive(Default)]
 pub struct Server {
     /// How many objects and references it has, about. (Those that are in files of their own don't count.)
     all: u64,
@@ -82,15 +85,16 @@ pub struct Server {
 
 impl Server {
     /// That which gets this push. (What can't be read counts as nothing.)
-    pub fn find(quarantine: &Quarantine) -> Self {
-        let objects = quarantine.folder.as_deref().and_then(Path::parent);
-        let objects = match objects.map(fs::canonicalize) {
-            Some(Ok(objects)) => objects,
-            _ => return Self::default(),
-        };
-        let references = size(&objects.with_file_name("packed-refs")) / PACKED_REFERENCE;
-        let own = indexed_in(&objects);
-        let mut folders = vec![objects];
+    pub fn find() -> Self {
+        let repository = env::var_os("GIT_DIR").map_or_else(|| ".".into(), PathBuf::from);
+        let references = size(&repository.join("packed-refs")) / PACKED_REFERENCE;
+        // (receive-pack names its folder of objects, since those of the push are in another)
+        let named = env::var_os("GIT_ALTERNATE_OBJECT_DIRECTORIES").unwrap_or_default();
+        let named = env::split_paths(&named).chain([repository.join("objects")]);
+        let mut folders: Vec<_> = named.filter_map(|it| fs::canonicalize(it).ok()).collect();
+        folders.sort_unstable();
+        folders.dedup();
+        let own = folders.iter().map(|it| indexed_in(it)).sum::<u64>();
         let (mut borrowed, mut looked_in) = (0, 0);
         while let Some(folder) = folders.get(looked_in) {
             for other in alternates(folder) {

@@ -1,4 +1,6 @@
 """Which names the hook refuses, wherever a push has them, and what it says of them."""
+import re
+
 import pytest
 
 from tests.hook.expected import (
@@ -9,6 +11,7 @@ from tests.hook.expected import (
     MEND_THE_SUBMODULES,
     RENAME_THE_FILE,
     RENAME_THE_REF,
+    UNCHECKED,
     Result,
     bad_name,
     bad_ref,
@@ -20,10 +23,16 @@ from tests.hook.git import Repository, file, folder, program, submodule, symlink
 
 NARROW = "\u200c"  # a joiner of width zero, which HFS+ ignores
 BROKEN = (
-    "git rev-list failed (status 128): "
-    "an object is missing or broken, or it needs more than 136 MB, "
-    "or the push is from a shallow clone"
+    rf"{UNCHECKED}: git rev-list failed \(status 128\): an object is missing or broken, "
+    r"or it needs more than \d+ MB, or the push is from a shallow clone\n"
 )
+
+
+def is_broken(result):
+    """Whether the push was refused, as of a missing object. (How much memory there is
+    depends on what other tests have brought to the source.)"""
+    said = result.ending.said
+    return result.status > 0 and re.fullmatch(BROKEN, said) is not None
 
 
 def test_a_clean_push_of_all_kinds_of_objects_is_accepted_and_so_is_a_delete(
@@ -140,21 +149,20 @@ def test_a_missing_gitmodules_file_is_not_taken_for_a_good_one(hook, source):
 
 
 def test_a_missing_object_is_not_taken_for_a_good_one(hook, source):
-    assert hook.run(source.push_of(source.missing)).ending == not_checked(BROKEN)
+    assert is_broken(hook.run(source.push_of(source.missing)))
 
 
 def test_a_tag_that_calls_a_commit_a_blob_hides_no_tree(hook, source):
     """An older Git could believe it, and list no tree of the commit."""
     tag = source.tag("blob", source.device)
-    assert hook.run(source.push_of(tag)).ending == not_checked(BROKEN)
+    assert is_broken(hook.run(source.push_of(tag)))
 
 
 def test_a_blob_in_place_of_a_folder_is_refused_and_its_name_is_not_shown(hook, source):
     """Git would print the name as it is: a message with lines of the pusher's choice,
     or with control bytes."""
     tree = source.tree("a", folder("x\nall is well \u009b\u202e", source.text))
-    result = hook.run(source.push_of(tree))
-    assert result.ending == not_checked(BROKEN)
+    assert is_broken(hook.run(source.push_of(tree)))
 
 
 def test_a_gitmodules_file_in_two_folders_is_shown_once(server, source):
@@ -303,7 +311,7 @@ def test_a_shallow_push_is_refused_with_this_reason_if_the_server_takes_none(
 ):
     """As by default. Git doesn't tell the hook that the push is shallow."""
     clone, last = shallow
-    assert server.push(last, GIT_DIR=clone.path) == not_checked(BROKEN, status=1)
+    assert is_broken(server.push(last, GIT_DIR=clone.path))
 
 
 def test_a_shallow_push_that_leaves_out_commits_is_refused_with_what_helps(

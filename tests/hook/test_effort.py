@@ -242,7 +242,7 @@ def test_what_git_cat_file_may_take_grows_with_the_size_of_the_objects(
     env = dict.fromkeys(names, incoming.path / "objects")
     hook.run(source.push_of(commit), **env)
     seconds, _ = (room / "limits").read_text().split()
-    assert seconds == "3"
+    assert seconds == "5"
 
 
 @pytest.mark.parametrize(

@@ -111,30 +111,26 @@ impl Push {
         Ok(limits)
     }
 
-    /// Limits `git cat-file`, which is to print at most so many objects.
-    fn limit_print(&mut self, objects: u64, unpacked: &Unpacked) {
-        let limits = size::to_print(&self.quarantine, &self.server, objects, unpacked.bytes);
-        self.checks.bounds.print = Some(limits.times(self.checks.rules.limits));
-    }
-
     /// Checks all names: those of references, those in trees, and those of submodules.
     fn check(&mut self, mut list: TreeList) -> Result<Verdict> {
         let check_refs = self.checks.start_references()?;
         let check_trees = self.checks.start_trees(&mut list)?;
         let (references, in_namespaces, mut modules) = self.check_references(check_refs)?;
-        let unpacked = Unpacked::list(&self.checks.git, &self.quarantine)?;
+        let factor = self.checks.rules.limits;
         let trees = if self.ids.is_empty() {
             drop(list); // (this kills it)
             Objects::of_none(self.ids.len())?
         } else {
-            // (what is borrowed may be new)
-            self.limit_print(unpacked.objects + self.server.borrowed, &unpacked);
+            let unpacked = Unpacked::list(&self.checks.git, &self.quarantine)?;
+            let print = size::to_print_trees(&self.quarantine, &self.server, &unpacked);
+            self.checks.bounds.print = Some(print.times(factor));
             list.limit(&self.checks.bounds)?;
             let mut found = keep(&mut self.findings);
             self.checks
                 .trees(list, check_trees, &self.ids, &mut modules, &mut found)?
         };
-        self.limit_print(modules.len() as u64, &unpacked);
+        let print = size::to_print_modules(&self.quarantine, &self.server, modules.len());
+        self.checks.bounds.print = Some(print.times(factor));
         let mut found = keep(&mut self.findings);
         let submodules = self.checks.submodules(&modules, &mut found)?;
         Ok(Verdict::of(Checked {

@@ -3,6 +3,7 @@
 //! (Their bytes say too little. Git may unpack a pack of some kilobytes into gigabytes of files. It adds to a
 //! pack the server's objects on which its deltas depend, and these may be large files.)
 
+use super::unpacked::Unpacked;
 use crate::failure::{OrFail, Result};
 use crate::system::Limits;
 use std::env;
@@ -79,8 +80,8 @@ fn objects_in(pack: &Path) -> io::Result<u64> {
 pub struct Server {
     /// How many objects and references it has, about. (Those that are in files of their own don't count.)
     all: u64,
-    /// How many of the objects it borrows. (They may be new to it.)
-    pub borrowed: u64,
+    /// How many of the objects it borrows.
+    borrowed: u64,
 }
 
 impl Server {
@@ -138,11 +139,22 @@ pub fn to_list(quarantine: &Quarantine, server: &Server) -> Limits {
     limits(136, quarantine.objects + server.all)
 }
 
-/// What `git cat-file` may take to print at most so many objects. (Deltas can be made so that it takes minutes
-/// to print a few.) All that the push brings have so many bytes.
-pub fn to_print(quarantine: &Quarantine, server: &Server, objects: u64, bytes: u64) -> Limits {
+/// What `git cat-file` may take to print the trees of a push. (Deltas can be made so that it takes minutes to
+/// print a few.) It inflates what is in files, and applies deltas. What is borrowed may be new, too.
+pub fn to_print_trees(quarantine: &Quarantine, server: &Server, unpacked: &Unpacked) -> Limits {
+    let of_files = quarantine.bytes / (128 << 20);
+    let of_bytes = (unpacked.bytes + (192 << 20)) / (256 << 20);
+    let of_objects = (unpacked.objects + server.borrowed) / 50_000;
     Limits {
-        seconds: 1 + bytes / (512 << 20) + objects / 50_000,
+        seconds: 1 + of_files + of_bytes + of_objects,
+        ..limits(80, quarantine.objects + server.all)
+    }
+}
+
+/// What it may take to print so many `.gitmodules` files.
+pub fn to_print_modules(quarantine: &Quarantine, server: &Server, count: usize) -> Limits {
+    Limits {
+        seconds: 1 + count as u64 / 50_000,
         ..limits(80, quarantine.objects + server.all)
     }
 }

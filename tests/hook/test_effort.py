@@ -168,6 +168,7 @@ def write_index(path, objects):
         ("check_trees", (10, 96), (26, 112)),
         ("check_submodules", (10, 96), (26, 112)),
         ("git rev-list", (10, 136), (26, 152)),
+        ("git rev-list --stdin --objects --object-names", (10, 136), (26, 152)),
         ("git cat-file --batch=", (1, 80), (1, 96)),
         ("git cat-file --buffer", (1, 80), (1, 96)),
     ],
@@ -179,6 +180,12 @@ def test_what_a_part_may_take_grows_with_the_objects_of_the_push(
     header = b"PACK" + struct.pack(">II", 2, 64_000)
     write_file(objects / "incoming/pack/a.pack", 100, header)
     assert limits(part) == large
+
+
+def test_the_list_of_sizes_has_the_limits_of_any_process(limits, objects):
+    header = b"PACK" + struct.pack(">II", 2, 64_000)
+    write_file(objects / "incoming/pack/a.pack", 100, header)
+    assert limits("git cat-file --batch-all-objects") == (26, 112)
 
 
 def test_what_a_part_may_take_does_not_grow_with_large_files(limits, objects):

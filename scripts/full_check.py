@@ -1,17 +1,22 @@
 """The full check (CI), from the repository's root. (.ci/run starts this program.)
 
-    .ci/run             all of it, from nothing
-    .ci/run CRATE..     these crates and those that stand on them, over what is proved
+    .ci/run                 all of it, from nothing, with some of the edits
+    .ci/run --all-edits     the same with all edits, as a release needs it
+    .ci/run CRATE..         these crates and those that stand on them, over what is proved
 
 Each part is a command that you can type; CONTRIBUTING.md says which one to run after which
-change. The full check proves each crate twice: once with what `rt` keeps, for the programs,
-the bindings, the edits and the release, and once by `rt ci`, which takes nothing from that.
-Before it begins it removes all that was built here.
+change. `rt ci` proves each crate from nothing. The programs, the bindings and the release
+are then built of what it proved. Before the check begins it removes all that was built here.
 
-It fails if one part fails. It prints the processor minutes of each part, what was not run,
-the end of what a failed part printed, and rt's last line. out/check has the output of each
-part, and the results of the tests as JUnit files. If the check passes on a tree without
-changes, it leaves the release that it has built and tested in out/release.
+The edits of must-fail/ are tried each time, those of mutants/ by turns: scripts/dev
+try-edits --help says which. With --all-edits all are tried. If such a check passes on a tree
+without changes, it leaves the release that it has built and tested in out/release, and
+writes the commit into .ci/edits-tried.
+
+It fails if one part fails. First it prints how long it will take, by the minutes in
+.ci/minutes, then the processor minutes of each part, what was not run, the end of what a
+failed part printed, and rt's last line. out/check has the output of each part, the results
+of the tests as JUnit files, and the minutes of this run for .ci/minutes.
 
 What is not run fails the full check if CI=true, except what needs the crates of gitoxide, which
 come from a part of Debian that moves. A kit with another logic than docs/ASSURANCE.md names
@@ -34,7 +39,13 @@ ROOT = Path(__file__).resolve().parent.parent
 LOGS = Path("out/check")
 BUILT = "out/check/built"
 RELEASE = "out/check/release"
+# What the parts of a whole run took, in processor minutes, and the last commit for which all
+# edits were tried.
+MINUTES = Path(".ci/minutes")
+TRIED = Path(".ci/edits-tried")
 JOBS = str(len(os.sched_getaffinity(0)))
+# The tests that need nothing that is built: they run beside the proofs, and fail early.
+EARLY = ("tests/scripts", "tests/test_full_check.py")
 # (One process runs all tests of a group, which share a browser or a build.)
 PYTEST = ("pytest", "-n", JOBS, "--dist", "loadgroup")
 # What a part prints of something that it could not do, and what pytest prints of it.
@@ -152,11 +163,14 @@ def end_of(part):
     return "\n".join(errors[:40] + lines[-60:])
 
 
-def check_all(commit):
+def check_all(commit, edits):
     """The parts of the full check, in order."""
     yield run("setup", "tests/setup")
     yield run("texts", "pre-commit", "run", "--all-files", "--show-diff-on-failure")
-    yield run("proofs", "rt", "all", "check", "--jobs", JOBS)
+    # (One job a crate takes the least processor time.)
+    gate = start("gate", "rt", "ci", RT_JOBS=JOBS)
+    yield run("early", "pytest", *EARLY)
+    yield finish(gate)
     yield run("build", "scripts/build")
     yield run("record", "scripts/dist", "--record", BUILT)
     release = []
@@ -164,12 +178,10 @@ def check_all(commit):
         yield run("dist", "scripts/dist", "--built", BUILT, RELEASE)
         release = [f"--release={file}" for file in Path(RELEASE).glob("*.tar.gz")]
     # The edits need the processors now and then, and the tests wait now and then.
-    edits = start("edits", "scripts/dev", "try-edits", "all", "--built")
-    yield run("tests", *PYTEST, "tests", "--ignore=tests/programs", "--built", *release)
+    edits = start("edits", "scripts/dev", "try-edits", *edits)
+    early = [f"--ignore={it}" for it in EARLY]
+    yield run("tests", *PYTEST, "tests", *early, "--built", *release)
     yield finish(edits)
-    # (One job a crate takes the least processor time.)
-    yield run("gate", "rt", "ci", RT_JOBS=JOBS)
-    yield run("programs", *PYTEST, "tests/programs")
 
 
 def check_some(crates):
@@ -235,12 +247,28 @@ def is_known_kit():
     return os.environ.get("OTHER_KIT") == "true"
 
 
-def keep(commit):
-    """Leaves the release, if the sources and the programs are still those that were tested.
-    (`rt ci` has built the programs anew since.)"""
-    if commit_without_changes() != commit:
-        return run("keep", "sh", "-c", "echo 'a source has changed since'; exit 1")
-    return run("keep", "scripts/dist", "--keep", BUILT, RELEASE)
+def say_how_long():
+    """Prints how long a whole run will take here, by what the last one took."""
+    machine, *lines = MINUTES.read_text("utf-8").splitlines()
+    minutes = sum(float(line.split()[1]) for line in lines)
+    print(
+        f"about {minutes:.0f} processor minutes, which is {minutes / int(JOBS):.0f} minutes on "
+        f"{JOBS} processors here, as fast as {machine.removeprefix('# ')}",
+        flush=True,
+    )
+
+
+def machine():
+    """The processor of this machine."""
+    info = Path("/proc/cpuinfo").read_text("utf-8")
+    model = re.search(r"(?m)^model name\s*: (.*)", info)
+    return model[1] if model else os.uname().machine
+
+
+def minutes_of(parts):
+    """The text of .ci/minutes after these parts."""
+    lines = [f"{it.name} {it.minutes:.1f}\n" for it in parts]
+    return f"# {machine()}\n{''.join(lines)}"
 
 
 def what_was_not_run(parts):
@@ -272,39 +300,60 @@ def stop():
         os.waitpid(child, 0)
 
 
-def main():
+def arguments():
     parser = argparse.ArgumentParser(
         prog=".ci/run",
         description=__doc__,
         formatter_class=argparse.RawDescriptionHelpFormatter,
     )
     parser.add_argument("crates", nargs="*", metavar="CRATE")
-    crates = parser.parse_args().crates
-    os.chdir(ROOT)
+    parser.add_argument("--all-edits", action="store_true", help="try all edits")
+    given = parser.parse_args()
     known = {name for name, *_ in crates_and_those_below()}
-    for crate in crates:
+    for crate in given.crates:
         if crate not in known:
             parser.error(f"there is no crate '{crate}'")
+    if given.crates and given.all_edits:
+        parser.error("--all-edits is for the whole check")
+    return given
+
+
+def main():
+    os.chdir(ROOT)
+    given = arguments()
     started = time.monotonic()
-    if not crates:
-        subprocess.run(["scripts/dist", "--empty"], check=True)
     LOGS.mkdir(parents=True, exist_ok=True)
-    commit = commit_without_changes()
     is_known = is_known_kit()
-    if crates:
-        parts = [*check_some(crates)]
+    if given.crates:
+        parts = [*check_some(given.crates)]
         report(parts, started)
         return 0 if is_known and parts and all(part.passed for part in parts) else 1
+    say_how_long()
+    subprocess.run(["scripts/dist", "--empty"], check=True)
+    return 0 if check_whole(given.all_edits, started) and is_known else 1
+
+
+def check_whole(all_edits, started):
+    """Runs all parts. Returns whether the check passed."""
+    commit = commit_without_changes()
     if not commit:
         print("not run: dist: the tree has changes, so no release is packed")
-    parts = [*check_all(commit)]
-    if commit and all(part.passed for part in parts):
-        parts.append(keep(commit))
+    parts = [*check_all(commit, ["all"] if all_edits else ["--turns"])]
+    passed = all(part.passed for part in parts)
+    if commit and commit_without_changes() != commit:
+        print("a source has changed since the check began")
+        passed = False
+    if commit and passed and all_edits:
+        parts.append(run("keep", "scripts/dist", "--keep", BUILT, RELEASE))
+        passed = parts[-1].passed
     report(parts, started)
-    print(last_line(log_of("gate").read_text("utf-8", "replace")))
+    (LOGS / "minutes").write_text(minutes_of(parts), "utf-8")
     is_whole = bool(commit) and all(map(MAY_BE_MISSING.search, what_was_not_run(parts)))
-    passed = is_known and all(part.passed for part in parts)
-    return 0 if passed and (is_whole or os.environ.get("CI") != "true") else 1
+    passed = passed and (is_whole or os.environ.get("CI") != "true")
+    if passed and all_edits and commit:
+        TRIED.write_text(f"{commit}\n", "utf-8")
+    print(last_line(log_of("gate").read_text("utf-8", "replace")))
+    return passed
 
 
 if __name__ == "__main__":

@@ -1,24 +1,30 @@
-"""Writes docs/PUBLIC_API.md, what the crates promise, on one page that a diff shows.
+"""Writes docs/PUBLIC_API.md, what others can depend on, on one page that a diff shows.
 
-It has each public item with its signature and its clauses as they are in the source, and
-the definitions that these clauses cite, and that those cite in turn. So a promise can't
-change, and no definition that one rests on, without a changed line on that page.
+It has each public item of the libraries and of the functions for C, with its signature and
+its clauses as they are in the source, and the definitions that these clauses cite, and that
+those cite in turn. So a promise can't change, and no definition that one rests on, without
+a changed line on that page. Of a program it has the clauses of `run` alone.
 """
 
 import re
 from pathlib import Path
 
-from scripts.declarations import cites, declared, defined, imported, sources, specs
+from scripts.declarations import chunks, cites, declared, defined, imported, sources
+from scripts.declarations import specs
 from scripts.sources import read
 
 PAGE = "docs/PUBLIC_API.md"
+# What others can depend on: four crates for Rattle, and the functions for C. (The other
+# libraries serve the programs and the tests of this repository.)
+LIBRARIES = ("gix_validate", "typed_names", "git_names", "gitmodules", "gix_validate_c")
 HEAD = """\
 # Public API
 
-What each crate promises, without comments and bodies: its public items with their clauses,
-where their names come from, and the definitions that they cite, down to those of the kit.
-`scripts/dev update-public-api` writes this page from the sources, so a changed promise is
-a changed line here. [CONTRACTS.md](CONTRACTS.md) says how to read a clause,
+What others can depend on, without comments and bodies: the public items of the libraries
+and of the functions for C with their clauses, where their names come from, and the
+definitions that they cite, down to those of the kit. Of each program, it has the clauses of
+`run`. `scripts/dev update-public-api` writes this page from the sources, so a changed
+promise is a changed line here. [CONTRACTS.md](CONTRACTS.md) says how to read a clause,
 [PROMISES.md](PROMISES.md) which clauses the claims rest on.
 
 """
@@ -138,18 +144,46 @@ def section(file, shown):
     return f"\n### {file}\n\n```{language}\n{head}{blank}{text}```\n"
 
 
+def runs_of(file):
+    """The function `run` of a source, alone, or as the one that an impl has."""
+    for it in declared(file):
+        head, _, inside = it.text.partition("{\n")
+        runs = [of for of in chunks(inside, 4) if re.match(r" *fn run\b", of)]
+        if it.name == "run" and it.is_public:
+            yield it
+        elif runs and it.name is None:
+            yield it._replace(text=f"{head}{{\n{''.join(runs)}}}\n")
+
+
+def program_sections(crate):
+    """What is shown of a program: a section for each source that has a `run`."""
+    for file in sources(crate):
+        if runs := [*runs_of(file)]:
+            text = "\n".join(it.text for it in runs)
+            head = "".join(imports(file, text))
+            yield f"\n### {file}\n\n```rust\n{head}\n{text}```\n"
+
+
+def is_program(crate):
+    return Path("crates", crate, "src/main.rt").exists()
+
+
 def derived():
     public = {}
-    for crate in crates():
+    libraries = [it for it in crates() if it in LIBRARIES]
+    for crate in libraries:
         types = types_of(crate)
         for file in sources(crate):
             if shown := public_of(file, types):
                 public[file] = shown
     definitions, sections = cited(public), {}
-    for crate in crates():
+    for crate in libraries:
         for file in [*sources(crate), *specs(crate)]:
             if shown := [*public.get(file, ()), *definitions.get(file, ())]:
                 sections.setdefault(crate, []).append(section(file, shown))
+    for crate in filter(is_program, crates()):
+        if shown := [*program_sections(crate)]:
+            sections[crate] = shown
     contents = "".join(f"- [{crate}](#{crate})\n" for crate in sections)
     texts = (f"\n## {crate}\n{''.join(its)}" for crate, its in sections.items())
     yield PAGE, HEAD + contents + "".join(texts)

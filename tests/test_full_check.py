@@ -47,18 +47,17 @@ esac
 PARTS = [
     "setup",
     "pre-commit run --all-files",
-    "rt all check",
+    "pytest tests/scripts tests/test_full_check.py",
+    "rt ci",
     "build",
     "dist --record",
     "dist --built",
     "dev try-edits all",
     "pytest -n {jobs} --dist loadgroup tests --ignore",
-    "rt ci",
-    "pytest -n {jobs} --dist loadgroup tests/programs",
     "dist --keep",
 ]
 PARTS = [part.format(jobs=len(os.sched_getaffinity(0))) for part in PARTS]
-TESTS, PROGRAMS = PARTS[-4], PARTS[-2]
+EARLY, TESTS = PARTS[2], PARTS[-2]
 
 
 class Copy:
@@ -82,6 +81,9 @@ class Copy:
         (self.folder / ".ci").mkdir()
         for file in (".ci/run", "scripts/full_check.py"):
             shutil.copy(ROOT / file, self.folder / file)
+        (self.folder / ".ci/minutes").write_text(
+            "# Some Processor\nsetup 4.5\ngate 95.5\n"
+        )
         (self.folder / "docs").mkdir()
         (self.folder / "docs/ASSURANCE.md").write_text(f"It is `{KIT}`.\n")
         (self.folder / "crates.txt").write_text(
@@ -104,13 +106,13 @@ class Copy:
         name = ["-c", "user.name=a", "-c", "user.email=a"]
         subprocess.run(["git", *name, *words], cwd=self.folder, check=True)
 
-    def start(self, *crates, by=(), **environment):
+    def start(self, *words, by=(), **environment):
         """Starts `.ci/run`, by its name or by a program that reads it."""
         self.calls_file.write_text("")
         path = f"{self.bin}:{os.environ['PATH']}"
         environment = {"AT": "none", "CI": "", "OTHER_KIT": "", **environment}
         return subprocess.Popen(
-            [*by, ".ci/run", *crates],
+            [*by, ".ci/run", *words],
             cwd=self.folder,
             stdout=subprocess.PIPE,
             stderr=subprocess.STDOUT,
@@ -124,9 +126,9 @@ class Copy:
             },
         )
 
-    def run(self, *crates, **environment):
+    def run(self, *words, **environment):
         """Returns the status, and what was printed."""
-        check = self.start(*crates, **environment)
+        check = self.start(*words, **environment)
         printed, _ = check.communicate(timeout=60)
         return check.returncode, printed
 
@@ -145,11 +147,62 @@ def copy(tmp_path):
 
 
 def test_a_check_whose_parts_pass_passes_and_ends_with_the_last_line_of_rt(copy):
-    status, printed = copy.run(CI="true")
+    status, printed = copy.run("--all-edits", CI="true")
     assert (status, printed.splitlines()[-1]) == (0, "3 passed, 0 failed")
-    assert copy.calls[0] == "dist --empty"
+    assert copy.calls[:2] == ["rt version", "dist --empty"]
     for part in PARTS:
         assert any(call.startswith(part) for call in copy.calls), part
+
+
+def test_a_check_first_prints_how_long_it_will_take(copy):
+    _, printed = copy.run()
+    jobs = len(os.sched_getaffinity(0))
+    assert printed.splitlines()[0] == (
+        f"about 100 processor minutes, which is {100 / jobs:.0f} minutes on {jobs} processors "
+        "here, as fast as Some Processor"
+    )
+
+
+def test_a_check_leaves_the_minutes_of_its_parts_in_the_form_of_those_it_reads(copy):
+    copy.run()
+    machine, *lines = (copy.folder / "out/check/minutes").read_text().splitlines()
+    assert machine.startswith("# ")
+    assert [line.split()[0] for line in lines] == [
+        *(
+            "setup",
+            "texts",
+            "early",
+            "gate",
+            "build",
+            "record",
+            "dist",
+            "tests",
+            "edits",
+        )
+    ]
+
+
+def test_a_check_without_all_edits_tries_those_whose_turn_it_is_and_keeps_no_release(
+    copy,
+):
+    assert copy.run(CI="true")[0] == 0
+    assert "dev try-edits --turns" in copy.calls
+    assert not copy.keeps_the_release
+    assert not (copy.folder / ".ci/edits-tried").exists()
+
+
+def test_a_check_with_all_edits_writes_down_the_commit_if_it_passes(copy):
+    git = ["git", "rev-parse", "HEAD"]
+    commit = subprocess.check_output(git, cwd=copy.folder, text=True)
+    assert copy.run("--all-edits", AT="dev", FAULT="fails")[0] == 1
+    assert not (copy.folder / ".ci/edits-tried").exists()
+    assert copy.run("--all-edits")[0] == 0
+    assert (copy.folder / ".ci/edits-tried").read_text() == commit
+
+
+def test_all_edits_of_a_crate_are_a_wrong_argument(copy):
+    status, printed = copy.run("low", "--all-edits")
+    assert (status, "--all-edits is for the whole check" in printed) == (2, True)
 
 
 @pytest.mark.parametrize("shell", ["sh", "bash", "dash"])
@@ -162,7 +215,7 @@ def test_a_shell_that_reads_the_check_runs_it(copy, shell):
 @pytest.mark.parametrize("fault", ["fails", "is killed"])
 @pytest.mark.parametrize("part", PARTS)
 def test_a_check_fails_and_keeps_no_release_if_one_part(copy, part, fault):
-    assert copy.run(AT=part, FAULT=fault)[0] == 1
+    assert copy.run("--all-edits", AT=part, FAULT=fault)[0] == 1
     assert part == "dist --keep" or not copy.keeps_the_release
 
 
@@ -175,14 +228,14 @@ def test_a_check_fails_and_keeps_no_release_if_one_part(copy, part, fault):
         "===== 13 passed in 0.10s =====",
     ],
 )
-@pytest.mark.parametrize("part", [TESTS, PROGRAMS])
+@pytest.mark.parametrize("part", [EARLY, TESTS])
 def test_tests_that_end_well_without_the_line_of_all_that_passed_fail_the_check(
     copy, part, said
 ):
     if said.startswith("===== 1 failed"):
-        assert copy.run(AT=part, FAULT=said, STATUS="1")[0] == 1
+        assert copy.run("--all-edits", AT=part, FAULT=said, STATUS="1")[0] == 1
     else:
-        assert copy.run(AT=part, FAULT=said)[0] == 1
+        assert copy.run("--all-edits", AT=part, FAULT=said)[0] == 1
     assert not copy.keeps_the_release
 
 
@@ -190,7 +243,7 @@ def test_tests_that_end_well_without_the_line_of_all_that_passed_fail_the_check(
     "said", ["prints nothing", "3 passed, 1 failed", "0 passed, 0 failed"]
 )
 def test_a_gate_that_ends_well_without_its_line_fails_the_check(copy, said):
-    assert copy.run(AT="rt ci", FAULT=said)[0] == 1
+    assert copy.run("--all-edits", AT="rt ci", FAULT=said)[0] == 1
     assert not copy.keeps_the_release
 
 
@@ -231,15 +284,16 @@ def test_another_kit_fails_the_check_unless_it_is_allowed(copy):
 
 def test_a_tree_with_changes_packs_no_release_which_fails_the_check_in_ci(copy):
     (copy.folder / "a file").touch()
-    status, printed = copy.run()
+    status, printed = copy.run("--all-edits")
     assert (status, "not run: dist" in printed) == (0, True)
     assert not any(call.startswith("dist --built") for call in copy.calls)
     assert not copy.keeps_the_release
     assert copy.run(CI="true")[0] == 1
 
 
-def test_a_source_that_changes_during_the_check_fails_it(copy):
-    assert copy.run(AT="rt ci", FAULT="changes a source")[0] == 1
+@pytest.mark.parametrize("words", [[], ["--all-edits"]])
+def test_a_source_that_changes_during_the_check_fails_it(copy, words):
+    assert copy.run(*words, AT="rt ci", FAULT="changes a source")[0] == 1
     assert not copy.keeps_the_release
 
 
@@ -274,7 +328,7 @@ def test_what_is_no_name_of_a_crate_is_a_wrong_argument(copy, crate):
 @pytest.mark.parametrize("seed", range(8))
 def test_a_check_of_which_any_process_is_killed_at_any_time_fails(copy, seed):
     chance = random.Random(seed)
-    check = copy.start(SECONDS_EACH="0.2")
+    check = copy.start("--all-edits", SECONDS_EACH="0.2")
     time.sleep(chance.uniform(0.2, 1.5))
     while not is_stopped(victim := chance.choice([check.pid, *children_of(check.pid)])):
         assert check.poll() is None, "the check ended before anything was killed"

@@ -18,7 +18,6 @@ from scripts import (
     update_benchmarks,
     update_byte_tables,
     update_fault_tables,
-    update_names_page,
     update_pictures,
     update_promises,
     update_public_api,
@@ -43,7 +42,6 @@ DERIVING = {
 }
 # The same of what has to be built first.
 OF_BUILT = {
-    "update-names-page": update_names_page,
     "record-comparison": record_comparison,
 }
 
@@ -89,9 +87,7 @@ def parser():
             formatter_class=argparse.RawDescriptionHelpFormatter,
         )
 
-    every = (
-        "Runs these commands but update-names-page, record-comparison and try-edits."
-    )
+    every = "Runs these commands but record-comparison and try-edits."
     docs = {name: it.__doc__ for name, it in {**DERIVING, **OF_BUILT}.items()}
     for name, doc in {**docs, "all": every}.items():
         command = add(name, doc)

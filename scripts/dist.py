@@ -35,12 +35,13 @@ PROGRAMS = ["check_names", *OF_THE_HOOK, "git_check_names"]
 ARCHIVE = "bindings/out/libgix_validate_c.a"
 WASM = "bindings/out/gix_validate.wasm"
 JAVASCRIPT = "bindings/js/gix_validate_wasm.mjs"
+PAGE = "docs/names.html"
 BLOCKS = ["bindings/rust/native/aarch64.s", "bindings/rust/native/x86_64.s"]
 GO_BLOCKS = [f"bindings/go/block_{it}" for it in ("amd64.go", "amd64.s", "arm64.S")]
 # All that is built and then packed, or tested in place of what is packed.
 BUILT = [
     *(f"crates/{it}/out/{it}{end}" for it in PROGRAMS for end in ("", ".o")),
-    *[ARCHIVE, "bindings/out/libgix_validate_c.so", WASM, JAVASCRIPT, *BLOCKS],
+    *[ARCHIVE, "bindings/out/libgix_validate_c.so", WASM, JAVASCRIPT, PAGE, *BLOCKS],
     *GO_BLOCKS,
 ]
 # Why the full check is named in MANIFEST.
@@ -87,7 +88,8 @@ def empty():
     built = [*(it / "out" for it in crates), KEPT, ROOT / "bindings/rust/native"]
     # (the crates of gitoxide are fetched)
     built += {*ROOT.glob("bindings/out/*")} - {ROOT / "bindings/out/gitoxide"}
-    for path in [*built, ROOT / JAVASCRIPT, *ROOT.glob("bindings/go/block_*")]:
+    built += [ROOT / JAVASCRIPT, ROOT / PAGE]
+    for path in [*built, *ROOT.glob("bindings/go/block_*")]:
         if path.is_dir() and not path.is_symlink():
             shutil.rmtree(path)
         else:
@@ -196,6 +198,7 @@ class Release:
             ]
             run(*archive, "--format=tar", f"HEAD:./{source}", "--", *files)
             run("tar", "-C", to, "-xf", self.room / "part")
+        self.copy_built(PAGE, self.tree / "share/doc/gix-validate" / PAGE)
         # (A release has no sources for the page to lead to.)
         for page in ["README.md", "docs/PROMISES.md"]:
             file = self.tree / "share/doc/gix-validate" / page

@@ -22,6 +22,7 @@ ROOT = Path(__file__).resolve().parent.parent
 SHOWN = ("bench/*.svg", "bench/figures.txt", "docs/*.css", "docs/*.html", "docs/*.png")
 SHOWN += ("docs/pictures/*.svg", "docs/search.js")
 PUBLIC_API = "docs/PUBLIC_API.md"
+CHECKER = "docs/names.html"
 # A link, or code, in which nothing is a link.
 TOKEN = re.compile(
     r"(?<!!)\[(?P<text>(?:`[^`]*`|[^][`])*)\]\((?P<to>[^)\s]+)\)"
@@ -39,6 +40,10 @@ REFERENCES = os.environ.get("SITE_REFERENCES")
 
 def on_config(config):
     config["mdx_configs"].setdefault("toc", {})["slugify"] = lambda text, _: slug(text)
+    if not (ROOT / CHECKER).exists():
+        print(f"{CHECKER} is not built, so the site lacks it: bindings/build makes it")
+        for part in (of for it in config["nav"] for of in it.values()):
+            part[:] = [it for it in part if CHECKER not in it.values()]
     if REFERENCES:
         [part] = (it["Reference"] for it in config["nav"] if "Reference" in it)
         part += references.navigation(Path(REFERENCES))

@@ -9,8 +9,15 @@ a changed line on that page. Of a program it has the clauses of `run` alone.
 import re
 from pathlib import Path
 
-from scripts.declarations import chunks, cites, declared, defined, imported, sources
-from scripts.declarations import specs
+from scripts.declarations import (
+    chunks,
+    cites,
+    declared,
+    defined,
+    imported,
+    sources,
+    specs,
+)
 from scripts.sources import read
 
 PAGE = "docs/PUBLIC_API.md"

@@ -1,5 +1,4 @@
-// What docs/names.html does. `scripts/dev update-names-page` puts it into the
-// page.
+// What docs/names.html does. `make_page` puts it into the page.
 import {branchName, faultOffset, fullName, InvalidName, pathComponent, sanitize, submoduleName, tagName, version} from "./gix_validate.mjs";
 
 // How much is marked up to the offset that a proved function gives, if it is

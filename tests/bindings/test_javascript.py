@@ -8,18 +8,7 @@ import pytest
 
 from scripts import commonjs
 
-from .tools import (
-    BINDINGS,
-    ROOT,
-    ROWS,
-    VERSION,
-    WASM,
-    declared,
-    need,
-    output,
-    rows,
-    run,
-)
+from .tools import BINDINGS, ROWS, VERSION, WASM, declared, need, output, rows, run
 
 JS = BINDINGS / "js"
 TESTS = JS / "test_gix_validate.mjs"
@@ -128,12 +117,6 @@ def test_the_types_are_those_that_callers_need(project, resolution, module, sour
     shutil.copy(JS / "types.ts", project / source)
     options = f"--target es2022 --module {module} --moduleResolution {resolution}"
     assert output("tsc", *TSC, *options.split(), source, cwd=project) == ""
-
-
-def test_the_page_is_made_of_its_sources():
-    need(WASM)
-    check = [ROOT / "scripts/dev", "update-names-page", "--check"]
-    assert run(*check).stderr == ""
 
 
 def test_the_module_passes_its_own_tests_in_chromium(chromium):

@@ -207,6 +207,7 @@ class Page:
 @pytest.fixture(scope="module")
 def offline(chromium):
     """A browser without a network."""
+    need(PAGE)
     with chromium() as browser:
         browser.set_network_conditions(offline=True, latency=0, throughput=0)
         yield browser

@@ -19,7 +19,7 @@ def rustc_minor():
 
 
 def registry():
-    """The crates that this Rust can take: those of bindings/gitoxide/fetch, or
+    """The crates that this Rust can take: those of tests/gitoxide/fetch, or
     Debian's."""
     is_new = any(SID.glob("bstr-*")) and rustc_minor() >= 88
     return SID if is_new else DEBIAN

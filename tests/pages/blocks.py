@@ -57,7 +57,7 @@ class Need(NamedTuple):
 
 CRATES = Need(
     "cargo ",
-    "the crates bstr and gix-error, from crates.io or by bindings/gitoxide/fetch",
+    "the crates bstr and gix-error, from crates.io or by tests/gitoxide/fetch",
     "timeout 60 cargo fetch --manifest-path probe/Cargo.toml",
 )
 DASK = Need(

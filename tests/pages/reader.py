@@ -97,7 +97,7 @@ class Reader:
             (room / "usr/local/bin/python3").symlink_to("/usr/bin/python3")
 
     def prepare_cargo(self):
-        """Crates are those of bindings/gitoxide/fetch, if they are there and Rust is new
+        """Crates are those of tests/gitoxide/fetch, if they are there and Rust is new
         enough for them. The crate `probe` needs them, so that a fault of the release's
         crate isn't taken for one that is missing."""
         crates = ROOT / "bindings/out/gitoxide/crates"

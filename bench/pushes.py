@@ -1,92 +1,25 @@
 """Pushes that take a careless hook more than linear time, each as a pack of its own making, for bench/run."""
-import hashlib
+
 import os
 import random
 import signal
-import struct
 import subprocess
-import zlib
 
-KINDS = {"commit": 1, "tree": 2, "blob": 3, "tag": 4}
-
-
-def number(value, low=7):
-    """A number as a pack has it: its low bits first, the high bit of a byte if more follow."""
-    out = bytearray()
-    while value >> low:
-        out.append(value & (1 << low) - 1 | 128)
-        value, low = value >> low, 7
-    return bytes([*out, value])
+from packs import Pack, copied, given
 
 
-def copied(start, size):
-    """Instructions of a delta that copy bytes of its base."""
-    out = b""
-    for at in range(start, start + size, 0xFFFFFF):
-        out += (
-            b"\xff"
-            + struct.pack("<I", at)
-            + struct.pack("<I", min(0xFFFFFF, start + size - at))[:3]
-        )
-    return out
-
-
-def given(data):
-    """An instruction of a delta that has up to 127 bytes itself."""
-    return bytes([len(data)]) + data
-
-
-class Pack:
+class Push(Pack):
     """A pack that a function fills, and the references that are pushed with it."""
 
-    def __init__(self, fill, *given, algorithm="sha1"):
-        self.algorithm, self.parts, self.refs, self.ids = algorithm, [], [], set()
-        fill(self, *given)
-
-    def sum(self, data):
-        return hashlib.new(self.algorithm, data).digest()
-
-    def add(self, kind, data, base=None, keep=0):
-        """Adds an object, as it is or as a delta: what it doesn't share with the last `keep` bytes of a base, and those."""
-        fresh = data[: len(data) - keep]
-        made = base and given(fresh) + copied(base[1] - keep, keep)
-        return self.add_made(kind, data, base, made)
-
-    def add_made(self, kind, data, base, made):
-        """Adds an object, as it is or as a delta, which are instructions for a base (its id and its size)."""
-        name = self.sum(f"{kind} {len(data)}\0".encode() + data)
-        if name in self.ids:
-            return name
-        self.ids.add(name)
-        code, before = KINDS[kind], b""
-        body = data
-        if base:
-            code, before = 7, base[0]
-            body = number(base[1]) + number(len(data)) + made
-        first = bytearray(number(len(body) >> 4) if len(body) >> 4 else b"")
-        head = bytes([code << 4 | len(body) & 15 | (128 if first else 0)])
-        self.parts.append(head + first + before + zlib.compress(body, 1))
-        return name
-
-    def tree(self, *entries):
-        return self.add("tree", b"".join(b"%o %s\0%s" % it for it in entries))
+    def __init__(self, fill, *sizes, algorithm="sha1"):
+        super().__init__(algorithm)
+        self.refs = []
+        fill(self, *sizes)
 
     def commit(self, tree, *parents, ref=None):
-        lines = [
-            f"tree {tree.hex()}",
-            *(f"parent {it.hex()}" for it in parents),
-            "author a <b> 1 +0000",
-            "committer a <b> 1 +0000",
-        ]
-        commit = self.add(
-            "commit", "\n".join([*lines, "", f"{len(self.parts)}\n"]).encode()
-        )
+        commit = super().commit(tree, *parents)
         self.refs += [(commit, ref)] if ref else []
         return commit
-
-    def data(self):
-        body = b"PACK" + struct.pack(">II", 2, len(self.parts)) + b"".join(self.parts)
-        return body + self.sum(body)
 
 
 def modules(pack, count):
@@ -298,30 +231,30 @@ def refused_modules(pack, count, size):
 
 
 PUSHES = {
-    "1,000 .gitmodules of 500 kB, deltas of each other": lambda: Pack(modules, 1000),
-    "4,000 trees below 65 kB, for 40 of 100,000 references": lambda: Pack(
+    "1,000 .gitmodules of 500 kB, deltas of each other": lambda: Push(modules, 1000),
+    "4,000 trees below 65 kB, for 40 of 100,000 references": lambda: Push(
         orphans, 40, 2500
     ),
-    "200,000 references": lambda: Pack(references, 200000),
-    "100,000 trees below 65 kB": lambda: Pack(folders, 100000),
-    "the same with SHA-256": lambda: Pack(folders, 100000, algorithm="sha256"),
-    "100,000 small .gitmodules": lambda: Pack(small_modules, 100000),
-    "a chain of 30,000 deltas": lambda: Pack(chain, 30000),
-    "2,500 trees of 60 kB in 10 chains of 250 deltas": lambda: Pack(
+    "200,000 references": lambda: Push(references, 200000),
+    "100,000 trees below 65 kB": lambda: Push(folders, 100000),
+    "the same with SHA-256": lambda: Push(folders, 100000, algorithm="sha256"),
+    "100,000 small .gitmodules": lambda: Push(small_modules, 100000),
+    "a chain of 30,000 deltas": lambda: Push(chain, 30000),
+    "2,500 trees of 60 kB in 10 chains of 250 deltas": lambda: Push(
         from_the_ends, 10, 250, 60000
     ),
-    "17,000 trees of 2 kB that deltas copy byte by byte": lambda: Pack(
+    "17,000 trees of 2 kB that deltas copy byte by byte": lambda: Push(
         slow_deltas, 17000, 50, 2000
     ),
-    "3,000 tags of tags": lambda: Pack(tags, 3000),
-    "10 merges of 20,000 commits": lambda: Pack(merges, 10, 20000),
-    "17,000 files": lambda: Pack(files, 17000),
-    "1,000 commits to a folder of 20,000 files": lambda: Pack(versions, 1000, 20000),
-    "8 folders of 60 MB in each other": lambda: Pack(nested, 8, 60_000_000),
-    "3,000 .gitmodules in spellings of 60 kB": lambda: Pack(spellings, 3000, 20000),
-    "6,000 .gitmodules in spellings of 15 kB": lambda: Pack(spellings, 6000, 5000),
-    "300 MB of refused entries": lambda: Pack(refused, 4600, 65000),
-    "20 .gitmodules of 16 MB of refused names": lambda: Pack(
+    "3,000 tags of tags": lambda: Push(tags, 3000),
+    "10 merges of 20,000 commits": lambda: Push(merges, 10, 20000),
+    "17,000 files": lambda: Push(files, 17000),
+    "1,000 commits to a folder of 20,000 files": lambda: Push(versions, 1000, 20000),
+    "8 folders of 60 MB in each other": lambda: Push(nested, 8, 60_000_000),
+    "3,000 .gitmodules in spellings of 60 kB": lambda: Push(spellings, 3000, 20000),
+    "6,000 .gitmodules in spellings of 15 kB": lambda: Push(spellings, 6000, 5000),
+    "300 MB of refused entries": lambda: Push(refused, 4600, 65000),
+    "20 .gitmodules of 16 MB of refused names": lambda: Push(
         refused_modules, 20, 16 << 20
     ),
 }

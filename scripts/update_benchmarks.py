@@ -49,8 +49,8 @@ CALL_COLUMNS = ["Call", "Names", "Dihareku, ns", "Crate, ns", "libgit2, ns"]
 CALL_COLUMNS += ["Dihareku, instructions", "Crate, instructions"]
 LANGUAGE_COLUMNS = ["Language", "The loop alone", "A short branch name"]
 LANGUAGE_COLUMNS += ["A path of three parts", "Its parts, a call for each"]
-PUSH_COLUMNS = ["What is pushed", "Without a hook", "The shell script", "The hook"]
-ATTACK_COLUMNS = ["What is pushed", "Bytes", "`receive.fsckObjects`", *PUSH_COLUMNS[2:]]
+PUSH_COLUMNS = ["What is pushed", "Without a hook", "With the hook"]
+ATTACK_COLUMNS = ["What is pushed", "Bytes", "`receive.fsckObjects`", "The hook"]
 # The pages of marks that aren't on bench/README.md.
 PAGES = {"go": "bindings/go/README.md", "python": "bindings/python/README.md"}
 # The colours of this library, of what it is compared with most, and of others.
@@ -60,8 +60,8 @@ DARK = {OURS: "#56b4e9", OTHER: "#f59b52", THIRD: "#a5abb3"}
 DARK |= {"#000000": "#a9b1ba", "#e0e0e0": "#4d525c"}
 # The bars of the pictures of calls and of pushes: their colours and names.
 CALLS = [(OURS, "Dihareku"), (OTHER, "Rust crate"), (THIRD, "libgit2")]
-PUSH = [(THIRD, "no hook"), (OTHER, "hook in shell, before"), (OURS, "hook")]
-ATTACKS = [(THIRD, "no hook, but receive.fsckObjects"), *PUSH[1:]]
+PUSH = [(THIRD, "no hook"), (OURS, "hook")]
+ATTACKS = [(THIRD, "no hook, but receive.fsckObjects"), (OURS, "hook")]
 # The curves of the picture: the rows and the column of their times, their styles, and
 # their names. Below them what is marked on its axes.
 CURVES = [
@@ -217,11 +217,13 @@ def svg_of(figure, title, description):
 
 def draw_bars(axes, rows, bars):
     """Draws a group of bars for each row: the cells of its name, in these colours."""
+    width = 0.81 / len(bars)
     for column, (colour, label) in enumerate(bars):
         cells = [row[column] for row in rows.values()]
         numbers = [float(re.sub(",(?: .*)?", "", it) or 0) for it in cells]
-        places = [place + (column - 1) * 0.27 for place in range(len(rows))]
-        drawn = axes.barh(places, numbers, 0.25, color=colour, label=label)
+        centre = (len(bars) - 1) / 2
+        places = [place + (column - centre) * width for place in range(len(rows))]
+        drawn = axes.barh(places, numbers, width - 0.02, color=colour, label=label)
         axes.bar_label(drawn, cells, padding=3, fontsize=9)
     axes.set_yticks(range(len(rows)), [*rows])
     axes.invert_yaxis()
@@ -254,7 +256,7 @@ def said(rows, bars):
 
 def pushes(push, attacks):
     """What the hook adds to a push, and what it takes for those that attack it, as SVG."""
-    figure = figure_of((9, 11))
+    figure = figure_of((9, 9))
     above, below = figure.subplots(2, gridspec_kw={"height_ratios": [3.5, 14]})
     few = {name: cells for name, *cells in push}
     many = {name: cells for name, _, *cells in attacks}
@@ -264,7 +266,8 @@ def pushes(push, attacks):
     below.set_title("Attacks on the hook, in seconds")
     for axes in (above, below):
         axes.margins(x=0.12, y=0.02)
-        axes.legend(loc="upper right" if axes == above else "center right")
+    above.legend(loc="upper right")
+    below.legend(loc="center right", bbox_to_anchor=(1, 0.38))  # (next to short bars)
     description = (
         f"Bars: milliseconds of a push. {said(few, PUSH)} Bars: seconds of a push that "
         f"attacks the hook. {said(many, ATTACKS)}"

@@ -2,7 +2,7 @@
 
 from pathlib import Path
 
-pytest_plugins = ["tests.fail_closed", "tests.given_release", "tests.random_seed"]
+pytest_plugins = ["tests.fail_closed", "tests.given_release", "tests.nothing_left"]
 
 
 def pytest_addoption(parser):

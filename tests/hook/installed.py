@@ -34,7 +34,8 @@ class Hook:
 
     def environment(self, env):
         path = f"{self.stand_ins}:{os.environ['PATH']}"
-        return {"HOME": self.home, "PATH": path, **env}
+        # (a scan that is killed leaves its temporary folder, which goes with the test)
+        return {"HOME": self.home, "TMPDIR": self.home, "PATH": path, **env}
 
     def command(self, file=None):
         return [file or self.folder / "pre-receive"]

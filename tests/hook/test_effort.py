@@ -1,14 +1,12 @@
 """How much work a push can make: the hook has Git list the trees once, and of a push
 that is refused twice, however many references there are. Each process has limits."""
-import hashlib
 import random
 import re
-import struct
 import sys
-import zlib
 
 import pytest
 
+from bench.packs import Pack, copied, header
 from tests.hook.expected import (
     ACCEPTED,
     DEVICE,
@@ -177,21 +175,18 @@ def test_what_a_part_may_take_grows_with_the_objects_of_the_push(
     limits, objects, part, small, large
 ):
     assert limits(part) == small
-    header = b"PACK" + struct.pack(">II", 2, 64_000)
-    write_file(objects / "incoming/pack/a.pack", 100, header)
+    write_file(objects / "incoming/pack/a.pack", 100, header(64_000))
     assert limits(part) == large
 
 
 def test_the_list_of_sizes_has_the_limits_of_any_process(limits, objects):
-    header = b"PACK" + struct.pack(">II", 2, 64_000)
-    write_file(objects / "incoming/pack/a.pack", 100, header)
+    write_file(objects / "incoming/pack/a.pack", 100, header(64_000))
     assert limits("git cat-file --batch-all-objects") == (26, 112)
 
 
 def test_what_a_part_may_take_does_not_grow_with_large_files(limits, objects):
     """A small push can become some of a gigabyte, as Git unpacks it."""
-    header = b"PACK" + struct.pack(">II", 2, 1)
-    write_file(objects / "incoming/pack/a.pack", 1 << 30, header)
+    write_file(objects / "incoming/pack/a.pack", 1 << 30, header(1))
     write_file(objects / "incoming/01/a file", 1 << 30)
     assert limits("git rev-list") == (10, 136)
 
@@ -449,58 +444,20 @@ def test_a_tree_that_is_too_large_to_print_refuses_the_push(incoming, measured_p
     )
 
 
-# Packs that Git would not make.
-TREE, DELTA = 2, 7
-
-
-def in_pack(kind, content, base=""):
-    """An object as a pack has it. A delta has the id of its base."""
-    size = len(content) >> 4
-    head = [kind << 4 | len(content) & 15]
-    while size:
-        head[-1] |= 128
-        head.append(size & 127)
-        size >>= 7
-    return bytes(head) + bytes.fromhex(base) + zlib.compress(content)
-
-
-def bring(incoming, *objects):
-    """Brings these objects in a pack."""
-    pack = b"PACK" + struct.pack(">II", 2, len(objects)) + b"".join(objects)
-    pack += hashlib.new(incoming.object_format, pack).digest()
-    path = incoming.path / "objects/pack/pack-a.pack"
-    path.write_bytes(pack)
-    incoming.git("index-pack", str(path))
-
-
-def id_of(incoming, kind, content):
-    """The id of an object that is not written."""
-    whole = f"{kind} {len(content)}\0".encode() + content
-    return hashlib.new(incoming.object_format, whole).hexdigest()
-
-
 def test_a_tree_whose_delta_needs_much_more_than_the_tree_refuses_the_push(
     incoming, measured_push
 ):
     """It is a tree with a long name, of which each byte is copied by itself."""
     id_ = bytes.fromhex(incoming.text)
-    base, length = b"100644 x\0" + id_, 25_000_000
-    tree = base.replace(b"x", b"x" * length)
-
-    def varint(value):
-        return bytes(
-            [value & 127 | 128, *varint(value >> 7)] if value >> 7 else [value]
-        )
-
-    def copied(start, size):
-        return b"\xff" + struct.pack("<I", start) + struct.pack("<I", size)[:3]
-
-    name = copied(7, 1) * length
-    delta = varint(len(base)) + varint(len(tree)) + copied(0, 7) + name
-    delta += copied(8, len(base) - 8)
-    base_id = id_of(incoming, "tree", base)
-    bring(incoming, in_pack(TREE, base), in_pack(DELTA, delta, base_id))
-    result, megabytes = measured_push(incoming.commit(id_of(incoming, "tree", tree)))
+    start, length = b"100644 x", 25_000_000
+    base, tree = start + b"\0" + id_, start + b"x" * (length - 1) + b"\0" + id_
+    made = copied(0, 7) + copied(7, 1) * length + copied(8, len(id_) + 1)
+    pack = Pack(incoming.object_format)
+    large = pack.add_made("tree", tree, (pack.add("tree", base), len(base)), made)
+    path = incoming.path / "objects/pack/pack-a.pack"
+    path.write_bytes(pack.data())
+    incoming.git("index-pack", str(path))
+    result, megabytes = measured_push(incoming.commit(large.hex()))
     assert result.status == 2
     assert re.fullmatch(f"{UNCHECKED}: {LISTED}\n", result.said)
     assert megabytes < 192

@@ -64,8 +64,7 @@ def check(request, hook, server, two_hooks, source, room):
         assert two_hooks.set_up(f"cat > '{room}/seen'") == (0, [])
         command = hook.command(two_hooks.both)
     if request.param == "scan":
-        # (a scan that is killed leaves its temporary folder)
-        command, folder, env = [hook.folder / "scan"], server.path, {"TMPDIR": room}
+        command, folder, env = [hook.folder / "scan"], server.path, {}
     lines = room / "lines"
     lines.write_text(source.pushes[kind].lines)
     return Check(command, folder, hook.environment(env), lines)

@@ -5,8 +5,9 @@
     .ci/run CRATE..         these crates and those that stand on them, over what is proved
 
 Each part is a command that you can type; CONTRIBUTING.md says which one to run after which
-change. `rt ci` proves each crate from nothing. The programs, the bindings and the release
-are then built of what it proved. Before the check begins it removes all that was built here.
+change. `rt ci` proves each crate from nothing, and builds the programs. The bindings are
+then proved and built, because `rt ci` leaves no library that a build can use. Before the
+check begins it removes all that was built here.
 
 The edits of must-fail/ are tried each time, those of mutants/ by turns: scripts/dev
 try-edits --help says which. With --all-edits all are tried. If such a check passes on a tree
@@ -171,7 +172,7 @@ def check_all(commit, edits):
     gate = start("gate", "rt", "ci", RT_JOBS=JOBS)
     yield run("early", "pytest", *EARLY)
     yield finish(gate)
-    yield run("build", "scripts/build")
+    yield run("build", "scripts/build", "--after-gate")
     yield run("record", "scripts/dist", "--record", BUILT)
     release = []
     if commit:

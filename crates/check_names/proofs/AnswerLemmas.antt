@@ -9,7 +9,7 @@ use Rattle.bstr.specs.declared.bstr.BStr.{BStr}
 use Rattle.bstr.specs.BStr.{bstr_bytes}
 use Rattle.typed_names.specs.Names.{NewChecks}
 use Rattle.gix_validate.specs.Pieces.{names_in}
-use Rattle.cli.specs.Lines.{line_end}
+use Rattle.programs.specs.Lines.{line_end}
 use Rattle.check_names.specs.Answers.{answer_by, answer_of, answer_to, answers, kinds, lines}
 use Rattle.check_names.specs.Answers.{request_of, unknown_kind, verdict}
 

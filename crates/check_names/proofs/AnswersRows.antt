@@ -3,8 +3,8 @@ use Rattle.gix_validate.proofs.Common.{refl, [], ◌∷◌, ◌++◌, Some, None
 use Rattle.gix_validate.proofs.OnLiterals.{names_on_literals, components_on_literals}
 use Rattle.gix_validate.proofs.Rows.Tables.{Gives}
 use Rattle.gix_validate.specs.Pieces.{names_in}
-use Rattle.cli.specs.Arguments.{Check, Help, UnknownWord}
-use Rattle.cli.specs.Arguments as arguments
+use Rattle.programs.specs.Arguments.{Check, Help, UnknownWord}
+use Rattle.programs.specs.Arguments as arguments
 use Rattle.check_names.specs.Answers.{answer_of, answers, kinds, lines, request_of}
 use Rattle.check_names.specs.Arguments.{rule}
 

@@ -1,7 +1,7 @@
 -- What is known after a run, and how the program ended by it, on each way in which a run ends.
 use Rattle.gix_validate.proofs.Common.{◌≡◌, ℕ, List, [], Option, None, Some, Ok, Err, arith, refl}
 use Rattle.std.specs.Io.KnownBytes.{Appends, IsAtEnd}
-use Rattle.cli.specs.declared.error.RunError.TheVariants.{Read, Memory, Write}
+use Rattle.programs.specs.declared.error.RunError.TheVariants.{Read, Memory, Write}
 use Rattle.check_names.specs.Answers.{answers}
 use Rattle.check_names.specs.Messages.{Runs, end_of}
 

@@ -2,7 +2,7 @@
 use Rattle.std.specs.Prelude.{ℕ, if◌then◌else◌, List, [], ◌∷◌, ◌++◌, codes, flat_map, Option, Some}
 use Rattle.std.specs.Prelude.{None}
 use Rattle.std.specs.Str.{byte, bytes_eq}
-use Rattle.cli.specs.Lines.{line_end, split_once}
+use Rattle.programs.specs.Lines.{line_end, split_once}
 use Rattle.gix_validate.specs.Tag
 use Rattle.gix_validate.specs.Reference
 use Rattle.gix_validate.specs.Submodule

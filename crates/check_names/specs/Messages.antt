@@ -2,9 +2,9 @@
 use Rattle.std.specs.Prelude.{◌≡◌, ◌≢◌, ℕ, List, [], Option, None, Some, Ok, Err, IfSome, OnOk}
 use Rattle.std.specs.Prelude.{IsOkUnless}
 use Rattle.std.specs.Io.KnownBytes.{Appends, IsAtEnd}
-use Rattle.cli.specs.declared.error.RunError.TheVariants.{Read, Memory}
-use Rattle.cli.specs.Command.{End, Ran}
-use Rattle.cli.specs.Messages.{stop_text_of}
+use Rattle.programs.specs.declared.error.RunError.TheVariants.{Read, Memory}
+use Rattle.programs.specs.Command.{End, Ran}
+use Rattle.programs.specs.Messages.{stop_text_of}
 use Rattle.check_names.specs.Answers.{answers}
 
 -- What `run` ensures.

@@ -12,14 +12,14 @@ ghost use Rattle.gix_validate.specs.Sanitized.{sanitized};
 ghost use Rattle.gix_validate.specs.Windows.{is_device};
 ghost use Rattle.check_names.specs.Answers.{answer_of, answers, lines, request_of, unknown_kind};
 ghost use Rattle.check_names.specs.Answers.{verdict};
-ghost use Rattle.cli.specs.Command.{EndsAs, Ran};
+ghost use Rattle.programs.specs.Command.{EndsAs, Ran};
 ghost use Rattle.check_names.specs.Messages.{Runs, end_of};
 
 use crate::options::NamesOptions;
 use bstr::BStr;
-use cli::command::Command;
-pub use cli::error::RunError;
-use cli::messages::Messages;
+use programs::command::Command;
+pub use programs::error::RunError;
+use programs::messages::Messages;
 use gix_validate::path::{ComponentMode, ComponentOptions};
 use gix_validate::{path, reference};
 use memchr::memchr;

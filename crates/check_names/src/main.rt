@@ -8,8 +8,8 @@ mod refused_memory;
 #[cfg(test)]
 mod tests;
 
-use cli::command::Command;
-use cli::run_command;
+use programs::command::Command;
+use programs::run_command;
 use options::{HELP, NamesOptions};
 use std::process::ExitCode;
 

@@ -3,7 +3,7 @@
 ghost use Rattle.std.specs.Prelude.{⊤};
 ghost use Rattle.check_names.specs.Arguments.{rule};
 
-use cli::arguments::{ParseOptions, Setting};
+use programs::arguments::{ParseOptions, Setting};
 
 pub const HELP: &str = "\
 Validates Git names, one on each line of standard input, and prints a line for

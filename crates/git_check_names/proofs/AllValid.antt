@@ -13,8 +13,8 @@ use Rattle.gix_validate.specs.Pieces.{names_in}
 use Rattle.gix_validate.specs.declared.path.ComponentOptions.{ComponentOptions}
 use Rattle.git_names.proofs.ShortNameLemmas.{short_grammar_law}
 use Rattle.git_names.proofs.PathLemmas.{path_grammar_law}
-use Rattle.cli.specs.Command.{Ran}
-use Rattle.git_input.specs.Reports.{Said}
+use Rattle.programs.specs.Command.{Ran}
+use Rattle.programs.specs.Reports.{Said}
 use Rattle.git_check_names.specs.Kinds.{kind_of}
 use Rattle.git_check_names.specs.declared.kind.Kind.{Kind}
 use Rattle.git_check_names.specs.declared.kind.Kind.TheVariants as kind

@@ -3,7 +3,7 @@ use Rattle.gix_validate.proofs.Common.{◌≡◌, ℕ, List, [], ◌∷◌, refl
 use Rattle.gix_validate.proofs.Common.{append-nil, common_steps}
 use Rattle.std.specs.Option.{is_some}
 use Rattle.gix_validate.specs.Bytes.{is_among}
-use Rattle.git_input.specs.Texts.{split_once}
+use Rattle.programs.specs.Texts.{split_once}
 
 pub ruleset given_names = (common_steps, append_assoc, append-nil)
 

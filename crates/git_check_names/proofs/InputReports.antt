@@ -2,9 +2,9 @@
 use Rattle.gix_validate.proofs.Common.{◌≡◌, ℕ, ◌+◌, ◌==◌, ◌||◌, Bool, false, true, cond, List, []}
 use Rattle.gix_validate.proofs.Common.{Option, None, Some, refl, arith, nat_tests}
 use Rattle.gix_validate.proofs.Common.{append-nil, IfSome, IfSome_then, Appends, Appends-nil}
-use Rattle.cli.specs.Messages.{AppendsPrefixOf}
-use Rattle.git_input.specs.Reports.{nothing, then_said}
-use Rattle.git_input.proofs.ReportSoFar.{SoFar, goes, stops, when_known}
+use Rattle.programs.specs.Messages.{AppendsPrefixOf}
+use Rattle.programs.specs.Reports.{nothing, then_said}
+use Rattle.programs.proofs.ReportSoFar.{SoFar, goes, stops, when_known}
 use Rattle.git_check_names.specs.declared.input.Next.TheVariants.{Name, TooLong, End}
 use Rattle.git_check_names.specs.declared.kind.Kind.{Kind}
 use Rattle.git_check_names.specs.declared.problem.Problem.{Problem}

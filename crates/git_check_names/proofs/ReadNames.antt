@@ -7,9 +7,9 @@ use Rattle.std.proofs.lemmas.List.Splits.{slice_split_at}
 use Rattle.std.proofs.lemmas.List.Elements.{All-get_or, All-head, All-tail}
 use Rattle.std.specs.List.{slice_split}
 use Rattle.gix_validate.specs.Pieces.{names_in, less_empty_last}
-use Rattle.git_input.specs.Promises.{ReadsBefore}
-use Rattle.git_input.specs.Reports.{max_line}
-use Rattle.git_input.specs.declared.input.Found.TheVariants.{Byte, Limit, End}
+use Rattle.programs.specs.Promises.{ReadsBefore}
+use Rattle.programs.specs.Reports.{max_line}
+use Rattle.programs.specs.declared.input.Found.TheVariants.{Byte, Limit, End}
 use Rattle.git_check_names.specs.declared.input.Next.TheVariants as next
 use Rattle.git_check_names.specs.Private.{IsNext}
 

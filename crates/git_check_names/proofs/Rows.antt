@@ -3,7 +3,7 @@ use Rattle.gix_validate.proofs.Common.{â„•, Bool, true, false, refl, List, [], â
 use Rattle.gix_validate.proofs.Common.{Ok, Err, codes}
 use Rattle.gix_validate.proofs.Rows.Tables.{Gives}
 use Rattle.gix_validate.specs.Component.{all_protections}
-use Rattle.cli.specs.Operands.{split_words}
+use Rattle.programs.specs.Operands.{split_words}
 use Rattle.git_check_names.specs.declared.kind.Kind.TheVariants.{Branch, Reference, Tag}
 use Rattle.git_check_names.specs.declared.problem.Problem.TheVariants.{NoKind, NoName, TwoSources, NoRepair}
 use Rattle.git_check_names.specs.Names.{asked_of, shown}

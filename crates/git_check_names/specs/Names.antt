@@ -11,11 +11,11 @@ use Rattle.gix_validate.specs.Bytes.{is_among, is_empty}
 use Rattle.gix_validate.specs.Faults.{when, ◌orelse◌}
 use Rattle.gix_validate.specs.Pieces.{names_in}
 use Rattle.gix_validate.specs.Sanitized.{sanitized}
-use Rattle.cli.specs.Command.{Ran}
-use Rattle.cli.specs.Lines.{line_end}
-use Rattle.cli.specs.Messages.{AppendsPrefixOf}
-use Rattle.cli.specs.declared.error.RunError.TheVariants.{Write}
-use Rattle.git_input.specs.Reports.{Said, nothing, then_said, all_said, max_line}
+use Rattle.programs.specs.Command.{Ran}
+use Rattle.programs.specs.Lines.{line_end}
+use Rattle.programs.specs.Messages.{AppendsPrefixOf}
+use Rattle.programs.specs.declared.error.RunError.TheVariants.{Write}
+use Rattle.programs.specs.Reports.{Said, nothing, then_said, all_said, max_line}
 use Rattle.git_check_names.specs.declared.fault.Fault.{Fault}
 use Rattle.git_check_names.specs.declared.kind.Kind.{Kind}
 use Rattle.git_check_names.specs.declared.problem.Problem.{Problem}

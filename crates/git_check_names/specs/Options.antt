@@ -5,8 +5,8 @@ use Rattle.std.specs.Str.{bytes_eq}
 use Rattle.std.specs.String.{string_bytes}
 use Rattle.gix_validate.specs.declared.path.ComponentOptions.{ComponentOptions}
 use Rattle.gix_validate.specs.Component.{all_protections}
-use Rattle.cli.specs.Arguments.{OptionRule, Effect, Unknown, Sets, NeedsValue, Invalid}
-use Rattle.git_input.specs.Protections.{protections_of}
+use Rattle.programs.specs.Arguments.{OptionRule, Effect, Unknown, Sets, NeedsValue, Invalid}
+use Rattle.programs.specs.Protections.{protections_of}
 use Rattle.git_check_names.specs.declared.options.CheckOptions.{CheckOptions}
 
 -- the options, with the kind and the names that are arguments

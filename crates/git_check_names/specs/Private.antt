@@ -1,7 +1,7 @@
 -- What the next read of an input gives.
 use Rattle.std.specs.Prelude.{◌≡◌, ℕ, ◌<◌, ◌≤◌, List, [], ◌∷◌, length, Option, Some}
 use Rattle.gix_validate.specs.Pieces.{names_in}
-use Rattle.git_input.specs.Reports.{max_line}
+use Rattle.programs.specs.Reports.{max_line}
 use Rattle.git_check_names.specs.declared.input.Next.{Next}
 use Rattle.git_check_names.specs.declared.input.Next.TheVariants.{Name, TooLong, End}
 

@@ -1,8 +1,8 @@
 -- What ends a run early, what is said of it, and how the program ends.
 use Rattle.std.specs.Prelude.{ℕ, List, ◌++◌, codes, None, Some, Ok, Err}
 use Rattle.std.specs.Fmt.{decimal}
-use Rattle.cli.specs.Command.{End, Ran}
-use Rattle.cli.specs.Messages.{stop_text_of}
+use Rattle.programs.specs.Command.{End, Ran}
+use Rattle.programs.specs.Messages.{stop_text_of}
 use Rattle.git_check_names.specs.declared.problem.Problem.{Problem}
 use Rattle.git_check_names.specs.declared.problem.Problem.TheVariants.{NoKind, NoName, EmptyInput}
 use Rattle.git_check_names.specs.declared.problem.Problem.TheVariants.{TwoSources, NoRepair, TooLong, Nul}

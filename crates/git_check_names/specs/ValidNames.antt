@@ -4,7 +4,7 @@ use Rattle.std.specs.Prelude.{IsTrue, List, [], length, Ok}
 use Rattle.std.specs.List.{list_all}
 use Rattle.gix_validate.specs.Pieces.{names_in}
 use Rattle.gix_validate.specs.Sanitized.{sanitized}
-use Rattle.git_input.specs.Reports.{max_line}
+use Rattle.programs.specs.Reports.{max_line}
 use Rattle.git_check_names.specs.declared.kind.Kind.{Kind}
 use Rattle.git_check_names.specs.declared.problem.Verdict.{Verdict}
 use Rattle.git_check_names.specs.declared.problem.Verdict.TheVariants.{Valid}

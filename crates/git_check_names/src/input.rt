@@ -3,9 +3,9 @@
 ghost use Rattle.std.specs.Prelude.{◌≢◌, IfOk, IfSome, Err};
 ghost use Rattle.git_check_names.specs.Private.{IsNext};
 
-use cli::error::RunError;
-use git_input::input::{Found, read_before};
-use git_input::lines::MAX_LINE;
+use programs::error::RunError;
+use programs::input::{Found, read_before};
+use programs::lines::MAX_LINE;
 use std::io::BufRead;
 
 /// What [`next_name`] read.

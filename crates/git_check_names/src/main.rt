@@ -10,8 +10,8 @@ mod problem;
 mod quote;
 mod report;
 
-use cli::command::Command;
-use cli::run_command_with_operands;
+use programs::command::Command;
+use programs::run_command_with_operands;
 use options::{CheckOptions, HELP};
 use std::process::ExitCode;
 

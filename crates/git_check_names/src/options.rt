@@ -4,8 +4,8 @@ ghost use Rattle.std.specs.Prelude.{◌≡◌, [], map};
 ghost use Rattle.std.specs.String.{string_bytes};
 ghost use Rattle.git_check_names.specs.Options.{Options, as_options, rule, without_options};
 
-use cli::arguments::{ParseOptions, Setting};
-use git_input::protections::{PROTECTIONS, protections_of};
+use programs::arguments::{ParseOptions, Setting};
+use programs::protections::{PROTECTIONS, protections_of};
 use gix_validate::path::ComponentOptions;
 
 pub const HELP: &str = "\

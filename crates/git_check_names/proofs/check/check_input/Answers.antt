@@ -1,5 +1,5 @@
 use Rattle.gix_validate.proofs.Common.{[], ◌∷◌, None, arith, common_steps}
-use Rattle.git_input.proofs.ReportSoFar.{starts, on_err}
+use Rattle.programs.proofs.ReportSoFar.{starts, on_err}
 use Rattle.git_check_names.proofs.InputReports.{empty_stops, long_stops, name_goes, names_end}
 use Rattle.git_check_names.proofs.InputReports.{names_pause, names_spent, nul_stops}
 use Rattle.git_check_names.proofs.check.check_input.Goals as goal

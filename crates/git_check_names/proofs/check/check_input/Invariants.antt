@@ -1,6 +1,6 @@
 -- what was said of the names so far is appended, and what is said of those that are left follows
 use Rattle.gix_validate.proofs.Common.{◌+◌}
-use Rattle.git_input.proofs.ReportSoFar.{SoFar}
+use Rattle.programs.proofs.ReportSoFar.{SoFar}
 use Rattle.git_check_names.specs.Names.{input_report}
 use Rattle.git_check_names.specs.Options.{as_options}
 use Rattle.git_check_names.proofs.check.check_input.Given as goal

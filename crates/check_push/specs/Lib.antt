@@ -1,0 +1,4 @@
+pub mod Subcommands
+pub mod Refs
+pub mod Trees
+pub mod Submodules

@@ -1,4 +1,0 @@
-pub mod AcceptedFiles
-pub mod ReportedSections
-pub mod AskedOptions
-mod Rows

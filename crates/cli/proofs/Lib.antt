@@ -1,2 +1,0 @@
-pub mod SplitTexts
-pub mod AskedWords

@@ -1,8 +1,0 @@
--- the quote and the escapes of the bytes so far are appended
-use Rattle.gix_validate.proofs.Common.{◌≡◌, ◌++◌, take, codes, flat_map}
-use Rattle.gix_validate.specs.Quoted.{escape_of}
-use Rattle.git_input.proofs.output.push_quoted.Given as goal
-
-abbrev pub invariant-loop-byte : goal.invariant-loop-byte
-invariant-loop-byte l =
-    l.line.items ≡ l.fn.line.items ++ codes "\"" ++ flat_map escape_of (take l.byte-index l.name)

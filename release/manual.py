@@ -1,5 +1,5 @@
-"""The manuals of a release: of each command what it prints for --help, and gix_validate(3), made of the header, with a
-link to it for each function.
+"""The manuals of a release: of each command what it prints for --help, also of each of its subcommands, and
+gix_validate(3), made of the header, with a link to it for each function.
 
     manual.py RELEASE VERSION DAY
 """
@@ -10,6 +10,8 @@ from pathlib import Path
 
 release, version, day = Path(sys.argv[1]), *sys.argv[2:]
 folder = release / "share" / "man"
+# The subcommands of programs.
+SUBCOMMANDS = {"check_push": ["refs", "trees", "submodules"]}
 
 
 def literal(text):
@@ -49,13 +51,23 @@ def prose(text):
     return page
 
 
+def help_of(*command):
+    """What a command prints for --help."""
+    text = subprocess.check_output([*command, "--help"], encoding="utf-8")
+    return text.rstrip("\n")
+
+
+def section(heading, text):
+    return f".SH {heading}\n.nf\n{literal(text)}\n.fi\n"
+
+
 for command in release.glob("bin/*"):
-    text = subprocess.check_output([command, "--help"], encoding="utf-8").rstrip("\n")
+    text = help_of(command)
     page = f'.TH {command.name.upper()} 1 "{day}" "gix-validate {version}"\n.SH NAME\n{command.name} \\- '
-    page += (
-        re.sub("(?m)[.:]$", "", literal(text.partition("\n\n")[0]))
-        + f"\n.SH DESCRIPTION\n.nf\n{literal(text)}\n.fi\n"
-    )
+    page += literal(re.split(r"[.:]\s", text)[0]) + "\n"
+    page += section("DESCRIPTION", text)
+    for it in SUBCOMMANDS.get(command.name, []):
+        page += section(it.upper(), help_of(command, it))
     (folder / "man1" / f"{command.name}.1").write_text(page, encoding="utf-8")
 
 parts = re.split(

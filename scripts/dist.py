@@ -30,8 +30,8 @@ from scripts.sources import Wrong
 ROOT = Path(__file__).resolve().parent.parent
 KEPT = ROOT / "out/release"
 # What the hook and the scan run.
-OF_THE_HOOK = ["check_refs", "check_submodules", "check_trees"]
-PROGRAMS = ["check_names", *OF_THE_HOOK, "git_check_names"]
+OF_THE_HOOK = "check_push"
+PROGRAMS = ["check_names", OF_THE_HOOK, "git_check_names"]
 ARCHIVE = "bindings/out/libgix_validate_c.a"
 WASM = "bindings/out/gix_validate.wasm"
 JAVASCRIPT = "bindings/js/gix_validate_wasm.mjs"
@@ -228,14 +228,13 @@ class Release:
 
     def make_hook_folder(self):
         """Puts what the hook and the scan run into a folder whose name has its sum. The
-        programs in it are hard links, which are files of their own in a copy of it.
-        Returns the name."""
+        program in it is a hard link, which is a file of its own in a copy of it. Returns
+        the name."""
         this = self.hook / "this"
         this.mkdir(parents=True)
-        for program in OF_THE_HOOK:
-            (this / program).hardlink_to(self.tree / "bin" / program)
-        sums = output_of("cksum", *OF_THE_HOOK, cwd=this)
-        (this / "cksums").write_text(f"{sums}\n")
+        (this / OF_THE_HOOK).hardlink_to(self.tree / "bin" / OF_THE_HOOK)
+        sum = output_of("cksum", OF_THE_HOOK, cwd=this)
+        (this / "cksum").write_text(f"{sum}\n")
         files = sorted(this.iterdir())
         lines = [f"{sum_of(it.read_bytes())}  {it.name}\n" for it in files]
         name = f"{self.names.version}-{sum_of(''.join(lines).encode())[:8]}"

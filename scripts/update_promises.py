@@ -49,14 +49,20 @@ def linked(link, files):
     return f"{link[0].partition('(')[0]}(../{file})"
 
 
+def parts_of(file):
+    """The name of a file of definitions in its crate, such as Trees and Report."""
+    return file.with_suffix("").parts[3:]
+
+
 def in_order(file):
     """A file of definitions, after those that it imports, each in a line or in a
     group."""
     for crate, imported in IMPORT.findall(read(file)):
         if crate == file.parts[1]:
             outside_groups = re.sub(r"\{[^{}]*\}", "", imported)
-            for name in re.findall(r"(?:^|,)\s*(\w+)", outside_groups):
-                path = file.with_name(f"{name}.antt")
+            for name in re.findall(r"(?:^|,)\s*(\w+(?:\.\w+)*)", outside_groups):
+                specs = Path("crates", crate, "specs")
+                path = specs.joinpath(*name.split(".")).with_suffix(".antt")
                 if path.exists():
                     yield from in_order(path)
     yield file
@@ -66,12 +72,18 @@ def definitions():
     """A row for each crate that has definitions. Its lines are those that define."""
     table = ""
     for crate in re.findall(r"(?m)^([a-z]\w*)", read("crates.txt")):
-        listed = sorted(Path("crates", crate, "specs").glob("*.antt"))
-        public = [it for it in listed if it.stem not in ("Lib", "Private")]
+        listed = sorted(Path("crates", crate, "specs").glob("**/*.antt"))
+        # (A file next to a folder of its name says what is in that.)
+        public = [
+            it
+            for it in listed
+            if not {"Lib", "Private"} & {*parts_of(it)}
+            and not it.with_suffix("").is_dir()
+        ]
         files = dict.fromkeys(it for file in public for it in in_order(file))
         text = "".join(IMPORT.sub("", read(it)) for it in files)
         defining = len(re.findall("(?m)^(?! *--).", text))
-        links = " ".join(f"[{file.stem}](../{file})" for file in files)
+        links = " ".join(f"[{'/'.join(parts_of(it))}](../{it})" for it in files)
         table += f"`{crate}` | {defining} | {links}\n" if links else ""
     return table
 
@@ -114,8 +126,8 @@ def derived():
     # The files of the public clauses, and those of the definitions.
     public = {f"{it.path} {it.clause}": it.file for it in items() if it.is_public}
     defined = {
-        f"{file.parts[1]}::{file.stem}::{name}": file
-        for file in Path("crates").glob("*/specs/*.antt")
+        "::".join([file.parts[1], *parts_of(file), name]): file
+        for file in Path("crates").glob("*/specs/**/*.antt")
         for name in re.findall(r"(?m)^(?:\w+ )*pub (?:\w+ )?(\w+) ", read(file))
     }
     named, faults = shown(known)

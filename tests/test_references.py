@@ -43,13 +43,13 @@ def test_python_has_its_functions_before_its_classes():
 def test_the_navigation_has_each_program_and_language(tmp_path):
     programs = tmp_path / "reference/programs"
     programs.mkdir(parents=True)
-    for name in ["check_refs", "check_names"]:
+    for name in ["check_push", "check_names"]:
         (programs / f"{name}.md").touch()
     assert references.navigation(tmp_path) == [
         {
             "Programs": [
                 {"check_names": "reference/programs/check_names.md"},
-                {"check_refs": "reference/programs/check_refs.md"},
+                {"check_push": "reference/programs/check_push.md"},
             ]
         },
         {

@@ -1,7 +1,7 @@
-//! The checks of names: Git lists and prints objects, and the proved programs read them.
+//! The checks of names: Git lists and prints objects, and the proved program reads them.
 //!
 //! A list of trees goes from `git rev-list` to `git cat-file`, and the trees from there to
-//! `check_trees`, each through a pipe of their own. So this program only reads reports.
+//! `check_push trees`, each through a pipe of their own. So this program only reads reports.
 
 use crate::child::Child;
 use crate::failure::{failed, OrFail, Result};
@@ -9,7 +9,7 @@ use crate::findings::{Entry, Finding, Place};
 use crate::git::Git;
 use crate::ids::{id, split_once, Id};
 use crate::lines::{Lengths, Line};
-use crate::programs::Programs;
+use crate::program::Program;
 use crate::quoting::beginning;
 use crate::settings::Rules;
 use crate::system::Limits;
@@ -40,7 +40,7 @@ const LONGEST_FILE: usize = 80;
 /// What is needed to check names.
 #[derive(Clone)]
 pub struct Checks {
-    pub programs: Programs,
+    pub program: Program,
     pub git: Git,
     pub rules: Rules,
     pub bounds: Bounds,
@@ -99,10 +99,10 @@ impl TreeList {
 impl Checks {
     /// Starts the program that checks the names of references.
     pub fn start_references(&self) -> Result<Child> {
-        let mut command = self.programs.command("check_refs");
+        let mut command = self.program.command("refs");
         command.arg("--ids");
         command.args(self.rules.replace.then_some("--replace"));
-        start("check_refs", command, Stdio::piped())
+        start("check_push refs", command, Stdio::piped())
     }
 
     /// Checks the names of references, in lines `OLD NEW REF` that `write` writes. To `ids` it adds
@@ -149,7 +149,11 @@ impl Checks {
 
     /// Starts the program that checks the names in the trees of this list.
     pub fn start_trees(&self, list: &mut TreeList) -> Result<Child> {
-        start("check_trees", self.check_trees(), list.cat_file.output()?)
+        start(
+            "check_push trees",
+            self.check_trees(),
+            list.cat_file.output()?,
+        )
     }
 
     /// Checks the names in the trees of these ids, and adds the blobs that a checkout reads as
@@ -176,7 +180,7 @@ impl Checks {
             let report = Report::read(check, self.bounds.lengths, |line| {
                 if let Some(rest) = line.front.strip_prefix(b"modules ") {
                     return match add_modules(rest, line, modules) {
-                        None => failed("check_trees listed a file in another way"),
+                        None => failed("check_push trees listed a file in another way"),
                         Some(()) if modules.len() > self.bounds.modules => {
                             failed("there are too many .gitmodules files")
                         }
@@ -185,7 +189,7 @@ impl Checks {
                 }
                 match Finding::of_entry(line) {
                     Some(finding) => Ok(Says::Refused(found(finding))),
-                    None => failed("check_trees reported in another way"),
+                    None => failed("check_push trees reported in another way"),
                 }
             });
             Objects::of(|| join(lister), cat_file, report)
@@ -201,9 +205,9 @@ impl Checks {
         if let Some(limits) = self.bounds.print {
             cat_file.limit(limits)?;
         }
-        let mut command = self.programs.command("check_submodules");
+        let mut command = self.program.command("submodules");
         command.arg("--end");
-        let check = start("check_submodules", command, cat_file.output()?)?;
+        let check = start("check_push submodules", command, cat_file.output()?)?;
         let ids_to = cat_file.input()?;
         let ids = modules
             .keys()
@@ -217,7 +221,7 @@ impl Checks {
                 self.bounds.lengths,
                 |line| match Finding::of_submodule(line, |blob| modules.get(blob).cloned()) {
                     Some(finding) => Ok(Says::Refused(found(finding))),
-                    None => failed("check_submodules reported in another way"),
+                    None => failed("check_push submodules reported in another way"),
                 },
             );
             Objects::of(|| join(lister), cat_file, report)
@@ -225,7 +229,7 @@ impl Checks {
     }
 
     pub fn check_trees(&self) -> Command {
-        let mut command = self.programs.command("check_trees");
+        let mut command = self.program.command("trees");
         command
             .args(["--end", "--modules", "--protect"])
             .arg(&self.rules.protect);
@@ -265,7 +269,7 @@ impl Checks {
 }
 
 /// Starts a part whose output is a pipe. What Git says on standard error can have names of the
-/// pusher's choice, as they are, so nobody reads it. What a proved program says is shown if that
+/// pusher's choice, as they are, so nobody reads it. What the proved program says is shown if that
 /// failed first.
 pub fn start(name: &'static str, mut command: Command, input: impl Into<Stdio>) -> Result<Child> {
     if name.starts_with("check_") {

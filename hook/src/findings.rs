@@ -57,7 +57,7 @@ pub struct Entry {
 }
 
 impl Finding {
-    /// A reference that a line of `check_refs` says: `ref "NAME" REASON`.
+    /// A reference that a line of `check_push refs` says: `ref "NAME" REASON`.
     pub fn of_reference(line: &Line, place: fn(Vec<u8>) -> Place) -> Self {
         let place = place(name_of(line));
         Self {
@@ -68,7 +68,7 @@ impl Finding {
         }
     }
 
-    /// An entry that a line of `check_trees` says: `TREE MODE "NAME" REASON`.
+    /// An entry that a line of `check_push trees` says: `TREE MODE "NAME" REASON`.
     pub fn of_entry(line: &Line) -> Option<Self> {
         let (tree, _) = split_once(&line.front, b' ')?;
         let place = Place::Entry(Entry {
@@ -83,7 +83,7 @@ impl Finding {
         })
     }
 
-    /// A submodule that a line of `check_submodules` says: `BLOB OFFSET "NAME" REASON`, or without a
+    /// A submodule that a line of `check_push submodules` says: `BLOB OFFSET "NAME" REASON`, or without a
     /// name `BLOB OFFSET REASON` or `BLOB REASON`. `place_of` knows where the blob is.
     pub fn of_submodule(line: &Line, place_of: impl Fn(&[u8]) -> Option<Place>) -> Option<Self> {
         let (blob, rest) = split_once(&line.front, b' ')?;

@@ -1,4 +1,4 @@
-//! The lines of the proved programs' reports. All have one form: `FRONT "NAME" REST`, or `FRONT`.
+//! The lines of the proved program's reports. All have one form: `FRONT "NAME" REST`, or `FRONT`.
 //!
 //! A push decides how long a name is, and some kilobytes can become gigabytes of report. So no line
 //! is ever held whole: of each part only its beginning is kept.

@@ -1,8 +1,8 @@
 //! A pre-receive hook of Git that refuses hostile names, and a scan of a repository.
 //!
-//! Proved programs decide about names: `check_refs`, `check_trees` and `check_submodules`, in the
-//! folder of this program or of its release. It gives them what Git lists, reads their reports, and
-//! sees how each process ended. It fails closed: but for help, only [`Verdict::Clean`] ends with
+//! A proved program decides about names: `check_push`, in the folder of this program or of its
+//! release. It gives its subcommands what Git lists, reads their reports, and sees how each process
+//! ended. It fails closed: but for help, only [`Verdict::Clean`] ends with
 //! status 0. `verdict.rs` says what that hangs on; `check` in push/mod.rs and `check_all` in
 //! scan/mod.rs say what is checked.
 #![deny(unsafe_code, unused)]
@@ -17,7 +17,7 @@ mod folders;
 mod git;
 mod ids;
 mod lines;
-mod programs;
+mod program;
 mod push;
 mod quoting;
 mod scan;
@@ -26,7 +26,7 @@ mod system;
 mod verdict;
 
 use failure::{say, Failure, Result};
-use programs::Programs;
+use program::Program;
 use std::env;
 use std::ffi::OsStr;
 use std::os::unix::ffi::OsStrExt;
@@ -34,8 +34,8 @@ use std::path::Path;
 use std::process::ExitCode;
 use verdict::Verdict;
 
-/// The folder of the proved programs, next to this program, of which a release sets the name when it
-/// is built: no other release has it, so no push is checked by parts of two. Without a name they are
+/// The folder of the proved program, next to this program, of which a release sets the name when it
+/// is built: no other release has it, so no push is checked by parts of two. Without a name it is
 /// next to this program, as `hook/install` leaves them.
 const RELEASE: &str = match option_env!("GIX_VALIDATE_RELEASE") {
     Some(name) => name,
@@ -68,10 +68,10 @@ impl Role {
 
     /// What is known about all names; none if only help was printed.
     fn run(self, folder: &Path) -> Result<Option<Verdict>> {
-        let programs = Programs::in_folder(&folder.join(RELEASE));
+        let program = Program::in_folder(&folder.join(RELEASE));
         match self {
-            Self::PreReceive => push::run(programs).map(Some),
-            Self::Scan => scan::run(programs),
+            Self::PreReceive => push::run(program).map(Some),
+            Self::Scan => scan::run(program),
         }
     }
 }

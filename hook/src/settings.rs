@@ -3,16 +3,16 @@
 use crate::child::Said;
 use crate::failure::{failed, printable, Result};
 use crate::ids::split_once;
-use crate::programs::Programs;
+use crate::program::Program;
 use std::ffi::{OsStr, OsString};
 use std::os::unix::ffi::{OsStrExt, OsStringExt};
 
 /// By which rules names are checked.
 #[derive(Clone)]
 pub struct Rules {
-    /// The file systems to protect, for `check_trees --protect`.
+    /// The file systems to protect, for `check_push trees --protect`.
     pub protect: OsString,
-    /// Names with slashes between, for `check_trees --accept`.
+    /// Names with slashes between, for `check_push trees --accept`.
     pub accept: OsString,
     /// Whether references below refs/replace/ are allowed.
     pub replace: bool,
@@ -42,13 +42,13 @@ impl Rules {
 
     /// Changes these rules by the settings `names.*`. One that is unknown may be misspelled, and so is
     /// a failure.
-    pub fn read(&mut self, settings: &Said, programs: &Programs) -> Result<()> {
+    pub fn read(&mut self, settings: &Said, program: &Program) -> Result<()> {
         for setting in output(settings)?.split_inclusive(|byte| *byte == 0) {
             match setting
                 .strip_suffix(b"\0")
                 .map(|it| (it, split_once(it, b'\n')))
             {
-                Some((_, Some((key, value)))) => self.set(key, value, programs)?,
+                Some((_, Some((key, value)))) => self.set(key, value, program)?,
                 // (to Git, this is true)
                 Some((b"names.replace", None)) => self.replace = true,
                 Some((key, None)) if is_known(key) => {
@@ -61,11 +61,11 @@ impl Rules {
         Ok(())
     }
 
-    fn set(&mut self, key: &[u8], value: &[u8], programs: &Programs) -> Result<()> {
+    fn set(&mut self, key: &[u8], value: &[u8], program: &Program) -> Result<()> {
         match key {
             b"names.protect" => {
                 self.protect = OsString::from_vec(value.to_vec());
-                if let Some(fault) = programs.fault_of_list(&self.protect)? {
+                if let Some(fault) = program.fault_of_list(&self.protect)? {
                     let fault = fault.strip_prefix("invalid --protect ").unwrap_or(&fault);
                     return failed(format!("the setting names.protect: {fault}"));
                 }

@@ -131,8 +131,8 @@ impl Report {
 /// A list of ids that was written to `git cat-file`, all of it, and after it the word `..end`, for
 /// which that prints `..end missing`.
 ///
-/// The programs that read what it prints run with `--end`: they end with status 2 unless that is the
-/// last line, and no object is missing. So they see whether what they get is whole.
+/// What reads what it prints runs with `--end`: it ends with status 2 unless that is the last line,
+/// and no object is missing. So it sees whether what it gets is whole.
 #[must_use]
 pub struct List(());
 

@@ -10,7 +10,7 @@ from tests.hook.expected import Result
 from tests.hook.processes import run, write_script
 
 ROOT = Path(__file__).parents[2]
-PROGRAMS = "check_refs", "check_trees", "check_submodules"
+PROGRAM = "check_push"
 
 
 def result(status, lines):
@@ -61,22 +61,20 @@ class Hook:
         (self.folder / name).chmod(0o755)
 
     def record(self):
-        """Records the sums of the programs in the folder, as for a release."""
+        """Records the sum of the program in the folder, as for a release."""
         said = subprocess.run(
-            ["cksum", *sorted(PROGRAMS)],
-            cwd=self.folder,
-            stdout=subprocess.PIPE,
-            check=True,
+            ["cksum", PROGRAM], cwd=self.folder, stdout=subprocess.PIPE, check=True
         )
-        (self.folder / "cksums").unlink()
-        (self.folder / "cksums").write_bytes(said.stdout)
+        (self.folder / "cksum").unlink()
+        (self.folder / "cksum").write_bytes(said.stdout)
 
     def stand_in(self, part, way):
         """Puts a script in the place of a program that the hook runs; `git config` in
-        that of git, where its words are these. In `way`, "$real" "$@" is the program
-        itself, and $grand the parent of its parent."""
+        that of git, where its words are these, and `check_push refs` likewise. In
+        `way`, "$real" "$@" is the program itself, and $grand the parent of its parent.
+        """
         name, _, words = part.partition(" ")
-        own = name in PROGRAMS
+        own = name == PROGRAM
         real = self.original / name if own else shutil.which(name)
         write_script(
             (self.folder if own else self.stand_ins) / name,

@@ -162,9 +162,9 @@ def write_index(path, objects):
 @pytest.mark.parametrize(
     "part, small, large",
     [
-        ("check_refs", (10, 96), (26, 112)),
-        ("check_trees", (10, 96), (26, 112)),
-        ("check_submodules", (10, 96), (26, 112)),
+        ("check_push refs", (10, 96), (26, 112)),
+        ("check_push trees", (10, 96), (26, 112)),
+        ("check_push submodules", (10, 96), (26, 112)),
         ("git rev-list", (10, 136), (26, 152)),
         ("git rev-list --stdin --objects --object-names", (10, 136), (26, 152)),
         ("git cat-file --batch=", (1, 80), (1, 96)),
@@ -203,7 +203,7 @@ def test_what_git_rev_list_may_take_grows_with_what_the_server_has(
     write_index(room / "borrowed/pack/b.idx", 16_000)
     write_index(room / "third/pack/c.idx", 32_000)
     assert limits("git rev-list") == (10 + 15, 136 + 15)
-    assert limits("check_trees") == (10, 96)
+    assert limits("check_push trees") == (10, 96)
 
 
 def test_the_objects_of_a_push_are_found_without_the_name_of_the_quarantine(
@@ -226,7 +226,7 @@ def test_the_objects_of_a_push_are_found_without_the_name_of_the_quarantine(
 
 
 def test_no_part_leaves_a_core_file(hook, source, room):
-    hook.stand_in("check_trees", f"""ulimit -c > '{room}/limit'""")
+    hook.stand_in("check_push trees", f"""ulimit -c > '{room}/limit'""")
     hook.run(
         source.push_of(source.clean),
         through=["prlimit", "--core=unlimited:unlimited"],
@@ -278,7 +278,7 @@ def test_what_git_cat_file_may_take_grows_with_what_the_server_borrows(
 @pytest.mark.parametrize(
     "part, seconds, megabytes",
     [
-        ("check_trees", 30, 288),
+        ("check_push trees", 30, 288),
         ("git rev-list", 30, 408),
         ("git cat-file --batch=", 3, 240),
     ],
@@ -434,7 +434,7 @@ def test_large_files_take_no_memory_in_folders_and_as_references(
 
 
 def test_a_tree_that_is_too_large_to_print_refuses_the_push(incoming, measured_push):
-    """What check_trees says of its input, which has no end then, is no help."""
+    """What check_push trees says of its input, which has no end then, is no help."""
     result, _ = measured_push(nested(incoming, 1, 110_000_000))
     assert result.status == 2
     assert re.fullmatch(
@@ -556,7 +556,7 @@ def test_more_names_than_a_push_of_its_size_may_have_refuse_it(source, measured)
     """Some kilobytes of pack can be gigabytes of names."""
     commit = source.commit(spellings(source, 3000, 15_000))
     result, megabytes, seconds = measured(commit)
-    why = "the report of check_trees could not be read: it is too long"
+    why = "the report of check_push trees could not be read: it is too long"
     assert result == not_checked(why)
     assert megabytes < 96
     assert seconds < 10

@@ -5,15 +5,15 @@ import pytest
 from tests.hook.expected import ACCEPTED, Result, not_checked
 
 # The parts of the hook, with what it says if that part fails at once. (`git config` is
-# git, where its words are these.)
+# git, where its words are these, and `check_push refs` likewise.)
 REASONS = {
     "git config": "git config failed",
     "git rev-list": "git rev-list failed (status 9)",
     "git cat-file --batch=": "git cat-file failed (status 9)",
     "git cat-file --buffer": "git cat-file failed (status 9)",
-    "check_refs": "check_refs failed (status 9)",
-    "check_trees": "check_trees failed (status 9)",
-    "check_submodules": "check_submodules failed (status 9)",
+    "check_push refs": "check_push refs failed (status 9)",
+    "check_push trees": "check_push trees failed (status 9)",
+    "check_push submodules": "check_push submodules failed (status 9)",
 }
 # The scan also runs this.
 OF_THE_SCAN = {"git version": "git version failed"} | REASONS
@@ -121,7 +121,7 @@ def test_a_closed_input_is_not_taken_for_an_empty_push(hook, source):
         source.pushes["clean"].lines, through=["bash", "-c", 'exec "$@" <&-', "-"]
     )
     assert result == not_checked(
-        "check_refs failed (status 2): malformed input: line 1: the input is empty"
+        "check_push refs failed (status 2): malformed input: line 1: the input is empty"
     )
 
 

@@ -143,7 +143,7 @@ def test_a_folder_that_is_there_already_is_not_checked_again(server, source):
 def test_a_missing_gitmodules_file_is_not_taken_for_a_good_one(hook, source):
     commit = source.commit_of(file(".gitmodules", source.missing))
     assert hook.run(source.push_of(commit)) == not_checked(
-        "check_submodules failed (status 2): "
+        "check_push submodules failed (status 2): "
         "malformed input: object 1: the object is missing"
     )
 

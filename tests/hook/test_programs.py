@@ -1,4 +1,4 @@
-"""The programs of the hook: one that a full disk has cut, or that is of another release,
+"""The program of the hook: one that a full disk has cut, or that is of another release,
 accepts nothing. And nothing that isn't a program is run as a script."""
 
 import shutil
@@ -6,46 +6,40 @@ import shutil
 import pytest
 
 from tests.hook.expected import not_checked
-from tests.hook.installed import PROGRAMS
+from tests.hook.installed import PROGRAM
 from tests.hook.processes import write_script
 
 NO_PROGRAM = "could not be started: Exec format error (os error 8)"
 
 
-def not_of_this_release(name):
-    return not_checked(f"the program {name} is not that of this release")
+NOT_OF_THIS_RELEASE = not_checked("the program check_push is not that of this release")
 
 
-@pytest.mark.parametrize("name", PROGRAMS)
 @pytest.mark.parametrize("part", [0, 1, 2, 3], ids=lambda part: f"{part} quarters")
-def test_a_program_that_was_cut_refuses_every_push(hook, source, name, part):
-    whole = (hook.original / name).read_bytes()
-    hook.replace(name, whole[: len(whole) * part // 4])
-    assert hook.run(source.pushes["clean"].lines) == not_of_this_release(name)
+def test_a_program_that_was_cut_refuses_every_push(hook, source, part):
+    whole = (hook.original / PROGRAM).read_bytes()
+    hook.replace(PROGRAM, whole[: len(whole) * part // 4])
+    assert hook.run(source.pushes["clean"].lines) == NOT_OF_THIS_RELEASE
 
 
-@pytest.mark.parametrize("name", PROGRAMS)
-def test_a_program_of_another_release_refuses_every_push(hook, source, name):
-    whole = bytearray((hook.original / name).read_bytes())
+def test_a_program_of_another_release_refuses_every_push(hook, source):
+    whole = bytearray((hook.original / PROGRAM).read_bytes())
     whole[len(whole) // 2] ^= 1
-    hook.replace(name, whole)
-    assert hook.run(source.pushes["clean"].lines) == not_of_this_release(name)
+    hook.replace(PROGRAM, whole)
+    assert hook.run(source.pushes["clean"].lines) == NOT_OF_THIS_RELEASE
 
 
-@pytest.mark.parametrize("name", PROGRAMS)
-def test_a_program_that_is_missing_refuses_every_push(hook, source, name):
-    (hook.folder / name).unlink()
+def test_a_program_that_is_missing_refuses_every_push(hook, source):
+    (hook.folder / PROGRAM).unlink()
     assert hook.run(source.pushes["clean"].lines) == not_checked(
-        f"the program {name} can't be read: No such file or directory (os error 2)"
+        "the program check_push can't be read: No such file or directory (os error 2)"
     )
 
 
-@pytest.mark.parametrize("text", ["", "1 2 check_refs\n"], ids=["empty", "another"])
-def test_without_the_sums_of_its_programs_the_hook_refuses_every_push(
-    hook, source, text
-):
-    hook.replace("cksums", text.encode())
-    assert hook.run(source.pushes["clean"].lines) == not_of_this_release("check_refs")
+@pytest.mark.parametrize("text", ["", "1 2 check_push\n"], ids=["empty", "another"])
+def test_without_the_sum_of_its_program_the_hook_refuses_every_push(hook, source, text):
+    hook.replace("cksum", text.encode())
+    assert hook.run(source.pushes["clean"].lines) == NOT_OF_THIS_RELEASE
 
 
 @pytest.mark.parametrize("size", [63, 64, 500, 4096, 100_000, "half", "most"])
@@ -61,11 +55,10 @@ def test_a_hook_that_was_cut_accepts_nothing_hostile(hook, hostile_push, size):
 
 @pytest.mark.parametrize("text", ["", "exit 0\n"], ids=["empty", "text"])
 def test_what_is_no_program_is_not_run_as_a_script(hook, source, text):
-    for name in PROGRAMS:
-        hook.replace(name, text.encode())
+    hook.replace(PROGRAM, text.encode())
     hook.record()
     assert hook.run(source.pushes["clean"].lines) == not_checked(
-        f"check_refs {NO_PROGRAM}"
+        f"check_push refs {NO_PROGRAM}"
     )
 
 
@@ -104,8 +97,7 @@ def test_git_is_searched_in_absolute_folders_alone(hook, room, source):
 def test_no_program_gets_a_variable_of_the_caller(hook, source, room):
     """Such as LD_PRELOAD, or GIT_TRACE, by which Git would write into a file."""
     given = room / "given"
-    for name in PROGRAMS:
-        hook.stand_in(name, f"env >> '{given}'")
+    hook.stand_in(PROGRAM, f"env >> '{given}'")
     hook.stand_in("git", f"env >> '{given}'")
     push = source.pushes["submodule"]
     mine = {

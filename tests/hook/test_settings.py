@@ -125,9 +125,9 @@ def test_if_the_setting_of_file_systems_can_not_be_checked_every_push_is_refused
     server, hook
 ):
     server.configure("protect = windows")
-    hook.stand_in("check_trees", "case $# in 2) kill -9 $$ ;; esac")
+    hook.stand_in("check_push trees", "case $# in 3) kill -9 $$ ;; esac")
     assert push_of_clean_branches(server).ending == not_checked(
-        "check_trees failed (status 137)", status=1
+        "check_push trees failed (status 137)", status=1
     )
 
 

@@ -16,8 +16,9 @@ DEBIAN = VERSION.replace("-", "~")
 PYTHON = VERSION.replace("-dev", ".dev0")
 MAJOR = VERSION.partition(".")[0]
 
-OF_THE_HOOK = ["check_refs", "check_submodules", "check_trees"]
-PROGRAMS = ["check_names", *OF_THE_HOOK, "git-check-names"]
+OF_THE_HOOK = "check_push"
+SUBCOMMANDS = ["refs", "trees", "submodules"]
+PROGRAMS = ["check_names", OF_THE_HOOK, "git-check-names"]
 
 
 def path_without_the_kit():

@@ -10,7 +10,7 @@ from pathlib import Path
 
 import pytest
 
-from tests.release.commands import DEBIAN, OF_THE_HOOK, run
+from tests.release.commands import DEBIAN, run
 from tests.release.hostile import REFUSED, Hostile, release_of_another_name
 
 
@@ -87,15 +87,17 @@ def upgraded(one, room):
 
 @pytest.fixture
 def legacy(tree, room):
-    """What a release before 3.0.0 left: no record, and all files of the hook in one
-    folder. (This hook refuses every push.)"""
+    """What a release before 3.0.0 left: no record, three programs, and all files of the
+    hook in one folder. (This hook refuses every push.)"""
     for name in ["bin", "include", "lib", "libexec", "share"]:
         shutil.copytree(tree / name, room / "legacy" / name, symlinks=True)
     hook = room / "legacy/libexec/gix-validate"
     [folder] = hook.glob("*/")
-    for program in OF_THE_HOOK:
-        (folder / program).replace(hook / program)
     shutil.rmtree(folder)
+    for program in ["check_refs", "check_submodules", "check_trees"]:
+        for name in [f"bin/{program}", f"share/man/man1/{program}.1"]:
+            (room / "legacy" / name).touch()
+        (hook / program).touch()
     (hook / "names.sh").touch()
     for name in ["pre-receive", "scan"]:
         (hook / name).write_text(f"#!/bin/sh\necho '{REFUSED}' >&2\nexit 1\n")
@@ -105,7 +107,7 @@ def legacy(tree, room):
 @pytest.fixture(scope="session")
 def hostile_repository(session_room):
     """A repository with a name that isn't allowed. (Its .gitmodules file lets
-    check_submodules run, too.)"""
+    `check_push submodules` run, too.)"""
     folder = session_room / "hostile"
     git(session_room, "init", "-q", folder)
     for name in [".gitmodules", "nul.txt"]:

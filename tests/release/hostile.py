@@ -9,7 +9,7 @@ from threading import Event
 from tests.release.commands import OF_THE_HOOK, files_under, run
 
 REFUSED = "push refused: 1 name is not allowed"
-# What the hook says if its folder has a program of another release.
+# What the hook says if its folder has the program of another release.
 PARTS_OF_TWO = "is not that of this release"
 # What changes the file that git calls.
 CALLS = "openat,linkat,symlinkat,unlink,unlinkat,rename,renameat,renameat2"
@@ -24,19 +24,19 @@ def folder_of(hook, name):
 
 def rename_the_hook(hook, name):
     """Gives the hook's folder another name, also in the program that looks for it, and the
-    proved programs other bytes, after their end. So the hook fails from now on if it gets
-    a program of another release."""
+    proved program other bytes, after its end. So the hook fails from now on if it gets
+    the program of another release."""
     [folder] = hook.glob("*/")
     new = name.ljust(len(folder.name), "-")
     program = (hook / "pre-receive").read_bytes()
     assert program.count(folder.name.encode()) == 1
     for file in [hook / "pre-receive", hook / "scan"]:
         replace(file, program.replace(folder.name.encode(), new.encode()))
-    for program in OF_THE_HOOK:
-        replace(folder / program, (folder / program).read_bytes() + name.encode())
-    summed = run("cksum", *OF_THE_HOOK, cwd=folder)
+    proved = folder / OF_THE_HOOK
+    replace(proved, proved.read_bytes() + name.encode())
+    summed = run("cksum", OF_THE_HOOK, cwd=folder)
     assert summed.status == 0
-    (folder / "cksums").write_text(summed.said)
+    (folder / "cksum").write_text(summed.said)
     return folder.rename(hook / new)
 
 
@@ -62,10 +62,9 @@ def package_of_another_name(package, made):
     unpacked = made.with_suffix("")
     run("dpkg-deb", "--raw-extract", package, unpacked)
     folder = rename_the_hook(unpacked / "usr/libexec/gix-validate", unpacked.name)
-    for link in (unpacked / "usr/bin").iterdir():
-        if link.name in OF_THE_HOOK:
-            link.unlink()
-            link.symlink_to(f"../libexec/gix-validate/{folder.name}/{link.name}")
+    link = unpacked / "usr/bin" / OF_THE_HOOK
+    link.unlink()
+    link.symlink_to(f"../libexec/gix-validate/{folder.name}/{OF_THE_HOOK}")
     packed = run("dpkg-deb", "--root-owner-group", "-Znone", "--build", unpacked, made)
     assert packed.status == 0, packed.said
     return made

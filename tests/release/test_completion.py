@@ -9,12 +9,43 @@ from tests.release.commands import ENVIRONMENT, run
 COMPLETION_OF_GIT = Path("/usr/share/bash-completion/completions/git")
 
 
-def test_the_options_of_a_program_are_completed(prefix):
-    completion = prefix / "share/bash-completion/completions/check_trees"
+def test_the_options_of_check_names_are_completed(prefix):
+    completion = prefix / "share/bash-completion/completions/check_names"
     command = '. "$1"; _gix_validate "$2" --; echo "${COMPREPLY[@]}"'
-    program = prefix / "bin/check_trees"
-    options = "--protect --modules --end --accept --help --version\n"
+    program = prefix / "bin/check_names"
+    options = "--help --version\n"
     assert run("bash", "-c", command, "-", completion, program) == (0, options)
+
+
+@pytest.mark.parametrize(
+    "words, completed",
+    [
+        ([""], "refs trees submodules --help --version\n"),
+        (["s"], "submodules\n"),
+        (["refs", ""], "--ids --replace --help --version\n"),
+        (
+            ["trees", "--"],
+            "--protect --modules --end --accept --help --version\n",
+        ),
+        (["trees", "--modules", "--e"], "--end\n"),
+        (["submodules", ""], "--end --help --version\n"),
+        (["no", ""], "\n"),
+    ],
+)
+def test_the_subcommands_and_options_of_check_push_are_completed(
+    prefix, words, completed
+):
+    completion = prefix / "share/bash-completion/completions/check_push"
+    command = """
+        . "$1"
+        COMP_WORDS=("${@:2}")
+        COMP_CWORD=$(($# - 2))
+        _gix_check_push "$2" "${!#}"
+        echo "${COMPREPLY[@]}"
+    """
+    program = prefix / "bin/check_push"
+    ran = run("bash", "-c", command, "-", completion, program, *words)
+    assert ran == (0, completed)
 
 
 @pytest.mark.parametrize(

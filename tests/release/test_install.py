@@ -4,7 +4,15 @@ import re
 
 import pytest
 
-from tests.release.commands import PROGRAMS, VERSION, files_under, need, run
+from tests.release.commands import (
+    OF_THE_HOOK,
+    PROGRAMS,
+    SUBCOMMANDS,
+    VERSION,
+    files_under,
+    need,
+    run,
+)
 
 COMMANDS = [*PROGRAMS, "git-scan-names"]
 
@@ -51,12 +59,19 @@ def test_the_commands_are_these(prefix):
 
 
 @pytest.mark.parametrize("command", COMMANDS)
-def test_the_manual_of_a_command_has_its_help(prefix, command):
+def test_the_manual_of_a_command_has_its_help_and_that_of_its_subcommands(
+    prefix, command
+):
     page = (prefix / f"share/man/man1/{command}.1").read_text()
-    [text] = re.findall(r"(?ms)^\.nf$\n(.*?)^\.fi$", page)
-    text = re.sub(r"(?m)^(?:\\&|\\ $)", "", text)
-    text = text.replace(r"\e", "\\").replace(r"\-", "-")
-    assert run(prefix / "bin" / command, "--help") == (0, text)
+    subcommands = SUBCOMMANDS if command == OF_THE_HOOK else []
+    texts = [
+        re.sub(r"(?m)^(?:\\&|\\ $)", "", text).replace(r"\e", "\\").replace(r"\-", "-")
+        for text in re.findall(r"(?ms)^\.nf$\n(.*?)^\.fi$", page)
+    ]
+    assert [(0, text) for text in texts] == [
+        run(prefix / "bin" / command, *words, "--help")
+        for words in [[], *([it] for it in subcommands)]
+    ]
 
 
 @need("mandoc")

@@ -7,7 +7,7 @@ from html import unescape
 import pytest
 
 from tests.built_site import Site, is_elsewhere
-from tests.release.commands import files_under, need, run
+from tests.release.commands import OF_THE_HOOK, SUBCOMMANDS, files_under, need, run
 
 OF_RUST = "reference/rust/"
 CHECKER = "docs/names.html"
@@ -74,11 +74,11 @@ def test_no_page_loads_anything_from_a_network(site):
 
 
 def test_each_program_has_a_page_with_what_its_help_says(site, prefix):
-    commands = files_under(prefix / "bin")
+    commands = [[it] for it in files_under(prefix / "bin")]
     assert commands
-    for command in commands:
+    for command, *words in [*commands, *([OF_THE_HOOK, it] for it in SUBCOMMANDS)]:
         page = (site.path / f"reference/programs/{command}.html").read_text("utf-8")
-        _, said = run(prefix / "bin" / command, "--help")
+        _, said = run(prefix / "bin" / command, *words, "--help")
         assert said.strip() in text_of(page)
 
 

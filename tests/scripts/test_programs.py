@@ -6,20 +6,25 @@ import shutil
 
 import pytest
 
-COMMANDS = ["check_names", "check_trees", "check_submodules", "check_refs"]
-COMMANDS += ["git-check-names"]
-
 
 @pytest.mark.parametrize("word", ["-h", "--help"])
-def test_a_command_prints_its_help_without_a_proof(copy, word):
-    ended = copy.run("check_refs", word)
+@pytest.mark.parametrize(
+    "command, text",
+    [
+        ("check_names", "    printf 'tag v1.2.3\\ntag a..b\\n' | check_names\n"),
+        ("scripts/program check_push", "    refs "),
+        ("scripts/program check_push refs", '    ref "refs/heads/a b" Reference name'),
+    ],
+)
+def test_a_command_prints_its_help_without_a_proof(copy, command, text, word):
+    ended = copy.run(*command.split(), word)
     assert ended.status == 0
-    assert '    ref "refs/heads/a b" Reference name' in ended.output
-    assert "The status is 0" in ended.output
+    assert text in ended.output
+    assert "\nThe status is 0" in ended.output
     assert copy.calls == []
 
 
-@pytest.mark.parametrize("command", COMMANDS)
+@pytest.mark.parametrize("command", ["check_names", "git-check-names"])
 def test_a_command_proves_its_program_and_passes_on_its_words_and_its_input(
     copy, command
 ):
@@ -39,44 +44,44 @@ def test_a_command_proves_its_program_and_passes_on_its_words_and_its_input(
 
 def test_a_command_whose_proof_fails_says_what_is_not_proved_and_no_more(copy):
     copy.does = "fails"
-    ended = copy.run("check_refs", "--version")
+    ended = copy.run("check_names", "--version")
     assert (ended.status, ended.output) == (2, "")
     assert ended.errors.splitlines()[1:] == [
         "./proofs/f/Answers.antt:3:7: error: they differ",
         "note: src/lib.rt:12:1: it is not proved that it holds",
         "rt: the library low did not build",
-        f"check_refs: it was not built; run `rt all check --jobs {os.cpu_count()}` in "
-        f"{copy.path}/crates/check_refs for the whole message",
+        f"check_names: it was not built; run `rt all check --jobs {os.cpu_count()}` in "
+        f"{copy.path}/crates/check_names for the whole message",
     ]
 
 
 def test_a_command_runs_nothing_if_a_source_is_edited_during_the_build(copy):
     copy.does = "is edited"
-    ended = copy.run("check_refs")
+    ended = copy.run("check_names")
     assert (ended.status, ended.output) == (2, "")
     assert "a source was edited during the build: run it again" in ended.errors
 
 
 def test_a_program_that_is_built_is_not_proved_again(copy):
-    copy.run("check_refs")
+    copy.run("check_names")
     before = len(copy.calls)
-    assert copy.run("check_refs", given="tag a\n") == (0, "check_refs|tag a\n", "")
-    assert copy.calls[before:] == ["check_refs: rt run -- --version"]
+    assert copy.run("check_names", given="tag a\n") == (0, "check_names|tag a\n", "")
+    assert copy.calls[before:] == ["check_names: rt run -- --version"]
 
 
 def test_a_command_runs_by_a_link_from_another_folder(copy):
-    (copy.room / "link").symlink_to(copy.path / "check_refs")
-    copy.run("check_refs")
+    (copy.room / "link").symlink_to(copy.path / "check_names")
+    copy.run("check_names")
     ended = copy.run(copy.room / "link", given="tag a\n", cwd="/")
-    assert ended == (0, "check_refs|tag a\n", "")
+    assert ended == (0, "check_names|tag a\n", "")
 
 
 def test_a_command_without_an_input_does_not_wait(copy):
-    copy.run("check_refs")
-    (copy.path / "closed").write_text('#!/bin/bash\nexec "${0%/*}/check_refs" <&-\n')
+    copy.run("check_names")
+    (copy.path / "closed").write_text('#!/bin/bash\nexec "${0%/*}/check_names" <&-\n')
     (copy.path / "closed").chmod(0o755)
     ended = copy.run("closed")
-    assert ended.output + ended.errors == "check_refs|cat: -: Is a directory\n"
+    assert ended.output + ended.errors == "check_names|cat: -: Is a directory\n"
 
 
 def test_a_command_without_rt_says_so(copy):
@@ -84,14 +89,14 @@ def test_a_command_without_rt_says_so(copy):
     few.mkdir()
     for tool in "bash", "env", "nproc", "readlink", "sed":
         (few / tool).symlink_to(shutil.which(tool))
-    ended = copy.run("check_refs", path=few)
+    ended = copy.run("check_names", path=few)
     assert (ended.status, ended.output) == (2, "")
     assert "rt: command not found" in ended.errors
 
 
 def test_scripts_program_builds_a_program(copy):
-    assert copy.run("scripts/program", "--build", "check_refs")[:2] == (0, "")
-    assert (copy.path / "crates/check_refs/out/check_refs").exists()
+    assert copy.run("scripts/program", "--build", "check_push")[:2] == (0, "")
+    assert (copy.path / "crates/check_push/out/check_push").exists()
 
 
 @pytest.mark.parametrize(

@@ -8,7 +8,7 @@ use crate::quoting::beginning;
 use std::io::{BufRead, BufReader, BufWriter, Read, Write};
 use std::process::ChildStdin;
 
-/// The longest line that `check_refs` reads, with its newline.
+/// The longest line that `check_push refs` reads, with its newline.
 const LONGEST_LINE: usize = 65_536;
 /// How many bytes of lines are kept.
 const MOST_KEPT: usize = 16_000_000;
@@ -36,7 +36,7 @@ impl PushLines {
         }
     }
 
-    /// Writes all lines to `check_refs`.
+    /// Writes all lines to `check_push refs`.
     pub fn pass_on(&mut self, from: impl Read, to: ChildStdin) -> Result<()> {
         let mut from = BufReader::new(from);
         let mut to = BufWriter::new(to);
@@ -49,13 +49,13 @@ impl PushLines {
                 break;
             }
             to.write_all(&line)
-                .or_fail("check_refs did not read all lines")?;
+                .or_fail("check_push refs did not read all lines")?;
             if line.last() != Some(&b'\n') {
-                break; // (too long, or cut: that is for check_refs to say)
+                break; // (too long, or cut: that is for check_push refs to say)
             }
             self.look_at(&line)?;
         }
-        to.flush().or_fail("check_refs did not read all lines")
+        to.flush().or_fail("check_push refs did not read all lines")
     }
 
     fn look_at(&mut self, line: &[u8]) -> Result<()> {
@@ -101,10 +101,10 @@ fn in_namespace(name: &[u8]) -> Option<&[u8]> {
     inner.starts_with(b"refs/").then_some(inner)
 }
 
-/// Writes these lines to `check_refs`.
+/// Writes these lines to `check_push refs`.
 pub fn write_lines(lines: &[u8], mut to: ChildStdin) -> Result<()> {
     to.write_all(lines)
-        .or_fail("check_refs did not read all lines")
+        .or_fail("check_push refs did not read all lines")
 }
 
 #[cfg(test)]

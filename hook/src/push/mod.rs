@@ -12,7 +12,7 @@ use crate::failure::{Failure, OrFail, Result};
 use crate::findings::{Finding, Place};
 use crate::git::{self, Git};
 use crate::lines::Lengths;
-use crate::programs::Programs;
+use crate::program::Program;
 use crate::settings::{self, Rules};
 use crate::system::{limit_this, Limits};
 use crate::verdict::{Checked, Objects, Report, Verdict};
@@ -39,12 +39,12 @@ const BOUNDS: Bounds = Bounds {
 };
 
 /// Checks the push whose lines are on standard input.
-pub fn run(programs: Programs) -> Result<Verdict> {
+pub fn run(program: Program) -> Result<Verdict> {
     let quarantine = Quarantine::find()?;
     let (git, settings) = Git::find(Git::in_push, "git config", &settings::WORDS)?;
     let mut push = Push {
         checks: Checks {
-            programs,
+            program,
             git,
             rules: Rules::default(),
             bounds: BOUNDS,
@@ -57,9 +57,9 @@ pub fn run(programs: Programs) -> Result<Verdict> {
     };
     // (while that runs: starting Git takes most of the time that a small push does)
     let list = push.checks.start_list(&push.arguments)?;
-    push.checks.programs.check()?;
+    push.checks.program.check()?;
     let settings = settings.said()?;
-    push.checks.rules.read(&settings, &push.checks.programs)?;
+    push.checks.rules.read(&settings, &push.checks.program)?;
     git::check_version(&settings.errors)?;
 
     let limits = push.limit()?;

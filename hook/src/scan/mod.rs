@@ -22,7 +22,7 @@ use crate::findings::{Finding, Kind, Place};
 use crate::git::{check_version, Git};
 use crate::ids::Id;
 use crate::lines::Lengths;
-use crate::programs::Programs;
+use crate::program::Program;
 use crate::settings::Rules;
 use crate::system::{self, Limits};
 use crate::verdict::{Checked, Objects, Report, Verdict};
@@ -58,13 +58,13 @@ const PATHS: usize = 64_000_000;
 const MOST_BROKEN: usize = 1000;
 
 /// Scans, unless it is only to print its help.
-pub fn run(programs: Programs) -> Result<Option<Verdict>> {
+pub fn run(program: Program) -> Result<Option<Verdict>> {
     let options = match options::parse(std::env::args_os().skip(1)) {
         Asked::Help => return print_help().map(|()| None),
         Asked::Scan(options) => options,
     };
     system::delay_signals();
-    let (verdict, broken) = watch::run(move || Scan::new(options, programs)?.run())?;
+    let (verdict, broken) = watch::run(move || Scan::new(options, program)?.run())?;
     match broken {
         0 => Ok(Some(verdict)),
         1 => failed("something is broken, as said above, and was not checked"),
@@ -89,7 +89,7 @@ pub struct Scan {
 
 /// What is checked.
 pub struct Selected {
-    /// Lines for `check_refs`.
+    /// Lines for `check_push refs`.
     references: Vec<u8>,
     /// Ids for `git rev-list`, each on a line, and arguments.
     ids: Vec<u8>,
@@ -104,8 +104,8 @@ pub struct Selected {
 }
 
 impl Scan {
-    fn new(options: Options, programs: Programs) -> Result<Self> {
-        programs.check()?;
+    fn new(options: Options, program: Program) -> Result<Self> {
+        program.check()?;
         let (git, version) = Git::find(|it| it, "git version", &["version"])?;
         let version = version.said()?;
         if version.status != 0 {
@@ -113,7 +113,7 @@ impl Scan {
         }
         check_version(&version.errors)?;
         if let Some(protect) = &options.protect {
-            if let Some(fault) = programs.fault_of_list(protect)? {
+            if let Some(fault) = program.fault_of_list(protect)? {
                 return Err(options::misuse(&fault));
             }
         }
@@ -123,8 +123,8 @@ impl Scan {
         let configuration = repository.configuration()?;
         let format = room.format_of(&configuration)?;
         let checks = Checks {
-            rules: rules(&options, &room, &configuration, &programs)?,
-            programs,
+            rules: rules(&options, &room, &configuration, &program)?,
+            program,
             git: room.git(),
             bounds: BOUNDS,
         };
@@ -266,19 +266,14 @@ fn without_name(see: &mut dyn FnMut(NamedFinding)) -> impl FnMut(Finding) -> Con
 }
 
 /// By which rules a scan checks names: those of its options, and of settings if it is to read them.
-fn rules(
-    options: &Options,
-    room: &Room,
-    configuration: &[u8],
-    programs: &Programs,
-) -> Result<Rules> {
+fn rules(options: &Options, room: &Room, configuration: &[u8], program: &Program) -> Result<Rules> {
     let mut rules = Rules {
         accept: options.accept.clone(),
         ..Rules::default()
     };
     if options.settings {
         for settings in room.start_settings(configuration)? {
-            rules.read(&settings.said()?, programs)?;
+            rules.read(&settings.said()?, program)?;
         }
     }
     if let Some(protect) = &options.protect {
@@ -390,13 +385,13 @@ impl Selected {
 fn check_names(checks: &Checks, lines: &[u8], found: OnFinding) -> Result<Report> {
     let write = |mut to: ChildStdin| {
         to.write_all(lines)
-            .or_fail("check_refs did not read all references")
+            .or_fail("check_push refs did not read all references")
     };
     let check = checks.start_references()?;
     checks.references(check, write, Place::Reference, &mut Vec::new(), found)
 }
 
-/// The names that `check_refs` refuses and Git doesn't list, either.
+/// The names that `check_push refs` refuses and Git doesn't list, either.
 fn refused_names(checks: &Checks, lines: &[u8]) -> Result<HashSet<Vec<u8>>> {
     let mut names = HashSet::new();
     if lines.is_empty() {

@@ -28,7 +28,7 @@ const STEPS: usize = 5;
 /// Where references are that replace objects, also in a namespace.
 const REPLACE: &[u8] = b"refs/replace/";
 
-/// An id, for `check_refs`.
+/// An id, for `check_push refs`.
 const SOME: &[u8] = b"1111111111111111111111111111111111111111";
 
 pub type Name = Vec<u8>;
@@ -91,7 +91,7 @@ impl References {
             .chain(self.linked.iter().flat_map(|(_, values)| values))
     }
 
-    /// Lines for `check_refs`, `OLD NEW REF`, with the names of all, and those that symbolic ones have as their
+    /// Lines for `check_push refs`, `OLD NEW REF`, with the names of all, and those that symbolic ones have as their
     /// values: each once.
     pub fn lines(&self) -> Vec<u8> {
         let mut names = BTreeSet::new();
@@ -188,7 +188,7 @@ fn is_of_worktree(name: &[u8]) -> bool {
     !name.starts_with(b"refs/") || own.iter().any(|it| name.starts_with(it))
 }
 
-/// References for a temporary repository. Their names are those that `check_refs` accepts.
+/// References for a temporary repository. Their names are those that `check_push refs` accepts.
 pub struct View {
     head: Option<Id>,
     other_heads: Vec<Id>,
@@ -407,7 +407,7 @@ fn is_id(text: &[u8]) -> bool {
     text.iter().all(u8::is_ascii_hexdigit) && text.iter().any(|byte| *byte != b'0')
 }
 
-/// What is said of a reference whose name `check_refs` refuses.
+/// What is said of a reference whose name `check_push refs` refuses.
 pub fn is_not_listed(name: &[u8]) -> String {
     format!(
         "{}: Git doesn't list it, since its name is invalid",

@@ -8,7 +8,7 @@ use std::collections::HashSet;
 use std::fmt::Write as _;
 use std::io::{self, Write};
 
-/// What the programs' arguments have room for.
+/// What the program's arguments have room for.
 const MOST: usize = 120_000;
 
 pub fn run(scan: &mut Scan) -> Result<Verdict> {
@@ -42,7 +42,7 @@ pub fn run(scan: &mut Scan) -> Result<Verdict> {
     Ok(verdict)
 }
 
-/// Whether a setting can have the name: it is UTF-8, for `check_trees --accept`, and on one line.
+/// Whether a setting can have the name: it is UTF-8, for `check_push trees --accept`, and on one line.
 fn can_be_set(name: &[u8]) -> bool {
     std::str::from_utf8(name).is_ok() && !name.contains(&b'\n') && !name.contains(&b'/')
 }

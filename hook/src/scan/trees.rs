@@ -17,7 +17,7 @@ use std::thread;
 
 /// What `git cat-file` prints of an object, before its content; at the end is what follows its id.
 const BATCH: &str = "--batch=%(objectname) %(objecttype) %(objectsize) %(rest)";
-/// How much of a folder's path `check_trees` prints. Longer ones are kept here: so much of each, which is
+/// How much of a folder's path `check_push trees` prints. Longer ones are kept here: so much of each, which is
 /// more than a checkout could make, and so many bytes of all.
 const LONGEST_PRINTED: usize = 128;
 const LONGEST_KEPT: usize = 8192;
@@ -52,7 +52,7 @@ pub fn check(
         checks.git.command(&["cat-file", BATCH, "--buffer"]),
         Stdio::piped(),
     )?;
-    let check = start("check_trees", checks.check_trees(), cat_file.output()?)?;
+    let check = start("check_push trees", checks.check_trees(), cat_file.output()?)?;
     let mut rev_list = checks.rev_list(selection.arguments, "--object-names", Stdio::piped())?;
     let (ids_to, list_from, list_to) = (rev_list.input()?, rev_list.output()?, cat_file.input()?);
     let folders = LongFolders::default();
@@ -65,7 +65,7 @@ pub fn check(
             List::of_git(join(writer), rev_list, list_to)
         })?;
         let report = Report::read(check, checks.bounds.lengths, |line| {
-            let odd = || Failure::Failed("check_trees reported in another way".into());
+            let odd = || Failure::Failed("check_push trees reported in another way".into());
             if let Some(front) = line.front.strip_prefix(b"modules ") {
                 let (blob, front) = split_once(front, b' ').ok_or_else(odd)?;
                 let entry = id(blob).zip(folders.entry(front, line));
@@ -81,7 +81,7 @@ pub fn check(
     })
 }
 
-/// The folders of the trees that Git lists. `check_trees` prints those of the trees that it reports;
+/// The folders of the trees that Git lists. `check_push trees` prints those of the trees that it reports;
 /// of long ones it would print the beginning, so they are kept here.
 #[derive(Default)]
 struct LongFolders {

@@ -1,22 +1,9 @@
--- The lines of a text and their answers, and what arguments ask for, computed on literals.
-use Rattle.gix_validate.proofs.Common.{refl, [], ◌∷◌, ◌++◌, Some, None, Ok, Err, codes}
+-- The lines of a text and their answers, computed on literals.
+use Rattle.gix_validate.proofs.Common.{refl, [], ◌∷◌, ◌++◌, Some, None, codes}
 use Rattle.gix_validate.proofs.OnLiterals.{names_on_literals, components_on_literals}
 use Rattle.gix_validate.proofs.Rows.Tables.{Gives}
 use Rattle.gix_validate.specs.Pieces.{names_in}
-use Rattle.programs.specs.Arguments.{Check, Help, UnknownWord}
-use Rattle.programs.specs.Arguments as arguments
 use Rattle.check_names.specs.Answers.{answer_of, answers, kinds, lines, request_of}
-use Rattle.check_names.specs.Arguments.{rule}
-
--- words, and what they ask for: each word but those of all programs is unknown
-asked : Gives (λ words. arguments.request_of rule tt words)
-    (([], Ok (Check tt))
-    ∷ (codes "--help" ∷ [], Ok Help)
-    ∷ (codes "tag" ∷ [], Err (UnknownWord (codes "tag")))
-    ∷ (codes "--end" ∷ codes "--help" ∷ [], Err (UnknownWord (codes "--end")))
-    ∷ (codes "--protect=hfs" ∷ [], Err (UnknownWord (codes "--protect=hfs")))
-    ∷ [])
-asked = refl
 
 -- texts, and their lines: a newline ends each but a last one
 lines_of_texts : Gives lines

@@ -1,4 +1,3 @@
 pub mod AnswerLemmas
 pub mod WriteLemmas
 pub mod AnswersRows
-mod RunsRows

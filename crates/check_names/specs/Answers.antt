@@ -1,8 +1,7 @@
 -- What the program answers: one line for each line of its input. A text and a line are lists of bytes.
-use Rattle.std.specs.Prelude.{ℕ, if◌then◌else◌, List, [], ◌∷◌, ◌++◌, codes, flat_map, Option, Some}
-use Rattle.std.specs.Prelude.{None}
+use Rattle.std.specs.Prelude.{ℕ, ◌==◌, if◌then◌else◌, List, [], ◌∷◌, ◌++◌, codes, flat_map, Option}
+use Rattle.std.specs.Prelude.{Some, None, option_map}
 use Rattle.std.specs.Str.{byte, bytes_eq}
-use Rattle.programs.specs.Lines.{line_end, split_once}
 use Rattle.gix_validate.specs.Tag
 use Rattle.gix_validate.specs.Reference
 use Rattle.gix_validate.specs.Submodule
@@ -13,9 +12,20 @@ use Rattle.gix_validate.specs.Pieces.{names_in}
 use Rattle.gix_validate.specs.Windows.{is_device}
 use Rattle.gix_validate.specs.Sanitized.{sanitized}
 
+-- the byte LF, which ends a line
+abbrev pub line_end : ℕ
+line_end = 0x0A
+
 -- the texts that a line end ends, and then what follows the last line end, if that isn't empty
 abbrev pub lines : List ℕ → List (List ℕ)
 lines text = names_in line_end text
+
+-- what is before the first such byte of a text, and all that follows it, if the text has one
+abbrev pub split_once : ℕ → List ℕ → Option (List ℕ × List ℕ)
+split_once separator [] = None
+split_once separator (b ∷ text) =
+    if b == separator then Some ([], text)
+    else option_map (λ (parts : List ℕ × List ℕ). (b ∷ parts.0, parts.1)) (split_once separator text)
 
 -- what a line asks for, a kind and a name: the kind is before the first space, the name is all after it
 abbrev pub request_of : List ℕ → Option (List ℕ × List ℕ)

@@ -1,3 +1,2 @@
 pub mod Answers
-pub mod Arguments
-pub mod Messages
+pub mod Errors

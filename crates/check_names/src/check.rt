@@ -11,24 +11,18 @@ ghost use Rattle.gix_validate.specs.Component.{text_of as component_text};
 ghost use Rattle.gix_validate.specs.Sanitized.{sanitized};
 ghost use Rattle.gix_validate.specs.Windows.{is_device};
 ghost use Rattle.check_names.specs.Answers.{answer_of, answers, lines, request_of, unknown_kind};
-ghost use Rattle.check_names.specs.Answers.{verdict};
-ghost use Rattle.programs.specs.Command.{EndsAs, Ran};
-ghost use Rattle.check_names.specs.Messages.{Runs, end_of};
+ghost use Rattle.check_names.specs.Answers.{answer_by, kinds, split_once, verdict};
+ghost use Rattle.std.specs.Option.{option_map};
+ghost use Rattle.check_names.specs.Errors.{text_of as error_text};
 
-use crate::options::NamesOptions;
-use bstr::BStr;
-use programs::command::Command;
-pub use programs::error::RunError;
-use programs::messages::Messages;
+use bstr::{BStr, ByteSlice};
 use gix_validate::path::{ComponentMode, ComponentOptions};
-use gix_validate::{path, reference};
-use memchr::memchr;
+use gix_validate::{path, reference, submodule};
 use std::alloc::{AllocError, Global};
 use std::fmt::{Display, Write as _};
-use std::io::{BufRead, Read, Write};
-use std::process::ExitCode;
+use std::io::{Read, Write};
 use std::{fmt, io};
-use typed_names::{BranchName, Component, FullName, PartialName, SubmoduleName, TagName};
+use typed_names::{Component, FullName, PartialName, TagName};
 
 /// Reads all of `input`, builds a line of output for each of its lines, writes all of them to
 /// `output` at once, and flushes (docs/RULES.md, "The program's lines"). Reading is by std's
@@ -56,7 +50,7 @@ use typed_names::{BranchName, Component, FullName, PartialName, SubmoduleName, T
 ///   allocated. Nothing was written.
 /// - [`RunError::Memory`] if memory for the results can't be allocated. Nothing was written.
 /// - [`RunError::Write`] if writing or flushing failed.
-#[tactic(auto, using(crate::proofs::AnswerLemmas::answers_nil))]
+#[tactic(auto, using(crate::proofs::AnswerLemmas::all_answered))]
 pub fn run<R: Read, W: Write>(alloc: Global, input: &mut R, output: &mut W) -> Result<(), RunError>
     ensures ok { OnOk result (IfSome (R.remaining input.old)
         (λ text. Appends (W.contents output.old) (W.contents output.new) (answers text))) }
@@ -73,39 +67,26 @@ pub fn run<R: Read, W: Write>(alloc: Global, input: &mut R, output: &mut W) -> R
     write_once(&answers, output)
 }
 
-impl Command<'_> for NamesOptions {
-    type Verdict = ();
+/// Why a run failed.
+#[derive(Debug, Drop)]
+pub enum RunError {
+    /// Reading failed.
+    Read,
+    /// Memory for the results can't be allocated.
+    Memory,
+    /// Writing failed.
+    Write,
+}
 
-    ghost Runs = { λ options R W remaining contents input rest output written ran.
-        Runs remaining contents input rest output written ran };
+impl Display for RunError {
+    ghost output = { λ error. Some (error_text error) };
 
-    ghost end_of = { end_of };
-
-    fn run<R: BufRead, W: Write>(
-        self,
-        alloc: Global,
-        input: &mut R,
-        output: &mut W,
-    ) -> Result<(), RunError>
-        ensures runs { Runs R.remaining W.contents input.old input.new output.old output.new result }
-        ensures shown { (read rest output written : Option (List ℕ)) (ran : Ran (Unit {0}))
-            → ⟦<NamesOptions as Command<'static>>⟧.Runs self _ _
-            (λ known. known) (λ known. known) read rest output written ran
-            → Runs (λ known. known) (λ known. known) read rest output written ran }
-    {
-        run(alloc, input, output)
-    }
-
-    fn end<E: Write>(name: &str, ran: Result<(), RunError>, errors: &mut Messages<E>) -> ExitCode
-        ensures { EndsAs E.contents name.now errors.old errors.new result (end_of ran) }
-    {
-        match ran {
-            Ok(()) => ExitCode::SUCCESS,
-            Err(stop) => {
-                errors.say(name, stop);
-                ExitCode::FAILURE
-            }
-        }
+    fn fmt<W: fmt::Write>(&self, f: &mut fmt::Formatter<W>) -> fmt::Result {
+        f.write_str(match self {
+            RunError::Read => "read failed",
+            RunError::Memory => "out of memory",
+            RunError::Write => "write failed",
+        })
     }
 }
 
@@ -159,51 +140,67 @@ fn first_line(text: &[u8]) -> Option<(&[u8], &[u8])>
     if text.is_empty() {
         return None;
     }
-    match memchr(b'\n', text) {
+    match text.find_byte(b'\n') {
         Some(end) => Some((&text[..end], &text[end + 1..])),
         None => Some((text, &[])),
     }
 }
 
-/// Appends the result for one line. Each kind takes a comparison for every kind before it, and full
-/// reference names come first.
-#[tactic(auto, using(crate::proofs::AnswerLemmas::asked_otherwise), unfolding(crate::specs::Answers::answer_of, crate::specs::Answers::kinds))]
+/// Appends the result for one line.
+#[tactic(auto, unfolding(crate::specs::Answers::answer_of))]
 fn push_answer(alloc: Global, line: &[u8], answers: &mut Vec<u8>) -> Result<(), AllocError>
     ensures ok { OnOk result (answers.new.items ≡ answers.old.items ++ answer_of line.now) }
     ensures full { request_of line.now ≡ None → OnErr result
         (vec_capacity answers.old < vec_len answers.old + length unknown_kind) }
 {
-    if let Some(name) = name_after(b"ref ", line) {
+    match split_once(b' ', line) {
+        Some((kind, name)) => push_answer_by(alloc, kind, BStr::new(name), answers),
+        None => answers.extend_from_slice(b"unknown kind"),
+    }
+}
+
+/// The bytes before the first `separator`, and all bytes after it, if there is one.
+#[tactic(auto, using(crate::proofs::AnswerLemmas::searched))]
+fn split_once(separator: u8, text: &[u8]) -> Option<(&[u8], &[u8])>
+    ensures { option_map (λ parts. (parts.0.now, parts.1.now)) result ≡ split_once separator text.now }
+{
+    let offset = text.find_byte(separator)?;
+    Some((&text[..offset], &text[offset + 1..]))
+}
+
+/// Appends the result for a name of this kind. Each kind takes a comparison for every kind before it,
+/// and full reference names come first.
+#[tactic(auto, unfolding(crate::specs::Answers::kinds))]
+fn push_answer_by(
+    alloc: Global,
+    kind: &[u8],
+    name: BStr<'_>,
+    answers: &mut Vec<u8>,
+) -> Result<(), AllocError>
+    ensures { OnOk result (answers.new.items
+        ≡ answers.old.items ++ answer_by kinds kind.now (bstr_bytes name.entry)) }
+{
+    if kind == b"ref".as_slice() {
         push_verdict(FullName::new(name), answers)
-    } else if let Some(name) = name_after(b"tag ", line) {
+    } else if kind == b"tag".as_slice() {
         push_verdict(TagName::new(name), answers)
-    } else if let Some(name) = name_after(b"partial ", line) {
+    } else if kind == b"partial".as_slice() {
         push_verdict(PartialName::new(name), answers)
-    } else if let Some(name) = name_after(b"branch ", line) {
-        push_verdict(BranchName::new(name), answers)
-    } else if let Some(name) = name_after(b"submodule ", line) {
-        push_verdict(SubmoduleName::new(name), answers)
-    } else if let Some(name) = name_after(b"path ", line) {
+    } else if kind == b"branch".as_slice() {
+        push_verdict(reference::branch_name(name), answers)
+    } else if kind == b"submodule".as_slice() {
+        push_verdict(submodule::name(name), answers)
+    } else if kind == b"path".as_slice() {
         push_component(name, None, answers)
-    } else if let Some(name) = name_after(b"symlink ", line) {
+    } else if kind == b"symlink".as_slice() {
         push_component(name, Some(ComponentMode::Symlink), answers)
-    } else if let Some(name) = name_after(b"device ", line) {
+    } else if kind == b"device".as_slice() {
         push_device(name, answers)
-    } else if let Some(name) = name_after(b"sanitize ", line) {
+    } else if kind == b"sanitize".as_slice() {
         push_sanitized(alloc, name, answers)
     } else {
         answers.extend_from_slice(b"unknown kind")
     }
-}
-
-/// The name of a line that begins with this kind and its space.
-fn name_after<'a>(kind_and_space: &[u8], line: &'a [u8]) -> Option<BStr<'a>>
-    ensures { MatchOption result
-        ((name : List ℕ) → line.now ≢ kind_and_space.now ++ name)
-        (λ name. line.now ≡ kind_and_space.now ++ bstr_bytes name) }
-{
-    let name = line.strip_prefix(kind_and_space)?;
-    Some(BStr::new(name))
 }
 
 /// Appends the result for the name as a path component with this mode and the default options.
@@ -250,19 +247,19 @@ fn push_sanitized(alloc: Global, name: BStr<'_>, answers: &mut Vec<u8>) -> Resul
     }
 }
 
-/// Appends the result of a validator: `ok`, or the error.
+/// Appends the verdict of a validator that returned this: `ok`, or the error.
 fn push_verdict<T: Drop, E: Display + Drop>(
-    verdict: Result<T, E>,
+    checked: Result<T, E>,
     answers: &mut Vec<u8>,
 ) -> Result<(), AllocError>
-    ensures ok { OnOk result (MatchResult verdict
+    ensures ok { OnOk result (MatchResult checked
         (λ _. answers.new.items ≡ answers.old.items ++ codes "ok")
         (λ fault. IfSome (E.output fault)
         (λ text. answers.new.items ≡ answers.old.items ++ codes "error: " ++ text))) }
-    ensures full { IsOk verdict → OnErr result
+    ensures full { IsOk checked → OnErr result
         (vec_capacity answers.old < vec_len answers.old + length (codes "ok")) }
 {
-    match verdict {
+    match checked {
         Ok(_) => answers.extend_from_slice(b"ok"),
         Err(fault) => push_fault(fault, answers),
     }

@@ -1,9 +1,4 @@
-//! The program's options: it has none.
-
-ghost use Rattle.std.specs.Prelude.{⊤};
-ghost use Rattle.check_names.specs.Arguments.{rule};
-
-use programs::arguments::{ParseOptions, Setting};
+//! What `--help` prints.
 
 pub const HELP: &str = "\
 Validates Git names, one on each line of standard input, and prints a line for
@@ -33,25 +28,3 @@ For any other kind, and for a line without a space, it prints: unknown kind
 The status is 0 whether or not the names are valid. It is 1 if reading the lines
 or writing the results fails or memory for them runs out, and 2 if an argument
 is wrong or can't be read, or if this text or the version can't be printed.";
-
-/// The program has no options.
-#[derive(Clone, Copy)]
-pub struct NamesOptions;
-
-impl<'a> ParseOptions<'a> for NamesOptions {
-    ghost View = { ⊤ };
-
-    ghost view = { λ _. tt };
-
-    ghost start = { tt };
-
-    ghost rule = { rule };
-
-    fn start() -> Self {
-        NamesOptions
-    }
-
-    fn set(self, _name: &str, _value: Option<&'a str>) -> Setting<'a, Self> {
-        Setting::Unknown
-    }
-}

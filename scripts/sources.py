@@ -7,10 +7,10 @@ from functools import lru_cache
 from pathlib import Path
 
 EDIT = re.compile(
-    r"file: (.*)\n((?:old: .*\nnew: ?.*\n)+)"
-    r"refused: ([\w:]+)((?: \w+)+)( \(limit\))?\n"
+    r"file: (.*)\n((?:old: .*\nnew: ?.*\n)+|(?:old: .*\nnew: ?.*\nright: ?.*\n)+)"
+    r"(?:hollow: (.*)\n)?refused: ([\w:]+)((?: \w+)+)( \(limit\))?\n"
 )
-PAIR = re.compile(r"old: (.*)\nnew: ?(.*)\n")
+PAIR = re.compile(r"old: (.*)\nnew: ?(.*)\n(?:right: ?(.*)\n)?")
 # What begins a function, a type or the like, or one of their clauses.
 BEGIN = re.compile(
     r"""(?mx)^(?P<margin>[ ]{4})?
@@ -20,7 +20,9 @@ BEGIN = re.compile(
     |[ ]*(?P<member>ghost|ensures)(?:[ ](?P<clause>\w+))?(?::|[ ]=)?[ ]\{)"""
 )
 Item = namedtuple("Item", "file offset path clause is_public")
-Edit = namedtuple("Edit", "file crate source pairs function clauses is_limit")
+Edit = namedtuple(
+    "Edit", "file crate source pairs function clauses is_limit control hollow"
+)
 
 
 class Wrong(Exception):
@@ -98,28 +100,42 @@ def replaced(text, pairs):
 
 def edit_of(file):
     """A must-fail edit. It replaces one text, or several one after the other, in the body
-    of its function."""
+    of its function. Its control, if it has one, replaces the same texts by right ones.
+    """
     parts = EDIT.fullmatch(read(file))
     if not parts:
         raise Wrong(
-            f"{file} is no edit: its lines are 'file:', 'old:', 'new:', "
-            "perhaps more pairs of these two, and 'refused: FUNCTION CLAUSE..'"
+            f"{file} is no edit: its lines are 'file:', 'old:', 'new:', perhaps 'right:', "
+            "perhaps more of these, perhaps 'hollow:', and 'refused: FUNCTION CLAUSE..'"
         )
-    name, lines, function, clauses, limit = parts.groups()
+    name, lines, hollow, function, clauses, limit = parts.groups()
     crate, source = file.parts[1], file.parent.parent / name
-    path, pairs = f"{crate}::{function}", PAIR.findall(lines)
+    path, found = f"{crate}::{function}", PAIR.findall(lines)
+    pairs = [(old, new) for old, new, _ in found]
+    control = [(old, right) for old, _, right in found] if "\nright:" in lines else None
+    if control and hollow:
+        raise Wrong(f"{file} has a control, and says why it has none")
+    for changes in [pairs, control] if control else [pairs]:
+        try:
+            changed = replaced(read(source), changes)
+        except Wrong as wrong:
+            raise Wrong(f"{file} no longer applies: {name} {wrong}") from wrong
+        if not is_in_body(changed, source, path):
+            raise Wrong(f"{file} changes something else than the body of {function}")
+    return Edit(
+        *(file, crate, source, pairs, path, clauses.split(), bool(limit)),
+        *(control, hollow),
+    )
+
+
+def is_in_body(changed, source, path):
+    """Whether this is the source with nothing changed but the body of a function."""
     text = read(source)
-    try:
-        changed = replaced(text, pairs)
-    except Wrong as wrong:
-        raise Wrong(f"{file} no longer applies: {name} {wrong}") from wrong
-    ranges = [(first, last) for it, first, last in bodies(source) if it == path]
-    if not any(
+    return any(
         changed.startswith(text[:first]) and changed.endswith(text[last:])
-        for first, last in ranges
-    ):
-        raise Wrong(f"{file} changes something else than the body of {function}")
-    return Edit(file, crate, source, pairs, path, clauses.split(), bool(limit))
+        for it, first, last in bodies(source)
+        if it == path
+    )
 
 
 def edits():

@@ -5,14 +5,30 @@ in the function that its line 'refused:' names, and in no other that it leaves a
 check may not name each clause.) It is 1 if
 
 - one is not, or no longer applies, or two have the same effect;
-- one is refused only by a search that gave up, without '(limit)';
+- one is refused only by a search that gave up or came to its limit, without '(limit)';
 - a check was cut short, or there is no edit;
+- a control is refused, or an edit of must-fail/ has none and doesn't say why;
 - braces around a body, which change nothing, are refused.
 
 Edits are tried together, one of each function in a check. An edit that its line doesn't
 explain there is tried alone.
+
+A *control* is a right body that changes as much of the text as the edit. (Lines 'right:'
+have it, one after each 'new:'.) The check has to accept it: otherwise the edit may be
+refused for its form, and tells nothing of the contract. An edit that has no such control
+is *hollow*, and its line 'hollow:' says why.
+
+With --turns it tries the edits of mutants/ in crates that changed since the commit in
+crates/tried, and thirty more, drawn by the hash of HEAD. (A crate changes with its own
+files and its line in crates.txt, not with the crates below it.) Of must-fail/, whose edits
+`rt ci` tries, it tries the controls in these crates. Without such a commit it tries all.
+
+With --controls it draws edits of mutants/, by the hash of HEAD or --seed, and tries their
+controls. For an edit without one that is braces around what the edit changes. If these
+are refused, the edit may be hollow; that is said and counted, and is no failure.
 """
 
+import hashlib
 import os
 import re
 import subprocess
@@ -23,6 +39,10 @@ from pathlib import Path
 from typing import NamedTuple, Optional
 
 from scripts.sources import Edit, Wrong, bodies, edits, read, replaced
+
+# The commit for which all edits were tried, in a line, and how many are tried besides those
+# of crates that changed since.
+TRIED, MORE = "crates/tried", 30
 
 # How a function is refused, the best evidence first.
 VALUE = "by values at which it is false"
@@ -35,6 +55,8 @@ WAYS = (VALUE, ENDED, PROOF, LIMIT, NAMES)
 NAMED = re.compile(
     r"has no (?:field|`)|can be named (?:from )?here|not in scope|was not admitted"
 )
+# What is said of a search that didn't end.
+UNENDED = re.compile(r"gave up|stopped at its own limit")
 # The lines about what isn't proved, in proofs and in sources; the line about a function
 # comes after those of its source.
 SAID = re.compile(
@@ -47,6 +69,19 @@ SAID = re.compile(
 WAITS = ("no proof: it ", "not proved; it ")
 # What of a check is shown of an edit that is tried alone.
 SHOWN = re.compile(r"(?m)^(?:fn \S+: (?!proved$)|\./proofs/|note: .* not proved).*")
+
+
+# A line with the value of a `let`, an arm, an `if` or the like, or that is a statement, or
+# the value at the end of a block.
+VALUE_IN_LINE = re.compile(
+    r"""(?x) (?P<margin>[ ]*) (?:
+    (?P<head> let[ ][^=]*=[ ] | [^=]*[ ]=>[ ] )? (?P<value>[^=&|.?+*/}-].*?) (?P<end>[;,]?) )"""
+)
+
+
+class Control(NamedTuple):
+    file: Path  # that of its edit
+    said: list  # what the check said of it, if that refused it
 
 
 class Tried(NamedTuple):
@@ -77,11 +112,11 @@ def way_of(errors, notes):
         for it in left + notes
     ):
         return VALUE
-    if any("gave up" not in it for it in notes):
+    if not all(UNENDED.search(it) for it in notes):
         return ENDED
-    if left:
+    if not all(UNENDED.search(it) for it in left):
         return PROOF
-    return NAMES if errors else LIMIT
+    return NAMES if errors and not left else LIMIT
 
 
 def refusals(crate, text):
@@ -186,17 +221,84 @@ def wrong_with(edit, way, others):
     return wrong
 
 
-def harmless(chosen):
-    """An edit that changes nothing: braces around the shortest body that the edits
-    change."""
+def accepted(batch):
+    """Tries controls in one check, and each alone if that doesn't prove all."""
+    with tempfile.TemporaryDirectory(prefix="control-", dir="out") as room:
+        status, text = checked_with(batch, room)
+    refused = refusals(batch[0].crate, text)
+    is_read = came_to_its_end(status, text, refused)
+    if is_read and not refused:
+        return [Control(it.file, []) for it in batch]
+    if len(batch) > 1:
+        return [found for it in batch for found in accepted([it])]
+    [edit] = batch
+    if not is_read and edit.control:
+        return accepted([by_control(edit)])
+    return [Control(edit.file, SHOWN.findall(text) or text.split("\n")[-20:])]
+
+
+def by_control(edit):
+    """The edit that makes the control."""
+    return edit._replace(pairs=edit.control, control=None)
+
+
+def with_body(edit, change):
+    """An edit of the same function that changes its body by this, which is given the body,
+    and where the edit changes it."""
+    text = read(edit.source)
+    at = text.index(edit.pairs[0][0])
+    for path, first, last in bodies(edit.source):
+        if path == edit.function and first <= at < last:
+            changed = change(text[first:last], at - first)
+            # (A body may be in the source twice, all before its end only once.)
+            pairs = [(text[:last], text[:first] + changed)]
+            return edit._replace(pairs=pairs, control=None)
+    raise Wrong(f"{edit.file} changes no body of {edit.function}")
+
+
+def around_body(edit):
+    """Braces around the body, which change nothing."""
+    return with_body(edit, lambda body, at: f"{{{body}}}")
+
+
+def around_line(edit):
+    """Braces around what an edit changes, if that is in a line, or else around the body.
+    (It is around the body, too, if the check can't read the former.)"""
+    return with_body(edit, in_braces)._replace(control=around_body(edit).pairs)
+
+
+def in_braces(body, at):
+    """The body with braces around the value or the statement in the line of this place."""
+    first, last = body.rindex("\n", 0, at) + 1, f"{body}\n".index("\n", at)
+    line, after = body[first:last], body[last:].split()[:1]
+    parts = VALUE_IN_LINE.fullmatch(line)
+    is_value = parts and (parts["head"] or parts["end"] or after in ([], ["}"]))
+    if not is_value or not is_balanced(parts["value"]):
+        return f"{{{body}}}"
+    head, value, end = parts["head"] or "", parts["value"], parts["end"]
+    inside = f"{{ {value}{end} }}" if not head and end else f"{{ {value} }}{end}"
+    return f"{body[:first]}{parts['margin']}{head}{inside}{body[last:]}"
+
+
+def shortest(chosen):
+    """The edit that changes the shortest body."""
     found = (
-        (read(it.source)[first:last], it)
+        (last - first, it)
         for it in chosen
         for path, first, last in bodies(it.source)
         if path == it.function
     )
-    body, edit = min(found, key=lambda it: len(it[0]))
-    return edit._replace(pairs=[(body, f"{{{body}}}")])
+    return min(found, key=lambda it: it[0])[1]
+
+
+def is_balanced(text):
+    """Whether each bracket in a text is closed there."""
+    previous = None
+    while text != previous:
+        previous, text = text, re.sub(
+            r"\([^][(){}]*\)|\[[^][(){}]*\]|\{[^][(){}]*\}", "", text
+        )
+    return not re.search(r"[][(){}]", text)
 
 
 def names_of(edit):
@@ -205,13 +307,64 @@ def names_of(edit):
     return {"all", edit.crate, file.stem, f"{edit.crate}/{file.stem}", str(file)}
 
 
-def chosen_by(names):
+def is_mutant(edit):
+    """Whether `rt ci` doesn't try it."""
+    return edit.file.parent.name != "must-fail"
+
+
+def named(names):
     """The edits that these names choose."""
     every = edits()
     known = set().union(*map(names_of, every))
     if unknown := sorted(set(names) - known):
         raise Wrong(f"there is no edit {' '.join(unknown)}")
     return [it for it in every if names_of(it) & set(names)]
+
+
+def git(*words):
+    """What git says, or None if it fails."""
+    done = subprocess.run(["git", *words], capture_output=True, encoding="utf-8")
+    return done.stdout.strip() if done.returncode == 0 else None
+
+
+def head():
+    commit = git("rev-parse", "--verify", "HEAD")
+    if commit is None:
+        raise Wrong("there is no commit here")
+    return commit
+
+
+def drawn(chosen, number, seed):
+    """As many of these edits, drawn by lot. With the same seed they are the same."""
+    lot = lambda it: hashlib.sha256(f"{seed} {it.file}".encode()).digest()
+    return sorted(sorted(chosen, key=lot)[:number])
+
+
+def changed_since(commit):
+    """The crates whose files, or lines in crates.txt, changed since this commit."""
+    files = git("diff", "--name-only", "--no-renames", commit, "--", "crates")
+    lines = git("diff", "--unified=0", commit, "--", "crates.txt")
+    of_files = re.findall(r"(?m)^crates/(\w+)/", files)
+    return {*of_files, *re.findall(r"(?m)^\+(\w+)", lines)}
+
+
+def in_turn():
+    """The edits of mutants/ whose turn it is, and those of must-fail/ whose crates changed."""
+    every = edits()
+    commit = read(TRIED).strip() if os.path.exists(TRIED) else ""
+    if git("cat-file", "-e", f"{commit}^{{commit}}") is None:
+        print(f"{TRIED} names no commit that is here, so all are tried")
+        crates = {it.crate for it in every}
+    else:
+        crates = changed_since(commit)
+        print(f"changed since {commit}: {' '.join(sorted(crates)) or 'no crate'}")
+    turn = [it for it in every if it.crate in crates]
+    seed = head()
+    more = drawn([it for it in every if it not in turn and is_mutant(it)], MORE, seed)
+    print(f"drawn by {seed}:", *(it.file for it in more), sep="\n  ")
+    return [it for it in [*turn, *more] if is_mutant(it)], [
+        it for it in turn if not is_mutant(it)
+    ]
 
 
 def batches(chosen):
@@ -224,49 +377,143 @@ def batches(chosen):
 
 
 def add_arguments(parser):
-    parser.add_argument(
+    which = parser.add_mutually_exclusive_group(required=True)
+    which.add_argument(
         "names",
-        nargs="+",
+        nargs="*",
+        default=[],
         metavar="NAME",
         help="an edit's name, CRATE/NAME or file, a crate, or 'all'",
     )
+    which.add_argument(
+        "--turns", action="store_true", help="the edits whose turn it is"
+    )
+    which.add_argument(
+        "--controls",
+        nargs="?",
+        type=int,
+        const=20,
+        metavar="N",
+        help="the controls of this many edits, drawn by lot (default: 20)",
+    )
+    parser.add_argument("--seed", help="what draws them (default: the hash of HEAD)")
     parser.add_argument(
         "--built",
         action="store_true",
         help="the crates were just proved without an edit",
     )
+    parser.add_argument(
+        "--record",
+        action="store_true",
+        help=f"write HEAD into {TRIED} if all edits were tried, and all is well",
+    )
 
 
-def run(args):
-    """Tries the edits that the arguments name. Returns whether all is well."""
-    os.makedirs("out", exist_ok=True)
-    chosen = chosen_by(args.names)
-    for crate in [] if args.built else sorted({it.crate for it in chosen}):
+def check_unedited(chosen):
+    """Fails if a crate of these edits isn't proved without one, or if there is none."""
+    if not chosen:
+        raise Wrong("there is no edit to try")
+    for crate in sorted({it.crate for it in chosen}):
         if checked(f"crates/{crate}")[0]:
             raise Wrong(
                 f"{crate} isn't proved without an edit either: rt check there says why"
             )
-    same, plan = harmless(chosen), batches(chosen)
+
+
+def run(args):
+    """Tries the edits that the arguments name, or their controls. Returns whether all is
+    well."""
+    os.makedirs("out", exist_ok=True)
+    if args.record and args.names != ["all"]:
+        raise Wrong("--record is for 'all'")
+    if (
+        args.record
+        and git("diff", "--quiet", "HEAD", "--", "crates", "crates.txt") is None
+    ):
+        raise Wrong("crates/ isn't as in HEAD, so HEAD can't be recorded")
+    if args.controls is not None:
+        return try_drawn(args.controls, args.seed or head(), args.built)
+    chosen, others = in_turn() if args.turns else (named(args.names), [])
+    is_well = try_all(chosen, others, args.built)
+    if args.record and is_well:
+        Path(TRIED).write_text(f"{head()}\n", "utf-8")
+    return is_well
+
+
+def try_all(chosen, others, is_built):
+    """Tries edits, and the controls of these and of others."""
+    every = [*chosen, *others]
+    if not is_built:
+        check_unedited(every)
+    controls = batches(by_control(it) for it in every if it.control)
+    same, plan = shortest(every), batches(chosen)
     with ThreadPoolExecutor(len(os.sched_getaffinity(0))) as pool:
-        [of_same], *found = pool.map(tried, [[same], *plan])
-    results = sorted(
-        (it for batch in found for it in batch), key=lambda it: bool(it.wrong)
-    )
-    for it in results:
-        end = "FAILED" if it.wrong else f"refused as its line says, {it.way}"
-        print(f"{it.edit.file}: {end}", *it.said, *it.wrong, sep="\n  ")
-    ways = Counter(it.way for it in results if not it.wrong)
+        of_controls = pool.map(accepted, [[around_body(same)], *controls])
+        results = [it for batch in pool.map(tried, plan) for it in batch]
+        [[of_same], *of_controls] = of_controls
+    results = {it.edit.file: it for it in results}
+    said = {it.file: it.said for batch in of_controls for it in batch}
+    ends = [end_of(it, results.get(it.file), said.get(it.file)) for it in every]
+    for is_failed, lines in sorted(ends, key=lambda it: it[0]):
+        print(*lines, sep="\n  ")
+    ways = Counter(it.way for it in results.values() if not it.wrong)
     print(
         ", ".join(f"{ways[way]} {way}" for way in WAYS if ways[way]) or "none refused"
     )
-    is_accepted = of_same.wrong == [f"NOT REFUSED in {same.function}"]
-    if not is_accepted:
-        head = f"braces around the body of {same.function} FAILED"
-        print(head, *of_same.said, *of_same.wrong, sep="\n  ")
-    failed = sum(bool(it.wrong) for it in results)
+    print(f"{controls_counted(said)}; {sum(bool(it.hollow) for it in every)} hollow")
+    if of_same.said:
+        head_line = f"braces around the body of {same.function} FAILED"
+        print(head_line, *of_same.said, sep="\n  ")
     print(
-        f"{len(results) - failed} refused as their lines say, {failed} failed,",
-        f"in {len(plan)} checks; a harmless one is",
-        "accepted" if is_accepted else "REFUSED",
+        f"{sum(ways.values())} refused as their lines say,",
+        f"{sum(is_failed for is_failed, _ in ends)} failed, in {len(plan)} checks;",
+        "a harmless one is",
+        "REFUSED" if of_same.said else "accepted",
     )
-    return failed == 0 and is_accepted
+    return not of_same.said and not any(is_failed for is_failed, _ in ends)
+
+
+def controls_counted(said):
+    refused = sum(map(bool, said.values()))
+    return f"{len(said) - refused} controls accepted, {refused} refused"
+
+
+def end_of(edit, result, said):
+    """Whether an edit failed, and how it ended, by what was found of it and of its control
+    (None if that wasn't tried)."""
+    ends, wrong = [], list(said or [])
+    if result:
+        way = f"refused as its line says, {result.way}"
+        ends.append("FAILED" if result.wrong else way)
+        wrong += [*result.said, *result.wrong]
+    if said is not None:
+        ends.append("control REFUSED" if said else "control accepted")
+    if edit.hollow:
+        ends.append(f"hollow: {edit.hollow}")
+    is_bare = not is_mutant(edit) and not edit.control and not edit.hollow
+    if is_bare:
+        ends.append("FAILED")
+        wrong.append("it has no line 'right:' or 'hollow:'")
+    is_failed = bool(said or is_bare or result and result.wrong)
+    return is_failed, [f"{edit.file}: {', '.join(ends)}", *wrong]
+
+
+def try_drawn(number, seed, is_built):
+    """Tries controls of edits of mutants/ that are drawn by lot."""
+    every = [it for it in edits() if is_mutant(it)]
+    chosen = drawn(every, number, seed)
+    print(f"drawn by {seed} of {len(every)} edits")
+    if not is_built:
+        check_unedited(chosen)
+    plan = batches(by_control(it) if it.control else around_line(it) for it in chosen)
+    with ThreadPoolExecutor(len(os.sched_getaffinity(0))) as pool:
+        found = [it for batch in pool.map(accepted, plan) for it in batch]
+    failed = {it.file for it in chosen if it.control} & {
+        it.file for it in found if it.said
+    }
+    for it in sorted(found, key=lambda it: (bool(it.said), it.file in failed)):
+        end = "refused: the edit may be hollow" if it.said else "accepted"
+        end = "REFUSED" if it.file in failed else end
+        print(f"{it.file}: control {end}", *it.said, sep="\n  ")
+    print(controls_counted({it.file: it.said for it in found}))
+    return not failed

@@ -4,10 +4,12 @@ A crate `app` has an edit `number`, which is refused as its line says, and anoth
 `added`, of which each test says what rt says.
 """
 
+import subprocess
 from typing import NamedTuple
 
 import pytest
 
+from scripts.try_edits import in_braces
 from tests.scripts.copies import Copy
 
 SOURCE = """\
@@ -36,8 +38,12 @@ FALSE_AT = (
     "  of it holds, and the part fails, at a = 9"
 )
 GAVE_UP = "a; `search` gave up"
+AT_LIMIT = (
+    "./proofs/other/Answers.antt:1:1: error: `a`: `grind`\n  stopped at its own limit"
+)
 NUMBER = "crates/app/mutants/number.edit"
 ADDED = "crates/app/mutants/added.edit"
+FAMOUS = "crates/app/must-fail/famous.edit"
 
 
 def not_proved(function, why="it holds"):
@@ -62,15 +68,22 @@ class App(Copy):
         (self.path / "crates/app/src/lib.rt").write_text(SOURCE)
         self.write(NUMBER, "one", comment(not_proved("number")), "number answer")
 
-    def write(self, file, old, new, refused, *more):
-        """Writes an edit; what `more` has are further pairs of an old and a new text."""
+    def write(self, file, old, new, refused, *more, lines=""):
+        """Writes an edit; what `more` has are further pairs of an old and a new text, and
+        `lines` are those before the last."""
         pairs = zip((old, *more[::2]), (new, *more[1::2]))
         texts = "".join(f"old: {old}\nnew: {new}\n" for old, new in pairs)
-        text = f"file: src/lib.rt\n{texts}refused: {refused}\n"
+        text = f"file: src/lib.rt\n{texts}{lines}refused: {refused}\n"
+        (self.path / file).parent.mkdir(exist_ok=True)
         (self.path / file).write_text(text)
 
-    def add(self, old, new, refused="other answer", *more):
-        self.write(ADDED, old, new, refused, *more)
+    def add(self, old, new, refused="other answer", *more, lines=""):
+        self.write(ADDED, old, new, refused, *more, lines=lines)
+
+    def control(self, right, file=ADDED):
+        """Writes an edit of `other` with this control."""
+        new = comment(not_proved("other"))
+        self.write(file, "eins", new, "other answer", lines=f"right: {right}\n")
 
     def says(self, status, text):
         """Has rt say this of each check."""
@@ -79,6 +92,35 @@ class App(Copy):
 
     def try_edits(self, *words):
         return self.dev("try-edits", *words)
+
+    def git(self, *words):
+        """Runs git in the copy, and returns what it says."""
+        who = ["-c", "user.name=A", "-c", "user.email=a@example.org"]
+        ran = subprocess.run(
+            ["git", *who, *words], cwd=self.path, check=True, capture_output=True
+        )
+        return ran.stdout.decode().strip()
+
+    def commit(self):
+        """Commits the crates, and returns the commit's hash."""
+        if not (self.path / ".git").exists():
+            self.git("init", "--quiet")
+        (self.path / ".gitignore").write_text("out\n")
+        self.git("add", ".gitignore", "crates.txt", "crates")
+        self.git("commit", "--quiet", "--allow-empty", "--message", "a")
+        return self.git("rev-parse", "HEAD")
+
+    def add_crate(self, name, count):
+        """Adds a crate with as many edits, each of a function of its own."""
+        with open(self.path / "crates.txt", "a") as crates:
+            crates.write(f"{name}:\n")
+        (self.path / f"crates/{name}/src").mkdir(parents=True)
+        functions = [f"fn f{it}() {{\n    v{it}_\n}}\n" for it in range(count)]
+        (self.path / f"crates/{name}/src/lib.rt").write_text("".join(functions))
+        for it in range(count):
+            said = comment(f"{NOTE} a\nfn {name}::f{it}: not proved")
+            file = f"crates/{name}/mutants/m{it}.edit"
+            self.write(file, f"v{it}_", said, f"f{it} answer")
 
 
 @pytest.fixture
@@ -113,6 +155,14 @@ REFUSED = {
             "other", "a; the facts known there allow values at which it is false"
         ),
         "by values at which it is false",
+    ),
+    "an old proof, of which only one part came to its limit": Refused(
+        f"{AT_LIMIT}\n{OPEN}\nfn app::other: not proved", "by its old proof"
+    ),
+    "an old proof that came to its limit, as the line says": Refused(
+        f"{AT_LIMIT}\nfn app::other: not proved",
+        "by a search that gave up",
+        "other answer (limit)",
     ),
     "a search that gave up, as the line says": Refused(
         not_proved("other", GAVE_UP),
@@ -179,6 +229,12 @@ WRONG = {
     ),
     "a search gave up, which its line does not say": Wrong(
         not_proved("other", GAVE_UP),
+        "REFUSED in app::other only by a search that gave up; its line doesn't end "
+        "with '(limit)'",
+        4,
+    ),
+    "its old proof came to a limit, which its line does not say": Wrong(
+        f"{AT_LIMIT}\nfn app::other: not proved",
         "REFUSED in app::other only by a search that gave up; its line doesn't end "
         "with '(limit)'",
         4,
@@ -295,6 +351,7 @@ class NoEdit(NamedTuple):
     pairs: tuple
     refused: str
     wrong: str
+    lines: str = ""
 
 
 NO_EDIT = {
@@ -325,13 +382,22 @@ NO_EDIT = {
         "changes something else than the body of other",
     ),
     "it names no clause": NoEdit(("one", "two"), "number", "is no edit"),
+    "only one of its two texts has a control": NoEdit(
+        ("eins", "zwei", "zwei", "drei"), "other answer", "is no edit", "right: vier\n"
+    ),
+    "it has a control, and says why it has none": NoEdit(
+        ("eins", "zwei"),
+        "other answer",
+        "has a control, and says why it has none",
+        "right: drei\nhollow: it has none\n",
+    ),
 }
 
 
 @pytest.mark.parametrize("no_edit", NO_EDIT.values(), ids=NO_EDIT)
 def test_nothing_is_checked_if_an_edit_is_none_as(app, no_edit):
     old, new, *more = no_edit.pairs
-    app.add(old, new, no_edit.refused, *more)
+    app.add(old, new, no_edit.refused, *more, lines=no_edit.lines)
     ended = app.try_edits("all")
     assert (ended.status, ended.output) == (1, "")
     assert ended.errors.startswith(f"{ADDED} ")
@@ -380,3 +446,244 @@ def test_a_crate_has_to_be_proved_without_an_edit(app):
         "",
         "app isn't proved without an edit either: rt check there says why\n",
     )
+
+
+def test_a_control_is_tried_in_a_check_of_its_own_and_accepted(app):
+    app.control("zwei")
+    ended = app.try_edits("--built", "all")
+    assert ended.status == 0, ended.output
+    said = "refused as its line says, by a search that ended, control accepted"
+    assert f"{ADDED}: {said}\n" in ended.output
+    assert "\n1 controls accepted, 0 refused; 0 hollow\n" in ended.output
+    # Once with braces that change nothing, once with both edits, once with the control.
+    assert len(app.calls) == 3
+
+
+def test_a_control_that_is_refused_fails_and_is_shown(app):
+    app.control(comment(not_proved("other", "one")))
+    ended = app.try_edits("--built", "all")
+    assert ended.status == 1
+    said = "refused as its line says, by a search that ended, control REFUSED"
+    assert f"{ADDED}: {said}\n" in ended.output
+    assert "\n  fn app::other: not proved\n" in ended.output
+    assert "\n0 controls accepted, 1 refused; 0 hollow\n" in ended.output
+    assert "2 refused as their lines say, 1 failed" in ended.output
+
+
+def test_controls_of_two_functions_are_tried_together_and_alone_if_one_is_refused(app):
+    app.control(comment(not_proved("other", "one")))
+    said = comment(not_proved("number"))
+    app.write(NUMBER, "one", said, "number answer", lines="right: two\n")
+    ended = app.try_edits("--built", "all")
+    assert ended.status == 1
+    assert (
+        f"{NUMBER}: refused as its line says, by a search that ended, control acc"
+        in (ended.output)
+    )
+    assert "\n1 controls accepted, 1 refused; 0 hollow\n" in ended.output
+    assert len(app.calls) == 5
+
+
+def test_a_control_of_two_pairs_replaces_both(app):
+    (app.path / ADDED).write_text(
+        f"file: src/lib.rt\nold: eins\nnew: zwei\nright: {comment('drei')}\n"
+        f"old: zwei\nnew: {comment(not_proved('other'))}\nright: vier\n"
+        "refused: other answer\n"
+    )
+    # (The control has to have what it replaces next.)
+    assert "does not have this once: zwei" in app.try_edits("--built", "added").errors
+    text = app.read(ADDED).replace(comment("drei"), "zwei zwo")
+    (app.path / ADDED).write_text(text)
+    ended = app.try_edits("--built", "added")
+    assert ended.status == 0, ended.output + ended.errors
+    assert "\n1 controls accepted, 0 refused; 0 hollow\n" in ended.output
+
+
+def test_a_hollow_edit_is_refused_and_says_why_it_is_hollow(app):
+    app.add(
+        "eins", comment(not_proved("other")), lines="hollow: it has one form alone\n"
+    )
+    ended = app.try_edits("--built", "all")
+    assert ended.status == 0, ended.output
+    way = "refused as its line says, by a search that ended"
+    assert f"{ADDED}: {way}, hollow: it has one form alone\n" in ended.output
+    assert "\n0 controls accepted, 0 refused; 1 hollow\n" in ended.output
+
+
+def test_a_famous_edit_without_a_control_fails_unless_it_says_why(app):
+    app.write(FAMOUS, "eins", comment(not_proved("other")), "other answer")
+    ended = app.try_edits("--built", "famous")
+    assert ended.status == 1
+    assert f"{FAMOUS}: refused as its line says, by a search that ended, FAILED\n" in (
+        ended.output
+    )
+    assert "\n  it has no line 'right:' or 'hollow:'\n" in ended.output
+    app.control("zwei", FAMOUS)
+    assert app.try_edits("--built", "famous").status == 0
+
+
+def test_drawn_edits_are_tried_with_braces_around_what_they_change(app):
+    app.add("eins", comment(not_proved("other")))
+    ended = app.try_edits("--built", "--controls", "--seed", "a")
+    assert ended == (
+        0,
+        "drawn by a of 2 edits\n"
+        f"{ADDED}: control accepted\n"
+        f"{NUMBER}: control accepted\n"
+        "2 controls accepted, 0 refused\n",
+        "",
+    )
+    # Both in one check.
+    assert len(app.calls) == 1
+
+
+def test_braces_that_the_check_refuses_are_counted_and_are_no_failure(app):
+    app.says(1, not_proved("number") + "logic=not-proved\n")
+    ended = app.try_edits("--built", "--controls", "--seed", "a")
+    assert ended.status == 0
+    assert f"{NUMBER}: control refused: the edit may be hollow\n" in ended.output
+    assert ended.output.endswith("\n0 controls accepted, 1 refused\n")
+
+
+def test_braces_that_the_check_cannot_read_are_tried_around_the_body(app):
+    app.says(1, "src/lib.rt:4:5: error[unexpected]\n")
+    app.try_edits("--built", "--controls", "--seed", "a")
+    assert len(app.calls) == 2
+
+
+def test_a_drawn_control_of_the_edit_s_own_has_to_be_accepted(app):
+    app.control(comment(not_proved("other", "one")))
+    ended = app.try_edits("--built", "--controls", "--seed", "a")
+    assert ended.status == 1
+    assert f"{ADDED}: control REFUSED\n" in ended.output
+
+
+def test_as_many_are_drawn_as_are_wanted_and_the_same_by_the_same_seed(app):
+    app.add_crate("low", 40)
+    words = ["--built", "--controls", "7", "--seed"]
+    first, again, other = (app.try_edits(*words, it).output for it in ("a", "a", "b"))
+    assert first.count("control accepted") == 7
+    assert first == again
+    assert first.splitlines()[1:] != other.splitlines()[1:]
+
+
+def test_famous_edits_are_not_drawn(app):
+    app.control("zwei", FAMOUS)
+    ended = app.try_edits("--built", "--controls", "--seed", "a")
+    assert "drawn by a of 1 edits\n" in ended.output
+    assert FAMOUS not in ended.output
+
+
+def test_all_are_tried_in_turn_if_no_known_commit_is_said_to_have_been(app):
+    app.add_crate("low", 40)
+    for line in "", "0123456789abcdef0123456789abcdef01234567\n":
+        (app.path / "crates/tried").write_text(line)
+        app.commit()
+        ended = app.try_edits("--built", "--turns")
+        assert ended.status == 0, ended.output + ended.errors
+        assert "so all are tried\n" in ended.output
+        assert "\n41 refused as their lines say, 0 failed" in ended.output
+
+
+def tried_in_turn(app):
+    """The edits that are tried in turn."""
+    ended = app.try_edits("--built", "--turns")
+    assert ended.status == 0, ended.output + ended.errors
+    lines = [it for it in ended.output.splitlines() if ": refused as" in it]
+    return ended.output, {it.partition(":")[0] for it in lines}
+
+
+def test_edits_of_changed_crates_and_thirty_more_are_tried_in_turn(app):
+    app.add_crate("low", 40)
+    (app.path / "crates/tried").write_text(f"{app.commit()}\n")
+    app.add("eins", comment(not_proved("other")))
+    head = app.commit()
+    output, tried = tried_in_turn(app)
+    assert "changed since " in output and ": app\n" in output
+    assert f"drawn by {head}:\n" in output
+    assert {NUMBER, ADDED} <= tried and len(tried) == 32
+    assert (output, tried) == tried_in_turn(app)
+    app.commit()
+    assert tried_in_turn(app)[1] != tried
+
+
+def test_a_crate_changed_if_its_line_in_the_list_of_crates_did(app):
+    app.add_crate("low", 40)
+    (app.path / "crates/tried").write_text(f"{app.commit()}\n")
+    (app.path / "crates.txt").write_text("app:\nlow: app\n")
+    app.commit()
+    assert ": low\n" in tried_in_turn(app)[0]
+
+
+def test_of_famous_edits_the_controls_are_tried_in_turn(app):
+    app.control("zwei", FAMOUS)
+    app.add_crate("low", 40)
+    before = app.commit()
+    (app.path / "crates/tried").write_text(f"{before}\n")
+    app.commit()
+    # (Nothing is new but the line in crates/tried, so the crate has no turn.)
+    assert FAMOUS not in tried_in_turn(app)[0]
+    (app.path / "crates/app/src/lib.rt").write_text(f"{SOURCE}fn more() {{\n}}\n")
+    app.commit()
+    assert f"\n{FAMOUS}: control accepted\n" in tried_in_turn(app)[0]
+
+
+def test_the_commit_for_which_all_edits_were_tried_is_recorded(app):
+    commit = app.commit()
+    ended = app.try_edits("--built", "all", "--record")
+    assert ended.status == 0, ended.output + ended.errors
+    assert app.read("crates/tried") == f"{commit}\n"
+
+
+def test_nothing_is_recorded_if_an_edit_fails(app):
+    app.add("eins", "// ")
+    app.commit()
+    assert app.try_edits("--built", "all", "--record").status == 1
+    assert not (app.path / "crates/tried").exists()
+
+
+@pytest.mark.parametrize("words", [["number"], ["--turns"], ["--controls"]])
+def test_only_all_edits_can_be_recorded(app, words):
+    app.commit()
+    assert app.try_edits(*words, "--record") == (1, "", "--record is for 'all'\n")
+    assert app.calls == []
+
+
+def test_a_crate_that_is_not_as_in_the_commit_is_not_recorded(app):
+    app.commit()
+    (app.path / "crates/app/src/lib.rt").write_text(f"{SOURCE}fn more() {{\n}}\n")
+    ended = app.try_edits("all", "--record")
+    assert ended.status == 1
+    assert ended.errors == "crates/ isn't as in HEAD, so HEAD can't be recorded\n"
+    assert app.calls == []
+
+
+# A line of a body, and how braces are put there: the line is the last of a block if
+# nothing follows.
+IN_BRACES = {
+    "a statement": ("    end += 1;", "    { end += 1; }"),
+    "a value": ("    a + b", "    { a + b }"),
+    "the value of a `let`": ("    let x = f(a, b)?;", "    let x = { f(a, b)? };"),
+    "the value of an arm": ("    Some(b) => b + 1,", "    Some(b) => { b + 1 },"),
+}
+
+
+@pytest.mark.parametrize("row", IN_BRACES.values(), ids=IN_BRACES)
+def test_braces_are_put_around(row):
+    line, expected = row
+    assert in_braces(f"\n{line}\n}}\n", 6) == f"\n{expected}\n}}\n"
+
+
+NO_BRACES = {
+    "the head of an `if`": "    if a {",
+    "the first line of a call": "    f(",
+    "a line in the middle of a value": "    && b",
+    "a first line of two": "    a",
+    "a comment": "    // a",
+}
+
+
+@pytest.mark.parametrize("line", NO_BRACES.values(), ids=NO_BRACES)
+def test_braces_are_put_around_the_whole_body_if_what_changes_is_in(line):
+    body = f"\n{line}\n    .b\n"
+    assert in_braces(body, 6) == f"{{{body}}}"

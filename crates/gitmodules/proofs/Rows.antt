@@ -1,6 +1,6 @@
 -- The sections of worked files, computed.
 use Rattle.std.proofs.Common.{◌≡◌, ℕ, List, [], ◌∷◌, ◌++◌, Option, Some, None, codes, refl}
-use Rattle.std.proofs.Common.{All, All-head, arith}
+use Rattle.gix_validate.proofs.Common.{All, All-head, arith}
 use Rattle.gix_validate.proofs.OnLiterals.{names_on_literals}
 use Rattle.gix_validate.specs.Submodule.{fault_of}
 use Rattle.gix_validate.specs.declared.submodule.NameError.TheVariants as submodule_fault

@@ -16,7 +16,6 @@ from scripts import (
     record_headers,
     try_edits,
     update_benchmarks,
-    update_byte_tables,
     update_fault_tables,
     update_pictures,
     update_promises,
@@ -29,7 +28,6 @@ from scripts.sources import Wrong
 # What derives or checks something, in an order in which each finds what it reads.
 DERIVING = {
     "update-version": update_version,
-    "update-byte-tables": update_byte_tables,
     "update-fault-tables": update_fault_tables,
     "update-public-api": update_public_api,
     "update-promises": update_promises,

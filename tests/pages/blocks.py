@@ -39,6 +39,7 @@ LANGUAGES = {
     "python": Language("example.py", "python3", "python3 example.py"),
     "js": Language("example.mjs", "node", "node example.mjs"),
     "rust": Language("src/main.rs", "cargo", "cargo run --quiet"),
+    "antt": Language("Answers.antt", "rt", ""),
     "go": Language("main.go", "go", "go run ."),
     "ruby": Language("example.rb", "ruby", "ruby example.rb"),
     "java": Language("Example.java", "java", "java Example.java"),

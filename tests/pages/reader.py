@@ -7,10 +7,10 @@ from typing import NamedTuple
 
 from tests.pages.blocks import CRATES, ROOT, blocks_of
 
-# What a check of the tutorial would prove is copied, since rt run proves the crates as its
-# last step leaves them.
+# The tutorial's checks are left out, since rt run proves the crates as its last step leaves
+# them.
 START = """rt() {
-    if [ "$1" = check ]; then cp -r "$LIBRARY/crates/${PWD##*/}/out" .; else command rt "$@"; fi
+    if [ "$1" != check ]; then command rt "$@"; fi
 }
 """
 

@@ -1,5 +1,5 @@
 """What scripts/dev writes and checks: what a command says of a change in a file, and what
-a new bad byte and a new version give in other files."""
+a new version gives in other files."""
 
 from typing import NamedTuple
 
@@ -33,9 +33,6 @@ DIFFERS = [
         r"\+dihareku[^\"]*",
         "+dihareku.0.0.1",
     ),
-    Differs(
-        "update-byte-tables", "crates/gix_validate/src/bytes.rt", " T, T,", " T, F,"
-    ),
     Differs("update-benchmarks", "bench/length.svg", "path", "paths"),
 ]
 
@@ -67,7 +64,6 @@ class Refused(NamedTuple):
 
 PROMISES = "docs/PROMISES.md"
 EDIT = "crates/gix_validate/mutants/tag_gives_back_a_part.edit"
-BYTES = "crates/gix_validate/specs/Bytes.antt"
 NUMBERS = "crates/gix_validate_c/specs/Numbers.antt"
 REFUSED = {
     "a heading of the page of promises is gone": Refused(
@@ -168,33 +164,12 @@ REFUSED = {
         "ensures does { Does",
         "programs::command::execute does has no must-fail",
     ),
-    "bad bytes are in rows of too many kinds": Refused(
-        "update-byte-tables",
-        BYTES,
-        "^(is_bad b.*?)= ",
-        r"\1= b == 0x80 || b == 0x91 || ",
-        "has bits for 6 classes, but the suspect bytes are in rows of 7 kinds",
-    ),
-    "a dot is a bad byte": Refused(
-        "update-byte-tables",
-        BYTES,
-        "^(is_bad b.*?)= ",
-        r"\1= b == 0x2E || ",
-        "none of . / {",
-    ),
-    "the definition of bad bytes has another term": Refused(
-        "update-byte-tables",
-        BYTES,
-        "^(is_bad b.*?)= ",
-        r"\1= lower b || ",
-        "`is_bad` is made of more than",
-    ),
-    "a page has a derived text twice": Refused(
-        "update-byte-tables",
-        "docs/RULES.md",
+    "a file has a derived text twice": Refused(
+        "update-fault-tables",
+        "bindings/go/fault.go",
         r"\Z",
-        "the space, and `",
-        "docs/RULES.md does not have this once",
+        "// The faults.\nconst (\n",
+        "bindings/go/fault.go does not have this once",
     ),
     "a number is left out": Refused(
         "update-fault-tables",
@@ -291,33 +266,6 @@ def test_a_command_fails_and_writes_nothing_if(copy, refused):
     assert refused.why in ended.errors
     assert "Traceback" not in ended.errors
     assert copy.read(refused.file) == changed
-
-
-BAD_BYTES = r"""= b == 0x80 || nat_lt b 0x20 || (b == 0x7F || is_among (codes " %:?[\\\\^~") b)"""
-
-
-def test_a_new_bad_byte_is_written_wherever_bad_bytes_are(copy):
-    # A mark, `%`, and a byte that is none, 0x80.
-    copy.change(BYTES, "^(is_bad b )=.*", rf"\1{BAD_BYTES}")
-    ended = copy.dev("update-byte-tables")
-    assert (ended.status, ended.output) == (0, "")
-    assert sorted(ended.errors.splitlines()) == [
-        "crates/gix_validate/src/adjacent.rt is written",
-        "crates/gix_validate/src/bytes.rt is written",
-        "crates/gix_validate/src/tag.rt is written",
-        "crates/name_vectors/src/text.rt is written",
-        "crates/upstream_record/stdin is written",
-        "docs/RULES.md is written",
-    ]
-    adjacent = copy.read("crates/gix_validate/src/adjacent.rt")
-    assert "const SUSPECT_8X: u8 = 0x80;" in adjacent
-    assert "\nnames 25 - - - - ok no -\n" in copy.read("crates/upstream_record/stdin")
-    assert "`~` 0x80. `*` has" in copy.read("docs/RULES.md")
-    assert copy.dev("update-fault-tables").status == 0
-    assert "or one of % : ?" in copy.read("bindings/c/gix_validate.h")
-    assert "or one of % : ?" in copy.read("bindings/python/gix_validate.py")
-    for command in "update-byte-tables", "update-fault-tables":
-        assert copy.dev(command, "--check") == (0, "", "")
 
 
 @pytest.mark.parametrize(

@@ -75,5 +75,5 @@ def test_a_command_of_scripts_dev_prints_its_help(copy, command):
 
 def test_scripts_dev_lists_its_commands(copy):
     output = copy.dev("--help").output
-    for command in "update-byte-tables", "record-headers", "check-quotes", "try-edits":
+    for command in "update-pictures", "record-headers", "check-quotes", "try-edits":
         assert f"    {command}" in output

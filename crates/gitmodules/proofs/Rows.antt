@@ -1,5 +1,11 @@
 -- The sections of worked files, computed.
 use Rattle.std.proofs.Common.{◌≡◌, ℕ, List, [], ◌∷◌, ◌++◌, Option, Some, None, codes, refl}
+use Rattle.gix_validate.proofs.Common.{All, All-head, arith}
+use Rattle.gix_validate.proofs.OnLiterals.{names_on_literals}
+use Rattle.gix_validate.specs.Submodule.{fault_of}
+use Rattle.gix_validate.specs.declared.submodule.NameError.TheVariants as submodule_fault
+use Rattle.gitmodules.specs.declared.names.NamesError.TheVariants as names_error
+use Rattle.gitmodules.specs.SubmoduleNames.{IsAccepted, IsErrorOf, IsFirstError}
 use Rattle.gitmodules.specs.Sections.{sections, header_after_bracket, Named, Unreadable, Other}
 use Rattle.gitmodules.specs.Headers.{header_of, section_pair}
 use Rattle.gitmodules.specs.declared.reader.Header.TheVariants as code
@@ -81,3 +87,65 @@ found_by_the_program :
     × (header_of (code.Submodule None) ≡ Unreadable)
     × (header_of code.Other ≡ Other)
 found_by_the_program = (refl, refl, refl, refl, refl)
+
+-- ---- the names of a whole file
+
+-- a name with a fault has one
+fault_is_some : {A : Type 0} (a : A) → ¬ (Some a ≡ None)
+fault_is_some a e = grind arith
+
+accepted_sections : IsAccepted (0, Some (codes "a")) × ¬ IsAccepted (0, Some (codes ".."))
+    × ¬ IsAccepted (0, None)
+unfolding names_on_literals
+accepted_sections = (refl, λ e. fault_is_some submodule_fault.ParentComponent e, λ e. e)
+
+-- the fault of the name, at the offset of the section
+errors_of_sections :
+    IsErrorOf (7, Some (codes "..")) (names_error.Name 7 submodule_fault.ParentComponent)
+    × ¬ IsErrorOf (7, Some (codes "..")) (names_error.Name 0 submodule_fault.ParentComponent)
+    × ¬ IsErrorOf (7, Some (codes "a")) (names_error.Name 7 submodule_fault.ParentComponent)
+    × ¬ IsErrorOf (7, Some (codes "..")) (names_error.Unreadable 7)
+unfolding names_on_literals
+errors_of_sections = ((refl, refl), λ e. grind (arith, e.0), λ e. grind (arith, e.1), λ e. e)
+
+-- no name, at the offset of the section
+errors_of_unreadable :
+    IsErrorOf (7, None) (names_error.Unreadable 7)
+    × ¬ IsErrorOf (7, None) (names_error.Unreadable 0)
+    × ¬ IsErrorOf (7, None) (names_error.Name 7 submodule_fault.Empty)
+errors_of_unreadable = (refl, λ e. grind (arith, e), λ e. e)
+
+abbrev Section : Type 0
+Section = ℕ × Option (List ℕ)
+
+-- a name with a fault, and then a section that can't be read
+abbrev two : List Section
+two = (0, Some (codes "..")) ∷ (5, None) ∷ []
+
+first_of_two : (before : List Section) (section : Section) (after : List Section)
+    → two ≡ before ++ section ∷ after → All IsAccepted before
+    → ¬ IsErrorOf section (names_error.Unreadable 5)
+unfolding names_on_literals
+first_of_two [] (offset, Some name) after splits accepted gives = gives
+first_of_two [] (offset, None) after splits accepted gives = grind (arith, splits)
+first_of_two ((offset, Some name) ∷ before) section after splits accepted gives =
+    let fine : fault_of name ≡ None = All-head IsAccepted (offset, Some name) before accepted in
+    let own : name ≡ codes ".." = grind (arith, splits) in
+    fault_is_some submodule_fault.ParentComponent (rw own at fine)
+first_of_two ((offset, None) ∷ before) section after splits accepted gives =
+    All-head IsAccepted (offset, None) before accepted
+
+first_errors : IsFirstError two (names_error.Name 0 submodule_fault.ParentComponent)
+    × ¬ IsFirstError two (names_error.Unreadable 5)
+unfolding names_on_literals
+first_errors = (
+  record {
+    before = [];
+    section = (0, Some (codes ".."));
+    after = (5, None) ∷ [];
+    splits = refl;
+    accepted = λ k d below. absurd (omega arith);
+    gives = (refl, refl);
+  },
+  λ e. first_of_two e.before e.section e.after e.splits e.accepted e.gives,
+)

@@ -1,3 +1,4 @@
 pub mod Sections
 pub mod Headers
 pub mod Spelled
+pub mod SubmoduleNames

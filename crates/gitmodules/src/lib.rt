@@ -5,6 +5,8 @@
 //! submodule's section, in order, with the section's name, or without one if the section can't be
 //! read. It looks at each `[` of the file, in comments and values too. The values are not read.
 //!
+//! [`submodule_names`] returns the names of all sections, or the first one that is invalid.
+//!
 //! ```
 //! let mut sections = Sections::new(b"[core]\n[submodule \"a\\\"b\"]\n\tpath = x\n[submodule.c]\n");
 //! // at offset 7, the name `a"b`
@@ -23,11 +25,13 @@
 //! can't be read. A NUL, a newline (LF) or the byte 0xFF ends a name in one of Git's ways of
 //! reading, so a section with one of them in its name can't be read either.
 //!
-//! Offsets and lengths are in bytes. Only [`EscapedName::push_to`] allocates.
+//! Offsets and lengths are in bytes. Only [`EscapedName::push_to`] and [`submodule_names`] allocate.
 #![tactic(auto)]
 
 pub use crate::escaped::EscapedName;
+pub use crate::names::{NamesError, submodule_names};
 pub use crate::reader::{Section, Sections};
 
 mod escaped;
+mod names;
 mod reader;

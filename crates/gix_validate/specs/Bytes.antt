@@ -9,7 +9,6 @@ abbrev pub is_among : List ℕ → ℕ → Bool
 is_among set b = list_any (λ c. b == c) set
 
 -- A bad byte of reference names: a control byte, DEL, or one of these. (`*` has a fault of its own.)
--- `scripts/dev update-byte-tables` writes what is derived from this.
 unfoldable pub is_bad : ℕ → Bool
 is_bad b = nat_lt b 0x20 || (b == 0x7F || is_among (codes " :?[\\^~") b)
 

@@ -23,8 +23,7 @@ use std::simd::prelude::*;
 
 // The classes of bytes that may be suspect, a bit for each. Those of bad bytes, `*` and `{` are
 // suspect anywhere. A class has all that have the same high nibble, or one of several that have the
-// same low ones beside them. `scripts/dev update-byte-tables` writes them, and the two tables by
-// nibbles.
+// same low ones beside them.
 
 /// A suspect byte from 0x00 to 0x1F.
 const SUSPECT_0X: u8 = 0x01;

@@ -1,4 +1,4 @@
-//! The tests of `gix_validate`, `typed_names`, `git_names` and `examples`:
+//! The tests of `gix_validate`, `typed_names`, `git_names` and `gitmodules`:
 //!
 //! - Tables of worked names, and what docs/RULES.md gives for each (`rows`, and of typed names
 //!   `members`, of short and whole ones `short_and_whole`), and of the texts of errors (`printed`).
@@ -18,8 +18,6 @@
 #[cfg(test)]
 mod agree;
 #[cfg(test)]
-mod callers;
-#[cfg(test)]
 mod members;
 #[cfg(test)]
 mod path;
@@ -33,6 +31,8 @@ mod refused_memory;
 mod rows;
 #[cfg(test)]
 mod short_and_whole;
+#[cfg(test)]
+mod submodules;
 #[cfg(test)]
 mod tests;
 #[cfg(test)]

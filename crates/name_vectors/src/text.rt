@@ -2,10 +2,14 @@
 
 use bstr::ByteSlice;
 
-/// Whether the byte is a bad byte (`scripts/dev update-byte-tables` lists them). `*` has an error of
-/// its own.
+/// Whether the byte is a bad byte: 0x00 to 0x1F, DEL, the space, and `:` `?` `[` `\` `^` `~`. (`*` has
+/// an error of its own.)
 pub(crate) fn is_bad(byte: u8) -> bool {
-    byte < 0x20 || b"\x7f :?[\\^~".contains(&byte)
+    match byte {
+        0x00..=0x1F | 0x7F | b' ' => true,
+        b':' | b'?' | b'[' | b'\\' | b'^' | b'~' => true,
+        _ => false,
+    }
 }
 
 /// Whether one of the words is anywhere in the byte string.

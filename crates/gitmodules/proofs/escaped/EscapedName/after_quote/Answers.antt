@@ -2,7 +2,7 @@ use Rattle.std.proofs.Common.{◌≡◌, ◌==◌, ◌&&◌, ◌∙◌, not, fal
 use Rattle.std.proofs.lemmas.Bool.Decides.{nat_tests}
 use Rattle.std.specs.Str.{byte}
 use Rattle.gitmodules.specs.Sections.{is_never_in_name}
-use Rattle.gitmodules.proofs.Names.{byte_passed}
+use Rattle.gitmodules.proofs.ReadNames.{byte_passed}
 use Rattle.gitmodules.proofs.escaped.EscapedName.after_quote.Goals as goal
 
 pub loop-offset-preserved : goal.loop-offset-preserved

@@ -1,7 +1,7 @@
 use Rattle.std.proofs.Common.{arith}
 use Rattle.std.proofs.lemmas.Bool.Decides.{nat_tests}
 use Rattle.std.proofs.lemmas.Grind.{common_steps}
-use Rattle.gitmodules.proofs.Names.{byte_appended, backslash_passed}
+use Rattle.gitmodules.proofs.ReadNames.{byte_appended, backslash_passed}
 use Rattle.gitmodules.proofs.escaped.EscapedName.push_to.Goals as goal
 
 pub loop-byte-preserved : goal.loop-byte-preserved

@@ -1,5 +1,5 @@
 use Rattle.std.proofs.Common.{drop}
-use Rattle.gitmodules.proofs.Names.{IsAppended}
+use Rattle.gitmodules.proofs.ReadNames.{IsAppended}
 use Rattle.gitmodules.proofs.escaped.EscapedName.push_to.Given as goal
 
 abbrev pub invariant-loop-byte : goal.invariant-loop-byte

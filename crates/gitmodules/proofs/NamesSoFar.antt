@@ -4,7 +4,7 @@ use Rattle.gix_validate.proofs.Common.{append_assoc, arith, map-append, All-push
 use Rattle.bstr.specs.declared.bstring.BString.{BString}
 use Rattle.bstr.specs.Owned.{bstring_bytes}
 use Rattle.gix_validate.specs.Submodule.{fault_of}
-use Rattle.examples.specs.Settings.{IsAccepted}
+use Rattle.gitmodules.specs.SubmoduleNames.{IsAccepted}
 
 pub record ReadSoFar (all left : List (ℕ × Option (List ℕ))) (names : List BString) : Type 0 where
   pub before : List (ℕ × Option (List ℕ))

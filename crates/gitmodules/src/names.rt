@@ -5,17 +5,17 @@ ghost use Rattle.bstr.specs.Owned.{bstring_bytes};
 ghost use Rattle.gitmodules.specs.Headers.{section_pair};
 ghost use Rattle.gitmodules.specs.Sections.{sections};
 ghost use Rattle.gix_validate.specs.Submodule.{fault_of};
-ghost use Rattle.examples.specs.Settings.{IsErrorOf, IsFirstError};
+ghost use Rattle.gitmodules.specs.SubmoduleNames.{IsErrorOf, IsFirstError};
 
+use crate::reader::{Section, Sections};
 use bstr::{BStr, BString};
-use gitmodules::{Section, Sections};
 use gix_validate::submodule::{self, NameError};
 use std::alloc::{AllocError, Global};
 use thiserror::Error;
 
 /// Why the names of a file were not read. Offsets are in bytes.
 #[derive(Debug, Drop, Error)]
-pub enum SettingsError {
+pub enum NamesError {
     /// The name of the section at this offset is invalid.
     #[error("the section at offset {offset}: {fault}")]
     Name { offset: usize, fault: NameError },
@@ -27,12 +27,25 @@ pub enum SettingsError {
     Memory(AllocError),
 }
 
-/// The names of the submodules in a `.gitmodules` file: the name of each section, in order.
+/// Returns the names of the submodules in a `.gitmodules` file: the name of each section, in order
+/// (docs/RULES.md, "The names in a .gitmodules file").
 ///
-/// The first section whose name is invalid or that can't be read is the error. The sections are
-/// those of [`Sections`], which also finds some that Git doesn't see, as one in a comment.
-#[tactic(auto, using(crate::proofs::SettingsLemmas::read_one_more))]
-pub fn submodule_names(alloc: Global, file: &[u8]) -> Result<Vec<BString>, SettingsError>
+/// The sections are those of [`Sections`], which also finds some that Git doesn't see, as one in a
+/// comment.
+///
+/// ```
+/// submodule_names(alloc, b"[submodule \"a\"]\n[core]\n[submodule \"b/c\"]\n")?; // `a` and `b/c`
+/// ```
+///
+/// # Errors
+///
+/// That of the first section whose name is invalid or that can't be read, or `Memory`.
+///
+/// # Memory
+///
+/// It allocates each name, and the list of them.
+#[tactic(auto, using(crate::proofs::NamesSoFar::read_one_more))]
+pub fn submodule_names(alloc: Global, file: &[u8]) -> Result<Vec<BString>, NamesError>
     ensures names { IfOk result (λ names. map (λ name. Some (bstring_bytes name)) names.items
         ≡ map (λ section. section.1) (sections 0 file.now)) }
     ensures accepted { IfOk result (λ names.
@@ -44,23 +57,23 @@ pub fn submodule_names(alloc: Global, file: &[u8]) -> Result<Vec<BString>, Setti
         let name = submodule_name(alloc, &section)?;
         names
             .push(name)
-            .map_err(|_| SettingsError::Memory(AllocError))?;
+            .map_err(|_| NamesError::Memory(AllocError))?;
     }
     Ok(names)
 }
 
 /// The name of a section.
-fn submodule_name(alloc: Global, section: &Section<'_>) -> Result<BString, SettingsError>
+fn submodule_name(alloc: Global, section: &Section<'_>) -> Result<BString, NamesError>
     ensures name { IfOk result (λ name. section.now.name ≡ Some (bstring_bytes name)) }
     ensures accepted { IfOk result (λ name. fault_of (bstring_bytes name) ≡ None) }
     ensures refused { IfErr result (IsErrorOf (section_pair section.now)) }
 {
     let offset = section.offset;
     let Some(escaped) = &section.name else {
-        return Err(SettingsError::Unreadable { offset });
+        return Err(NamesError::Unreadable { offset });
     };
     let mut name = Vec::new(alloc);
-    escaped.push_to(&mut name).map_err(SettingsError::Memory)?;
-    submodule::name(BStr::new(&name)).map_err(|fault| SettingsError::Name { offset, fault })?;
+    escaped.push_to(&mut name).map_err(NamesError::Memory)?;
+    submodule::name(BStr::new(&name)).map_err(|fault| NamesError::Name { offset, fault })?;
     Ok(BString::new(name))
 }

@@ -1,4 +1,0 @@
-pub mod TargetLemmas
-pub mod WalkLemmas
-pub mod SettingsLemmas
-mod Rows

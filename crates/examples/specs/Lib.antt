@@ -1,4 +1,0 @@
-pub mod Targets
-pub mod Settings
-pub mod Branches
-pub mod Walks

@@ -19,9 +19,11 @@ refused for its form, and tells nothing of the contract. An edit that has no suc
 is *hollow*, and its line 'hollow:' says why.
 
 With --turns it tries the edits of mutants/ in crates that changed since the commit in
-crates/tried, and thirty more, drawn by the hash of HEAD. (A crate changes with its own
-files and its line in crates.txt, not with the crates below it.) Of must-fail/, whose edits
-`rt ci` tries, it tries the controls in these crates. Without such a commit it tries all.
+.ci/edits-tried, for which `.ci/run --all-edits` tried all, and thirty more, drawn by the
+hash of HEAD, crate by crate: a crate is proved once more before its first edit. (A crate
+changes with its own files and its line in crates.txt, not with the crates below it.) Of
+must-fail/, whose edits `rt ci` tries, it tries the controls in these crates. Without such a
+commit it tries all.
 
 With --controls it draws edits of mutants/, by the hash of HEAD or --seed, and tries their
 controls. For an edit without one that is braces around what the edit changes. If these
@@ -42,7 +44,7 @@ from scripts.sources import Edit, Wrong, bodies, edits, read, replaced
 
 # The commit for which all edits were tried, in a line, and how many are tried besides those
 # of crates that changed since.
-TRIED, MORE = "crates/tried", 30
+TRIED, MORE = ".ci/edits-tried", 30
 
 # How a function is refused, the best evidence first.
 VALUE = "by values at which it is false"
@@ -340,6 +342,13 @@ def drawn(chosen, number, seed):
     return sorted(sorted(chosen, key=lot)[:number])
 
 
+def drawn_by_crate(chosen, number, seed):
+    """As many of these edits, those of a crate together, drawn by lot."""
+    lot = lambda it: hashlib.sha256(f"{seed} {it}".encode()).digest()
+    order = sorted(chosen, key=lambda it: (lot(it.crate), lot(it.file)))
+    return sorted(order[:number])
+
+
 def changed_since(commit):
     """The crates whose files, or lines in crates.txt, changed since this commit."""
     files = git("diff", "--name-only", "--no-renames", commit, "--", "crates")
@@ -360,7 +369,8 @@ def in_turn():
         print(f"changed since {commit}: {' '.join(sorted(crates)) or 'no crate'}")
     turn = [it for it in every if it.crate in crates]
     seed = head()
-    more = drawn([it for it in every if it not in turn and is_mutant(it)], MORE, seed)
+    others = [it for it in every if it not in turn and is_mutant(it)]
+    more = drawn_by_crate(others, MORE, seed)
     print(f"drawn by {seed}:", *(it.file for it in more), sep="\n  ")
     return [it for it in [*turn, *more] if is_mutant(it)], [
         it for it in turn if not is_mutant(it)
@@ -402,19 +412,17 @@ def add_arguments(parser):
         action="store_true",
         help="the crates were just proved without an edit",
     )
-    parser.add_argument(
-        "--record",
-        action="store_true",
-        help=f"write HEAD into {TRIED} if all edits were tried, and all is well",
-    )
 
 
 def check_unedited(chosen):
     """Fails if a crate of these edits isn't proved without one, or if there is none."""
     if not chosen:
         raise Wrong("there is no edit to try")
-    for crate in sorted({it.crate for it in chosen}):
-        if checked(f"crates/{crate}")[0]:
+    crates = sorted({it.crate for it in chosen})
+    with ThreadPoolExecutor(len(os.sched_getaffinity(0))) as pool:
+        found = pool.map(lambda it: checked(f"crates/{it}"), crates)
+    for crate, (status, _) in zip(crates, found):
+        if status:
             raise Wrong(
                 f"{crate} isn't proved without an edit either: rt check there says why"
             )
@@ -424,20 +432,10 @@ def run(args):
     """Tries the edits that the arguments name, or their controls. Returns whether all is
     well."""
     os.makedirs("out", exist_ok=True)
-    if args.record and args.names != ["all"]:
-        raise Wrong("--record is for 'all'")
-    if (
-        args.record
-        and git("diff", "--quiet", "HEAD", "--", "crates", "crates.txt") is None
-    ):
-        raise Wrong("crates/ isn't as in HEAD, so HEAD can't be recorded")
     if args.controls is not None:
         return try_drawn(args.controls, args.seed or head(), args.built)
     chosen, others = in_turn() if args.turns else (named(args.names), [])
-    is_well = try_all(chosen, others, args.built)
-    if args.record and is_well:
-        Path(TRIED).write_text(f"{head()}\n", "utf-8")
-    return is_well
+    return try_all(chosen, others, args.built)
 
 
 def try_all(chosen, others, is_built):

@@ -110,6 +110,11 @@ class App(Copy):
         self.git("commit", "--quiet", "--allow-empty", "--message", "a")
         return self.git("rev-parse", "HEAD")
 
+    def tried(self, commit):
+        """Writes that all edits were tried for this commit."""
+        (self.path / ".ci").mkdir(exist_ok=True)
+        (self.path / ".ci/edits-tried").write_text(f"{commit}\n")
+
     def add_crate(self, name, count):
         """Adds a crate with as many edits, each of a function of its own."""
         with open(self.path / "crates.txt", "a") as crates:
@@ -576,8 +581,8 @@ def test_famous_edits_are_not_drawn(app):
 
 def test_all_are_tried_in_turn_if_no_known_commit_is_said_to_have_been(app):
     app.add_crate("low", 40)
-    for line in "", "0123456789abcdef0123456789abcdef01234567\n":
-        (app.path / "crates/tried").write_text(line)
+    for line in "", "0123456789abcdef0123456789abcdef01234567":
+        app.tried(line)
         app.commit()
         ended = app.try_edits("--built", "--turns")
         assert ended.status == 0, ended.output + ended.errors
@@ -595,7 +600,7 @@ def tried_in_turn(app):
 
 def test_edits_of_changed_crates_and_thirty_more_are_tried_in_turn(app):
     app.add_crate("low", 40)
-    (app.path / "crates/tried").write_text(f"{app.commit()}\n")
+    app.tried(app.commit())
     app.add("eins", comment(not_proved("other")))
     head = app.commit()
     output, tried = tried_in_turn(app)
@@ -609,7 +614,7 @@ def test_edits_of_changed_crates_and_thirty_more_are_tried_in_turn(app):
 
 def test_a_crate_changed_if_its_line_in_the_list_of_crates_did(app):
     app.add_crate("low", 40)
-    (app.path / "crates/tried").write_text(f"{app.commit()}\n")
+    app.tried(app.commit())
     (app.path / "crates.txt").write_text("app:\nlow: app\n")
     app.commit()
     assert ": low\n" in tried_in_turn(app)[0]
@@ -619,43 +624,23 @@ def test_of_famous_edits_the_controls_are_tried_in_turn(app):
     app.control("zwei", FAMOUS)
     app.add_crate("low", 40)
     before = app.commit()
-    (app.path / "crates/tried").write_text(f"{before}\n")
+    app.tried(before)
     app.commit()
-    # (Nothing is new but the line in crates/tried, so the crate has no turn.)
+    # (Nothing is new in the crate, so it has no turn.)
     assert FAMOUS not in tried_in_turn(app)[0]
     (app.path / "crates/app/src/lib.rt").write_text(f"{SOURCE}fn more() {{\n}}\n")
     app.commit()
     assert f"\n{FAMOUS}: control accepted\n" in tried_in_turn(app)[0]
 
 
-def test_the_commit_for_which_all_edits_were_tried_is_recorded(app):
-    commit = app.commit()
-    ended = app.try_edits("--built", "all", "--record")
-    assert ended.status == 0, ended.output + ended.errors
-    assert app.read("crates/tried") == f"{commit}\n"
-
-
-def test_nothing_is_recorded_if_an_edit_fails(app):
-    app.add("eins", "// ")
+def test_edits_are_drawn_crate_by_crate(app):
+    for name in "low", "middle", "high":
+        app.add_crate(name, 40)
+    app.tried(app.commit())
     app.commit()
-    assert app.try_edits("--built", "all", "--record").status == 1
-    assert not (app.path / "crates/tried").exists()
-
-
-@pytest.mark.parametrize("words", [["number"], ["--turns"], ["--controls"]])
-def test_only_all_edits_can_be_recorded(app, words):
-    app.commit()
-    assert app.try_edits(*words, "--record") == (1, "", "--record is for 'all'\n")
-    assert app.calls == []
-
-
-def test_a_crate_that_is_not_as_in_the_commit_is_not_recorded(app):
-    app.commit()
-    (app.path / "crates/app/src/lib.rt").write_text(f"{SOURCE}fn more() {{\n}}\n")
-    ended = app.try_edits("all", "--record")
-    assert ended.status == 1
-    assert ended.errors == "crates/ isn't as in HEAD, so HEAD can't be recorded\n"
-    assert app.calls == []
+    _, tried = tried_in_turn(app)
+    crates = {it.split("/")[1] for it in tried}
+    assert len(tried) == 30 and len(crates - {"app"}) == 1
 
 
 # A line of a body, and how braces are put there: the line is the last of a block if

@@ -1,5 +1,8 @@
-"""What writes derived files, checks sources and pages, and tries must-fail edits.
+"""What a contributor runs: `dev` runs a command, `build` and `program` build.
 
-`scripts/dev` runs each module as a command. Its modules read files of the current
-folder, which is the root of the repository.
+- `checks/` checks the whole repository, the must-fail edits, pages and sources.
+- `deriving/` writes derived files, or compares them.
+
+What makes a release is in release/. All modules read files of the current folder, which is
+the root of the repository.
 """

@@ -8,13 +8,10 @@ import argparse
 import sys
 from pathlib import Path
 
-from scripts import (
-    check_quotes,
-    check_tests,
-    check_unsafe,
+from scripts.checks import check_quotes, check_tests, check_unsafe, try_edits
+from scripts.deriving import (
     record_comparison,
     record_headers,
-    try_edits,
     update_benchmarks,
     update_fault_tables,
     update_pictures,
@@ -22,7 +19,7 @@ from scripts import (
     update_public_api,
     update_version,
 )
-from scripts.derived import differing
+from scripts.deriving.derived import differing
 from scripts.sources import Wrong
 
 # What derives or checks something, in an order in which each finds what it reads.

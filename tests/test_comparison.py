@@ -5,7 +5,7 @@ from pathlib import Path
 
 import pytest
 
-from scripts import record_comparison
+from scripts.deriving import record_comparison
 
 ROOT = Path(__file__).resolve().parent.parent
 CRATES = "bindings/out/gitoxide/crates"

@@ -6,7 +6,7 @@ import tarfile
 
 import pytest
 
-from scripts import dist
+from release import dist
 
 
 def git(folder, *words):

@@ -69,17 +69,14 @@ class Copy:
         self.bin = folder / "bin"
         self.kit = folder / "kit"
         self.kit.write_text(KIT)
-        scripts = ("dist", "build", "dev")
-        for part in (
-            "tests/setup",
-            "bindings/build",
-            *(f"scripts/{it}" for it in scripts),
-        ):
+        scripts = ("tests/setup", "scripts/build", "scripts/dev", "release/dist")
+        for part in (*scripts, "bindings/build"):
             self.stand_in(self.folder / part)
         for name in ("rt", "pytest", "pre-commit"):
             self.stand_in(self.bin / name)
         (self.folder / ".ci").mkdir()
-        for file in (".ci/run", "scripts/full_check.py"):
+        (self.folder / "scripts/checks").mkdir()
+        for file in (".ci/run", "scripts/checks/full_check.py"):
             shutil.copy(ROOT / file, self.folder / file)
         (self.folder / ".ci/minutes").write_text(
             "# Some Processor\nsetup 4.5\ngate 95.5\n"

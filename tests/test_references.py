@@ -1,11 +1,11 @@
-"""The pages of the site that tools make (scripts/references.py)."""
+"""The pages of the site that tools make (release/references.py)."""
 
 import re
 import shutil
 
 import pytest
 
-from scripts import references
+from release import references
 
 needs_mandoc = pytest.mark.skipif(not shutil.which("mandoc"), reason="needs mandoc")
 MANUAL = r""".TH CHECK_TEXT 1 "2026-11-28" "gix-validate 3.0.0"

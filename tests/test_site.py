@@ -6,7 +6,7 @@ from pathlib import Path
 
 import pytest
 
-from scripts.check_quotes import pages
+from scripts.checks.check_quotes import pages
 from tests.built_site import Site, is_elsewhere
 
 ROOT = Path(__file__).resolve().parent.parent

@@ -6,7 +6,7 @@ import shutil
 
 import pytest
 
-from scripts import commonjs
+from release import commonjs
 
 from .tools import BINDINGS, ROWS, VERSION, WASM, declared, need, output, rows, run
 

@@ -4,7 +4,7 @@ import shutil
 
 import pytest
 
-from scripts import check_unsafe
+from scripts.checks import check_unsafe
 from tests.scripts.copies import ROOT
 
 

@@ -6,7 +6,7 @@ from typing import NamedTuple
 import pytest
 
 from scripts import commands
-from scripts.derived import differing
+from scripts.deriving.derived import differing
 from scripts.sources import Wrong
 
 

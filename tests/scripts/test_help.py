@@ -59,8 +59,8 @@ def test_a_script_says_at_its_head_what_it_does(script):
 
 
 def test_scripts_are_found():
-    assert {"scripts/dev", "scripts/dist", ".ci/run"} <= {*SCRIPTS}
-    assert {".ci/run", "bench/run", "scripts/dist", "scripts/dev"} <= {*WITH_HELP}
+    assert {"scripts/dev", "release/dist", ".ci/run"} <= {*SCRIPTS}
+    assert {".ci/run", "bench/run", "release/dist", "scripts/dev"} <= {*WITH_HELP}
 
 
 @pytest.mark.parametrize(

@@ -6,7 +6,8 @@ from collections import Counter
 
 import pytest
 
-from scripts import declarations, sources, update_public_api
+from scripts import sources
+from scripts.deriving import declarations, update_public_api
 from tests.scripts.copies import ROOT, Copy
 
 PAGE = "docs/PUBLIC_API.md"

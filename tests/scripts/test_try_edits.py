@@ -9,7 +9,7 @@ from typing import NamedTuple
 
 import pytest
 
-from scripts.try_edits import in_braces
+from scripts.checks.try_edits import in_braces
 from tests.scripts.copies import Copy
 
 SOURCE = """\

@@ -8,7 +8,7 @@ found. (The formatters put the end of a function below its beginning, by which t
 import re
 from collections import defaultdict, namedtuple
 
-from scripts.check_unsafe import FOLDERS, files_below
+from scripts.checks.check_unsafe import FOLDERS, files_below
 
 # What is no code: comments, texts and characters. (A lifetime has no quote at its end.)
 NO_CODE = re.compile(

@@ -36,7 +36,7 @@ from dataclasses import dataclass
 from pathlib import Path
 from xml.etree import ElementTree
 
-ROOT = Path(__file__).resolve().parent.parent
+ROOT = Path(__file__).resolve().parents[2]
 LOGS = Path("out/check")
 BUILT = "out/check/built"
 RELEASE = "out/check/release"
@@ -173,10 +173,10 @@ def check_all(commit, edits):
     yield run("early", "pytest", *EARLY)
     yield finish(gate)
     yield run("build", "scripts/build", "--after-gate")
-    yield run("record", "scripts/dist", "--record", BUILT)
+    yield run("record", "release/dist", "--record", BUILT)
     release = []
     if commit:
-        yield run("dist", "scripts/dist", "--built", BUILT, RELEASE)
+        yield run("dist", "release/dist", "--built", BUILT, RELEASE)
         release = [f"--release={file}" for file in Path(RELEASE).glob("*.tar.gz")]
     # The edits need the processors now and then, and the tests wait now and then.
     edits = start("edits", "scripts/dev", "try-edits", *edits)
@@ -330,7 +330,7 @@ def main():
         report(parts, started)
         return 0 if is_known and parts and all(part.passed for part in parts) else 1
     say_how_long()
-    subprocess.run(["scripts/dist", "--empty"], check=True)
+    subprocess.run(["release/dist", "--empty"], check=True)
     return 0 if check_whole(given.all_edits, started) and is_known else 1
 
 
@@ -345,7 +345,7 @@ def check_whole(all_edits, started):
         print("a source has changed since the check began")
         passed = False
     if commit and passed and all_edits:
-        parts.append(run("keep", "scripts/dist", "--keep", BUILT, RELEASE))
+        parts.append(run("keep", "release/dist", "--keep", BUILT, RELEASE))
         passed = parts[-1].passed
     report(parts, started)
     (LOGS / "minutes").write_text(minutes_of(parts), "utf-8")

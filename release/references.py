@@ -3,8 +3,8 @@
 mandoc makes those of the programs and of C from the manuals, cargo doc those of Rust, go
 doc that of Go, mkdocstrings that of Python from a list of the names; JavaScript's is its
 declarations. The manuals and the code of the Rust crate are built, so they are those of a
-release, and only its site has these pages: scripts/dist names their folder to MkDocs in
-SITE_REFERENCES, and scripts/site_hook.py adds them. All tools are Debian's.
+release, and only its site has these pages: release/dist names their folder to MkDocs in
+SITE_REFERENCES, and release/site_hook.py adds them. All tools are Debian's.
 """
 
 import re

@@ -1,10 +1,10 @@
 """Packs a release for x86-64 Linux: the archive, four Debian packages, and SHA256SUMS.
 
-    scripts/dist OUT                 proves and builds all from nothing, and packs it
-    scripts/dist --empty             removes all that was built in this clone
-    scripts/dist --record SUMS       writes the sums of what was built
-    scripts/dist --built SUMS OUT    packs what was built, if it has these sums
-    scripts/dist --keep SUMS OUT     moves what --built has packed to out/release
+    release/dist OUT                 proves and builds all from nothing, and packs it
+    release/dist --empty             removes all that was built in this clone
+    release/dist --record SUMS       writes the sums of what was built
+    release/dist --built SUMS OUT    packs what was built, if it has these sums
+    release/dist --keep SUMS OUT     moves what --built has packed to out/release
 
 The last four are the steps of the full check (.ci/run). So what is published is what the
 full check has tested, of what it has built itself: it empties, builds and records, packs,
@@ -24,7 +24,7 @@ import tempfile
 from datetime import datetime, timezone
 from pathlib import Path
 
-from scripts import commonjs, references
+from release import commonjs, references
 from scripts.sources import Wrong
 
 ROOT = Path(__file__).resolve().parent.parent
@@ -476,10 +476,10 @@ def keep(sums, out):
 
 def main(arguments=None):
     parser = argparse.ArgumentParser(
-        prog="scripts/dist",
+        prog="release/dist",
         description=__doc__,
         formatter_class=argparse.RawDescriptionHelpFormatter,
-        usage="scripts/dist [--empty | --record SUMS | [--built SUMS | --keep SUMS] OUT]",
+        usage="release/dist [--empty | --record SUMS | [--built SUMS | --keep SUMS] OUT]",
     )
     step = parser.add_mutually_exclusive_group()
     step.add_argument("--empty", action="store_true", help=argparse.SUPPRESS)
@@ -501,6 +501,6 @@ def main(arguments=None):
         else:
             pack_anew(given.out)
     except (Wrong, OSError) as error:
-        print(f"scripts/dist: {error}", file=sys.stderr)
+        print(f"release/dist: {error}", file=sys.stderr)
         return 1
     return 0

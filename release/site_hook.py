@@ -5,7 +5,7 @@
   that is no page becomes its text.
 - Headings have the anchors that Git hosts give them.
 - A site that is read from a disk can be searched: docs/search.js says how.
-- The site of a release has the pages of scripts/references.py, too. SITE_REFERENCES
+- The site of a release has the pages of release/references.py, too. SITE_REFERENCES
   names their folder.
 """
 
@@ -32,8 +32,8 @@ TOKEN = re.compile(
 if str(ROOT) not in sys.path:
     sys.path.append(str(ROOT))
 
-from scripts import references  # noqa: E402 (found by the above)
-from scripts.check_quotes import anchors, pages, slug  # noqa: E402
+from release import references  # noqa: E402 (found by the above)
+from scripts.checks.check_quotes import anchors, pages, slug  # noqa: E402
 
 REFERENCES = os.environ.get("SITE_REFERENCES")
 

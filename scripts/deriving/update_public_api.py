@@ -9,7 +9,7 @@ a changed line on that page. Of a program it has the clauses of `run` alone.
 import re
 from pathlib import Path
 
-from scripts.declarations import (
+from scripts.deriving.declarations import (
     chunks,
     cites,
     declared,

@@ -1,7 +1,7 @@
 """Makes one script of JavaScript's module and its functions: for `require`, which takes no
 module that is written with `export`, and for the page.
 
-    python3 -m scripts.commonjs FOLDER
+    python3 -m release.commonjs FOLDER
 
 writes gix_validate.cjs and its types beside gix_validate.mjs in a folder.
 """
@@ -12,7 +12,7 @@ from pathlib import Path
 
 IMPORT = 'import wasm from "./gix_validate_wasm.mjs";\n'
 EXPORT = re.compile(r"(?m)^export (?=(?:const|function|class) (\[[\w, ]+\]|\w+))")
-NOTE = "// Made by scripts/commonjs.py of gix_validate.mjs."
+NOTE = "// Made by release/commonjs.py of gix_validate.mjs."
 
 
 def script(folder):

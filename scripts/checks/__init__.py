@@ -1,0 +1,1 @@
+"""Programs that check: the whole repository, the must-fail edits, pages and sources."""

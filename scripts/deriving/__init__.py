@@ -1,0 +1,1 @@
+"""Commands that write derived files, or compare them."""

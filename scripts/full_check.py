@@ -186,7 +186,7 @@ def check_some(crates):
     programs = [f"--build=crates/{it}/out/{it}" for it in names if is_program(it)]
     if programs:
         yield run("programs", *PYTEST, "tests/programs", *programs)
-    if {"check_refs", "check_trees", "check_submodules"} & {*names}:
+    if "check_push" in names:
         yield run("hook", *PYTEST, "tests/hook")
     if "gix_validate_c" in names:
         yield run("build", "bindings/build")

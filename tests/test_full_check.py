@@ -85,9 +85,9 @@ class Copy:
         (self.folder / "docs").mkdir()
         (self.folder / "docs/ASSURANCE.md").write_text(f"It is `{KIT}`.\n")
         (self.folder / "crates.txt").write_text(
-            "low:\ngix_validate_c staticlib: low bstr\ncheck_refs: gix_validate_c\nother:\n"
+            "low:\ngix_validate_c staticlib: low bstr\ncheck_push: gix_validate_c\nother:\n"
         )
-        for crate in ("low", "gix_validate_c", "check_refs", "other"):
+        for crate in ("low", "gix_validate_c", "check_push", "other"):
             (self.folder / "crates" / crate / "src").mkdir(parents=True)
         (self.folder / "crates/low/mutants").mkdir()
         (self.folder / ".gitignore").write_text("out/\n")
@@ -253,7 +253,7 @@ def test_the_check_of_a_crate_has_the_crates_that_stand_on_it_and_no_others(copy
         f"rt all test --jobs {jobs}",
         "rt run -- --version",
         "dev try-edits --built low",
-        f"{pytest_jobs} tests/programs --build=crates/check_refs/out/check_refs",
+        f"{pytest_jobs} tests/programs --build=crates/check_push/out/check_push",
         f"{pytest_jobs} tests/hook",
         "build ",
         f"{pytest_jobs} tests/bindings",

@@ -17,9 +17,9 @@ def found(tmp_path, monkeypatch):
         (tmp_path / folder).mkdir(parents=True)
 
     def find(**sources):
-        (tmp_path / "crates/cli/src").mkdir(parents=True)
+        (tmp_path / "crates/programs/src").mkdir(parents=True)
         for name, text in sources.items():
-            (tmp_path / f"crates/cli/src/{name}.rt").write_text(text)
+            (tmp_path / f"crates/programs/src/{name}.rt").write_text(text)
         return [*check_tests.derived()]
 
     return find
@@ -64,7 +64,7 @@ def test_a_test_that_asserts_nothing_is_found(found, body):
     assert found(
         tests=f"#[test]\nfn a_test(rt: R) -> X {{\n    {body}\n}}\n",
         more="fn f() {}\n\nfn silent(x: u8) {\n    f();\n}\n\nfn expect_equal() {\n    assert!(x);\n}\n",
-    ) == ["crates/cli/src/tests.rt: the test a_test asserts nothing"]
+    ) == ["crates/programs/src/tests.rt: the test a_test asserts nothing"]
 
 
 @pytest.mark.parametrize(
@@ -96,7 +96,7 @@ def test_a_function_that_asserts_elsewhere_does_not_count_for_one_of_the_same_na
     assert found(
         tests="fn check() {\n}\n\n#[test]\nfn a_test() {\n    check();\n}\n",
         more="fn check() {\n    assert!(true);\n}\n",
-    ) == ["crates/cli/src/tests.rt: the test a_test asserts nothing"]
+    ) == ["crates/programs/src/tests.rt: the test a_test asserts nothing"]
 
 
 @pytest.mark.parametrize(
@@ -105,11 +105,11 @@ def test_a_function_that_asserts_elsewhere_does_not_count_for_one_of_the_same_na
 def test_a_test_in_one_line_or_with_another_attribute_is_found(found, text):
     other = "\n#[test]\nfn other() {\n    assert!(true);\n}\n"
     assert found(tests=f"#[test]\n{text}\n{other}") == [
-        "crates/cli/src/tests.rt: the test a_test asserts nothing"
+        "crates/programs/src/tests.rt: the test a_test asserts nothing"
     ]
 
 
 def test_an_attribute_before_what_is_no_function_is_found(found):
     assert found(tests="#[test]\nmod tests;\n") == [
-        "crates/cli/src/tests.rt: has `#[test]` before what is no function"
+        "crates/programs/src/tests.rt: has `#[test]` before what is no function"
     ]

@@ -41,13 +41,13 @@ def test_what_is_listed_is_there(planted, file):
 
 
 FILES = [
-    "crates/cli/src/lib.rt",
-    "crates/cli/src/new.rt",
-    "crates/cli/specs/Lines.antt",
-    "crates/cli/notes.txt",
-    "crates/cli/src/no_extension",
-    "crates/cli/src/.hidden",
-    "crates/cli/src/out/mod.rt",
+    "crates/programs/src/lib.rt",
+    "crates/programs/src/new.rt",
+    "crates/programs/specs/Lines.antt",
+    "crates/programs/notes.txt",
+    "crates/programs/src/no_extension",
+    "crates/programs/src/.hidden",
+    "crates/programs/src/out/mod.rt",
     "crates/new/src/crates/a/out/lib.rt",
     "crates/gix_validate_c/src/names.rt",
     "crates/note",
@@ -179,12 +179,16 @@ def test_a_link_is_found(planted, name):
     target = planted.path / name
     target.mkdir() if name == "folder" else target.write_text("")
     (planted.path / "hook/link").symlink_to(target)
-    assert planted("crates/cli/src/lib.rt", "") == [
+    assert planted("crates/programs/src/lib.rt", "") == [
         "hook/link is a link, and what it leads to isn't read"
     ]
 
 
-BUILT = ["crates/cli/out/a", "bindings/rust/native/a.s", "bindings/go/block_amd64.s"]
+BUILT = [
+    "crates/programs/out/a",
+    "bindings/rust/native/a.s",
+    "bindings/go/block_amd64.s",
+]
 
 
 @pytest.mark.parametrize("file", BUILT)

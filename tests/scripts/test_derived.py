@@ -163,10 +163,10 @@ REFUSED = {
     ),
     "a clause without a name gets one": Refused(
         "update-promises",
-        "crates/cli/src/command.rt",
-        "ensures { Does",
-        "ensures does { Does",
-        "cli::command::execute does has no must-fail",
+        "crates/programs/src/lib.rt",
+        "ensures { IfSome",
+        "ensures prints { IfSome",
+        "programs::print prints has no must-fail",
     ),
     "bad bytes are in rows of too many kinds": Refused(
         "update-byte-tables",
@@ -274,7 +274,7 @@ REFUSED = {
     ),
     "there is unsafe code": Refused(
         "check-unsafe",
-        "crates/cli/src/lib.rt",
+        "crates/programs/src/lib.rt",
         r"\Z",
         "// unsafe\n",
         "has `unsafe`, and may not",
@@ -330,7 +330,7 @@ def test_a_new_bad_byte_is_written_wherever_bad_bytes_are(copy):
         ("bindings/js/package.json", '"version": "4.5.6-dev"'),
         ("bindings/rust/Cargo.toml", '"0.13.1+dihareku.4.5.6-dev"'),
         ("bindings/c/README.md", "gix_validate 4 "),
-        ("crates/cli/src/lib.rt", 'pub const VERSION: &str = "4.5.6-dev";'),
+        ("crates/programs/src/lib.rt", 'pub const VERSION: &str = "4.5.6-dev";'),
         ("crates/gix_validate_c/src/version.rt", "version_number 4 5 6 }"),
         ("docs/RULES.md", "now 4005006 for 4.5.6.\n"),
     ],

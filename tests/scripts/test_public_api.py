@@ -10,9 +10,9 @@ from scripts import declarations, sources, update_public_api
 from tests.scripts.copies import ROOT, Copy
 
 PAGE = "docs/PUBLIC_API.md"
-CHECK = "crates/check_refs/src/check.rt"
-REFS = "crates/check_refs/specs/Refs.antt"
-SPELLED = "crates/check_refs/specs/Spelled.antt"
+CHECK = "crates/check_push/src/refs/check.rt"
+REFS = "crates/check_push/specs/Refs/Refs.antt"
+SPELLED = "crates/check_push/specs/Refs/Spelled.antt"
 
 
 @pytest.fixture
@@ -48,14 +48,14 @@ def test_a_law_that_is_weakened_to_a_copy_of_another_is_shown(copy):
     )
     lines = difference(copy)
     assert lines[:4] == [
-        "-use check_refs.specs.Spelled: IsAcceptedInput, IsReportedInOrder, "
+        "-use check_push.specs.Refs.Spelled: IsAcceptedInput, IsReportedInOrder, "
         "IsWellFormedOnlyIfSpelled",
-        "+use check_refs.specs.Spelled: IsAcceptedInput, IsReportedInOrder",
+        "+use check_push.specs.Refs.Spelled: IsAcceptedInput, IsReportedInOrder",
         "-        ensures well_formed { IsWellFormedOnlyIfSpelled self }",
         "+        ensures well_formed { IsReportedInOrder self }",
     ]
     # No promise rests on its definition any more.
-    assert "-abbrev pub IsWellFormedOnlyIfSpelled : RefsOptions → Type 0" in lines
+    assert "-abbrev pub IsWellFormedOnlyIfSpelled : Options → Type 0" in lines
 
 
 def test_a_changed_definition_is_shown(copy):
@@ -78,10 +78,10 @@ def test_a_clause_that_cites_another_definition_by_the_same_name_is_shown(copy):
     copy.change(CHECK, r"\{IsAcceptedInput, ", "{IsUpdate as IsAcceptedInput, ")
     lines = difference(copy)
     assert (
-        "-use check_refs.specs.Spelled: IsAcceptedInput, IsReportedInOrder, IsWell"
+        "-use check_push.specs.Refs.Spelled: IsAcceptedInput, IsReportedInOrder, IsWell"
         in (lines[0])
     )
-    assert lines[1].startswith("+use check_refs.specs.Spelled: ")
+    assert lines[1].startswith("+use check_push.specs.Refs.Spelled: ")
     assert "IsUpdate as IsAcceptedInput" in lines[1]
 
 
@@ -133,7 +133,7 @@ def test_a_definition_that_cites_another_one_by_the_same_name_is_shown(copy):
             "+    ghost is_name = { is_partial_name };",
         ),
         (
-            "crates/check_refs/src/options.rt",
+            "crates/check_push/src/refs/options.rt",
             "hook runs it on its own",
             "hook runs it on another",
             "+hook runs it on another standard input:",
@@ -170,11 +170,11 @@ def test_what_is_no_promise_changes_nothing_on_the_page(
 
 
 def test_a_source_with_what_the_page_can_not_show_is_an_error(copy):
-    copy.change("crates/cli/src/lib.rt", r"\Z", "\nsome_macro! { }\n")
+    copy.change("crates/programs/src/lib.rt", r"\Z", "\nsome_macro! { }\n")
     assert copy.dev("update-public-api") == (
         1,
         "",
-        "crates/cli/src/lib.rt has what isn't read here: some_macro! { }\n",
+        "crates/programs/src/lib.rt has what isn't read here: some_macro! { }\n",
     )
 
 

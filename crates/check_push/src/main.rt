@@ -35,16 +35,43 @@ fn main(rt: HostRuntime) -> ExitCode {
     }
     match subcommand_of(word) {
         Some(Subcommand::Refs) => {
-            let program = Program { name: "check_push refs", help: refs::options::HELP };
-            execute_on_streams(&rt, program, refs::options::Options::start(), rest, &mut errors)
+            let program = Program {
+                name: "check_push refs",
+                help: refs::options::HELP,
+            };
+            execute_on_streams(
+                &rt,
+                program,
+                refs::options::Options::start(),
+                rest,
+                &mut errors,
+            )
         }
         Some(Subcommand::Trees) => {
-            let program = Program { name: "check_push trees", help: trees::options::HELP };
-            execute_on_streams(&rt, program, trees::options::Options::start(), rest, &mut errors)
+            let program = Program {
+                name: "check_push trees",
+                help: trees::options::HELP,
+            };
+            execute_on_streams(
+                &rt,
+                program,
+                trees::options::Options::start(),
+                rest,
+                &mut errors,
+            )
         }
         Some(Subcommand::Submodules) => {
-            let program = Program { name: "check_push submodules", help: submodules::options::HELP };
-            execute_on_streams(&rt, program, submodules::options::Options::start(), rest, &mut errors)
+            let program = Program {
+                name: "check_push submodules",
+                help: submodules::options::HELP,
+            };
+            execute_on_streams(
+                &rt,
+                program,
+                submodules::options::Options::start(),
+                rest,
+                &mut errors,
+            )
         }
         None => fail_arguments(NAME, ArgumentError::Unknown(word), &mut errors),
     }

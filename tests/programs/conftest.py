@@ -1,4 +1,4 @@
-"""What the tests of the five programs get.
+"""What the tests of the programs get.
 
 Without --build these are the programs that `rt ci` has just proved and built: each as
 LLVM builds it, and as Rattle's own compiler does (NAME.by-rattle). Golden files have
@@ -7,7 +7,8 @@ most of what they print; these tests are for what no clause says.
 - `program`: each build in turn.
 - `program`, `row`: with @rows(TABLE), each row of the table with each build of its
   program.
-- `check_trees` or another program's name: the builds of this one alone.
+- `check_names` or another program's name, or `check_push_trees` for a subcommand: the
+  builds of this one alone.
 - `devices`: for `program.run(.., devices=devices, READ=3)`, reads, writes and
   allocations that fail (tests/devices.c).
 """
@@ -20,24 +21,31 @@ import warnings
 
 import pytest
 
-from tests.programs.program import PROGRAMS, ROOT, Program, Ran, name_of
+from tests.programs.program import PROGRAMS, ROOT, Program, Ran, built_by
+from tests.programs.program import shown as shown_as
 
 # Stands for a build of a program of which --build has none.
 NOT_CHOSEN = object()
 
 
+def fixture_of(name):
+    return name.replace(" ", "_")
+
+
 def pytest_generate_tests(metafunc):
+    crates = dict.fromkeys(name.split()[0] for name in PROGRAMS)
     builds = metafunc.config.getoption("build") or [
-        ROOT / f"crates/{name}/out/{name}{end}"
-        for name in PROGRAMS
+        ROOT / f"crates/{crate}/out/{crate}{end}"
+        for crate in crates
         for end in ("", ".by-rattle")
     ]
 
     def parameters(name):
-        chosen = [build for build in builds if name_of(build) == name]
-        return [(build, build.name) for build in chosen] or [(NOT_CHOSEN, name)]
+        chosen = [build for build in builds if name in built_by(build)]
+        shown = [((build, name), shown_as(build, name)) for build in chosen]
+        return shown or [(NOT_CHOSEN, name)]
 
-    names = [name for name in PROGRAMS if name in metafunc.fixturenames]
+    names = [name for name in PROGRAMS if fixture_of(name) in metafunc.fixturenames]
     if "row" in metafunc.fixturenames:
         metafunc.parametrize(
             "program, row",
@@ -49,11 +57,15 @@ def pytest_generate_tests(metafunc):
             indirect=["program"],
         )
     elif "program" in metafunc.fixturenames:
-        shown = [build.name for build in builds]
-        metafunc.parametrize("program", builds, ids=shown, indirect=True)
+        # (a build that is none of the programs is said by `program_of`)
+        all_built = [
+            (build, name) for build in builds for name in built_by(build) or [""]
+        ]
+        shown = [shown_as(*built) for built in all_built]
+        metafunc.parametrize("program", all_built, ids=shown, indirect=True)
     for name in names:
         chosen, shown = zip(*parameters(name))
-        metafunc.parametrize(name, chosen, ids=shown, indirect=True)
+        metafunc.parametrize(fixture_of(name), chosen, ids=shown, indirect=True)
 
 
 def pytest_collection_modifyitems(config, items):
@@ -64,7 +76,8 @@ def pytest_collection_modifyitems(config, items):
     def is_chosen(item):
         given = item.callspec.params if hasattr(item, "callspec") else {}
         is_built = all(
-            given.get(it, 0) is not NOT_CHOSEN for it in ("program", *PROGRAMS)
+            given.get(it, 0) is not NOT_CHOSEN
+            for it in ("program", *map(fixture_of, PROGRAMS))
         )
         return is_built and not (
             static and "devices" in getattr(item, "fixturenames", ())
@@ -80,24 +93,24 @@ def newest_source():
 
 
 @functools.cache
-def program_of(build, is_chosen):
-    if name_of(build) not in PROGRAMS or not os.access(build, os.X_OK):
+def program_of(build, name, is_chosen):
+    if not name or not os.access(build, os.X_OK):
         pytest.fail(
             f"{build} is no program that is there: rt ci builds all; or run rt in a "
             "crate, and give what it builds with --build"
         )
     if not is_chosen and os.path.getmtime(build) < newest_source():
         warnings.warn(f"{build} is older than a source; rt ci builds it anew")
-    return Program(build)
+    return Program(build, name)
 
 
 @pytest.fixture
 def program(request):
-    return program_of(request.param, bool(request.config.getoption("build")))
+    return program_of(*request.param, bool(request.config.getoption("build")))
 
 
-check_names = check_trees = check_submodules = check_refs = program
-git_check_names = program
+check_names = git_check_names = program
+check_push_trees = check_push_submodules = check_push_refs = program
 
 
 @pytest.fixture(scope="session")

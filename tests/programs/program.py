@@ -8,11 +8,12 @@ from pathlib import Path
 from typing import NamedTuple
 
 ROOT = Path(__file__).parents[2]
+# Each program, or subcommand of one.
 PROGRAMS = (
     "check_names",
-    "check_trees",
-    "check_submodules",
-    "check_refs",
+    "check_push trees",
+    "check_push submodules",
+    "check_push refs",
     "git_check_names",
 )
 
@@ -44,9 +45,9 @@ PARTS = {
         "tag a*\n",
         "error: A ref must not contain '*' character\n",
     ),
-    "check_trees": Part(FILE, TREE, BAD_TREE),
-    "check_submodules": Part(FILE, f"{ID} blob 16\n{MODULES}\n", BAD_MODULES),
-    "check_refs": Part(
+    "check_push trees": Part(FILE, TREE, BAD_TREE),
+    "check_push submodules": Part(FILE, f"{ID} blob 16\n{MODULES}\n", BAD_MODULES),
+    "check_push refs": Part(
         f"{ZERO} {ID} refs/heads/a\n",
         f"{ZERO} {ID} refs/heads/a b\n",
         BAD_REF,
@@ -111,9 +112,23 @@ def rows(table):
     return mark
 
 
-def name_of(build):
-    name = build.name.removesuffix(".by-rattle")
-    return name.replace("-", "_")
+def built_by(build):
+    """The programs, or the subcommands of one, that a build is."""
+    name = build.name.removesuffix(".by-rattle").replace("-", "_")
+    return [program for program in PROGRAMS if program.split()[0] == name]
+
+
+def shown(build, name):
+    """What a test's name calls a build of this program or subcommand."""
+    return " ".join([build.name, *name.split()[1:]])
+
+
+def golden_of(name):
+    """Where the golden files of a program are. `rt ci` runs a program on one input, so those
+    of other subcommands are here."""
+    crate, here = ROOT / "crates" / name.split()[0], Path(__file__).parent / "golden"
+    moved = here / name.replace(" ", "_")
+    return moved if moved.exists() else crate
 
 
 def command_of(name):
@@ -125,14 +140,17 @@ class Program:
     """A build of a program, with its golden files: the arguments, what it is given, its
     report and its status."""
 
-    def __init__(self, build):
-        self.build, self.name = build.resolve(), name_of(build)
-        self.command, self.needed = command_of(self.name), NEEDED.get(self.name, [])
-        golden = f"crates/{self.name}"
-        self.words = read(f"{golden}/args").decode().split()
-        self.good = int(read(f"{golden}/status") or 0)
+    def __init__(self, build, name):
+        self.build, self.name = build.resolve(), name
+        self.command, self.needed = command_of(name), NEEDED.get(name, [])
+        # what says that the arguments can't be read
+        self.executable, *self.subcommand = self.command.split()
+        golden = golden_of(name)
+        words = read(golden / "args").decode().split()
+        self.words = words[len(self.subcommand) :]
+        self.good = int(read(golden / "status") or 0)
         self.failure = 2 if self.good else 1
-        self.given, self.report = read(f"{golden}/stdin"), read(f"{golden}/stdout")
+        self.given, self.report = read(golden / "stdin"), read(golden / "stdout")
         # A large input is that of the golden files many times, so that the report is
         # longer than what is written at once.
         times, one = 65536 // len(self.report) + 1, self.given.removesuffix(END)
@@ -141,7 +159,7 @@ class Program:
         self.large_report = self.report * times
 
     def __repr__(self):
-        return f"<{self.build.name}>"
+        return f"<{shown(self.build, self.name)}>"
 
     def run(self, given, *words, to=subprocess.PIPE, devices=None, **settings):
         """Runs it on these bytes or a descriptor, on devices with these settings."""
@@ -155,7 +173,7 @@ class Program:
                 file.seek(0)
                 given = file
             it = subprocess.run(
-                [self.build, *words],
+                [self.build, *self.subcommand, *words],
                 stdin=given,
                 # (a device writes single bytes: each would wake the reader of a pipe)
                 stdout=written if settings else to,
@@ -177,9 +195,9 @@ class Program:
         """It prints its report to the end. (Its status says whether all is well.)"""
         return Ran(self.good, report, "")
 
-    def fails(self, why, output=b"", status=None):
+    def fails(self, why, output=b"", status=None, command=None):
         status = self.failure if status is None else status
-        return Ran(status, output, f"{self.command}: {why}\n")
+        return Ran(status, output, f"{command or self.command}: {why}\n")
 
     def is_wrong_argument(self, word):
         """Nothing is read or printed, and it says which word is wrong."""

@@ -15,7 +15,6 @@ from tests.programs.program import (
     ZERO,
     Ran,
     Row,
-    command_of,
     read,
     rows,
 )
@@ -27,9 +26,9 @@ KINDS = re.findall(
 # The options, or kinds of line, that the help of a program lists.
 OPTIONS = {
     "check_names": KINDS,
-    "check_trees": ["--protect LIST", "--accept NAMES", "--modules", "--end"],
-    "check_submodules": ["--end"],
-    "check_refs": ["--ids", "--replace"],
+    "check_push trees": ["--protect LIST", "--accept NAMES", "--modules", "--end"],
+    "check_push submodules": ["--end"],
+    "check_push refs": ["--ids", "--replace"],
     "git_check_names": [
         *("branch", "path", "tag", "ref", "submodule", "component"),
         *("--stdin", "-z", "--protect LIST", "--repair", "-v, --verbose", "--"),
@@ -41,7 +40,7 @@ OPTIONS = {
 @functools.cache
 def help_of(name):
     """The help of the source, which a clone prints."""
-    command = [ROOT / command_of(name), "--help"]
+    command = [ROOT / "scripts/program", *name.split(), "--help"]
     return subprocess.run(command, stdout=subprocess.PIPE, check=True).stdout
 
 
@@ -86,8 +85,9 @@ def test_an_empty_word_is_a_wrong_argument_or_an_operand(program, help_text):
 
 
 def test_an_argument_that_is_no_utf_8_is_refused(program):
-    why = "the arguments can't be read as UTF-8"
-    assert program.run(program.given, b"\xff") == program.fails(why, status=2)
+    why, command = "the arguments can't be read as UTF-8", program.executable
+    expected = program.fails(why, status=2, command=command)
+    assert program.run(program.given, b"\xff") == expected
 
 
 @pytest.mark.parametrize(
@@ -104,9 +104,15 @@ def test_a_word_beyond_ascii_is_quoted_as_the_debug_format_of_rust(
 # Words that are no option of the program.
 UNKNOWN_WORDS = {
     "check_names": ["--end", "tag"],
-    "check_trees": ["--modules=", "--end=x", "--ids", "--protected=hfs", "protect=hfs"],
-    "check_submodules": ["--end=", "--modules", "--protect=hfs", "end"],
-    "check_refs": ["--ids=x", "--replace=", "--end", "ids"],
+    "check_push trees": [
+        "--modules=",
+        "--end=x",
+        "--ids",
+        "--protected=hfs",
+        "protect=hfs",
+    ],
+    "check_push submodules": ["--end=", "--modules", "--protect=hfs", "end"],
+    "check_push refs": ["--ids=x", "--replace=", "--end", "ids"],
     "git_check_names": ["--stdin=", "--repair=x", "--null", "-vz", "--modules", "-z="],
 }
 
@@ -126,9 +132,11 @@ def test_a_word_that_is_no_option_is_refused(program):
     ],
     ids=" ".join,
 )
-def test_an_option_without_its_value_is_said(check_trees, words):
-    why = f"{words[-1]} needs a value, see check_trees --help"
-    assert check_trees.run(TREE.encode(), *words) == check_trees.fails(why, status=2)
+def test_an_option_without_its_value_is_said(check_push_trees, words):
+    why = f"{words[-1]} needs a value, see check_push trees --help"
+    assert check_push_trees.run(TREE.encode(), *words) == check_push_trees.fails(
+        why, status=2
+    )
 
 
 # What RULES.md says of a name that one switch refuses, or two together, and the entries
@@ -197,18 +205,18 @@ def check_protected(program, words, on, accepted=""):
 
 # (a set has no order, so an id has none of it)
 @pytest.mark.parametrize("words, on", SWITCH_LISTS, ids=[it[0] for it in SWITCH_LISTS])
-def test_a_list_protects_by_its_words(check_trees, words, on):
-    check_protected(check_trees, [f"--protect={words}"], on)
-    check_protected(check_trees, ["--protect", words], on)
+def test_a_list_protects_by_its_words(check_push_trees, words, on):
+    check_protected(check_push_trees, [f"--protect={words}"], on)
+    check_protected(check_push_trees, ["--protect", words], on)
 
 
 @pytest.mark.parametrize(
     "words, on, accepted", LAST_COUNTS, ids=[" ".join(it[0]) for it in LAST_COUNTS]
 )
 def test_of_several_lists_or_accepted_names_the_last_counts(
-    check_trees, words, on, accepted
+    check_push_trees, words, on, accepted
 ):
-    check_protected(check_trees, words, on, accepted)
+    check_protected(check_push_trees, words, on, accepted)
 
 
 # What is no list.
@@ -217,11 +225,11 @@ NO_LISTS += ["hsf", "hfs,none", "none,hfs", "none,none", "nones"]
 
 
 @pytest.mark.parametrize("value", NO_LISTS)
-def test_a_list_with_another_word_is_refused(check_trees, value):
+def test_a_list_with_another_word_is_refused(check_push_trees, value):
     valid = "windows, hfs or ntfs, separated by commas, or none"
     why = f'invalid --protect "{value}": give {valid}'
-    ran = check_trees.run(b"", f"--protect={value}")
-    assert ran == check_trees.fails(why, status=2)
+    ran = check_push_trees.run(b"", f"--protect={value}")
+    assert ran == check_push_trees.fails(why, status=2)
 
 
 # What options print of an input, in whichever order, and also if each is given twice.
@@ -239,22 +247,22 @@ def choice_of(program, words, given, status, output="", said="", why=""):
 
 
 ANY_ORDER = [
-    choice_of("check_refs", [], UPDATES, 1, NOT_ALLOWED),
-    choice_of("check_refs", ["--ids"], UPDATES, 1, f"{ID}\n{NOT_ALLOWED}"),
-    choice_of("check_refs", ["--replace"], UPDATES, 0),
-    choice_of("check_refs", ["--ids", "--replace"], UPDATES, 0, f"{ID}\n{ID}\n"),
-    choice_of("check_submodules", [], BLOB, 0),
-    choice_of("check_submodules", ["--end"], BLOB, 2, "", NO_END, " without one"),
-    choice_of("check_submodules", ["--end"], BLOB_AND_END, 0),
+    choice_of("check_push refs", [], UPDATES, 1, NOT_ALLOWED),
+    choice_of("check_push refs", ["--ids"], UPDATES, 1, f"{ID}\n{NOT_ALLOWED}"),
+    choice_of("check_push refs", ["--replace"], UPDATES, 0),
+    choice_of("check_push refs", ["--ids", "--replace"], UPDATES, 0, f"{ID}\n{ID}\n"),
+    choice_of("check_push submodules", [], BLOB, 0),
+    choice_of("check_push submodules", ["--end"], BLOB, 2, "", NO_END, " without one"),
+    choice_of("check_push submodules", ["--end"], BLOB_AND_END, 0),
 ]
-# Each choice of four options of check_trees.
+# Each choice of four options of check_push trees.
 for some in itertools.product([True, False], repeat=4):
     modules, end, protect, accept = some
     options = ["--modules", "--end", "--protect=hfs", "--accept=aux.c"]
     lines = refused_lines({"hfs"} if protect else ALL_SWITCHES, "aux.c" * accept)
     ANY_ORDER.append(
         choice_of(
-            "check_trees",
+            "check_push trees",
             list(itertools.compress(options, some)),
             PROTECTED_TREE,
             2 if end else 1,
@@ -269,3 +277,37 @@ def test_options_do_the_same_in_any_order_and_also_twice(program, row):
     for words in itertools.permutations(row.words):
         assert program.run(row.given.encode(), *words) == row.expected
         assert program.run(row.given.encode(), *words, *words) == row.expected
+
+
+# The first argument of check_push.
+def run_check_push(program, *words):
+    """Runs it without a subcommand."""
+    ran = subprocess.run(
+        [program.build, *words], input=program.given, capture_output=True
+    )
+    return Ran(ran.returncode, ran.stdout, ran.stderr.decode())
+
+
+@pytest.mark.parametrize("word", ["--help", "-h"])
+def test_help_without_a_subcommand_names_each_of_them(check_push_trees, word):
+    ran = run_check_push(check_push_trees, word, "refs")
+    assert ran == check_push_trees.prints(help_of("check_push"))
+    listed = re.findall(r"(?m)^    (\S.*?)  ", ran.output.decode())
+    assert listed == ["refs", "trees", "submodules", "-h, --help", "--version"]
+    assert max(map(len, ran.output.split(b"\n"))) <= 80
+
+
+def test_the_version_is_printed_without_a_subcommand(check_push_trees):
+    printed = check_push_trees.prints(b"check_push " + read("VERSION"))
+    assert run_check_push(check_push_trees, "--version", "-x") == printed
+
+
+def test_check_push_without_an_argument_says_what_to_give(check_push_trees):
+    said = "check_push: give refs, trees or submodules, see check_push --help\n"
+    assert run_check_push(check_push_trees) == Ran(2, b"", said)
+
+
+@pytest.mark.parametrize("word", ["ref", "Refs", "refs ", "", "-x", "--end"])
+def test_another_first_argument_is_wrong(check_push_trees, word):
+    said = f'check_push: unknown argument "{word}", see check_push --help\n'
+    assert run_check_push(check_push_trees, word, "refs") == Ran(2, b"", said)

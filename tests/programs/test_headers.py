@@ -30,7 +30,7 @@ def quoted(name):
 
 
 def header_report(place, byte, said):
-    """What check_submodules has to print about a row of tests/headers, without the id.
+    """What check_push submodules has to print about a row of tests/headers, without the id.
     It is None if that is left open, since Git refuses the file."""
     offset = place.replace(BYTE, "?").rindex("[")
     unreadable = [f"{offset} a section can't be read"]
@@ -56,13 +56,13 @@ def test_each_place_has_each_byte():
 
 
 def test_a_name_that_git_reads_is_reported_or_its_section_can_not_be_read(
-    check_submodules,
+    check_push_submodules,
 ):
     stream, printed = b"", {}
     for number, (place, byte, _) in enumerate(ROWS):
         file = place.replace(BYTE, byte).encode("latin-1") + b"\n\tpath = x\n"
         stream += b"%040x blob %d\n%s\n" % (number, len(file), file)
-    ran = check_submodules.run(stream)
+    ran = check_push_submodules.run(stream)
     assert (ran.status, ran.said) == (1, "")
     for line in ran.output.decode("ascii").splitlines():
         printed.setdefault(int(line[:40], 16), []).append(line[41:])

@@ -76,7 +76,7 @@ def test_long_lines_and_objects_are_read_when_each_byte_comes_alone(program, dev
     part = PARTS[program.name]
     header, status, before = f"{ID} blob 1 ".ljust(65535, "a"), 1, ""
     given = f"{ID} blob 100001\n{100001 * 'a'}\n{header}\na\n"
-    if program.name == "check_refs":
+    if program.name == "check_push refs":
         given = f"{ZERO} {ID} refs/heads/".ljust(65535, "a") + "\n"
     if program.name == "check_names":
         given, status, before = f"tag {100001 * 'a'}\n", 0, "ok\n"
@@ -125,7 +125,8 @@ def test_an_allocation_that_fails_stops_a_run_and_all_is_given_back(program, dev
     """Each request for memory is refused in turn, until a run makes no other: all that
     was given is given back, and the run stops, unless it does without. (It collects the
     words of the arguments one by one then.)"""
-    stops = {(2, f"refused\n{program.command}: out of memory\n")}
+    names = {program.command, program.executable}
+    stops = {(2, f"refused\n{name}: out of memory\n") for name in names}
     if not program.good:
         stops |= {
             (1, f"refused\n{program.command}: out of memory\n"),

@@ -21,14 +21,14 @@ from tests.programs.program import (
 
 # Why an input is malformed, by the definition.
 REASONS = re.findall(
-    '= codes "(.*)"', read("crates/git_input/specs/Messages.antt").decode()
+    '= codes "(.*)"', read("crates/programs/specs/Malformations.antt").decode()
 )
 # What is said of malformed inputs, and for each some of these: arguments, an input, and
 # what is printed before. (A proof misses a text, a number or an order that is changed
 # together with its definition.)
 MALFORMED = {
     # a header line
-    "check_trees: malformed input: object 1: "
+    "check_push trees: malformed input: object 1: "
     "the header line is not 'OID TYPE SIZE' or 'OID missing'": [
         ([], "HEAD tree 0\n\n", ""),
         ([], f"{ID}\n", ""),
@@ -37,24 +37,24 @@ MALFORMED = {
         ([], "..end missing\n", ""),
         (["--end"], f"..end missing\n{TREE}", ""),
     ],
-    "check_trees: malformed input: object 3: "
+    "check_push trees: malformed input: object 3: "
     "the header line is not 'OID TYPE SIZE' or 'OID missing'": [
         ([], f"{TREE}{ID} missing\n{ID} tree -1\n", BAD_TREE),
     ],
-    "check_submodules: malformed input: object 1: "
+    "check_push submodules: malformed input: object 1: "
     "the header line is not 'OID TYPE SIZE' or 'OID missing'; "
     "if it says that a name is missing, Git has no such object; "
     "a file is passed as in: echo HEAD:.gitmodules | git cat-file --batch | "
-    "check_submodules": [
+    "check_push submodules": [
         ([], "HEAD missing\n", ""),
         (["--end"], "HEAD missing\n..end missing\n", ""),
     ],
-    "check_submodules: malformed input: object 2: "
+    "check_push submodules: malformed input: object 2: "
     "the header line is not 'OID TYPE SIZE' or 'OID missing'": [
         (["--end"], f"{FILE}HEAD missing\n..end missing\n", ""),
     ],
     # the bytes of an object, and the newline after them
-    "check_trees: malformed input: object 1: the input ends within it": [
+    "check_push trees: malformed input: object 1: the input ends within it": [
         ([], f"{ID} blob 3", ""),
         ([], f"{ID} blob 3\nab", ""),
         ([], f"{ID} blob 3\nabc", ""),
@@ -62,61 +62,61 @@ MALFORMED = {
         ([], TREE[:-2], ""),
         ([], TREE[:-1], BAD_TREE),
     ],
-    "check_submodules: malformed input: object 1: the input ends within it": [
+    "check_push submodules: malformed input: object 1: the input ends within it": [
         ([], f"{ID} blob 17\n{MODULES}", ""),
         ([], f"{ID} blob 16\n{MODULES}", BAD_MODULES),
     ],
-    "check_trees: malformed input: object 1: no newline follows the object's bytes": [
+    "check_push trees: malformed input: object 1: no newline follows the object's bytes": [
         ([], f"{ID} blob 3\nabcd", ""),
         ([], f"{TREE[:-1]}x", BAD_TREE),
     ],
-    "check_submodules: malformed input: object 1: "
+    "check_push submodules: malformed input: object 1: "
     "no newline follows the object's bytes": [
         ([], f"{ID} blob 16\n{MODULES}x", BAD_MODULES),
     ],
     # an entry of a tree
-    "check_trees: malformed input: object 1: "
+    "check_push trees: malformed input: object 1: "
     "an entry is not 'MODE NAME', NUL and an object id, or runs past its tree": [
         ([], f"{ID} tree 30\n40000 .git\0{19 * '.'}\n", ""),
         ([], f"{ID} tree 8\n100644 aX", ""),
         ([], f"{ID} tree 62\n40000 .git\0{20 * '.'}40008 .git\0{20 * '.'}\n", BAD_TREE),
     ],
     # the end line
-    "check_trees: malformed input: object 1: the object is missing": [
+    "check_push trees: malformed input: object 1: the object is missing": [
         (["--end"], f"{ID} missing\n..end missing\n", ""),
     ],
-    "check_submodules: malformed input: object 2: the object is missing": [
+    "check_push submodules: malformed input: object 2: the object is missing": [
         (["--end"], f"{ID} blob 16\n{MODULES}\n{ID} missing\n", BAD_MODULES),
     ],
-    "check_trees: malformed input: object 1: "
+    "check_push trees: malformed input: object 1: "
     "the input ends without the line '..end missing'": [
         (["--end"], "", ""),
     ],
-    "check_trees: malformed input: object 3: "
+    "check_push trees: malformed input: object 3: "
     "the input ends without the line '..end missing'": [
         (["--end"], f"{TREE}{FILE}", BAD_TREE),
     ],
-    "check_trees: malformed input: object 2: the input ends within it": [
+    "check_push trees: malformed input: object 2: the input ends within it": [
         (["--end"], f"{FILE}..end missing", ""),
     ],
     # a line of a push
-    "check_refs: malformed input: line 1: the input is empty": [
+    "check_push refs: malformed input: line 1: the input is empty": [
         ([], "", ""),
     ],
-    "check_refs: malformed input: line 1: the line is not 'OLD NEW REF'": [
+    "check_push refs: malformed input: line 1: the line is not 'OLD NEW REF'": [
         ([], f"{ZERO} {ID}\n", ""),
     ],
-    "check_refs: malformed input: line 2: the line is not 'OLD NEW REF'": [
+    "check_push refs: malformed input: line 2: the line is not 'OLD NEW REF'": [
         ([], f"{ZERO} {ID} refs/heads/a b\n\n", BAD_REF),
     ],
-    "check_refs: malformed input: line 2: the input ends within it": [
+    "check_push refs: malformed input: line 2: the input ends within it": [
         ([], f"{ZERO} {ID} refs/heads/a b\n{ZERO} {ID} refs/heads/a", BAD_REF),
     ],
     # a line without a newline: a byte below the limit of a line, and at it
-    "check_refs: malformed input: line 1: the input ends within it": [
+    "check_push refs: malformed input: line 1: the input ends within it": [
         ([], 65535 * "a", ""),
     ],
-    "check_refs: malformed input: line 1: "
+    "check_push refs: malformed input: line 1: "
     "a line or an entry is longer than 65536 bytes": [
         ([], 65536 * "a", ""),
     ],

@@ -33,11 +33,11 @@ def test_a_large_input_gives_a_large_report(program):
 HINT = (
     "; if it says that a name is missing, Git has no such object; "
     "a file is passed as in: echo HEAD:.gitmodules | git cat-file --batch | "
-    "check_submodules"
+    "check_push submodules"
 )
 STOPS = [
     Row(
-        "check_refs",
+        "check_push refs",
         "a line without a reference",
         ["--ids"],
         f"{ZERO} {ID} HEAD\n{ZERO} {ID} \n",
@@ -46,7 +46,7 @@ STOPS = [
         "malformed input: line 2: the line is not 'OLD NEW REF'",
     ),
     Row(
-        "check_trees",
+        "check_push trees",
         "a header without a size",
         [],
         f"{ID} tree\n",
@@ -55,7 +55,7 @@ STOPS = [
         f"malformed input: object 1: {HEADER}",
     ),
     Row(
-        "check_submodules",
+        "check_push submodules",
         "a name in place of an id",
         [],
         "HEAD:.gitmodules missing\n",
@@ -64,7 +64,7 @@ STOPS = [
         f"malformed input: object 1: {HEADER}{HINT}",
     ),
     Row(
-        "check_submodules",
+        "check_push submodules",
         "a header without a size after an id that is missing",
         [],
         f"{ID} missing\n{ID} tree\n",
@@ -73,7 +73,7 @@ STOPS = [
         f"malformed input: object 2: {HEADER}",
     ),
     Row(
-        "check_submodules",
+        "check_push submodules",
         "a blob that is cut off after a name that is refused",
         [],
         f'{ID} blob 30\n[submodule ".."]\n',
@@ -94,7 +94,7 @@ RESERVED = "Reference name is reserved and cannot be used:"
 RESERVED_LINE = f'ref "refs/heads/HEAD" {RESERVED} "refs/heads/HEAD"\n'
 DELETIONS = [
     Row(
-        "check_refs",
+        "check_push refs",
         f"{new[:2]}..{new[-2:]} of {len(new)} digits",
         [],
         f"{len(new) * 'a'} {new} refs/heads/HEAD\n",
@@ -120,7 +120,7 @@ def test_a_reference_is_checked_unless_it_is_deleted(program, row):
 LISTED_FILE = f'modules {20 * "2e"} {ID} 100644 ".gitmodules"\n'
 MODES = [
     Row(
-        "check_trees",
+        "check_push trees",
         f"mode {mode}",
         ["--modules"],
         f"{ID} tree {len(mode) + 33}\n{mode} .gitmodules\0{20 * '.'}\n",
@@ -147,7 +147,7 @@ def limits():
         header = f"{ID} blob 0 ".ljust(size - 1, "a") + "\n\n"
         entry = f"{'100644 '.ljust(size - 1, 'a')}\0{20 * '.'}"
         cut_path = f'(in "{128 * "a"}"{over * "..."})'
-        yield Row("check_refs", f"a line {where}", [], line, 2 * over, "", in_line)
+        yield Row("check_push refs", f"a line {where}", [], line, 2 * over, "", in_line)
         yield Row(
             "git_check_names",
             f"a name {where}",
@@ -158,10 +158,10 @@ def limits():
             "malformed input: name 2 is longer than 65535 bytes" * over,
         )
         yield Row(
-            "check_trees", f"a header {where}", [], header, 2 * over, "", in_object
+            "check_push trees", f"a header {where}", [], header, 2 * over, "", in_object
         )
         yield Row(
-            "check_trees",
+            "check_push trees",
             f"an entry {where}",
             [],
             f"{ID} tree {size + 20}\n{entry}\n",
@@ -170,7 +170,7 @@ def limits():
             in_object,
         )
         yield Row(
-            "check_trees",
+            "check_push trees",
             f"a path {where}",
             [],
             f"{ID} tree 31 {path}\n40000 .git\0{20 * '.'}\n",
@@ -178,10 +178,16 @@ def limits():
             f'{ID} 40000 ".git" {DOT_GIT} {cut_path}\n',
         )
         yield Row(
-            "check_submodules", f"a header {where}", [], header, 2 * over, "", in_object
+            "check_push submodules",
+            f"a header {where}",
+            [],
+            header,
+            2 * over,
+            "",
+            in_object,
         )
         yield Row(
-            "check_submodules",
+            "check_push submodules",
             f"a file {where}",
             [],
             f"{ID} blob {len(file)}\n{file}\n",
@@ -199,7 +205,7 @@ def test_what_is_limited_is_accepted_at_its_limit_and_not_a_byte_over_it(program
 
 
 # The word after the id is one of four types, and decides if the object is read.
-READ = {"check_trees": "tree", "check_submodules": "blob"}
+READ = {"check_push trees": "tree", "check_push submodules": "blob"}
 TYPES = [
     Row(
         program,
@@ -251,19 +257,19 @@ MIB_16 = 16 * 1024 * 1024
 OTHER_OBJECT = f"{ID} commit 17000000\n{17000000 * 'a'}\n"
 
 
-def test_a_tree_of_more_than_16_mib_is_read_to_its_end(check_trees):
+def test_a_tree_of_more_than_16_mib_is_read_to_its_end(check_push_trees):
     entry, last = f"100644 {65528 * 'a'}\0{20 * '.'}", f"40000 .git\0{20 * '.'}"
     entries = 300 * entry + last
     assert len(entries) > MIB_16
     tree = f"{ID} tree {len(entries)}\n{entries}\n"
-    ran = check_trees.run((OTHER_OBJECT + tree).encode())
+    ran = check_push_trees.run((OTHER_OBJECT + tree).encode())
     assert ran == Ran(1, BAD_TREE.encode(), "")
 
 
-def test_a_file_of_16_mib_is_read_to_its_end(check_submodules):
+def test_a_file_of_16_mib_is_read_to_its_end(check_push_submodules):
     blob = f"{ID} blob {MIB_16}\n{MODULES.rjust(MIB_16, 'a')}\n"
     line = BAD_MODULES.replace(f"{ID} 0", f"{ID} {MIB_16 - len(MODULES)}")
-    ran = check_submodules.run((OTHER_OBJECT + blob).encode())
+    ran = check_push_submodules.run((OTHER_OBJECT + blob).encode())
     assert ran == Ran(1, line.encode(), "")
 
 
@@ -292,7 +298,7 @@ class Longest(NamedTuple):
 LONG_PATH, CUT, LONG_ID = 128 * "\1", "[submodule", 2 * ID[:32]
 LONGEST = [
     Longest(
-        "check_refs",
+        "check_push refs",
         "references",
         [],
         "",
@@ -301,9 +307,9 @@ LONGEST = [
         100,
         4,
     ),
-    Longest("check_refs", "ids", ["--ids"], "", f"{ZERO} {ID} A\n", "", 1000, 1),
+    Longest("check_push refs", "ids", ["--ids"], "", f"{ZERO} {ID} A\n", "", 1000, 1),
     Longest(
-        "check_trees",
+        "check_push trees",
         "entries",
         [],
         f"{ID} tree 24000 {LONG_PATH}\n",
@@ -313,7 +319,7 @@ LONGEST = [
         30,
     ),
     Longest(
-        "check_trees",
+        "check_push trees",
         "files",
         ["--modules"],
         f"{ID} tree 36000 {LONG_PATH}\n",
@@ -323,7 +329,7 @@ LONGEST = [
         18,
     ),
     Longest(
-        "check_submodules",
+        "check_push submodules",
         "sections that can't be read",
         [],
         f"{LONG_ID} blob 10000\n",
@@ -333,7 +339,7 @@ LONGEST = [
         10,
     ),
     Longest(
-        "check_submodules",
+        "check_push submodules",
         "names",
         [],
         f"{LONG_ID} blob 14000\n",
@@ -343,7 +349,7 @@ LONGEST = [
         8,
     ),
     Longest(
-        "check_submodules",
+        "check_push submodules",
         "large files",
         [],
         f"{LONG_ID} blob 16777217\n",

@@ -163,10 +163,10 @@ REFUSED = {
     ),
     "a clause without a name gets one": Refused(
         "update-promises",
-        "crates/programs/src/command.rt",
-        "ensures { Does",
-        "ensures does { Does",
-        "programs::command::execute does has no must-fail",
+        "crates/programs/src/lib.rt",
+        "ensures { IfSome",
+        "ensures prints { IfSome",
+        "programs::print prints has no must-fail",
     ),
     "bad bytes are in rows of too many kinds": Refused(
         "update-byte-tables",

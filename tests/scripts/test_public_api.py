@@ -55,7 +55,7 @@ def test_a_law_that_is_weakened_to_a_copy_of_another_is_shown(copy):
         "+        ensures well_formed { IsReportedInOrder self }",
     ]
     # No promise rests on its definition any more.
-    assert "-abbrev pub IsWellFormedOnlyIfSpelled : RefsOptions → Type 0" in lines
+    assert "-abbrev pub IsWellFormedOnlyIfSpelled : Options → Type 0" in lines
 
 
 def test_a_changed_definition_is_shown(copy):

@@ -170,11 +170,10 @@ module _ (options : Options) (text : List ℕ) where
       (λ e. valid_by (asked_of options) refl (sym is ∙ e), λ all. is ∙ valid_if all)
 
 -- what a run does decides whether all are valid
-pub valid_run : {R W : Type 0} (options : Options) (remaining : R → Option (List ℕ))
-    (contents : W → Option (List ℕ)) (input rest : R) (output written : W) (ran : Ran Verdict)
-    → Runs options remaining contents input rest output written ran
-    → IfOk ran (λ verdict. IfSome (text_for options (remaining input)) (IsValidIff options verdict))
-valid_run options remaining contents input rest output written ran runs =
+pub valid_run : (options : Options) (input rest output written : Option (List ℕ)) (ran : Ran Verdict)
+    → Runs options input rest output written ran
+    → IfOk ran (λ verdict. IfSome (text_for options input) (IsValidIff options verdict))
+valid_run options input rest output written ran runs =
     IfOk-weaker ran _ _ (λ verdict known.
-    IfSome_then (text_for options (remaining input)) known (λ text so. valid_iff options text verdict so.1))
+    IfSome_then (text_for options input) known (λ text so. valid_iff options text verdict so.1))
     runs.verdict

@@ -154,18 +154,17 @@ is_stopped verdict = false
 abbrev pub text_for : Options → Option (List ℕ) → Option (List ℕ)
 text_for options input = if options.reads then input else Some []
 
--- What a run does.
-pub record Runs {R W : Type 0} (options : Options) (remaining : R → Option (List ℕ))
-    (contents : W → Option (List ℕ)) (input rest : R) (output written : W) (ran : Ran Verdict) : Type 0 where
+-- What a run does, where the bytes that it reads and writes are known.
+pub record Runs (options : Options) (input rest output written : Option (List ℕ)) (ran : Ran Verdict)
+    : Type 0 where
   -- just the report is written, and decides the verdict
-  pub verdict : IfOk ran (λ verdict. IfSome (text_for options (remaining input)) (λ text.
-      Appends (contents output) (contents written) (report_of options text).0.lines
-      × (verdict ≡ verdict_of (report_of options text))))
+  pub verdict : IfOk ran (λ verdict. IfSome (text_for options input) (λ text.
+      Appends output written (report_of options text).0.lines × (verdict ≡ verdict_of (report_of options text))))
   -- nothing is read if the names are arguments
   pub unread : options.reads ≡ false → rest ≡ input
   -- an input without a problem is read to its end
   pub spent : IfOk ran (λ verdict. options.reads ≡ true → is_stopped verdict ≡ false
-      → IfSome (remaining input) (λ _. remaining rest ≡ Some []))
+      → IfSome input (λ _. rest ≡ Some []))
   -- where reading or memory fails, a front of the report was written; of a failed write nothing is said
-  pub stopped : ran ≢ Err Write → OnErr ran (IfSome (text_for options (remaining input)) (λ text.
-      AppendsPrefixOf (contents output) (contents written) (report_of options text).0.lines))
+  pub stopped : ran ≢ Err Write → OnErr ran (IfSome (text_for options input) (λ text.
+      AppendsPrefixOf output written (report_of options text).0.lines))

@@ -32,8 +32,8 @@ use std::process::ExitCode;
 impl<'a> Command<'a> for CheckOptions<'a> {
     type Verdict = Verdict;
 
-    ghost Runs = { λ options R W remaining contents input rest output written ran.
-        Runs (as_options options) remaining contents input rest output written ran };
+    ghost Runs = { λ options input rest output written ran.
+        Runs (as_options options) input rest output written ran };
 
     ghost end_of = { end_of };
 
@@ -51,16 +51,11 @@ impl<'a> Command<'a> for CheckOptions<'a> {
         input: &mut R,
         output: &mut W,
     ) -> Result<Verdict, RunError>
-        ensures runs { Runs (as_options self.entry) R.remaining W.contents
-            input.old input.new output.old output.new result }
+        ensures runs { Runs (as_options self.entry) (R.remaining input.old) (R.remaining input.new)
+            (W.contents output.old) (W.contents output.new) result }
+        ensures unread { self.entry.reads ≡ false → input.new ≡ input.old }
         ensures valid { IfOk result (λ verdict.
             IfSome (text_for (as_options self.entry) (R.remaining input.old))
-            (IsValidIff (as_options self.entry) verdict)) }
-        ensures shown { (read rest output written : Option (List ℕ)) (ran : Ran Verdict)
-            → ⟦<CheckOptions<'static> as Command<'static>>⟧.Runs self.entry _ _
-            (λ known. known) (λ known. known) read rest output written ran
-            → Runs (as_options self.entry) (λ known. known) (λ known. known) read rest output written ran
-            × IfOk ran (λ verdict. IfSome (text_for (as_options self.entry) read)
             (IsValidIff (as_options self.entry) verdict)) }
     {
         check_names(alloc, self, input, output)
@@ -89,8 +84,9 @@ fn check_names<R: BufRead, W: Write>(
     input: &mut R,
     output: &mut W,
 ) -> Result<Verdict, RunError>
-    ensures runs { Runs (as_options options.entry) R.remaining W.contents
-        input.old input.new output.old output.new result }
+    ensures runs { Runs (as_options options.entry) (R.remaining input.old) (R.remaining input.new)
+        (W.contents output.old) (W.contents output.new) result }
+    ensures unread { options.entry.reads ≡ false → input.new ≡ input.old }
 {
     let (kind, names) = match asked_of(options) {
         Ok(asked) => asked,

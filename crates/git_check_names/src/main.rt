@@ -10,11 +10,29 @@ mod problem;
 mod quote;
 mod report;
 
-use programs::command::Command;
-use programs::run_command_with_operands;
 use options::{CheckOptions, HELP};
+use programs::arguments::arguments;
+use programs::command::{Program, execute_on_streams};
+use programs::error::RunError;
+use programs::fail;
+use programs::messages::Messages;
+use programs::operands::split_words;
 use std::process::ExitCode;
 
+const NAME: &str = "git-check-names";
+
 fn main(rt: HostRuntime) -> ExitCode {
-    run_command_with_operands!(rt, CheckOptions<'_>, name: "git-check-names", help: HELP, hint: "")
+    let mut errors = Messages::new(rt.stderr());
+    let arguments = match arguments(rt.alloc(), std::env::args(&rt), NAME, &mut errors) {
+        Ok(arguments) => arguments,
+        Err(status) => return status,
+    };
+    match split_words::<CheckOptions<'_>>(rt.alloc(), arguments) {
+        Ok(words) => {
+            let program = Program { name: NAME, help: HELP };
+            let start = CheckOptions::with_operands(&words.operands);
+            execute_on_streams(&rt, program, start, &words.options, &mut errors)
+        }
+        Err(_) => fail(NAME, RunError::Memory, &mut errors),
+    }
 }

@@ -31,17 +31,17 @@ wrong.";
 
 /// The options of a run.
 #[derive(Clone, Copy)]
-pub struct RefsOptions {
+pub struct Options {
     /// Whether a line is printed for each new id.
     pub lists_ids: bool,
     /// Whether names under `refs/replace/` are allowed.
     pub allows_replace: bool,
 }
 
-impl<'a> arguments::ParseOptions<'a> for RefsOptions {
-    ghost use Rattle.check_push.specs.declared.refs.options.RefsOptions.{RefsOptions};
+impl<'a> arguments::ParseOptions<'a> for Options {
+    ghost use Rattle.check_push.specs.declared.refs.options.Options.{Options};
 
-    ghost View = { RefsOptions };
+    ghost View = { Options };
 
     ghost view = { λ options. options };
 
@@ -50,7 +50,7 @@ impl<'a> arguments::ParseOptions<'a> for RefsOptions {
     ghost rule = { rule };
 
     fn start() -> Self {
-        RefsOptions {
+        Options {
             lists_ids: false,
             allows_replace: false,
         }

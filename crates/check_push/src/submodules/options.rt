@@ -32,16 +32,16 @@ argument is wrong.";
 
 /// How the input is checked.
 #[derive(Clone, Copy)]
-pub struct SubmodulesOptions {
+pub struct Options {
     /// Whether the input needs its end line (`--end`): no object is missing, and the line `..end
     /// missing` ends it.
     pub needs_end: bool,
 }
 
-impl<'a> arguments::ParseOptions<'a> for SubmodulesOptions {
-    ghost use Rattle.check_push.specs.declared.submodules.options.SubmodulesOptions.{SubmodulesOptions};
+impl<'a> arguments::ParseOptions<'a> for Options {
+    ghost use Rattle.check_push.specs.declared.submodules.options.Options.{Options};
 
-    ghost View = { SubmodulesOptions };
+    ghost View = { Options };
 
     ghost view = { λ options. options };
 
@@ -50,12 +50,12 @@ impl<'a> arguments::ParseOptions<'a> for SubmodulesOptions {
     ghost rule = { rule };
 
     fn start() -> Self {
-        SubmodulesOptions { needs_end: false }
+        Options { needs_end: false }
     }
 
     fn set(self, name: &str, value: Option<&'a str>) -> Setting<'a, Self> {
         match value {
-            None if name == "--end" => Setting::Set(SubmodulesOptions { needs_end: true }),
+            None if name == "--end" => Setting::Set(Options { needs_end: true }),
             _ => Setting::Unknown,
         }
     }

@@ -19,7 +19,7 @@ ghost use Rattle.check_push.specs.Trees.Private.{as_entry_header, tree_report};
 ghost use Rattle.check_push.specs.Trees.Arguments.{as_options, protections_for};
 
 use crate::trees::entry::{EntryHeader, parse_entry_header};
-use crate::trees::options::TreesOptions;
+use crate::trees::options::Options;
 use crate::trees::report::{set_modules, set_refused};
 use bstr::BStr;
 use gix_validate::path::{self, ComponentError, ComponentMode, ComponentOptions};
@@ -35,12 +35,12 @@ use std::alloc::Global;
 use std::io::{BufRead, Write};
 use std::process::ExitCode;
 
-impl<'a> Command<'a> for TreesOptions<'a> {
+impl<'a> Command<'a> for Options<'a> {
     type Verdict = Verdict;
 
-    ghost Runs = { λ options R W remaining contents input rest output written ran.
+    ghost Runs = { λ options input rest output written ran.
         Gives (report (as_options options)) object_reach (IsAcceptedStream (as_options options))
-        (remaining input) (remaining rest) (contents output) (contents written) ran };
+        input rest output written ran };
 
     ghost end_of = { end_of (codes "object") [] };
 
@@ -73,12 +73,6 @@ impl<'a> Command<'a> for TreesOptions<'a> {
             (tree_rule (as_options self.entry)) self.entry.needs_end }
         ensures whole { IsWholeStream (tree_rule (as_options self.entry)) self.entry.needs_end }
         ensures items { IsReadAsItems (as_options self.entry) }
-        ensures shown { (read rest output written : Option (List ℕ)) (ran : Ran Verdict)
-            → ⟦<TreesOptions<'static> as Command<'static>>⟧.Runs self.entry _ _
-            (λ known. known) (λ known. known) read rest output written ran
-            → Runs (report (as_options self.entry)) object_reach read rest output written ran
-            × IfOk ran (λ verdict.
-            IfSome read (IsCleanIff (IsAcceptedStream (as_options self.entry)) verdict)) }
     {
         objects::run(alloc, self, self.needs_end, input, output)
     }
@@ -100,7 +94,7 @@ impl<'a> Command<'a> for TreesOptions<'a> {
 }
 
 /// Trees are checked, and other objects are skipped.
-impl ObjectCheck for TreesOptions<'_> {
+impl ObjectCheck for Options<'_> {
     ghost object_rule = { λ options. tree_rule (as_options options) };
 
     fn check_object<R: BufRead, W: Write>(
@@ -122,7 +116,7 @@ impl ObjectCheck for TreesOptions<'_> {
 
 /// Checks a tree, and returns whether an entry was refused.
 fn check_tree<R: BufRead, W: Write>(
-    options: TreesOptions<'_>,
+    options: Options<'_>,
     tree: Object<'_>,
     input: &mut R,
     output: &mut W,
@@ -151,7 +145,7 @@ struct Checked {
 
 /// Checks the first entry of the last `left` bytes of a tree.
 fn check_entry<R: BufRead, W: Write>(
-    options: TreesOptions<'_>,
+    options: Options<'_>,
     tree: Object<'_>,
     left: u64,
     input: &mut R,
@@ -209,7 +203,7 @@ enum Finding {
 }
 
 /// The result for an entry with these options.
-fn finding_of(options: TreesOptions<'_>, front: EntryHeader<'_>) -> Finding
+fn finding_of(options: Options<'_>, front: EntryHeader<'_>) -> Finding
     ensures { result ≡ finding_of (as_options options.entry) (as_entry_header front.entry) }
 {
     // A name that is valid for a symbolic link is valid for any entry, and under fewer switches. Nearly
@@ -224,7 +218,7 @@ fn finding_of(options: TreesOptions<'_>, front: EntryHeader<'_>) -> Finding
 /// The result for an entry whose name may be refused.
 #[cold]
 #[inline(never)]
-fn finding_of_suspect(options: TreesOptions<'_>, front: EntryHeader<'_>) -> Finding
+fn finding_of_suspect(options: Options<'_>, front: EntryHeader<'_>) -> Finding
     ensures { result ≡ finding_of (as_options options.entry) (as_entry_header front.entry) }
 {
     let protections = protections_for(options, front.name);
@@ -238,7 +232,7 @@ fn finding_of_suspect(options: TreesOptions<'_>, front: EntryHeader<'_>) -> Find
 }
 
 /// The switches for a name.
-fn protections_for(options: TreesOptions<'_>, name: &[u8]) -> ComponentOptions
+fn protections_for(options: Options<'_>, name: &[u8]) -> ComponentOptions
     ensures { result ≡ protections_for (as_options options.entry) name.now }
 {
     if is_piece(name, options.accepted) {

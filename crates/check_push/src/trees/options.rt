@@ -44,7 +44,7 @@ reads as a path, and which `git fsck` refuses.";
 
 /// How the input is checked.
 #[derive(Clone, Copy)]
-pub struct TreesOptions<'a> {
+pub struct Options<'a> {
     /// The file systems to protect.
     pub protections: ComponentOptions,
     /// Whether files that a checkout reads as `.gitmodules` are listed too (`--modules`).
@@ -57,7 +57,7 @@ pub struct TreesOptions<'a> {
 }
 
 /// If there are several lists of protections or of names, the last one counts.
-impl<'a> ParseOptions<'a> for TreesOptions<'a> {
+impl<'a> ParseOptions<'a> for Options<'a> {
     ghost View = { Options };
 
     ghost view = { λ options. as_options options };
@@ -67,7 +67,7 @@ impl<'a> ParseOptions<'a> for TreesOptions<'a> {
     ghost rule = { rule };
 
     fn start() -> Self {
-        TreesOptions {
+        Options {
             protections: ComponentOptions::default(),
             modules: false,
             needs_end: false,

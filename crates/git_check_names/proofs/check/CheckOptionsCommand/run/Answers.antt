@@ -2,7 +2,4 @@ use Rattle.git_check_names.proofs.AllValid.{valid_run}
 use Rattle.git_check_names.proofs.check.CheckOptionsCommand.run.Goals as goal
 
 pub returns-clause-valid : goal.returns-clause-valid
-returns-clause-valid g c = valid_run _ _ _ _ _ _ _ _ c.check_names.ensures.runs
-
-pub returns-clause-shown : goal.returns-clause-shown
-returns-clause-shown g c = λ read rest output written ran runs. (runs, valid_run _ _ _ _ _ _ _ _ runs)
+returns-clause-valid g c = valid_run _ _ _ _ _ _ c.check_names.ensures.runs

@@ -7,17 +7,7 @@ import subprocess
 
 import pytest
 
-from tests.programs.program import (
-    DOT_GIT,
-    ID,
-    ROOT,
-    TREE,
-    ZERO,
-    Ran,
-    Row,
-    read,
-    rows,
-)
+from tests.programs.program import DOT_GIT, ID, ROOT, TREE, ZERO, Ran, Row, read, rows
 
 # The kinds of line of check_names, by their definition.
 KINDS = re.findall(

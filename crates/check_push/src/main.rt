@@ -8,9 +8,10 @@ mod trees;
 
 use options::{HELP, Subcommand, subcommand_of};
 use programs::arguments::{ArgumentError, ParseOptions, arguments, fail_arguments};
-use programs::command::{Program, execute_on_streams};
+use programs::command::execute_on_streams;
 use programs::messages::Messages;
 use programs::{VERSION, fail, print};
+use std::io::Write;
 use std::process::ExitCode;
 
 const NAME: &str = "check_push";
@@ -34,18 +35,30 @@ fn main(rt: HostRuntime) -> ExitCode {
         _ => {}
     }
     match subcommand_of(word) {
-        Some(Subcommand::Refs) => {
-            let program = Program { name: "check_push refs", help: refs::options::HELP };
-            execute_on_streams(&rt, program, refs::options::Options::start(), rest, &mut errors)
-        }
-        Some(Subcommand::Trees) => {
-            let program = Program { name: "check_push trees", help: trees::options::HELP };
-            execute_on_streams(&rt, program, trees::options::Options::start(), rest, &mut errors)
-        }
-        Some(Subcommand::Submodules) => {
-            let program = Program { name: "check_push submodules", help: submodules::options::HELP };
-            execute_on_streams(&rt, program, submodules::options::Options::start(), rest, &mut errors)
-        }
+        Some(subcommand) => check(&rt, subcommand, rest, &mut errors),
         None => fail_arguments(NAME, ArgumentError::Unknown(word), &mut errors),
+    }
+}
+
+/// Does what the arguments of a subcommand say.
+fn check<E: Write>(
+    rt: &HostRuntime,
+    subcommand: Subcommand,
+    arguments: &[String],
+    errors: &mut Messages<E>,
+) -> ExitCode {
+    match subcommand {
+        Subcommand::Refs => {
+            let start = refs::options::Options::start();
+            execute_on_streams(rt, refs::PROGRAM, start, arguments, errors)
+        }
+        Subcommand::Trees => {
+            let start = trees::options::Options::start();
+            execute_on_streams(rt, trees::PROGRAM, start, arguments, errors)
+        }
+        Subcommand::Submodules => {
+            let start = submodules::options::Options::start();
+            execute_on_streams(rt, submodules::PROGRAM, start, arguments, errors)
+        }
     }
 }

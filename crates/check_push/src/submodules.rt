@@ -5,6 +5,15 @@ mod check;
 pub mod options;
 mod report;
 
+use options::HELP;
+use programs::command::Program;
+
+/// The subcommand's texts.
+pub const PROGRAM: Program<'static> = Program {
+    name: "check_push submodules",
+    help: HELP,
+};
+
 /// What a message adds if the first line is not a header line.
 const HEADER_HINT: &str =
     "; if it says that a name is missing, Git has no such object; a file is passed as in: \

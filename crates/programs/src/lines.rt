@@ -9,7 +9,7 @@ ghost use Rattle.std.specs.Prelude.{IfOk, OnErr, IfSome, OnSome};
 ghost use Rattle.std.specs.Io.KnownBytes.{Appends, Consumes, IsAtEnd};
 ghost use Rattle.programs.specs.Messages.{AppendsPrefixOf};
 ghost use Rattle.gix_validate.specs.Bytes.{is_empty};
-ghost use Rattle.programs.specs.Reports.{IsWhole, LeavesTheEnd, LineRule, Reach};
+ghost use Rattle.programs.specs.Reports.{LeavesTheEnd, LineRule, Reach};
 ghost use Rattle.programs.specs.Reports.{malformation_at_end, is_malformed, report, verdict_of};
 ghost use Rattle.programs.specs.Promises.{FollowsRule, ReadsWithin, StopsWithin, is_end_word};
 
@@ -96,8 +96,6 @@ pub fn run<C: LineCheck, R: BufRead, W: Write>(
         Appends (W.contents output.old) (W.contents output.new)
         (report (C.line_rule check) ending text).said.lines
         × (verdict ≡ verdict_of (report (C.line_rule check) ending text)))) }
-    ensures end { IfOk result (λ verdict. is_malformed verdict ≡ false
-        → OnSome (R.remaining input.old) (IsAtEnd (R.remaining input.new))) }
     ensures spent { IfOk result (λ verdict. is_malformed verdict ≡ false
         → IfSome (R.remaining input.old) (λ _. R.remaining input.new ≡ Some [])) }
     ensures within { IfOk result (λ verdict. is_malformed verdict ≡ true
@@ -107,7 +105,6 @@ pub fn run<C: LineCheck, R: BufRead, W: Write>(
         → OnErr result (IfSome (R.remaining input.old) (λ text.
         AppendsPrefixOf (W.contents output.old) (W.contents output.new)
         (report (C.line_rule check) ending text).said.lines)) }
-    ensures whole { IsWhole (C.line_rule check) }
 {
     let mut line = Vec::new(alloc);
     let mut buffers = Buffers {

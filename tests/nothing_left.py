@@ -17,6 +17,7 @@ class Room:
 
     def __init__(self, config):
         self.path, self.is_kept = tempfile.mkdtemp(prefix="tests."), False
+        os.chmod(self.path, 0o711)  # (some tests run a program as another user)
         self.say = lambda line: config.get_terminal_writer().line(f"\n{line}")
         self.before = os.environ.get("TMPDIR")
         self.set(self.path)

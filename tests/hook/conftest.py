@@ -1,7 +1,8 @@
 """What the tests of the hook and the scan get if they name it as an argument.
 
 Pushes go from a temporary repository to temporary servers, with real Git. Each test
-runs with SHA-1 objects and again with SHA-256.
+runs with SHA-1 objects and again with SHA-256, unless it has the mark `one_format`: that
+is for what no id plays a part in, such as a program that fails.
 
 - `source`: the repository to push from. git.py makes its blobs, trees, commits and
   tags, also those that Git refuses to make.
@@ -43,7 +44,14 @@ def git():
         pytest.skip(f"needs Git 2.39 or later, and this is {version}")
 
 
-@pytest.fixture(scope="session", params=["sha1", "sha256"])
+def pytest_generate_tests(metafunc):
+    if "object_format" in metafunc.fixturenames:
+        is_one = metafunc.definition.get_closest_marker("one_format")
+        formats = ["sha1"] if is_one else ["sha1", "sha256"]
+        metafunc.parametrize("object_format", formats, True, scope="session")
+
+
+@pytest.fixture(scope="session")
 def object_format(request):
     return request.param
 

@@ -53,6 +53,7 @@ def test_if_the_list_with_folders_fails_the_name_is_refused_without_its_folder(
 
 
 @pytest.mark.parametrize("words", ["--batch", "--buffer"], ids=["trees", ".gitmodules"])
+@pytest.mark.one_format
 def test_objects_that_take_git_too_long_to_print_refuse_the_push(hook, source, words):
     hook.stand_in(f"git cat-file {words}", "while :; do :; done")
     result = hook.run(source.pushes["submodule"].lines)
@@ -97,11 +98,13 @@ def dump(source):
     source.git("update-ref", "-d", "refs/heads/dump")
 
 
+@pytest.mark.one_format
 def test_a_large_file_in_a_small_pack_of_thousands_of_files_is_accepted(server, dump):
     """To unpack it, Git would need more memory than such a pack may take."""
     assert server.push(dump) == ACCEPTED
 
 
+@pytest.mark.one_format
 def test_of_more_names_in_namespaces_than_are_kept_none_is_accepted(hook, source):
     """The lines after them are not read."""
     names = [f"refs/namespaces/a/refs/heads/{n}/{'x' * 60_000}" for n in range(300)]
@@ -225,6 +228,7 @@ def test_the_objects_of_a_push_are_found_without_the_name_of_the_quarantine(
     assert seconds >= 10 + 4 and kilobytes >= (136 + 4) << 10
 
 
+@pytest.mark.one_format
 def test_no_part_leaves_a_core_file(hook, source, room):
     hook.stand_in("check_push trees", f"""ulimit -c > '{room}/limit'""")
     hook.run(
@@ -234,6 +238,7 @@ def test_no_part_leaves_a_core_file(hook, source, room):
     assert (room / "limit").read_text() == "0\n"
 
 
+@pytest.mark.one_format
 def test_what_git_cat_file_may_take_grows_with_the_size_of_the_objects(
     hook, source, room, incoming
 ):
@@ -255,6 +260,7 @@ def test_what_git_cat_file_may_take_grows_with_the_size_of_the_objects(
         ("echo x; exit 0", "the sizes of the objects could not be read"),
     ],
 )
+@pytest.mark.one_format
 def test_if_the_sizes_of_objects_cannot_be_listed_the_push_is_refused(
     hook, incoming, measured_push, way, why
 ):
@@ -283,6 +289,7 @@ def test_what_git_cat_file_may_take_grows_with_what_the_server_borrows(
         ("git cat-file --batch=", 3, 240),
     ],
 )
+@pytest.mark.one_format
 def test_a_setting_multiplies_what_a_part_may_take(
     hook, server, source, room, part, seconds, megabytes
 ):
@@ -384,6 +391,7 @@ def small_folders_in_each_other(incoming):
         small_folders_in_each_other,
     ],
 )
+@pytest.mark.one_format
 def test_if_git_needs_too_much_memory_to_list_trees_the_push_is_refused(
     incoming, measured_push, make
 ):
@@ -399,6 +407,7 @@ LISTED = (
 )
 
 
+@pytest.mark.one_format
 def test_nine_branches_with_messages_of_12_MB_are_accepted(incoming, measured_push):
     large = [large_commit(incoming, 12_000_000 + n) for n in range(9)]
     result, megabytes = measured_push(*large)
@@ -406,12 +415,14 @@ def test_nine_branches_with_messages_of_12_MB_are_accepted(incoming, measured_pu
     assert megabytes < 192
 
 
+@pytest.mark.one_format
 def test_folders_in_each_other_that_have_100_MB_are_accepted(incoming, measured_push):
     result, megabytes = measured_push(incoming.commit(nested(incoming, 200, 500_000)))
     assert result == ACCEPTED
     assert megabytes < 192
 
 
+@pytest.mark.one_format
 def test_many_versions_of_a_large_folder_are_accepted(incoming, measured_push):
     folders = []
     for n in range(20):
@@ -422,6 +433,7 @@ def test_many_versions_of_a_large_folder_are_accepted(incoming, measured_push):
     assert megabytes < 192
 
 
+@pytest.mark.one_format
 def test_large_files_take_no_memory_in_folders_and_as_references(
     incoming, measured_push
 ):
@@ -433,6 +445,7 @@ def test_large_files_take_no_memory_in_folders_and_as_references(
     assert megabytes < 64
 
 
+@pytest.mark.one_format
 def test_a_tree_that_is_too_large_to_print_refuses_the_push(incoming, measured_push):
     """What check_push trees says of its input, which has no end then, is no help."""
     result, _ = measured_push(nested(incoming, 1, 110_000_000))
@@ -444,6 +457,7 @@ def test_a_tree_that_is_too_large_to_print_refuses_the_push(incoming, measured_p
     )
 
 
+@pytest.mark.one_format
 def test_a_tree_whose_delta_needs_much_more_than_the_tree_refuses_the_push(
     incoming, measured_push
 ):
@@ -463,6 +477,7 @@ def test_a_tree_whose_delta_needs_much_more_than_the_tree_refuses_the_push(
     assert megabytes < 192
 
 
+@pytest.mark.one_format
 def test_if_the_server_has_large_commits_a_push_is_refused_until_they_go(
     server, source
 ):
@@ -476,6 +491,7 @@ def test_if_the_server_has_large_commits_a_push_is_refused_until_they_go(
     assert server.push(source.clean) == ACCEPTED
 
 
+@pytest.mark.one_format
 def test_if_the_server_has_large_commits_a_setting_allows_pushes(server, source):
     large = [large_commit(source, 80_000_000 + n) for n in range(2)]
     server.already_has(*(f"{it}:refs/heads/{n}" for n, it in enumerate(large)))
@@ -543,6 +559,7 @@ def spellings(source, count, size):
     return source.tree(*(file(name, source.good_modules) for name in sorted(names)))
 
 
+@pytest.mark.one_format
 def test_thousands_of_spellings_of_gitmodules_take_little_memory(source, measured):
     """The report about them has 90 MB. They took gigabytes once, and a minute."""
     commit = source.commit(spellings(source, 1500, 15_000))
@@ -552,6 +569,7 @@ def test_thousands_of_spellings_of_gitmodules_take_little_memory(source, measure
     assert seconds < 10
 
 
+@pytest.mark.one_format
 def test_more_names_than_a_push_of_its_size_may_have_refuse_it(source, measured):
     """Some kilobytes of pack can be gigabytes of names."""
     commit = source.commit(spellings(source, 3000, 15_000))
@@ -562,6 +580,7 @@ def test_more_names_than_a_push_of_its_size_may_have_refuse_it(source, measured)
     assert seconds < 10
 
 
+@pytest.mark.one_format
 def test_of_very_many_refused_names_the_first_are_read(source, measured):
     devices = [f"aux.{n:06d}" for n in range(200_000)]
     result, megabytes, seconds = measured(source.commit_of(*devices))
@@ -575,6 +594,7 @@ def test_of_very_many_refused_names_the_first_are_read(source, measured):
     assert seconds < 10
 
 
+@pytest.mark.one_format
 def test_of_very_many_refused_submodules_the_first_are_read(source, measured):
     modules = source.blob('[submodule ".."]\n' * 200_000)
     commit = source.commit_of(file(".gitmodules", modules))
@@ -589,6 +609,7 @@ def test_of_very_many_refused_submodules_the_first_are_read(source, measured):
     assert seconds < 10
 
 
+@pytest.mark.one_format
 def test_a_file_of_some_hundred_megabytes_is_not_read_into_memory(source, measured):
     """A few kilobytes of pack."""
     modules = source.blob(b"#" * 200_000_000)

@@ -4,6 +4,8 @@ import pytest
 
 from tests.hook.expected import ACCEPTED, Result, not_checked
 
+pytestmark = pytest.mark.one_format
+
 # The parts of the hook, with what it says if that part fails at once. (`git config` is
 # git, where its words are these, and `check_push refs` likewise.)
 REASONS = {

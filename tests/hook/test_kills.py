@@ -10,6 +10,8 @@ import pytest
 
 from tests.hook.processes import end, start
 
+pytestmark = pytest.mark.one_format
+
 KILLS = 30
 
 

@@ -12,6 +12,8 @@ from tests.hook.expected import (
     refused,
 )
 
+pytestmark = pytest.mark.one_format
+
 
 @pytest.fixture
 def keep(two_hooks):

@@ -9,6 +9,8 @@ from tests.hook.expected import not_checked
 from tests.hook.installed import PROGRAM
 from tests.hook.processes import write_script
 
+pytestmark = pytest.mark.one_format
+
 NO_PROGRAM = "could not be started: Exec format error (os error 8)"
 
 

@@ -17,6 +17,8 @@ from tests.hook.expected import (
     refused,
 )
 
+pytestmark = pytest.mark.one_format
+
 
 def refused_name(name, fault):
     return refused(bad_name(name, fault), RENAME_THE_FILE)

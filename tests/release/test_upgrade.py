@@ -36,13 +36,13 @@ def test_an_upgrade_leaves_nothing_of_the_release_before(upgraded, one, other, f
 
 
 @need("strace")
-def test_no_hostile_push_is_accepted_during_50_slow_upgrades(
+def test_no_hostile_push_is_accepted_during_20_slow_upgrades(
     legacy, one, other, fresh, hostile
 ):
     hook = legacy / "libexec/gix-validate/pre-receive"
     hostile.set_hook(legacy)
     with hostile.pushes_on() as pushes:
-        for _ in rounds(25, pushes):
+        for _ in rounds(10, pushes):
             for release in [other, one]:
                 ran = run_slowly(legacy, hook, release / "install", legacy)
                 assert ran.status == 0, ran.said

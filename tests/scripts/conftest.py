@@ -5,9 +5,15 @@ import pytest
 from tests.scripts.copies import Copy
 
 
-@pytest.fixture
-def copy(tmp_path):
-    """A copy of the repository with nothing built. (It goes after the test: pytest would
-    keep all copies of three runs.)"""
-    with Copy(tmp_path) as copy:
+@pytest.fixture(scope="session")
+def shared(tmp_path_factory):
+    with Copy(tmp_path_factory.mktemp("copy")) as copy:
         yield copy
+
+
+@pytest.fixture
+def copy(shared):
+    """A copy of the repository with nothing built. All tests have the same one, and what
+    a test changes there is undone after it."""
+    yield shared
+    shared.restore()

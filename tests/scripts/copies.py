@@ -3,6 +3,7 @@
 import os
 import re
 import shutil
+import stat
 import subprocess
 from pathlib import Path
 from typing import NamedTuple
@@ -12,6 +13,27 @@ STAND_IN = Path(__file__).resolve().parent / "stand_ins/rt"
 INPUT = "tag a\ntag b\n"
 # What is not committed, or no script reads.
 LEFT_OUT = (".git", "out", "target", "native", "__pycache__", ".*_cache", ".hypothesis")
+
+
+def state_of(folder):
+    """What a folder has, by its path there: its kind, and of files the size and the time.
+    (What Python compiled may stay, since it looks at the time itself.)"""
+    found = {}
+    for place, folders, names in os.walk(folder):
+        folders[:] = [name for name in folders if name != "__pycache__"]
+        for name in folders + names:
+            path = Path(place, name)
+            of = path.lstat()
+            it = () if stat.S_ISDIR(of.st_mode) else (of.st_size, of.st_mtime_ns)
+            found[path.relative_to(folder)] = (of.st_mode, *it)
+    return found
+
+
+def remove(path):
+    if path.is_dir() and not path.is_symlink():
+        shutil.rmtree(path)
+    else:
+        path.unlink(missing_ok=True)
 
 
 class Ended(NamedTuple):
@@ -39,6 +61,20 @@ class Copy:
                 shutil.copy2(ROOT / name, self.path / name, follow_symlinks=False)
         self.bin.mkdir()
         (self.bin / "rt").symlink_to(STAND_IN)
+        self.does = "nothing"
+        self.state = state_of(self.path)
+
+    def restore(self):
+        """Makes all as it was before a test, which changes few files."""
+        for path in {*self.room.iterdir()} - {self.path, self.bin}:
+            remove(path)
+        now = state_of(self.path)
+        for name in sorted(now.keys() - self.state.keys()):
+            remove(self.path / name)  # (or its folder was removed before)
+        for name, before in self.state.items():
+            if now.get(name) != before:
+                remove(self.path / name)
+                shutil.copy2(ROOT / name, self.path / name, follow_symlinks=False)
         self.does = "nothing"
 
     def __enter__(self):

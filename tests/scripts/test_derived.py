@@ -268,28 +268,29 @@ def test_a_command_fails_and_writes_nothing_if(copy, refused):
     assert copy.read(refused.file) == changed
 
 
-@pytest.mark.parametrize(
-    "file, text",
-    [
-        ("bindings/c/gix_validate.h", "#define GIX_VALIDATE_VERSION 4005006u\n"),
-        ("bindings/c/gix_validate.pc", "\nVersion: 4.5.6~dev\n"),
-        ("bindings/python/gix_validate.py", '\n__version__ = "4.5.6.dev0"\n'),
-        ("bindings/python/gix_validate.py", "\n_VERSION = (4, 5, 6)\n"),
-        ("bindings/js/package.json", '"version": "4.5.6-dev"'),
-        ("bindings/rust/Cargo.toml", '"0.13.1+dihareku.4.5.6-dev"'),
-        ("bindings/c/README.md", "gix_validate 4 "),
-        ("crates/programs/src/lib.rt", 'pub const VERSION: &str = "4.5.6-dev";'),
-        ("crates/gix_validate_c/src/version.rt", "version_number 4 5 6 }"),
-        ("docs/RULES.md", "now 4005006 for 4.5.6.\n"),
-    ],
-)
-def test_a_new_version_is_written_in_the_form_of_each_tool(copy, file, text):
-    assert text not in copy.read(file)
+VERSIONS = [
+    ("bindings/c/gix_validate.h", "#define GIX_VALIDATE_VERSION 4005006u\n"),
+    ("bindings/c/gix_validate.pc", "\nVersion: 4.5.6~dev\n"),
+    ("bindings/python/gix_validate.py", '\n__version__ = "4.5.6.dev0"\n'),
+    ("bindings/python/gix_validate.py", "\n_VERSION = (4, 5, 6)\n"),
+    ("bindings/js/package.json", '"version": "4.5.6-dev"'),
+    ("bindings/rust/Cargo.toml", '"0.13.1+dihareku.4.5.6-dev"'),
+    ("bindings/c/README.md", "gix_validate 4 "),
+    ("crates/programs/src/lib.rt", 'pub const VERSION: &str = "4.5.6-dev";'),
+    ("crates/check_names/src/main.rt", 'const VERSION: &str = "4.5.6-dev";'),
+    ("crates/gix_validate_c/src/version.rt", "version_number 4 5 6 }"),
+    ("docs/RULES.md", "now 4005006 for 4.5.6.\n"),
+]
+
+
+def test_a_new_version_is_written_in_the_form_of_each_tool(copy):
+    assert not [text for file, text in VERSIONS if text in copy.read(file)]
     (copy.path / "VERSION").write_text("4.5.6-dev\n")
     ended = copy.dev("update-version")
     assert (ended.status, ended.output) == (0, "")
-    assert f"{file} is written\n" in ended.errors
-    assert text in copy.read(file)
+    for file, text in VERSIONS:
+        assert f"{file} is written\n" in ended.errors
+        assert text in copy.read(file), file
     assert copy.dev("update-version", "--check") == (0, "", "")
 
 

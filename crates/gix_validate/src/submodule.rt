@@ -1,8 +1,7 @@
 //! Submodule names: any nonempty name without a part `..`. Both `/` and `\` separate parts.
 //! Nothing else is refused: `/etc` is a submodule name.
 
-ghost use Rattle.std.specs.Prelude.{◌≡◌, ◌↔◌, ◌||◌, ◌&&◌, ◌==◌, ℕ, ◌+◌, ◌-◌, ◌≤◌, ◌<◌, false};
-ghost use Rattle.std.specs.Prelude.{length, slice_index, IsOk, IfOk, IsTrue, Some};
+ghost use Rattle.std.specs.Prelude.{◌≡◌, ◌↔◌, ◌&&◌, ◌==◌, ◌≤◌, length, IsOk, IfOk, IsTrue, Some};
 ghost use Rattle.std.specs.Str.{byte};
 ghost use Rattle.bstr.specs.BStr.{bstr_bytes};
 ghost use Rattle.gix_validate.specs.Submodule.{fault_of, has_parent_part, is_separator};
@@ -89,61 +88,23 @@ impl Pattern for TwoDots {
     }
 }
 
-/// Whether some part is `..`. Most names have no two dots in a row. The others are walked from the first
-/// two on, and short ones from the start: the third byte from an offset says at how many offsets from
-/// there on no part `..` begins. (If names of eight bytes were scanned, too, LLVM would make seven
-/// instructions more for all longer ones.)
+/// Whether some part is `..`. Most names have no two dots in a row, so they aren't split.
 #[inline(always)]
-#[tactic(auto, using(crate::proofs::Submodules::without_two_dots, crate::proofs::Submodules::some_parent, crate::proofs::Submodules::no_parent))]
+#[tactic(auto, using(crate::proofs::Submodules::without_two_dots))]
 fn has_parent_part(bytes: &[u8]) -> bool
     requires { 1 ≤ length bytes.now }
     ensures { result ≡ has_parent_part bytes.now }
 {
-    let mut at = 0;
-    if bytes.len() > 8 {
-        match scan::first_pair::<TwoDots>(bytes) {
-            Some(offset) => at = offset,
-            None => return false,
-        }
-    }
-    while at + 2 <= bytes.len() {
-        if ends_part(bytes, at + 2) {
-            if is_parent_at(bytes, at) {
-                return true;
-            }
-            at += 3;
-        } else if bytes[at + 2] == b'.'
-            && (is_separator(bytes[at]) || is_separator(bytes[at + 1]))
-        {
-            at += if is_separator(bytes[at + 1]) { 2 } else { 1 };
-        } else {
-            at += 4;
-        }
-    }
-    false
+    scan::first_pair::<TwoDots>(bytes).is_some() && has_parent_by_parts(bytes)
 }
 
-/// Whether a part that is `..` begins at this offset.
-#[inline(always)]
-fn is_parent_at(bytes: &[u8], at: usize) -> bool
-    requires { at + 2 ≤ length bytes.now }
-    ensures { result ≡ (slice_index bytes.now at == byte "." && slice_index bytes.now (at + 1) == byte "."
-        && (at == 0 || is_separator (slice_index bytes.now (at - 1)))
-        && (at + 2 == length bytes.now || is_separator (slice_index bytes.now (at + 2)))) }
+/// The same, by a look at each part.
+#[inline(never)]
+fn has_parent_by_parts(bytes: &[u8]) -> bool
+    ensures { result ≡ has_parent_part bytes.now }
 {
-    bytes[at] == b'.'
-        && bytes[at + 1] == b'.'
-        && (at == 0 || is_separator(bytes[at - 1]))
-        && ends_part(bytes, at + 2)
-}
-
-/// Whether a part ends before this offset.
-#[inline(always)]
-fn ends_part(bytes: &[u8], at: usize) -> bool
-    requires { at ≤ length bytes.now }
-    ensures { result ≡ (at == length bytes.now || is_separator (slice_index bytes.now at)) }
-{
-    at == bytes.len() || is_separator(bytes[at])
+    let mut parts = bytes.split(|byte| is_separator(*byte));
+    parts.any(|part| part == b"..".as_slice())
 }
 
 #[inline(always)]

@@ -1,8 +1,8 @@
 -- Ordinary names: no condition but the one on devices refuses one.
 use Rattle.gix_validate.proofs.Common.{◌≡◌, ℕ, ◌-◌, ◌<◌, ◌≤◌, Bool, true, false, ◌&&◌, ◌||◌, Option}
-use Rattle.gix_validate.proofs.Common.{None, Some, List, [], ◌∷◌, ◌++◌, length, get_or, refl, ◌∙◌}
+use Rattle.gix_validate.proofs.Common.{Some, List, [], ◌∷◌, ◌++◌, length, get_or, refl, ◌∙◌}
 use Rattle.gix_validate.proofs.Common.{arith, codes, slice_index, is_some, ◌==◌, list_any, byte}
-use Rattle.gix_validate.proofs.Common.{bytes_eq, or_parts, bytes_eq-Decides, length-map, nat_tests}
+use Rattle.gix_validate.proofs.Common.{bytes_eq, or_parts, bytes_eq-Decides, nat_tests}
 use Rattle.gix_validate.proofs.Common.{list_any_none, list_any_at, common_steps}
 use Rattle.gix_validate.proofs.Components.Laws.{case_law}
 use Rattle.gix_validate.proofs.OnLiterals.{components_on_literals}
@@ -13,7 +13,6 @@ use Rattle.gix_validate.proofs.Components.Forms.{form, form_at}
 use Rattle.gix_validate.specs.declared.path.ComponentError.TheVariants.{WindowsReservedName}
 use Rattle.gix_validate.specs.declared.path.ComponentError.TheVariants.{PathSeparator, DotGitDir}
 use Rattle.gix_validate.specs.declared.path.ComponentError.TheVariants.{SymlinkedGitModules}
-use Rattle.gix_validate.specs.declared.path.ComponentError.TheVariants.{Relative}
 use Rattle.gix_validate.specs.declared.path.ComponentMode.{ComponentMode}
 use Rattle.gix_validate.specs.declared.path.ComponentOptions.{ComponentOptions}
 use Rattle.gix_validate.specs.Private.Classes.{is_classed}
@@ -114,11 +113,6 @@ pub special_fault : (options : ComponentOptions) (mode : Option ComponentMode) (
 unfolding components_on_literals
 special_fault options mode x = grind (arith, case_law, bytes_eq-Decides)
 
-pub relative_fault : (options : ComponentOptions) (mode : Option ComponentMode) (x : List ℕ)
-    → (bytes_eq x (codes ".") || bytes_eq x (codes "..")) ≡ true → fault_of options mode x ≡ Some Relative
-unfolding fault_of conditions
-relative_fault options mode x dots = grind (arith, bytes_eq-Decides)
-
 pub ruleset faults_of_ordinary = (ordinary_fault, special_fault)
 
 pub separator_fault : (options : ComponentOptions) (mode : Option ComponentMode) (x : List ℕ)
@@ -126,14 +120,6 @@ pub separator_fault : (options : ComponentOptions) (mode : Option ComponentMode)
     → fault_of options mode x ≡ Some PathSeparator
 unfolding fault_of conditions
 separator_fault options mode x has = grind (arith, nat_tests, bytes_eq-Decides)
-
--- Without protections a name that is longer than `.gitmodules` is refused for a slash alone.
-pub unprotected_fault : (options : ComponentOptions) (mode : Option ComponentMode) (x : List ℕ)
-    → options.protect_windows ≡ false → options.protect_hfs ≡ false → options.protect_ntfs ≡ false
-    → 11 < length x → is_among x (byte "/") ≡ false → fault_of options mode x ≡ None
-unfolding fault_of conditions
-unprotected_fault options mode x windows hfs ntfs long whole =
-    grind (arith, nat_tests, length-map, bytes_eq-Decides)
 
 -- A name of one or two bytes is `.` or `..` if its first and its last are dots.
 pub relative_by_ends : (x : List ℕ) → 1 ≤ length x → length x < 3
@@ -144,4 +130,4 @@ relative_by_ends (p ∷ q ∷ []) some few = grind arith
 relative_by_ends _ some few = absurd (omega arith)
 
 -- what the search for the first fault takes from above
-pub ruleset first_faults = (relative_fault, separator_fault, ordinary_fault, unprotected_fault)
+pub ruleset first_faults = (separator_fault, ordinary_fault)

@@ -105,12 +105,12 @@ pub(super) fn is_device_by_letters(name: &[u8]) -> bool
     ensures { result ≡ is_device name.now }
 {
     match name {
-        [b'a' | b'A', b'u' | b'U', b'x' | b'X', rest @ ..] => ends_form(rest),
+        [b'a' | b'A', b'u' | b'U', b'x' | b'X', rest @ ..] => ends_device_form(rest),
         [b'c' | b'C', b'o' | b'O', b'n' | b'N', rest @ ..] => ends_console(rest),
         [b'c' | b'C', b'o' | b'O', b'm' | b'M', rest @ ..] => ends_in_nonzero_digit(rest),
         [b'l' | b'L', b'p' | b'P', b't' | b'T', rest @ ..] => ends_in_digit(rest),
-        [b'n' | b'N', b'u' | b'U', b'l' | b'L', rest @ ..] => ends_form(rest),
-        [b'p' | b'P', b'r' | b'R', b'n' | b'N', rest @ ..] => ends_form(rest),
+        [b'n' | b'N', b'u' | b'U', b'l' | b'L', rest @ ..] => ends_device_form(rest),
+        [b'p' | b'P', b'r' | b'R', b'n' | b'N', rest @ ..] => ends_device_form(rest),
         _ => false,
     }
 }
@@ -123,18 +123,18 @@ fn ends_console(rest: &[u8]) -> bool
         || (bytes_eq (lower (device_form rest.now)) (codes "in$")
         || bytes_eq (lower (device_form rest.now)) (codes "out$"))) }
 {
-    ends_form(rest) || form_is(rest, b"IN$") || form_is(rest, b"OUT$")
+    ends_device_form(rest) || device_form_is(rest, b"IN$") || device_form_is(rest, b"OUT$")
 }
 
-/// Whether the form of the name is the word, in any ASCII case. No byte of the word ends a form, or is
-/// cut from its end.
+/// Whether the device form of the name is the word, in any ASCII case. No byte of the word ends a form, or
+/// is cut from its end.
 #[inline(always)]
 #[tactic(auto, using(crate::proofs::Components::Devices::device_word))]
-fn form_is(name: &[u8], word: &[u8]) -> bool
+fn device_form_is(name: &[u8], word: &[u8]) -> bool
     requires { IsTrue (list_all (λ b. not (is_among (codes " .:\\") b)) word.now) }
     ensures { result ≡ bytes_eq (lower (device_form name.now)) (lower word.now) }
 {
-    strip_prefix_ignore_ascii_case(name, word).is_some_and(|rest| ends_form(rest))
+    strip_prefix_ignore_ascii_case(name, word).is_some_and(|rest| ends_device_form(rest))
 }
 
 #[inline(always)]
@@ -143,7 +143,7 @@ fn ends_in_digit(rest: &[u8]) -> bool
     ensures { result
         ≡ list_any (λ digit. bytes_eq (lower (device_form rest.now)) (digit ∷ [])) (codes "0123456789") }
 {
-    matches!(rest, [b'0'..=b'9', after @ ..] if ends_form(after))
+    matches!(rest, [b'0'..=b'9', after @ ..] if ends_device_form(after))
 }
 
 #[inline(always)]
@@ -152,13 +152,13 @@ fn ends_in_nonzero_digit(rest: &[u8]) -> bool
     ensures { result
         ≡ list_any (λ digit. bytes_eq (lower (device_form rest.now)) (digit ∷ [])) (codes "123456789") }
 {
-    matches!(rest, [b'1'..=b'9', after @ ..] if ends_form(after))
+    matches!(rest, [b'1'..=b'9', after @ ..] if ends_device_form(after))
 }
 
-/// Whether what follows a word adds nothing to the form.
+/// Whether what follows a word adds nothing to the device form.
 #[tactic(auto, using(crate::proofs::Components::Devices::device_left, crate::proofs::Components::Devices::device_all_left))]
 #[inline(always)]
-fn ends_form(rest: &[u8]) -> bool
+fn ends_device_form(rest: &[u8]) -> bool
     ensures { result ≡ is_empty (device_form rest.now) }
 {
     for byte in rest {

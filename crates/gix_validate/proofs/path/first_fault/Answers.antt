@@ -4,14 +4,14 @@ use Rattle.gix_validate.proofs.Blocks.ByteClasses.{classes_tell}
 use Rattle.gix_validate.proofs.path.first_fault.Goals as goal
 use Rattle.gix_validate.proofs.path.first_fault.Goals.{then-windows, else-windows}
 use Rattle.gix_validate.proofs.path.first_fault.Goals.{else-not-is_empty+else-has_separator}
-use Rattle.gix_validate.proofs.path.first_fault.Goals.{then-not-is_empty+then-name-le-MAX_SHORT+else-is_relative+else-not-has_class+else-has_class}
+use Rattle.gix_validate.proofs.path.first_fault.Goals.{then-not-is_empty+then-name-le-MAX_SHORT+else-not-has_class+else-has_class}
 
 pub returns-then-not-ends_illegally : goal.returns-then-not-ends_illegally
 returns-then-not-ends_illegally c = c.first_fault_of_ordinary.ensures c.args.options.protect_hfs
 
 pub first_fault_in_order-requires : goal.first_fault_in_order-requires
 first_fault_in_order-requires c = elim c.if-not-is_empty.branch [
-  | then-not-is_empty+then-name-le-MAX_SHORT+else-is_relative+else-not-has_class+else-has_class w ↦
+  | then-not-is_empty+then-name-le-MAX_SHORT+else-not-has_class+else-has_class w ↦
       let tell =
       classes_tell w.classes_of-classes.result c.args.name.now c.type_inv.name w.classes_of-classes.ensures in
       elim w.if-windows.branch [

@@ -1,6 +1,6 @@
 use Rattle.gix_validate.proofs.Common.{arith, nat_tests}
 use Rattle.gix_validate.proofs.Components.NtfsForm.{ntfs_ended}
-use Rattle.gix_validate.proofs.path.ntfs.ends_form.Goals as goal
+use Rattle.gix_validate.proofs.path.ntfs.ends_ntfs_form.Goals as goal
 
 pub returns-in-58 : goal.returns-in-58
 returns-in-58 c =

@@ -28,6 +28,7 @@ def derived():
         (CODE, "version_number ", " }", " ".join(parts)),
         (CODE, "(u32, u32, u32) = (", ")", ", ".join(parts)),
         ("crates/programs/src/lib.rt", 'pub const VERSION: &str = "', '";', version),
+        ("crates/check_names/src/main.rt", 'const VERSION: &str = "', '";', version),
         ("bindings/c/gix_validate.h", "#define GIX_VALIDATE_VERSION ", "u", number),
         ("bindings/c/gix_validate.pc", "\nVersion: ", "\n", version.replace("-", "~")),
         ("bindings/rust/Cargo.toml", 'version = "0.13.1+dihareku.', '"', version),

@@ -1,50 +1,58 @@
 -- The answer of a line from what it asks for, and the answers of a text from its first line.
-use Rattle.gix_validate.proofs.Common.{◌≡◌, ◌≢◌, ℕ, ◌+◌, List, [], ◌∷◌, ◌++◌, Option, Some, None}
-use Rattle.gix_validate.proofs.Common.{Result, MatchResult, codes, refl, ap, ◌∙◌, take, drop}
-use Rattle.gix_validate.proofs.Common.{append_assoc, append-nil, arith, nat_tests, common_steps}
-use Rattle.gix_validate.proofs.Common.{take_rest, option_map, All, All-from_get_or, All-head, All-tail}
-use Rattle.gix_validate.proofs.Common.{eq-eqb, get_or-take, length-take}
+use Rattle.gix_validate.proofs.Common.{◌≡◌, ◌≢◌, ℕ, List, [], ◌∷◌, ◌++◌, false, Option, Some, None}
+use Rattle.gix_validate.proofs.Common.{IfSome, Result, MatchResult, codes, refl, sym, ap, ◌∙◌}
+use Rattle.gix_validate.proofs.Common.{append_assoc, append-nil, arith, AllByRecursion, byte}
+use Rattle.gix_validate.proofs.Common.{bytes_eq, cond-false, false_from_ne_true, bytes_eq-Decides}
+use Rattle.gix_validate.proofs.Common.{nat_tests, common_steps, take_rest}
 use Rattle.gix_validate.proofs.Texts.NamesIn.{names_in-cut, names_in-last}
 use Rattle.bstr.specs.declared.bstr.BStr.{BStr}
 use Rattle.bstr.specs.BStr.{bstr_bytes}
 use Rattle.typed_names.specs.Names.{NewChecks}
 use Rattle.gix_validate.specs.Pieces.{names_in}
-use Rattle.bstr.specs.Find.{is_byte, IsFirstByte}
-use Rattle.check_names.specs.Answers.{answer_of, answers, line_end, lines, split_once, verdict}
+use Rattle.check_names.specs.Answers.{answer_by, answer_of, answer_to, answers, kinds, lines}
+use Rattle.check_names.specs.Answers.{line_end, request_of, unknown_kind, verdict}
 
 -- ---- one line
 
--- what a search for a byte says of the text before it and after it
-module _ (separator : ℕ) where
-  split_found : (front rest : List ℕ) → All (λ b. b ≢ separator) front
-      → split_once separator (front ++ separator ∷ rest) ≡ Some (front, rest)
-  split_found [] rest none = grind arith
-  split_found (b ∷ front) rest none = grind (
-    arith,
-    All-head (λ c. c ≢ separator) b front none,
-    split_found front rest (All-tail (λ c. c ≢ separator) b front none),
-  )
+-- a line that asks for something is a kind, a space and a name
+kind_and_name : (line : List ℕ)
+    → IfSome (request_of line) (λ request. line ≡ request.0 ++ byte " " ∷ request.1)
+kind_and_name [] = tt
+kind_and_name (b ∷ line) = grind (arith, nat_tests, kind_and_name line)
 
-  split_nowhere : (text : List ℕ) → All (λ b. b ≢ separator) text → split_once separator text ≡ None
-  split_nowhere [] none = grind arith
-  split_nowhere (b ∷ text) none = grind (
-    arith,
-    All-head (λ c. c ≢ separator) b text none,
-    split_nowhere text (All-tail (λ c. c ≢ separator) b text none),
-  )
+abbrev Lacks : List ℕ → List ℕ → Type 0
+Lacks line front = (rest : List ℕ) → line ≢ front ++ rest
 
-  pub split_searched : (text : List ℕ) (r : Option ℕ) → IsFirstByte (is_byte separator) text r
-      → split_once separator text ≡ option_map (λ k. (take k text, drop (k + 1) text)) r
-  split_searched text None nowhere =
-      split_nowhere text (All-from_get_or (λ b. b ≢ separator) text 0 (λ k below e.
-      nowhere k (omega arith) below (eq-eqb _ _ e)))
-  split_searched text (Some k) found =
-      let cut : text ≡ take k text ++ separator ∷ drop (k + 1) text =
-      grind (arith, common_steps, nat_tests) in
-      let none : All (λ b. b ≢ separator) (take k text) =
-      All-from_get_or (λ b. b ≢ separator) (take k text) 0 (λ j below e.
-      grind (arith, nat_tests, length-take, get_or-take, found.0.before j)) in
-      ap (split_once separator) cut ∙ split_found (take k text) (drop (k + 1) text) none
+-- a line that doesn't begin with a word and a space asks for another kind
+another-kind : (line word kind name : List ℕ) → Lacks line (word ++ byte " " ∷ [])
+    → line ≡ kind ++ byte " " ∷ name → bytes_eq kind word ≡ false
+another-kind line word kind name lacks is =
+    false_from_ne_true _ (λ same.
+    lacks name (is ∙ ap (λ front. front ++ byte " " ∷ name) ((bytes_eq-Decides kind word).0 same)
+    ∙ sym (append_assoc word (byte " " ∷ []) name)))
+
+no-kind : (rows : List (List ℕ × (List ℕ → List ℕ))) (line kind name : List ℕ)
+    → AllByRecursion (λ row. Lacks line (row.0 ++ byte " " ∷ [])) rows
+    → line ≡ kind ++ byte " " ∷ name → answer_by rows kind name ≡ unknown_kind
+no-kind [] line kind name lacks is = refl
+no-kind (row ∷ rows) line kind name (lacks, more) is =
+    cond-false _ _ _ (another-kind line row.0 kind name lacks is) ∙ no-kind rows line kind name more is
+
+asks_none : (line : List ℕ) (request : Option (List ℕ × List ℕ))
+    → AllByRecursion (λ row. Lacks line (row.0 ++ byte " " ∷ [])) kinds
+    → IfSome request (λ request. line ≡ request.0 ++ byte " " ∷ request.1) → answer_to request ≡ unknown_kind
+asks_none line None lacks is = refl
+asks_none line (Some (kind, name)) lacks is = no-kind kinds line kind name lacks is
+
+-- A line that begins with no kind and a space has the answer `unknown kind`.
+pub asked_otherwise : (line : List ℕ) → Lacks line (codes "ref ") → Lacks line (codes "tag ")
+    → Lacks line (codes "partial ") → Lacks line (codes "branch ") → Lacks line (codes "submodule ")
+    → Lacks line (codes "path ") → Lacks line (codes "symlink ") → Lacks line (codes "device ")
+    → Lacks line (codes "sanitize ") → answer_of line ≡ unknown_kind
+unfolding answer_of kinds
+asked_otherwise line n1 n2 n3 n4 n5 n6 n7 n8 n9 =
+    asks_none line (request_of line)
+    (n2, (n3, (n1, (n4, (n5, (n6, (n7, (n8, (n9, tt))))))))) (kind_and_name line)
 
 -- If a constructor of a typed name returns by this rule of faults, and its result is printed,
 -- the verdict of the rule was printed.
@@ -69,9 +77,7 @@ pub answers-first : (text line rest : List ℕ) → lines text ≡ line ∷ line
 unfolding answers
 answers-first text line rest first = rw first
 
--- what `split_once`, `first_line` and `answer_all` take from here
-pub ruleset searched = (split_searched, take_rest)
-
+-- what `first_line` and `answer_all` take from here
 pub ruleset first_of_lines = (take_rest, names_in-cut, names_in-last)
 
 pub ruleset all_answered = (common_steps, append_assoc, append-nil, answers-first, answers_nil)

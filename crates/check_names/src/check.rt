@@ -11,8 +11,7 @@ ghost use Rattle.gix_validate.specs.Component.{text_of as component_text};
 ghost use Rattle.gix_validate.specs.Sanitized.{sanitized};
 ghost use Rattle.gix_validate.specs.Windows.{is_device};
 ghost use Rattle.check_names.specs.Answers.{answer_of, answers, lines, request_of, unknown_kind};
-ghost use Rattle.check_names.specs.Answers.{answer_by, kinds, split_once, verdict};
-ghost use Rattle.std.specs.Option.{option_map};
+ghost use Rattle.check_names.specs.Answers.{verdict};
 ghost use Rattle.check_names.specs.Errors.{text_of as error_text};
 
 use bstr::{BStr, ByteSlice};
@@ -146,61 +145,45 @@ fn first_line(text: &[u8]) -> Option<(&[u8], &[u8])>
     }
 }
 
-/// Appends the result for one line.
-#[tactic(auto, unfolding(crate::specs::Answers::answer_of))]
+/// Appends the result for one line. Each kind takes a comparison for every kind before it, and full
+/// reference names come first.
+#[tactic(auto, using(crate::proofs::AnswerLemmas::asked_otherwise), unfolding(crate::specs::Answers::answer_of, crate::specs::Answers::kinds))]
 fn push_answer(alloc: Global, line: &[u8], answers: &mut Vec<u8>) -> Result<(), AllocError>
     ensures ok { OnOk result (answers.new.items ≡ answers.old.items ++ answer_of line.now) }
     ensures full { request_of line.now ≡ None → OnErr result
         (vec_capacity answers.old < vec_len answers.old + length unknown_kind) }
 {
-    match split_once(b' ', line) {
-        Some((kind, name)) => push_answer_by(alloc, kind, BStr::new(name), answers),
-        None => answers.extend_from_slice(b"unknown kind"),
-    }
-}
-
-/// The bytes before the first `separator`, and all bytes after it, if there is one.
-#[tactic(auto, using(crate::proofs::AnswerLemmas::searched))]
-fn split_once(separator: u8, text: &[u8]) -> Option<(&[u8], &[u8])>
-    ensures { option_map (λ parts. (parts.0.now, parts.1.now)) result ≡ split_once separator text.now }
-{
-    let offset = text.find_byte(separator)?;
-    Some((&text[..offset], &text[offset + 1..]))
-}
-
-/// Appends the result for a name of this kind. Each kind takes a comparison for every kind before it,
-/// and full reference names come first.
-#[tactic(auto, unfolding(crate::specs::Answers::kinds))]
-fn push_answer_by(
-    alloc: Global,
-    kind: &[u8],
-    name: BStr<'_>,
-    answers: &mut Vec<u8>,
-) -> Result<(), AllocError>
-    ensures { OnOk result (answers.new.items
-        ≡ answers.old.items ++ answer_by kinds kind.now (bstr_bytes name.entry)) }
-{
-    if kind == b"ref".as_slice() {
+    if let Some(name) = name_after(b"ref ", line) {
         push_verdict(FullName::new(name), answers)
-    } else if kind == b"tag".as_slice() {
+    } else if let Some(name) = name_after(b"tag ", line) {
         push_verdict(TagName::new(name), answers)
-    } else if kind == b"partial".as_slice() {
+    } else if let Some(name) = name_after(b"partial ", line) {
         push_verdict(PartialName::new(name), answers)
-    } else if kind == b"branch".as_slice() {
+    } else if let Some(name) = name_after(b"branch ", line) {
         push_verdict(reference::branch_name(name), answers)
-    } else if kind == b"submodule".as_slice() {
+    } else if let Some(name) = name_after(b"submodule ", line) {
         push_verdict(submodule::name(name), answers)
-    } else if kind == b"path".as_slice() {
+    } else if let Some(name) = name_after(b"path ", line) {
         push_component(name, None, answers)
-    } else if kind == b"symlink".as_slice() {
+    } else if let Some(name) = name_after(b"symlink ", line) {
         push_component(name, Some(ComponentMode::Symlink), answers)
-    } else if kind == b"device".as_slice() {
+    } else if let Some(name) = name_after(b"device ", line) {
         push_device(name, answers)
-    } else if kind == b"sanitize".as_slice() {
+    } else if let Some(name) = name_after(b"sanitize ", line) {
         push_sanitized(alloc, name, answers)
     } else {
         answers.extend_from_slice(b"unknown kind")
     }
+}
+
+/// The name of a line that begins with this kind and its space.
+fn name_after<'a>(kind_and_space: &[u8], line: &'a [u8]) -> Option<BStr<'a>>
+    ensures { MatchOption result
+        ((name : List ℕ) → line.now ≢ kind_and_space.now ++ name)
+        (λ name. line.now ≡ kind_and_space.now ++ bstr_bytes name) }
+{
+    let name = line.strip_prefix(kind_and_space)?;
+    Some(BStr::new(name))
 }
 
 /// Appends the result for the name as a path component with this mode and the default options.

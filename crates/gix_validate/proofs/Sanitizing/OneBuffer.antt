@@ -14,6 +14,7 @@ use Rattle.gix_validate.proofs.Sanitizing.WrittenPiece.{GivesWhole-byte, GivesWh
 use Rattle.gix_validate.proofs.Sanitizing.Laws.{sanitized-own, sanitized_laws}
 use Rattle.gix_validate.proofs.Sanitizing.LockSuffixes.{cut-own}
 use Rattle.gix_validate.proofs.Sanitizing.MendedPieces.{added}
+use Rattle.std.proofs.lemmas.List.{take-set}
 use Rattle.std.proofs.lemmas.Slice.{drop-append-drop}
 use Rattle.gix_validate.specs.Sanitized.{Dots, Other, byte_of, mended_pieces, repaired_dot}
 use Rattle.gix_validate.specs.Sanitized.{repaired_at, repaired_nothing, sanitized}
@@ -176,6 +177,9 @@ pub repaired_none : (buf : List ℕ) (end : ℕ) → 1 ≤ length buf → end �
 repaired_none [] end some none = absurd (omega arith)
 repaired_none (b ∷ buf) end some none =
     ap (λ v. repaired_nothing (repaired_at (repaired_dot (take v (b ∷ buf))))) (sym none)
+
+-- what the laws of the text in a buffer take from above: what is written after the text leaves it
+pub ruleset laws_in_place = (sanitized_laws, take-set)
 
 -- what the repair in a buffer takes from above
 pub ruleset in_place =

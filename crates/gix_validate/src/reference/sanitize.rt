@@ -91,6 +91,7 @@ fn fill_sanitized(name: &mut Vec<u8>, path: &[u8]) -> Result<(), AllocError>
 /// ```
 ///
 /// It never fails and doesn't allocate.
+#[tactic(auto, using(crate::proofs::Sanitizing::OneBuffer::laws_in_place))]
 pub fn sanitize_in_place(buf: &mut [u8], len: usize) -> usize
     requires some { 1 ≤ length buf.old }
     requires within { len ≤ length buf.old }
@@ -101,6 +102,20 @@ pub fn sanitize_in_place(buf: &mut [u8], len: usize) -> usize
         ↔ IsTrue (is_partial_name (take len buf.old)) }
     ensures again { sanitized (take result buf.new) ≡ take result buf.new }
     ensures piecewise { IsPiecewise (take len buf.old) (take result buf.new) }
+    ensures rest { drop (max 1 len) buf.new ≡ drop (max 1 len) buf.old }
+{
+    write_sanitized(buf, len)
+}
+
+/// Repairs the name in the first `len` bytes of `buf`, and returns the length of the repaired name.
+/// The other clauses of `sanitize_in_place` follow from these.
+#[inline(always)]
+#[tactic(auto, using(crate::proofs::Sanitizing::OneBuffer::in_place))]
+fn write_sanitized(buf: &mut [u8], len: usize) -> usize
+    requires some { 1 ≤ length buf.old }
+    requires within { len ≤ length buf.old }
+    ensures bounds { (1 ≤ result) × (result ≤ max 1 len) }
+    ensures text { take result buf.new ≡ sanitized (take len buf.old) }
     ensures rest { drop (max 1 len) buf.new ≡ drop (max 1 len) buf.old }
 {
     let clear = if len > 1 { clear_front(&buf[..len]) } else { 0 };

@@ -12,8 +12,8 @@ from tests.scripts.copies import ROOT, Copy
 
 PAGE = "docs/PUBLIC_API.md"
 CHECK = "crates/check_push/src/refs/check.rt"
-REFS = "crates/check_push/specs/Refs/Refs.antt"
-SPELLED = "crates/check_push/specs/Refs/Spelled.antt"
+BRANCH = "crates/git_names/src/branch.rt"
+SHORT = "crates/git_names/specs/ShortNames.antt"
 
 
 @pytest.fixture
@@ -41,29 +41,26 @@ def test_a_page_that_differs_is_found(copy):
     )
 
 
-def test_a_law_that_is_weakened_to_a_copy_of_another_is_shown(copy):
+def test_a_law_of_a_program_that_is_weakened_to_a_copy_of_another_is_shown(copy):
     copy.change(
         CHECK,
         "ensures well_formed { IsWellFormedOnlyIfSpelled self }",
         "ensures well_formed { IsReportedInOrder self }",
     )
-    lines = difference(copy)
-    assert lines[:4] == [
+    assert difference(copy) == [
         "-use check_push.specs.Refs.Spelled: IsAcceptedInput, IsReportedInOrder, "
         "IsWellFormedOnlyIfSpelled",
         "+use check_push.specs.Refs.Spelled: IsAcceptedInput, IsReportedInOrder",
         "-        ensures well_formed { IsWellFormedOnlyIfSpelled self }",
         "+        ensures well_formed { IsReportedInOrder self }",
     ]
-    # No promise rests on its definition any more.
-    assert "-abbrev pub IsWellFormedOnlyIfSpelled : Options → Type 0" in lines
 
 
 def test_a_changed_definition_is_shown(copy):
-    copy.change(REFS, r"^is_deletion update = .*", "is_deletion update = true")
-    assert [line for line in difference(copy) if "is_deletion" in line] == [
-        '-is_deletion update = list_all (λ b. b == byte "0") update.new_id',
-        "+is_deletion update = true",
+    copy.change(SHORT, r"^full_name x = .*", 'full_name x = codes "refs/" ++ x')
+    assert difference(copy) == [
+        '-full_name x = codes "refs/heads/" ++ x',
+        '+full_name x = codes "refs/" ++ x',
     ]
 
 
@@ -87,11 +84,16 @@ def test_a_clause_that_cites_another_definition_by_the_same_name_is_shown(copy):
 
 
 def test_a_definition_that_cites_another_one_by_the_same_name_is_shown(copy):
-    copy.change(SPELLED, r"\{is_branch_name\}", "{is_full_name as is_branch_name}")
-    assert difference(copy) == [
-        "-use gix_validate.specs.Reference: is_branch_name",
-        "+use gix_validate.specs.Reference: is_full_name as is_branch_name",
-    ]
+    copy.change(
+        SHORT, r"is_branch_name, reserved", "is_full_name as is_branch_name, reserved"
+    )
+    before, after = [it for it in difference(copy) if "is_branch_name" in it]
+    assert before.startswith(
+        "-use gix_validate.specs.Reference: carried, is_branch_name,"
+    )
+    assert after.startswith(
+        "+use gix_validate.specs.Reference: carried, is_full_name as is_"
+    )
 
 
 @pytest.mark.parametrize(
@@ -134,10 +136,10 @@ def test_a_definition_that_cites_another_one_by_the_same_name_is_shown(copy):
             "+    ghost is_name = { is_partial_name };",
         ),
         (
-            "crates/check_push/src/refs/options.rt",
-            "hook runs it on its own",
-            "hook runs it on another",
-            "+hook runs it on another standard input:",
+            CHECK,
+            "ensures clean { IfOk result",
+            "ensures clean { OnOk result",
+            "+        ensures clean { OnOk result (λ verdict.",
         ),
         (
             "crates/gix_validate_c/src/names.rt",
@@ -157,7 +159,7 @@ def test_each_part_of_a_promise_is_shown(copy, file, pattern, replacement, line)
     [
         (CHECK, r"\Z", "// a comment\n"),
         (CHECK, "lines.clear\\(\\);", "lines.clear(); lines.clear();"),
-        (REFS, "^-- .*", "-- another comment"),
+        (SHORT, "^-- .*", "-- another comment"),
         ("crates/gix_validate/specs/Private/Scan.antt", r"\Z", "\n-- a comment\n"),
         ("crates/gix_validate/src/tag.rt", r"#\[inline\]\n", ""),
     ],
@@ -171,11 +173,11 @@ def test_what_is_no_promise_changes_nothing_on_the_page(
 
 
 def test_a_source_with_what_the_page_can_not_show_is_an_error(copy):
-    copy.change("crates/programs/src/lib.rt", r"\Z", "\nsome_macro! { }\n")
+    copy.change(BRANCH, r"\Z", "\nsome_macro! { }\n")
     assert copy.dev("update-public-api") == (
         1,
         "",
-        "crates/programs/src/lib.rt has what isn't read here: some_macro! { }\n",
+        f"{BRANCH} has what isn't read here: some_macro! {{ }}\n",
     )
 
 
@@ -190,8 +192,10 @@ def test_the_page_has_each_public_clause(monkeypatch):
     for section in page.split("\n### ")[1:]:
         file, _, text = section.partition("\n")
         shown[file] = len(CLAUSE.findall(text))
-    public = Counter(str(it.file) for it in sources.items() if it.is_public)
-    assert sum(public.values()) > 300
+    libraries = update_public_api.LIBRARIES
+    items = [it for it in sources.items() if it.file.parts[1] in libraries]
+    public = Counter(str(it.file) for it in items if it.is_public)
+    assert sum(public.values()) > 200
     # (An impl of a trait of these crates has members that stand for what the trait says.)
     assert {file: n for file, n in public.items() if n > shown.get(file, 0)} == {}
 
@@ -200,8 +204,9 @@ def test_the_page_has_each_definition_of_the_claims(monkeypatch):
     monkeypatch.chdir(ROOT)
     page = (ROOT / PAGE).read_text("utf-8")
     claims = (ROOT / "docs/PROMISES.md").read_text("utf-8")
-    names = re.findall(r"\[`[\w:]+::(\w+)`\]\([^)]*\.antt\)", claims)
-    assert len(names) > 20
+    libraries = "|".join(update_public_api.LIBRARIES)
+    names = re.findall(rf"\[`(?:{libraries})::[\w:]+::(\w+)`\]\([^)]*\.antt\)", claims)
+    assert len(names) > 15
     for name in names:
         assert re.search(
             rf"(?m)^(?:abbrev |unfoldable )?pub (?:\w+ )?{name} ", page
@@ -217,9 +222,10 @@ def test_a_name_is_cited_as_a_word_or_as_a_part_of_an_operator():
     assert not declarations.cites("a = b", "◌≡◌")
 
 
-def test_the_sections_are_in_the_order_of_crates(monkeypatch):
+def test_the_page_has_what_others_can_depend_on_and_then_the_programs(monkeypatch):
     monkeypatch.chdir(ROOT)
     page = (ROOT / PAGE).read_text("utf-8")
-    found = re.findall(r"(?m)^## (\w+)$", page)
-    assert found == [it for it in update_public_api.crates() if it in found]
-    assert "gix_validate" in found
+    assert re.findall(r"(?m)^## (\w+)$", page) == [
+        *("gix_validate", "typed_names", "git_names", "gitmodules", "gix_validate_c"),
+        *("check_names", "check_push", "git_check_names"),
+    ]

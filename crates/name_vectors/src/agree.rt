@@ -11,7 +11,6 @@ use gix_validate::reference::{
     branch_name, name, name_partial, name_partial_or_sanitize, sanitize_in_place,
 };
 use gix_validate::{submodule, tag};
-use std::alloc::AllocError;
 use std::fmt::{Debug, Display};
 use std::process::Abort;
 
@@ -20,29 +19,31 @@ pub(crate) trait Host: Abort + AllocGlobal {}
 
 impl<T: Abort + AllocGlobal> Host for T {}
 
-/// What a check returns if the results agree.
-pub(crate) type Checked = Result<(), AllocError>;
-
 /// Passes the name to the functions of the library, and panics if a result isn't that of the second
 /// implementation.
-pub(crate) fn check(rt: &impl Host, text: &[u8]) -> Checked {
+pub(crate) fn check(rt: &impl Host, text: &[u8]) {
     let faults = of_references(text);
-    let accepting = accepting(rt.alloc(), text)?;
-    let accepted = faults.iter().map(|fault| *fault == VALID);
-    for (kind, is_accepted) in accepted.enumerate() {
-        let text = BStr::new(text);
-        assert_eq!(rt; is_accepted, kind < accepting, "rule {kind} of {text:?}");
+    let accepting = accepting(rt.alloc(), text).expect(rt, "memory");
+    for (kind, fault) in faults.iter().enumerate() {
+        expect_bool(rt, ("a rule", text), kind < accepting, *fault == VALID);
     }
-    expect_references(rt, text, faults)?;
-    expect_submodule(rt, text, of_submodule(rt.alloc(), text)?)?;
-    let lower = text.to_ascii_lowercase(rt.alloc())?;
-    let on_hfs = hfs_form(rt.alloc(), &lower)?;
-    let conditions = conditions(&lower, &on_hfs);
+    expect_references(rt, text, faults);
+    let error = of_submodule(rt.alloc(), text).expect(rt, "memory");
+    expect_submodule(rt, text, error);
+    check_component(rt, text);
+    let wanted = sanitized(rt.alloc(), text).expect(rt, "memory");
+    expect_repair(rt, text, &wanted);
+}
+
+/// Does so with the functions for components.
+fn check_component(rt: &impl Host, text: &[u8]) {
+    let lower = text.to_ascii_lowercase(rt.alloc()).expect(rt, "memory");
+    let on_hfs = hfs_form(rt.alloc(), &lower).expect(rt, "memory");
+    let holds = conditions(&lower, &on_hfs);
     for settings in SETTINGS {
-        expect_component(rt, (settings, text), of_component(&conditions, settings))?;
+        expect_component(rt, (settings, text), of_component(&holds, settings));
     }
     expect_device(rt, text, is_device(&lower));
-    expect_repair(rt, text, &sanitized(rt.alloc(), text)?)
 }
 
 /// Panics if the call with this name gave something else than what is wanted.
@@ -51,28 +52,42 @@ pub(crate) fn expect(rt: &impl Abort, (call, text): (&str, &[u8]), wanted: &[u8]
     assert_eq!(rt; came, wanted, "{call} of {text:?} (right: wanted)");
 }
 
+/// The same of a call that says whether something holds.
+fn expect_bool(rt: &impl Abort, (call, text): (&str, &[u8]), wanted: bool, came: bool) {
+    let text = BStr::new(text);
+    assert_eq!(rt; came, wanted, "{call} of {text:?} (right: wanted)");
+}
+
 /// Panics if the result isn't the name itself if it is valid, or else the error, which prints its text.
 pub(crate) fn expect_told<E: Debug + Display + Drop>(
     rt: &impl Host,
-    (call, text): (&str, &[u8]),
+    call: (&str, &[u8]),
     (texts, fault): (Texts, Fault<'_>),
     told: Result<BStr<'_>, E>,
-) -> Checked {
+) {
     match told {
         Ok(name) => {
-            let wanted = if fault == VALID { text } else { fault.0 };
-            expect(rt, (call, text), wanted, name.as_bytes());
+            let wanted = if fault == VALID { call.1 } else { fault.0 };
+            expect(rt, call, wanted, name.as_bytes());
         }
         Err(error) => {
-            let came = format!(in rt.alloc(); "{error:?}")?;
-            let word = before_first(came.as_bytes(), b" ");
-            expect(rt, (call, text), fault.0, word);
-            let came = error.to_string(rt.alloc())?;
-            let wanted = printed(rt.alloc(), texts, fault)?;
-            expect(rt, (call, text), &wanted, came.as_bytes());
+            let came = format!(in rt.alloc(); "{error:?}").expect(rt, "memory");
+            expect(rt, call, fault.0, before_first(came.as_bytes(), b" "));
+            expect_text(rt, call, (texts, fault), &error);
         }
     }
-    Ok(())
+}
+
+/// Panics if the error prints something else than its text.
+pub(crate) fn expect_text<E: Display>(
+    rt: &impl Host,
+    call: (&str, &[u8]),
+    (texts, fault): (Texts, Fault<'_>),
+    error: &E,
+) {
+    let came = error.to_string(rt.alloc()).expect(rt, "memory");
+    let wanted = printed(rt.alloc(), texts, fault).expect(rt, "memory");
+    expect(rt, call, &wanted, came.as_bytes());
 }
 
 /// Checks the results for a tag name and for the three kinds of reference names.
@@ -80,24 +95,23 @@ pub(crate) fn expect_references(
     rt: &impl Host,
     text: &[u8],
     [tag, partial, full, branch]: [Fault<'_>; 4],
-) -> Checked {
+) {
     let given = BStr::new(text);
-    expect_told(rt, ("tag::name", text), (OF_TAGS, tag), tag::name(given))?;
+    expect_told(rt, ("tag::name", text), (OF_TAGS, tag), tag::name(given));
     for (call, fault, told) in [
         ("name_partial", partial, name_partial(given)),
         ("reference::name", full, name(given)),
         ("branch_name", branch, branch_name(given)),
     ] {
-        expect_told(rt, (call, text), (OF_REFERENCES, fault), told)?;
+        expect_told(rt, (call, text), (OF_REFERENCES, fault), told);
     }
-    Ok(())
 }
 
 /// Checks the result for a submodule name.
-pub(crate) fn expect_submodule(rt: &impl Host, text: &[u8], error: &'static [u8]) -> Checked {
+pub(crate) fn expect_submodule(rt: &impl Host, text: &[u8], error: &'static [u8]) {
     let wanted = (OF_SUBMODULES, (error, b"".as_slice()));
     let told = submodule::name(BStr::new(text));
-    expect_told(rt, ("submodule::name", text), wanted, told)
+    expect_told(rt, ("submodule::name", text), wanted, told);
 }
 
 /// The protections that these settings have.
@@ -110,51 +124,48 @@ pub(crate) fn options(settings: &str) -> ComponentOptions {
     }
 }
 
+/// The mode that these settings have.
+pub(crate) fn mode(settings: &str) -> Option<ComponentMode> {
+    settings.ends_with("s").then_some(ComponentMode::Symlink)
+}
+
 /// Checks the result for a component under these settings.
 pub(crate) fn expect_component(
     rt: &impl Host,
     (settings, text): (&str, &[u8]),
     error: &'static [u8],
-) -> Checked {
-    let is_symlink = settings.ends_with("s");
-    let mode = is_symlink.then_some(ComponentMode::Symlink);
-    let told = component(BStr::new(text), mode, options(settings));
+) {
+    let told = component(BStr::new(text), mode(settings), options(settings));
     let wanted = (OF_COMPONENTS, (error, b"".as_slice()));
-    expect_told(rt, (settings, text), wanted, told)
+    expect_told(rt, (settings, text), wanted, told);
 }
 
 /// Checks the result for a device.
 pub(crate) fn expect_device(rt: &impl Abort, text: &[u8], wanted: bool) {
-    let text = BStr::new(text);
-    let came = component_is_windows_device(text);
-    assert_eq!(rt; came, wanted, "component_is_windows_device of {text:?}");
+    let came = component_is_windows_device(BStr::new(text));
+    expect_bool(rt, ("component_is_windows_device", text), wanted, came);
 }
 
 /// What follows the name in the buffer: no bytes, one or several.
 const AFTER: &[&[u8]] = &[b"", b"?", b"/.lock"];
 
 /// Checks both sanitisers. (A buffer has at least one byte.)
-pub(crate) fn expect_repair(rt: &impl Host, text: &[u8], wanted: &[u8]) -> Checked {
+pub(crate) fn expect_repair(rt: &impl Host, text: &[u8], wanted: &[u8]) {
     for after in AFTER {
-        let buffer = [text, after].concat(rt.alloc())?;
+        let buffer = [text, after].concat(rt.alloc()).expect(rt, "memory");
         if !buffer.is_empty() {
-            expect_in_place(rt, (&buffer, text.len()), wanted)?;
+            expect_in_place(rt, (&buffer, text.len()), wanted);
         }
     }
-    let name = name_partial_or_sanitize(rt.alloc(), BStr::new(text))?;
+    let name = name_partial_or_sanitize(rt.alloc(), BStr::new(text)).expect(rt, "memory");
     let call = ("name_partial_or_sanitize", text);
     expect(rt, call, wanted, name.as_bytes());
-    Ok(())
 }
 
 /// Checks what is left in the buffer of the name that its first `len` bytes are, and that the bytes
 /// after the name are as they were.
-pub(crate) fn expect_in_place(
-    rt: &impl Host,
-    (given, len): (&[u8], usize),
-    wanted: &[u8],
-) -> Checked {
-    let mut buffer = Vec::from_slice(rt.alloc(), given)?;
+pub(crate) fn expect_in_place(rt: &impl Host, (given, len): (&[u8], usize), wanted: &[u8]) {
+    let mut buffer = Vec::from_slice(rt.alloc(), given).expect(rt, "memory");
     assert!(rt; !buffer.is_empty() && len <= buffer.len());
     let left = sanitize_in_place(&mut buffer, len);
     let name = buffer.get(..left).unwrap_or(b"");
@@ -162,5 +173,4 @@ pub(crate) fn expect_in_place(
     let after = given.get(len.max(1)..).unwrap_or(b"");
     let rest = buffer.get(len.max(1)..).unwrap_or(b"");
     expect(rt, ("after sanitize_in_place", given), after, rest);
-    Ok(())
 }

@@ -13,15 +13,16 @@ ghost use Rattle.gix_validate.specs.Submodule.{text_of as submodule_text_of};
 ghost use Rattle.gix_validate.specs.Tag.{text_of as tag_text_of};
 ghost use Rattle.typed_names.specs.Names.{name_bytes, name_text, component_bytes};
 
-use crate::agree::{expect, expect_told, options};
-use crate::printed::{OF_COMPONENTS, OF_REFERENCES};
+use crate::agree::{Host, expect, expect_told, options};
+use crate::printed::{OF_COMPONENTS, OF_REFERENCES, Texts};
 use crate::reference::Fault;
 use bstr::BStr;
 use gix_validate::path::{ComponentError, ComponentMode, ComponentOptions};
 use gix_validate::{reference, submodule, tag};
 use std::alloc::{AllocError, Global};
 use std::convert::AsSlice;
-use std::test::Fail;
+use std::fmt::{Debug, Display};
+use std::process::Abort;
 use typed_names::{
     BranchName, Component, FullName, Name, PartialName, Pieces, Rule, SubmoduleName, TagName,
 };
@@ -137,29 +138,46 @@ fn slices<'b, R: Rule>(a: &'b Name<'_, R>, b: &'b Component<'_>) -> (&'b [u8], &
 }
 
 /// The pieces of the name, and what follows its first slash. The `TagName` itself lives only here.
-fn parts_of(text: &[u8]) -> Result<(Pieces<'_>, Option<TagName<'_>>), Fail> {
-    let name = TagName::new(BStr::new(text))?;
-    Ok((name.pieces(), name.after_first_slash()))
+fn parts_of<'a>(rt: &impl Abort, text: &'a [u8]) -> (Pieces<'a>, Option<TagName<'a>>) {
+    let name = TagName::new(BStr::new(text)).expect(rt, "a tag name");
+    (name.pieces(), name.after_first_slash())
 }
 
-/// `Debug`, which no contract says, and `Display`.
+/// Checks what `Debug` prints of a name, which no contract says.
+fn expect_debug<R: Rule>(rt: &impl Host, name: &Name<'_, R>, wanted: &[u8]) {
+    let text = format!(in rt.alloc(); "{name:?}").expect(rt, "memory");
+    expect(rt, ("Debug", b"refs/a"), wanted, text.as_bytes());
+}
+
 #[test]
-fn prints_typed_names(rt: HostRuntime) -> Result<(), Fail> {
+fn prints_typed_names_with_their_type(rt: HostRuntime) {
     let name = BStr::from("refs/a");
-    let (tag, partial) = (TagName::new(name)?, PartialName::new(name)?);
-    let (full, branch) = (FullName::new(name)?, BranchName::new(name)?);
-    let submodule = SubmoduleName::new(name)?;
-    let text = format!(in rt.alloc(); "{tag:?} {partial:?} {full:?} {branch:?} {submodule:?}")?;
-    let wanted = b"TagName { name: \"refs/a\" } PartialName { name: \"refs/a\" } \
-        FullName { name: \"refs/a\" } BranchName { name: \"refs/a\" } SubmoduleName { name: \"refs/a\" }";
-    expect(&rt, ("Debug", b"refs/a"), wanted, text.as_bytes());
-    let name = TagName::new(BStr::new(b"caf\xC3\xA9/\xFF"))?;
-    let component = Component::new(BStr::new(b"caf\xC3\xA9 \xFF"), None, options("whn-"))?;
-    let text = printed_names(rt.alloc(), &name, &component)?;
+    let tag: TagName<'_> = Name::new(name).expect(&rt, "a tag name");
+    expect_debug(&rt, &tag, b"TagName { name: \"refs/a\" }");
+    let partial: PartialName<'_> = Name::new(name).expect(&rt, "a partial name");
+    expect_debug(&rt, &partial, b"PartialName { name: \"refs/a\" }");
+    let full: FullName<'_> = Name::new(name).expect(&rt, "a full name");
+    expect_debug(&rt, &full, b"FullName { name: \"refs/a\" }");
+    let branch: BranchName<'_> = Name::new(name).expect(&rt, "a branch");
+    expect_debug(&rt, &branch, b"BranchName { name: \"refs/a\" }");
+    let submodule: SubmoduleName<'_> = Name::new(name).expect(&rt, "a submodule");
+    expect_debug(&rt, &submodule, b"SubmoduleName { name: \"refs/a\" }");
+}
+
+#[test]
+fn prints_names_that_are_not_utf_8(rt: HostRuntime) {
+    let name = TagName::new(BStr::new(b"caf\xC3\xA9/\xFF")).expect(&rt, "a tag name");
+    let component = Component::new(BStr::new(b"caf\xC3\xA9 \xFF"), None, options("whn-"));
+    let component = component.expect(&rt, "a component");
+    let text = printed_names(rt.alloc(), &name, &component).expect(&rt, "memory");
     let wanted = b"caf\xC3\xA9/\xEF\xBF\xBDcaf\xC3\xA9 \xEF\xBF\xBD";
     expect(&rt, ("Display", b""), wanted, text.as_bytes());
-    assert_eq!(rt; listed(rt.alloc(), tag)?.len(), 2);
-    Ok(())
+}
+
+#[test]
+fn lists_the_pieces_of_a_name(rt: HostRuntime) {
+    let tag = TagName::new(BStr::from("refs/a")).expect(&rt, "a tag name");
+    assert_eq!(rt; listed(rt.alloc(), tag).expect(&rt, "memory").len(), 2);
 }
 
 /// Names, their pieces, and what follows each slash, in order.
@@ -171,42 +189,76 @@ const PARTS: &[(&[u8], &[&[u8]], &[&[u8]])] = &[
 ];
 
 #[test]
-fn parts_outlive_the_name_that_gave_them(rt: HostRuntime) -> Result<(), Fail> {
+fn parts_outlive_the_name_that_gave_them(rt: HostRuntime) {
     for (text, pieces, rests) in PARTS {
-        let (mut left, mut rest) = parts_of(text)?;
-        for piece in *pieces {
-            let came = next_of(&mut left).unwrap_or(BStr::new(b""));
-            expect(&rt, ("pieces", text), piece, came.as_bytes());
-        }
-        assert!(rt; next_of(&mut left).is_none());
-        for wanted in *rests {
-            let name = rest.expect(&rt, "a slash");
-            expect(&rt, ("after_first_slash", text), wanted, name.as_slice());
-            rest = name.after_first_slash();
-        }
-        assert!(rt; rest.is_none());
+        let (left, rest) = parts_of(&rt, text);
+        expect_pieces(&rt, text, left, pieces);
+        expect_rests(&rt, text, rest, rests);
     }
-    Ok(())
+}
+
+/// Checks the pieces of a name.
+fn expect_pieces(rt: &impl Abort, text: &[u8], left: Pieces<'_>, wanted: &[&[u8]]) {
+    let mut left = left;
+    for piece in wanted {
+        let came = next_of(&mut left).expect(rt, "a piece");
+        expect(rt, ("pieces", text), piece, came.as_bytes());
+    }
+    assert!(rt; next_of(&mut left).is_none());
+}
+
+/// Checks what follows the first slash of a name, of what follows that, and so on.
+fn expect_rests(rt: &impl Abort, text: &[u8], rest: Option<TagName<'_>>, wanted: &[&[u8]]) {
+    let mut rest = rest;
+    for wanted in wanted {
+        let name = rest.expect(rt, "a slash");
+        expect(rt, ("after_first_slash", text), wanted, name.as_slice());
+        rest = name.after_first_slash();
+    }
+    assert!(rt; rest.is_none());
+}
+
+/// Checks the error of a name of some type.
+fn expect_error<E: Debug + Display + Drop>(
+    rt: &impl Host,
+    call: (&str, &[u8]),
+    wanted: (Texts, Fault<'_>),
+    error: Option<E>,
+) {
+    expect_told(rt, call, wanted, Err(error.expect(rt, "an error")));
 }
 
 #[test]
-fn checks_typed_names(rt: HostRuntime) -> Result<(), Fail> {
-    let told = PartialName::new(BStr::from("@")).map(|name| name.as_bstr());
-    let fault: Fault<'_> = (b"Reserved", b"@");
-    expect_told(&rt, ("PartialName", b"@"), (OF_REFERENCES, fault), told)?;
-    let told = FullName::new(BStr::from("V1")).map(|name| name.as_bstr());
-    let fault: Fault<'_> = (b"SomeLowercase", b"");
-    expect_told(&rt, ("FullName", b"V1"), (OF_REFERENCES, fault), told)?;
-    let tag = TagName::from(PartialName::from(FullName::new(BStr::from("HEAD"))?));
-    let name = tag.as_bstr().as_bytes();
-    expect(&rt, ("FullName", b"HEAD"), b"HEAD", name);
-    let tag = tag_of(BranchName::new(BStr::from("HEAD"))?);
-    expect(&rt, ("BranchName", b"HEAD"), b"HEAD", tag.as_slice());
-    let told = Component::new(BStr::from("CON"), None, options("whn-"));
-    let told = told.map(|name| name.as_bstr());
-    let fault: Fault<'_> = (b"WindowsReservedName", b"");
-    expect_told(&rt, ("Component", b"CON"), (OF_COMPONENTS, fault), told)?;
-    let name = Component::new(BStr::from("CON"), None, options("w---"))?;
+fn refuses_invalid_typed_names(rt: HostRuntime) {
+    let error = PartialName::new(BStr::from("@")).err();
+    let wanted: (Texts, Fault<'_>) = (OF_REFERENCES, (b"Reserved", b"@"));
+    expect_error(&rt, ("PartialName", b"@"), wanted, error);
+    let error = FullName::new(BStr::from("V1")).err();
+    let wanted: (Texts, Fault<'_>) = (OF_REFERENCES, (b"SomeLowercase", b""));
+    expect_error(&rt, ("FullName", b"V1"), wanted, error);
+    let error = Component::new(BStr::from("CON"), None, options("whn-")).err();
+    let wanted: (Texts, Fault<'_>) = (OF_COMPONENTS, (b"WindowsReservedName", b""));
+    expect_error(&rt, ("Component", b"CON"), wanted, error);
+}
+
+#[test]
+fn accepts_valid_typed_names(rt: HostRuntime) {
+    let full = FullName::new(BStr::from("HEAD")).expect(&rt, "a full name");
+    let tag = TagName::from(PartialName::from(full));
+    expect(
+        &rt,
+        ("FullName", b"HEAD"),
+        b"HEAD",
+        tag.as_bstr().as_bytes(),
+    );
+    let branch = BranchName::new(BStr::from("HEAD")).expect(&rt, "a branch");
+    expect(
+        &rt,
+        ("BranchName", b"HEAD"),
+        b"HEAD",
+        tag_of(branch).as_slice(),
+    );
+    let name = Component::new(BStr::from("CON"), None, options("w---"));
+    let name = name.expect(&rt, "a component");
     expect(&rt, ("Component", b"CON"), b"CON", name.as_slice());
-    Ok(())
 }

@@ -1,15 +1,14 @@
 //! Short names of branches and whole paths: worked names, and what docs/RULES.md gives for each.
 
-use crate::agree::{Checked, Host, expect, expect_told, options};
-use crate::printed::{OF_BRANCHES, OF_COMPONENTS, OF_PATHS, OF_REFERENCES, printed};
+use crate::agree::{Host, expect, expect_text, expect_told, mode, options};
+use crate::printed::{OF_BRANCHES, OF_COMPONENTS, OF_PATHS, OF_REFERENCES};
 use crate::reference::{Fault, VALID, of_references};
 use crate::rows::part;
-use bstr::{BStr, BString};
+use bstr::BStr;
 use git_names::branch::{self, ShortName, ShortNameError};
 use git_names::path::{self, PathError};
-use gix_validate::path::{ComponentError, ComponentMode};
+use gix_validate::path::ComponentError;
 use gix_validate::reference::NameError;
-use std::test::Fail;
 
 /// The error, and the names.
 #[rattlefmt::skip]
@@ -35,55 +34,65 @@ const SHORT_NAMES: &[(Fault<'static>, &[&[u8]])] = &[
 ];
 
 /// Checks what the function returns for a short name.
-fn expect_short(rt: &impl Host, text: &[u8], fault: Fault<'_>) -> Checked {
+fn expect_short(rt: &impl Host, text: &[u8], fault: Fault<'_>) {
     let call = ("short_name", text);
-    let told = match branch::short_name(BStr::new(text)) {
-        Ok(name) => Ok(name),
-        Err(error) => {
-            let is_dash = matches!(error, ShortNameError::StartsWithDash);
-            let texts = if is_dash { OF_BRANCHES } else { OF_REFERENCES };
-            let came = error.to_string(rt.alloc())?;
-            let wanted = printed(rt.alloc(), texts, fault)?;
-            expect(rt, call, &wanted, came.as_bytes());
-            match error {
-                ShortNameError::Name(error) => Err(error),
-                ShortNameError::StartsWithDash => {
-                    expect(rt, call, fault.0, b"StartsWithDash");
-                    return Ok(());
-                }
-            }
-        }
-    };
-    expect_told::<NameError>(rt, call, (OF_REFERENCES, fault), told)
+    match branch::short_name(BStr::new(text)) {
+        Ok(name) => expect_told::<NameError>(rt, call, (OF_REFERENCES, fault), Ok(name)),
+        Err(error) => expect_short_error(rt, call, fault, error),
+    }
+}
+
+/// Checks the error, which prints the text of the error in it.
+fn expect_short_error(
+    rt: &impl Host,
+    call: (&str, &[u8]),
+    fault: Fault<'_>,
+    error: ShortNameError,
+) {
+    let is_dash = fault.0 == b"StartsWithDash".as_slice();
+    let texts = if is_dash { OF_BRANCHES } else { OF_REFERENCES };
+    expect_text(rt, call, (texts, fault), &error);
+    match error {
+        ShortNameError::Name(error) => expect_told(rt, call, (OF_REFERENCES, fault), Err(error)),
+        ShortNameError::StartsWithDash => expect(rt, call, fault.0, b"StartsWithDash"),
+    }
 }
 
 /// Each name is valid if and only if the second implementation accepts the full name of a branch, and
 /// it has no dash first.
 #[test]
-fn checks_short_names(rt: HostRuntime) -> Checked {
+fn checks_short_names(rt: HostRuntime) {
     for (fault, names) in SHORT_NAMES {
         for name in *names {
-            expect_short(&rt, name, *fault)?;
-            let full = [b"refs/heads/".as_slice(), name].concat(rt.alloc())?;
-            let is_branch = of_references(&full)[3] == VALID;
-            let is_valid = is_branch && !name.starts_with(b"-");
+            expect_short(&rt, name, *fault);
+            let is_valid = is_branch(&rt, name) && !name.starts_with(b"-");
             assert_eq!(rt; *fault == VALID, is_valid, "{:?}", BStr::new(name));
         }
     }
-    Ok(())
+}
+
+/// Whether the second implementation accepts `refs/heads/` with this name as the name of a branch.
+fn is_branch(rt: &impl Host, name: &[u8]) -> bool {
+    let full = [b"refs/heads/".as_slice(), name]
+        .concat(rt.alloc())
+        .expect(rt, "memory");
+    of_references(&full)[3] == VALID
 }
 
 #[test]
-fn puts_refs_heads_before_a_short_name(rt: HostRuntime) -> Result<(), Fail> {
-    let name = ShortName::new(BStr::from("topic/a"))?;
-    let full = branch::full_name(rt.alloc(), name)?;
-    let call = ("full_name", b"topic/a".as_slice());
-    expect(&rt, call, b"refs/heads/topic/a", full.as_bytes());
-    let text = format!(in rt.alloc(); "{name:?} {name}")?;
+fn puts_refs_heads_before_a_short_name(rt: HostRuntime) {
+    let name = ShortName::new(BStr::from("topic/a")).expect(&rt, "a short name");
+    let full = branch::full_name(rt.alloc(), name).expect(&rt, "memory");
+    expect(
+        &rt,
+        ("full_name", b"topic/a"),
+        b"refs/heads/topic/a",
+        full.as_bytes(),
+    );
+    let text = format!(in rt.alloc(); "{name:?} {name}").expect(&rt, "memory");
     let wanted = b"ShortName { name: \"topic/a\" } topic/a";
     expect(&rt, ("Debug", b"topic/a"), wanted, text.as_bytes());
     assert!(rt; ShortName::new(BStr::from("-d")).is_err());
-    Ok(())
 }
 
 /// Settings, as those of `rows`; the error, and the offset of the part that has it; and the paths. For
@@ -117,47 +126,45 @@ fn expect_whole(
     rt: &impl Host,
     (settings, text): (&str, &[u8]),
     (error, offset): (&'static [u8], usize),
-) -> Checked {
-    let mode = settings.ends_with("s").then_some(ComponentMode::Symlink);
+) {
     let call = (settings, text);
     let fault: Fault<'_> = (error, b"");
-    let told = match path::whole(BStr::new(text), mode, options(settings)) {
-        Ok(path) => Ok(path),
-        Err(fault_of_path) => {
-            let came = fault_of_path.offset();
-            assert_eq!(rt; came, offset, "offset of {:?}", BStr::new(text));
-            let is_empty = matches!(fault_of_path, PathError::EmptyPart { .. });
-            let texts = if is_empty { OF_PATHS } else { OF_COMPONENTS };
-            let came = fault_of_path.to_string(rt.alloc())?;
-            let wanted = printed(rt.alloc(), texts, fault)?;
-            expect(rt, call, &wanted, came.as_bytes());
-            match fault_of_path {
-                PathError::InvalidPart { error, .. } => Err(error),
-                PathError::EmptyPart { .. } => {
-                    expect(rt, call, fault.0, b"EmptyPart");
-                    return Ok(());
-                }
-            }
+    match path::whole(BStr::new(text), mode(settings), options(settings)) {
+        Ok(path) => expect_told::<ComponentError>(rt, call, (OF_COMPONENTS, fault), Ok(path)),
+        Err(error) => {
+            assert_eq!(rt; error.offset(), offset, "offset of {:?}", BStr::new(text));
+            expect_path_error(rt, call, fault, error);
         }
-    };
-    expect_told::<ComponentError>(rt, call, (OF_COMPONENTS, fault), told)
+    }
+}
+
+/// Checks the error, which prints the text of the error in it.
+fn expect_path_error(rt: &impl Host, call: (&str, &[u8]), fault: Fault<'_>, error: PathError) {
+    let is_empty = fault.0 == b"EmptyPart".as_slice();
+    let texts = if is_empty { OF_PATHS } else { OF_COMPONENTS };
+    expect_text(rt, call, (texts, fault), &error);
+    match error {
+        PathError::InvalidPart { error, .. } => {
+            expect_told(rt, call, (OF_COMPONENTS, fault), Err(error));
+        }
+        PathError::EmptyPart { .. } => expect(rt, call, fault.0, b"EmptyPart"),
+    }
 }
 
 #[test]
-fn checks_whole_paths(rt: HostRuntime) -> Checked {
+fn checks_whole_paths(rt: HostRuntime) {
     for (settings, error, offset, paths) in PATHS {
         for path in *paths {
-            expect_whole(&rt, (settings, path), (error, *offset))?;
+            expect_whole(&rt, (settings, path), (error, *offset));
         }
     }
-    Ok(())
 }
 
 /// What joins valid components is a valid path.
 #[test]
-fn checks_a_joined_path(rt: HostRuntime) -> Result<(), Fail> {
-    let parts = [part(b"src")?, part(b"a.rs")?];
-    let joined: BString = path::join(rt.alloc(), &parts)?;
-    expect_whole(&rt, ("whn-", joined.as_bytes()), (b"", 0))?;
-    Ok(())
+fn checks_a_joined_path(rt: HostRuntime) {
+    let src = part(b"src").expect(&rt, "a component");
+    let file = part(b"a.rs").expect(&rt, "a component");
+    let joined = path::join(rt.alloc(), &[src, file]).expect(&rt, "memory");
+    expect_whole(&rt, ("whn-", joined.as_bytes()), (b"", 0));
 }

@@ -1,6 +1,6 @@
 //! The functions of the library, compared with the second implementation on many names.
 
-use crate::agree::{Checked, Host, check};
+use crate::agree::{Host, check};
 use crate::path::{DEVICES, IGNORED_CHARACTERS, SEQUENCES};
 use std::alloc::{AllocError, Global};
 
@@ -33,13 +33,15 @@ fn numbered(alloc: Global, parts: &[&[u8]], number: usize) -> Result<Vec<u8>, Al
 }
 
 #[test]
-fn agrees_on_names_of_few_parts(rt: HostRuntime) -> Checked {
+fn agrees_on_names_of_few_parts(rt: HostRuntime) {
     for (parts, end) in PARTS {
         for number in 0..*end {
-            check(&rt, &numbered(rt.alloc(), parts, number)?)?;
+            check(
+                &rt,
+                &numbered(rt.alloc(), parts, number).expect(&rt, "memory"),
+            );
         }
     }
-    Ok(())
 }
 
 /// What is around each byte: nothing, what makes a name of one piece or of several, and the first two
@@ -50,59 +52,66 @@ const AROUND: &[(&[u8], &[u8])] = &[
     (b".g\xE2\x80", b"it"), (b".g\xE2\x81", b"it"), (b".g\xEF\xBB", b"it"),
 ];
 
-/// Checks each byte from this one to the next multiple of 64 within names, and each name of two bytes
+/// Checks the byte within names.
+fn check_around(rt: &impl Host, byte: &[u8]) {
+    for (front, back) in AROUND {
+        check(
+            rt,
+            &[*front, byte, *back]
+                .concat(rt.alloc())
+                .expect(rt, "memory"),
+        );
+    }
+}
+
+/// Does so for each byte from this one to the next multiple of 64, and checks each name of two bytes
 /// that it begins. (`rt try` stops a test that takes a minute.)
-fn check_quarter(rt: &impl Host, least: u8) -> Checked {
+fn check_quarter(rt: &impl Host, least: u8) {
     for first in least..=least | 0x3F {
-        for (front, back) in AROUND {
-            let mut name = Vec::from_slice(rt.alloc(), front)?;
-            name.push(first)?;
-            name.extend_from_slice(back)?;
-            check(rt, &name)?;
-        }
+        check_around(rt, &[first]);
         for second in 0..=u8::MAX {
-            check(rt, &[first, second])?;
+            check(rt, &[first, second]);
         }
     }
-    Ok(())
 }
 
 #[test]
-fn agrees_on_names_of_two_bytes_from_00(rt: HostRuntime) -> Checked {
-    check_quarter(&rt, 0x00)
+fn agrees_on_names_of_two_bytes_from_00(rt: HostRuntime) {
+    check_quarter(&rt, 0x00);
 }
 
 #[test]
-fn agrees_on_names_of_two_bytes_from_40(rt: HostRuntime) -> Checked {
-    check_quarter(&rt, 0x40)
+fn agrees_on_names_of_two_bytes_from_40(rt: HostRuntime) {
+    check_quarter(&rt, 0x40);
 }
 
 #[test]
-fn agrees_on_names_of_two_bytes_from_80(rt: HostRuntime) -> Checked {
-    check_quarter(&rt, 0x80)
+fn agrees_on_names_of_two_bytes_from_80(rt: HostRuntime) {
+    check_quarter(&rt, 0x80);
 }
 
 #[test]
-fn agrees_on_names_of_two_bytes_from_c0(rt: HostRuntime) -> Checked {
-    check_quarter(&rt, 0xC0)
+fn agrees_on_names_of_two_bytes_from_c0(rt: HostRuntime) {
+    check_quarter(&rt, 0xC0);
 }
 
 /// Checks the name with each word at each offset, in place of a byte or, if `len` is 0, between two.
 /// Returns how many names that were.
-fn check_changed(
-    rt: &impl Host,
-    (name, len): (&[u8], usize),
-    words: &[&[u8]],
-) -> Result<usize, AllocError> {
+fn check_changed(rt: &impl Host, (name, len): (&[u8], usize), words: &[&[u8]]) -> usize {
     let mut checked: usize = 0;
     for offset in 0..name.len() + 1 {
         let back = name.get(offset.saturating_add(len)..).unwrap_or(b"");
         for word in words {
-            check(rt, &[&name[..offset], *word, back].concat(rt.alloc())?)?;
+            check(
+                rt,
+                &[&name[..offset], *word, back]
+                    .concat(rt.alloc())
+                    .expect(rt, "memory"),
+            );
             checked = checked.saturating_add(1);
         }
     }
-    Ok(checked)
+    checked
 }
 
 /// The name with uppercase letters at the first so many of each two offsets, and lowercase ones
@@ -143,19 +152,17 @@ const CHANGES: &[(&[&[u8]], usize, &[&[u8]], usize)] = &[
 ];
 
 #[test]
-fn agrees_on_each_element_of_tables(rt: HostRuntime) -> Checked {
+fn agrees_on_each_element_of_tables(rt: HostRuntime) {
     for (names, len, words, wanted) in CHANGES {
         let mut checked: usize = 0;
         for name in *names {
             for uppercase in 0..3 {
-                let name = spelled(rt.alloc(), name, uppercase)?;
-                let more = check_changed(&rt, (&name, *len), words)?;
-                checked = checked.saturating_add(more);
+                let name = spelled(rt.alloc(), name, uppercase).expect(&rt, "memory");
+                checked = checked.saturating_add(check_changed(&rt, (&name, *len), words));
             }
         }
         assert_eq!(rt; checked, *wanted);
     }
-    Ok(())
 }
 
 /// The edges of the table of whole sequences, and the bytes next to them.
@@ -169,17 +176,17 @@ const EDGES: &[&[u8]] = &[
 /// The least and the greatest sequence of each row, whole and truncated, before a colon, with each
 /// edge at each offset.
 #[test]
-fn agrees_on_each_edge_of_sequences(rt: HostRuntime) -> Checked {
+fn agrees_on_each_edge_of_sequences(rt: HostRuntime) {
     let mut checked: usize = 0;
     for (least, greatest) in SEQUENCES {
         for sequence in [least, greatest] {
             for end in 0..sequence.len() {
-                let name = [&sequence[..end + 1], b":"].concat(rt.alloc())?;
-                let more = check_changed(&rt, (&name, 1), EDGES)?;
-                checked = checked.saturating_add(more);
+                let name = [&sequence[..end + 1], b":"]
+                    .concat(rt.alloc())
+                    .expect(&rt, "memory");
+                checked = checked.saturating_add(check_changed(&rt, (&name, 1), EDGES));
             }
         }
     }
     assert_eq!(rt; checked, 2 * 112 * 27);
-    Ok(())
 }

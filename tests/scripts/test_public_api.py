@@ -7,18 +7,12 @@ from collections import Counter
 import pytest
 
 from scripts import declarations, sources, update_public_api
-from tests.scripts.copies import ROOT, Copy
+from tests.scripts.copies import ROOT
 
 PAGE = "docs/PUBLIC_API.md"
 CHECK = "crates/check_refs/src/check.rt"
 REFS = "crates/check_refs/specs/Refs.antt"
 SPELLED = "crates/check_refs/specs/Spelled.antt"
-
-
-@pytest.fixture
-def copy(tmp_path):
-    with Copy(tmp_path, "scripts", "crates", "crates.txt", "docs") as copy:
-        yield copy
 
 
 def difference(copy):

@@ -8,18 +8,12 @@ import pytest
 
 from scripts import sources
 from scripts.deriving import declarations, update_public_api
-from tests.scripts.copies import ROOT, Copy
+from tests.scripts.copies import ROOT
 
 PAGE = "docs/PUBLIC_API.md"
 CHECK = "crates/check_push/src/refs/check.rt"
 BRANCH = "crates/git_names/src/branch.rt"
 SHORT = "crates/git_names/specs/ShortNames.antt"
-
-
-@pytest.fixture
-def copy(tmp_path):
-    with Copy(tmp_path, "scripts", "crates", "crates.txt", "docs") as copy:
-        yield copy
 
 
 def difference(copy):

@@ -1,10 +1,21 @@
 """The commands of the root, which prove a program and then run it, and other scripts that
 have rt prove something: hook/install and bindings/build."""
 
+import math
 import os
 import shutil
 
 import pytest
+
+
+def first_line_of(program):
+    """What is said at once, with how long a proof takes on these processors."""
+    cores = len(os.sched_getaffinity(0))
+    minutes = 7 if program == "check_names" else 15
+    return (
+        f"{program}: proving it and the crates that it uses, in about {minutes} processor "
+        f"minutes: {math.ceil(minutes / cores)} on this machine's {cores} processors"
+    )
 
 
 @pytest.mark.parametrize("word", ["-h", "--help"])
@@ -34,7 +45,7 @@ def test_a_command_proves_its_program_and_passes_on_its_words_and_its_input(
     assert ended.status == 0
     assert ended.output == f"{program}|--help|two words|tag a\ntag b\n"
     assert ended.errors.splitlines() == [
-        f"{program}: proving it and the crates that it uses",
+        first_line_of(program),
         "rt: waiting for another rt in /a/b",
         f"{program}: proving {program}",
         "rt: waiting for another rt in /a/b",
@@ -200,7 +211,7 @@ def test_what_runs_is_what_rt_itself_has_proved_for_the_text_that_is_there(copy)
     path = os.environ["PATH"]
     first = copy.run("scripts/program", "app", path=path)
     assert (first.status, first.output) == (0, "the number is 1\n"), first.errors
-    assert "app: proving it and the crates that it uses\n" in first.errors
+    assert first.errors.startswith(f"{first_line_of('app')}\n")
     assert "app: proving app\n" in first.errors
     library.write_text(LIBRARY.replace("    1\n", "    2\n"))
     second = copy.run("scripts/program", "app", path=path)

@@ -38,7 +38,7 @@ fn main(rt: HostRuntime) -> ExitCode {
         }
     }
     if rt.stdin().is_terminal() {
-        fail(&rt, 0, HINT);
+        let _ = eprintln!(rt; "check_names: {HINT}");
     }
     match run(rt.alloc(), &mut rt.stdin(), &mut rt.stdout()) {
         Ok(()) => ExitCode::SUCCESS,

@@ -73,11 +73,11 @@ WAITS = ("no proof: it ", "not proved; it ")
 SHOWN = re.compile(r"(?m)^(?:fn \S+: (?!proved$)|\./proofs/|note: .* not proved).*")
 
 
-# A line with the value of a `let`, an arm, an `if` or the like, or that is a statement, or
-# the value at the end of a block.
+# A line with the value of a `let`, an arm or a field, or with a statement, an argument or the
+# value at the end of a block.
 VALUE_IN_LINE = re.compile(
-    r"""(?x) (?P<margin>[ ]*) (?:
-    (?P<head> let[ ][^=]*=[ ] | [^=]*[ ]=>[ ] )? (?P<value>[^=&|.?+*/}-].*?) (?P<end>[;,]?) )"""
+    r"""(?x) (?P<margin>[ ]*) (?P<head> let[ ].*?[ ]=[ ] | .*?[ ]=>[ ] | \w+:[ ] )?
+    (?P<value>[^=&|.?+*/}-].*?) (?P<end>[;,]?)"""
 )
 
 
@@ -278,7 +278,7 @@ def in_braces(body, at):
     if not is_value or not is_balanced(parts["value"]):
         return f"{{{body}}}"
     head, value, end = parts["head"] or "", parts["value"], parts["end"]
-    inside = f"{{ {value}{end} }}" if not head and end else f"{{ {value} }}{end}"
+    inside = f"{{ {value}; }}" if not head and end == ";" else f"{{ {value} }}{end}"
     return f"{body[:first]}{parts['margin']}{head}{inside}{body[last:]}"
 
 
@@ -338,8 +338,11 @@ def head():
 
 def drawn(chosen, number, seed):
     """As many of these edits, drawn by lot. With the same seed they are the same."""
-    lot = lambda it: hashlib.sha256(f"{seed} {it.file}".encode()).digest()
-    return sorted(sorted(chosen, key=lot)[:number])
+    by_lot = sorted(
+        chosen,
+        key=lambda it: hashlib.sha256(f"{seed} {it.file}".encode()).digest(),
+    )
+    return sorted(by_lot[:number])
 
 
 def drawn_by_crate(chosen, number, seed):
@@ -367,14 +370,13 @@ def in_turn():
     else:
         crates = changed_since(commit)
         print(f"changed since {commit}: {' '.join(sorted(crates)) or 'no crate'}")
-    turn = [it for it in every if it.crate in crates]
-    seed = head()
-    others = [it for it in every if it not in turn and is_mutant(it)]
+    seed, mutants = head(), [it for it in every if is_mutant(it)]
+    turn = [it for it in mutants if it.crate in crates]
+    others = [it for it in mutants if it.crate not in crates]
     more = drawn_by_crate(others, MORE, seed)
     print(f"drawn by {seed}:", *(it.file for it in more), sep="\n  ")
-    return [it for it in [*turn, *more] if is_mutant(it)], [
-        it for it in turn if not is_mutant(it)
-    ]
+    famous = [it for it in every if it.crate in crates and not is_mutant(it)]
+    return [*turn, *more], famous
 
 
 def batches(chosen):

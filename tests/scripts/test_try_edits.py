@@ -649,6 +649,12 @@ IN_BRACES = {
     "a statement": ("    end += 1;", "    { end += 1; }"),
     "a value": ("    a + b", "    { a + b }"),
     "the value of a `let`": ("    let x = f(a, b)?;", "    let x = { f(a, b)? };"),
+    "an argument": ("    a + b,", "    { a + b },"),
+    "the value of a field": ("    name: f(a),", "    name: { f(a) },"),
+    "the value of an arm with a condition": (
+        "    b if b == 1 => b + 1,",
+        "    b if b == 1 => { b + 1 },",
+    ),
     "the value of an arm": ("    Some(b) => b + 1,", "    Some(b) => { b + 1 },"),
 }
 

@@ -1,3 +1,3 @@
 pub mod AnswerLemmas
 pub mod WriteLemmas
-pub mod AnswersRows
+pub mod Rows

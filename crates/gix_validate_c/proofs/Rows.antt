@@ -1,6 +1,6 @@
 -- The definitions of the calls, computed on literals.
 use Rattle.gix_validate.proofs.Common.{◌≡◌, refl, true, false, List, [], ◌∷◌, ◌++◌, map}
-use Rattle.gix_validate.proofs.Common.{range_with_len, Some, None, codes}
+use Rattle.gix_validate.proofs.Common.{range_with_len, Some, None, codes, byte}
 use Rattle.gix_validate.proofs.Rows.Tables.{Gives}
 use Rattle.gix_validate.specs.declared.tag.NameError.TheVariants as tag
 use Rattle.gix_validate.specs.declared.reference.NameError.TheVariants as reference
@@ -11,6 +11,7 @@ use Rattle.gix_validate.specs.declared.path.ComponentError.{ComponentError}
 use Rattle.gix_validate.specs.declared.path.ComponentMode.TheVariants.{Symlink}
 use Rattle.gix_validate.specs.Component.{all_protections}
 use Rattle.gix_validate.specs.Reference.{carried, reserved}
+use Rattle.gix_validate.specs.Pieces.{names_in}
 use Rattle.gix_validate.specs.Private.Classes.{switches}
 use Rattle.gix_validate_c.specs.Numbers.{tag_number, reference_number, submodule_number}
 use Rattle.gix_validate_c.specs.Numbers.{component_number, code_by, invalid_byte_of, offset_or}
@@ -105,3 +106,26 @@ buffers = refl
 
 no_text : text_by (λ (fault : TagError). codes "abc") None ≡ []
 no_text = refl
+
+-- buffers whose names end at a newline, and their names
+names_in_lines : Gives (names_in (byte "\n"))
+    (([], [])  -- no name
+    ∷ (codes "\n", [] ∷ [])  -- an empty name
+    ∷ (codes "\n\n", [] ∷ [] ∷ [])  -- two empty names
+    ∷ (codes "a\n", codes "a" ∷ [])  -- one name
+    ∷ (codes "a", codes "a" ∷ [])  -- the last name without its end
+    ∷ (codes "\na", [] ∷ codes "a" ∷ [])  -- an empty name first
+    ∷ (codes "a\n\nb", codes "a" ∷ [] ∷ codes "b" ∷ [])  -- an empty name between two
+    ∷ (codes "a\r\nb\r", codes "a\r" ∷ codes "b\r" ∷ [])  -- a carriage return stays
+    ∷ [])
+unfolding names_in
+names_in_lines = refl
+
+-- any byte can end the names
+names_in_parts : Gives (names_in (byte "/"))
+    ((codes "refs/heads\n", codes "refs" ∷ codes "heads\n" ∷ [])
+    ∷ (codes "refs/", codes "refs" ∷ [])
+    ∷ (codes "//a", [] ∷ [] ∷ codes "a" ∷ [])
+    ∷ [])
+unfolding names_in
+names_in_parts = refl

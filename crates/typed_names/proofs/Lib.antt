@@ -1,3 +1,3 @@
 pub mod SlashLemmas
 pub mod TagLemmas
-mod NamesRows
+mod Rows

@@ -331,6 +331,7 @@ def test_a_new_bad_byte_is_written_wherever_bad_bytes_are(copy):
         ("bindings/rust/Cargo.toml", '"0.13.1+dihareku.4.5.6-dev"'),
         ("bindings/c/README.md", "gix_validate 4 "),
         ("crates/cli/src/lib.rt", 'pub const VERSION: &str = "4.5.6-dev";'),
+        ("crates/check_names/src/main.rt", 'const VERSION: &str = "4.5.6-dev";'),
         ("crates/gix_validate_c/src/version.rt", "version_number 4 5 6 }"),
         ("docs/RULES.md", "now 4005006 for 4.5.6.\n"),
     ],

@@ -1,4 +1,4 @@
-"""check_submodules next to Git, on the headers of sections in tests/headers."""
+"""`check_push submodules` next to Git, on the headers of sections in tests/headers."""
 
 import re
 

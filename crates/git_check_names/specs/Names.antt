@@ -159,7 +159,8 @@ pub record Runs (options : Options) (input rest output written : Option (List �
     : Type 0 where
   -- just the report is written, and decides the verdict
   pub verdict : IfOk ran (λ verdict. IfSome (text_for options input) (λ text.
-      Appends output written (report_of options text).0.lines × (verdict ≡ verdict_of (report_of options text))))
+      Appends output written (report_of options text).0.lines
+      × (verdict ≡ verdict_of (report_of options text))))
   -- nothing is read if the names are arguments
   pub unread : options.reads ≡ false → rest ≡ input
   -- an input without a problem is read to its end

@@ -6,6 +6,7 @@ same files each time, but maybe another one in another version.
 
 import io
 import re
+from collections import defaultdict
 from html import escape
 
 from scripts.sources import Wrong, read
@@ -47,6 +48,7 @@ WAY = re.compile(rf"([\d.]+) (?:ns )?({'|'.join(WAYS)})")
 # The heads of tables.
 CALL_COLUMNS = ["Call", "Names", "Dihareku, ns", "Crate, ns", "libgit2, ns"]
 CALL_COLUMNS += ["Dihareku, instructions", "Crate, instructions"]
+PROGRAM_COLUMNS = ["What a program reads", "Seconds", "MB of memory"]
 LANGUAGE_COLUMNS = ["Language", "The loop alone", "A short branch name"]
 LANGUAGE_COLUMNS += ["A path of three parts", "Its parts, a call for each"]
 PUSH_COLUMNS = ["What is pushed", "Without a hook", "With the hook"]
@@ -129,6 +131,12 @@ def languages(lines):
         yield name, *(shown(it) for it in counts)
 
 
+def programs(lines):
+    """The rows of the table of programs. What was not measured is empty."""
+    for what, *numbers in cells_of(lines):
+        yield what, *("" if it == "-" else it for it in numbers)
+
+
 def cells_of(lines):
     """The cells of each line but the first, the head."""
     return (re.split("  +", it) for it in lines[1:])
@@ -142,6 +150,17 @@ def gains(lines):
         is_near = 0.8 < float(ratio) < 1.2
         gain = "about the same" if is_near else f"{float(ratio):.1f}"
         yield words.format(shown(results)), gain
+
+
+def processors(parts):
+    """On which processors the parts were measured."""
+    measured = defaultdict(list)
+    for name, processor in parts:
+        measured[processor or "a processor that was not noted"].append(f"`{name}`")
+    if len(measured) == 1:
+        measured = {it: ["all"] for it in measured}
+    on = (f"{', '.join(names)} on {it}" for it, names in measured.items())
+    return f"`bench/run` measured {'; '.join(on)}."
 
 
 def made(figures):
@@ -158,6 +177,7 @@ def made(figures):
         "calls": table(CALL_COLUMNS, *calls(times, counts)),
         "bytes": table(["Call", "Name", "Dihareku", "Crate"], *costs),
         "over": f"Calls that take more than their limit: {', '.join(over) or 'none'}.",
+        "programs": table(PROGRAM_COLUMNS, *programs(figures["programs"])),
         "python": ways(figures["python"]),
         "javascript": ways(figures["javascript"]),
         "go": ways(figures["go"]),
@@ -301,9 +321,11 @@ def picture(times):
 
 
 def derived():
-    parts = re.split(r"(?m)^== (\w+)\n", read("bench/figures.txt"))
-    figures = {name: text.splitlines() for name, text in zip(parts[1::2], parts[2::2])}
-    for name, text in made(figures).items():
+    head = re.compile(r"(?m)^== (\w+)(?:, measured on (.*))?\n")
+    parts = head.split(read("bench/figures.txt"))
+    figures = {name: text.splitlines() for name, text in zip(parts[1::3], parts[3::3])}
+    texts = {"processors": processors(zip(parts[1::3], parts[2::3])), **made(figures)}
+    for name, text in texts.items():
         page = PAGES.get(name, "bench/README.md")
         yield page, f"<!-- {name} -->\n\n", "\n\n<!-- end -->", text
     yield "bench/length.svg", picture(rows(figures["times"]))

@@ -448,6 +448,7 @@ def test_nobody_else_can_read_the_temporary_folder(scan, hook, work, room):
     assert (room / "mode").read_text() == "700\n"
 
 
+@pytest.mark.one_format
 @pytest.mark.parametrize(
     "number", [signal.SIGTERM, signal.SIGINT, signal.SIGHUP, signal.SIGXCPU]
 )

@@ -97,7 +97,7 @@ def test_an_index_that_is_named_and_missing_is_a_failure(scan, work):
 
 def test_an_end_by_a_signal_leaves_no_folder(scan, hook, work, source, room):
     add_con(work, source)
-    hook.stand_in("git write-tree", "kill $PPID; sleep 1")
+    hook.stand_in("git write-tree", "kill $PPID; sleep 30")
     (room / "tmp").mkdir()
     result = scan(work.sub, "--index", TMPDIR=room / "tmp")
     assert result == scan_failed("a signal ended it")

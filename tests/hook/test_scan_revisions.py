@@ -14,6 +14,7 @@ from tests.hook.expected import (
 AUX = bad_name("aux.c", DEVICE)
 
 
+@pytest.mark.one_format
 @pytest.mark.parametrize(
     "words",
     [
@@ -103,6 +104,7 @@ def file_next_to_HEAD(work, source):
     (work.folder / "topic").write_text(f"{source.device}\n")
 
 
+@pytest.mark.one_format
 @pytest.mark.parametrize("word", ["topic", "topic~0", "HEAD..topic", "topic...HEAD"])
 @pytest.mark.parametrize(
     "hide",

@@ -29,7 +29,10 @@ fn main(rt: HostRuntime) -> ExitCode {
     };
     match split_words::<CheckOptions<'_>>(rt.alloc(), arguments) {
         Ok(words) => {
-            let program = Program { name: NAME, help: HELP };
+            let program = Program {
+                name: NAME,
+                help: HELP,
+            };
             let start = CheckOptions::with_operands(&words.operands);
             execute_on_streams(&rt, program, start, &words.options, &mut errors)
         }

@@ -4,9 +4,9 @@ ghost use Rattle.std.specs.Prelude.{◌≡◌, [], map};
 ghost use Rattle.std.specs.String.{string_bytes};
 ghost use Rattle.git_check_names.specs.Options.{Options, as_options, rule, without_options};
 
+use gix_validate::path::ComponentOptions;
 use programs::arguments::{ParseOptions, Setting};
 use programs::protections::{PROTECTIONS, protections_of};
-use gix_validate::path::ComponentOptions;
 
 pub const HELP: &str = "\
 Prints a line for each name that is invalid, and why it is:

@@ -1,4 +1,4 @@
-//! The program's options.
+//! The subcommand's options.
 
 ghost use Rattle.check_push.specs.Refs.Arguments.{no_options, rule};
 

@@ -1,4 +1,4 @@
-//! The program's options (docs/RULES.md, "The report of trees").
+//! The subcommand's options (docs/RULES.md, "The report of trees").
 
 ghost use Rattle.check_push.specs.Trees.Arguments.{no_options, rule};
 ghost use Rattle.check_push.specs.Trees.Arguments.{Options, as_options};

@@ -1,6 +1,6 @@
 //! Short names of branches and whole paths: worked names, and what docs/RULES.md gives for each.
 
-use crate::agree::{Host, expect, expect_text, expect_told, mode, options};
+use crate::agree::{Host, expect, expect_bool, expect_text, expect_told, mode, options};
 use crate::printed::{OF_BRANCHES, OF_COMPONENTS, OF_PATHS, OF_REFERENCES};
 use crate::reference::{Fault, VALID, of_references};
 use crate::rows::{Names, part};
@@ -63,15 +63,19 @@ fn checks_short_names(rt: HostRuntime) {
     for_short_names(&rt, SHORT_NAMES);
 }
 
-/// Each name is valid if and only if the second implementation accepts the full name of a branch, and
-/// it has no dash first.
 fn for_short_names(rt: &impl Host, rows: &[(Fault<'static>, Names)]) {
     for (fault, names) in rows {
-        for name in *names {
-            expect_short(rt, name, *fault);
-            let is_valid = is_branch(rt, name) && !name.starts_with(b"-");
-            assert_eq!(rt; *fault == VALID, is_valid, "{:?}", BStr::new(name));
-        }
+        for_names(rt, *fault, names);
+    }
+}
+
+/// Each name is valid if and only if the second implementation accepts the full name of a branch, and
+/// it has no dash first.
+fn for_names(rt: &impl Host, fault: Fault<'static>, names: &[&[u8]]) {
+    for name in names {
+        expect_short(rt, name, fault);
+        let is_valid = is_branch(rt, name) && !name.starts_with(b"-");
+        expect_bool(rt, ("short_name", name), is_valid, fault == VALID);
     }
 }
 
@@ -162,9 +166,18 @@ fn checks_whole_paths(rt: HostRuntime) {
 
 fn for_paths(rt: &impl Host, rows: &[(&str, &'static [u8], usize, Names)]) {
     for (settings, error, offset, paths) in rows {
-        for path in *paths {
-            expect_whole(rt, (settings, path), (error, *offset));
-        }
+        expect_all_whole(rt, settings, (error, *offset), paths);
+    }
+}
+
+fn expect_all_whole(
+    rt: &impl Host,
+    settings: &str,
+    wanted: (&'static [u8], usize),
+    paths: &[&[u8]],
+) {
+    for path in paths {
+        expect_whole(rt, (settings, path), wanted);
     }
 }
 

@@ -163,11 +163,22 @@ fn check_spelled(rt: &impl Host, names: &[&[u8]], len: usize, words: &[&[u8]]) -
     let mut checked: usize = 0;
     for name in names {
         for uppercase in 0..3 {
-            let name = spelled(rt.alloc(), name, uppercase).expect(rt, "memory");
-            checked = checked.saturating_add(check_changed(rt, (&name, len), words));
+            let more = check_spelling(rt, (name, uppercase), len, words);
+            checked = checked.saturating_add(more);
         }
     }
     checked
+}
+
+/// Does so with a name in one spelling.
+fn check_spelling(
+    rt: &impl Host,
+    (name, uppercase): (&[u8], usize),
+    len: usize,
+    words: &[&[u8]],
+) -> usize {
+    let name = spelled(rt.alloc(), name, uppercase).expect(rt, "memory");
+    check_changed(rt, (&name, len), words)
 }
 
 /// The edges of the table of whole sequences, and the bytes next to them.

@@ -21,8 +21,8 @@ HELPS = re.compile(
 )
 COMMENT = re.compile(r"(?m)^ *//.*\n")
 ATTRIBUTES = re.compile(r"\A(?: *#!?\[.*\n)*")
-# The end of a signature: a line that is a brace alone, or ends with one.
-BODY = re.compile(r"(?m)(?:^ *| )\{$")
+# The end of a signature: a line that is a brace alone, or ends with one. (Or an empty body.)
+BODY = re.compile(r"(?m)(?:^ *| )\{\}?$")
 PUB = r"(?:pub(?:\([\w ]+\))? )?"
 FUNCTION = re.compile(rf'{PUB}(?:const |extern "C" )*fn (\w+)')
 TYPE = re.compile(rf"{PUB}(struct|enum|trait|type|const|static) (\w+)")

@@ -53,7 +53,7 @@ pub(crate) fn expect(rt: &impl Abort, (call, text): (&str, &[u8]), wanted: &[u8]
 }
 
 /// The same of a call that says whether something holds.
-fn expect_bool(rt: &impl Abort, (call, text): (&str, &[u8]), wanted: bool, came: bool) {
+pub(crate) fn expect_bool(rt: &impl Abort, (call, text): (&str, &[u8]), wanted: bool, came: bool) {
     let text = BStr::new(text);
     assert_eq!(rt; came, wanted, "{call} of {text:?} (right: wanted)");
 }

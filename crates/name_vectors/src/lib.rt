@@ -8,15 +8,19 @@
 //!   lists all names instead of comparing prefixes. An error is its name in docs/RULES.md.
 //! - Tests that pass tens of thousands of names to `gix_validate` and to the second implementation,
 //!   and compare the results, all names of up to two bytes too.
+//! - A law that is no clause of the library (`laws`).
 //! - What no clause says: that calls which may fail succeed, and what `Debug` prints. And callers
 //!   that show what the ghost members of the types' traits say.
 //!
-//! Its proofs say that the tests are safe and end, so it is written for short ones: few functions,
-//! tables in place of code, and few different functions of the standard library.
+//! Its proofs say that the tests are safe and end, so it is written for short ones. A failed allocation
+//! ends a test, since each `?` would be a second way out, on which all that lives is dropped. A
+//! function has one loop or few calls, and a loop gets its table as a parameter, so that its proof
+//! doesn't have the table in it. Few different functions of the standard library are called.
 #![tactic(auto)]
 
 #[cfg(test)]
 mod agree;
+pub mod laws;
 #[cfg(test)]
 mod members;
 #[cfg(test)]

@@ -1,9 +1,9 @@
 //! Short names of branches and whole paths: worked names, and what docs/RULES.md gives for each.
 
-use crate::agree::{Host, expect, expect_text, expect_told, mode, options};
+use crate::agree::{Host, expect, expect_bool, expect_text, expect_told, mode, options};
 use crate::printed::{OF_BRANCHES, OF_COMPONENTS, OF_PATHS, OF_REFERENCES};
 use crate::reference::{Fault, VALID, of_references};
-use crate::rows::part;
+use crate::rows::{Names, part};
 use bstr::BStr;
 use git_names::branch::{self, ShortName, ShortNameError};
 use git_names::path::{self, PathError};
@@ -12,7 +12,7 @@ use gix_validate::reference::NameError;
 
 /// The error, and the names.
 #[rattlefmt::skip]
-const SHORT_NAMES: &[(Fault<'static>, &[&[u8]])] = &[
+const SHORT_NAMES: &[(Fault<'static>, Names)] = &[
     (VALID, &[
         b"main", b"a/b-", b"a-", b"@", b"@/-", b"a/-b", b"a/HEAD", b"HEAD/a", b"head", b"HEADS", b"FETCH_HEAD",
         b"refs/heads/main", b"refs/heads/HEAD", b"a./b", b"a.LOCK", b"\xC3\xA9", b"\xFF",
@@ -58,16 +58,24 @@ fn expect_short_error(
     }
 }
 
-/// Each name is valid if and only if the second implementation accepts the full name of a branch, and
-/// it has no dash first.
 #[test]
 fn checks_short_names(rt: HostRuntime) {
-    for (fault, names) in SHORT_NAMES {
-        for name in *names {
-            expect_short(&rt, name, *fault);
-            let is_valid = is_branch(&rt, name) && !name.starts_with(b"-");
-            assert_eq!(rt; *fault == VALID, is_valid, "{:?}", BStr::new(name));
-        }
+    for_short_names(&rt, SHORT_NAMES);
+}
+
+fn for_short_names(rt: &impl Host, rows: &[(Fault<'static>, Names)]) {
+    for (fault, names) in rows {
+        for_names(rt, *fault, names);
+    }
+}
+
+/// Each name is valid if and only if the second implementation accepts the full name of a branch, and
+/// it has no dash first.
+fn for_names(rt: &impl Host, fault: Fault<'static>, names: &[&[u8]]) {
+    for name in names {
+        expect_short(rt, name, fault);
+        let is_valid = is_branch(rt, name) && !name.starts_with(b"-");
+        expect_bool(rt, ("short_name", name), is_valid, fault == VALID);
     }
 }
 
@@ -98,7 +106,7 @@ fn puts_refs_heads_before_a_short_name(rt: HostRuntime) {
 /// Settings, as those of `rows`; the error, and the offset of the part that has it; and the paths. For
 /// a valid path there is no error, and no offset.
 #[rattlefmt::skip]
-const PATHS: &[(&str, &[u8], usize, &[&[u8]])] = &[
+const PATHS: &[(&str, &[u8], usize, Names)] = &[
     ("whns", b"", 0, &[b"src/main.rs", b"a", b"a/b/c/d", b".gitmodules/a", b"a/.gitignore", b".git2/x"]),
     ("whn-", b"", 0, &[b".gitmodules", b"a/.gitmodules"]),
     ("----", b"", 0, &[b"git~1/CON/c:", b"a\\b/.git /\xFF"]),
@@ -153,10 +161,23 @@ fn expect_path_error(rt: &impl Host, call: (&str, &[u8]), fault: Fault<'_>, erro
 
 #[test]
 fn checks_whole_paths(rt: HostRuntime) {
-    for (settings, error, offset, paths) in PATHS {
-        for path in *paths {
-            expect_whole(&rt, (settings, path), (error, *offset));
-        }
+    for_paths(&rt, PATHS);
+}
+
+fn for_paths(rt: &impl Host, rows: &[(&str, &'static [u8], usize, Names)]) {
+    for (settings, error, offset, paths) in rows {
+        expect_all_whole(rt, settings, (error, *offset), paths);
+    }
+}
+
+fn expect_all_whole(
+    rt: &impl Host,
+    settings: &str,
+    wanted: (&'static [u8], usize),
+    paths: &[&[u8]],
+) {
+    for path in paths {
+        expect_whole(rt, (settings, path), wanted);
     }
 }
 

@@ -154,15 +154,31 @@ const CHANGES: &[(&[&[u8]], usize, &[&[u8]], usize)] = &[
 #[test]
 fn agrees_on_each_element_of_tables(rt: HostRuntime) {
     for (names, len, words, wanted) in CHANGES {
-        let mut checked: usize = 0;
-        for name in *names {
-            for uppercase in 0..3 {
-                let name = spelled(rt.alloc(), name, uppercase).expect(&rt, "memory");
-                checked = checked.saturating_add(check_changed(&rt, (&name, *len), words));
-            }
-        }
-        assert_eq!(rt; checked, *wanted);
+        assert_eq!(rt; check_spelled(&rt, names, *len, words), *wanted);
     }
+}
+
+/// Checks these names, spelled in three ways, with such changes. Returns how many names that were.
+fn check_spelled(rt: &impl Host, names: &[&[u8]], len: usize, words: &[&[u8]]) -> usize {
+    let mut checked: usize = 0;
+    for name in names {
+        for uppercase in 0..3 {
+            let more = check_spelling(rt, (name, uppercase), len, words);
+            checked = checked.saturating_add(more);
+        }
+    }
+    checked
+}
+
+/// Does so with a name in one spelling.
+fn check_spelling(
+    rt: &impl Host,
+    (name, uppercase): (&[u8], usize),
+    len: usize,
+    words: &[&[u8]],
+) -> usize {
+    let name = spelled(rt.alloc(), name, uppercase).expect(rt, "memory");
+    check_changed(rt, (&name, len), words)
 }
 
 /// The edges of the table of whole sequences, and the bytes next to them.
@@ -179,14 +195,20 @@ const EDGES: &[&[u8]] = &[
 fn agrees_on_each_edge_of_sequences(rt: HostRuntime) {
     let mut checked: usize = 0;
     for (least, greatest) in SEQUENCES {
-        for sequence in [least, greatest] {
-            for end in 0..sequence.len() {
-                let name = [&sequence[..end + 1], b":"]
-                    .concat(rt.alloc())
-                    .expect(&rt, "memory");
-                checked = checked.saturating_add(check_changed(&rt, (&name, 1), EDGES));
-            }
-        }
+        checked = checked.saturating_add(check_truncated(&rt, least));
+        checked = checked.saturating_add(check_truncated(&rt, greatest));
     }
     assert_eq!(rt; checked, 2 * 112 * 27);
+}
+
+/// Does so with one sequence. Returns how many names that were.
+fn check_truncated(rt: &impl Host, sequence: &[u8]) -> usize {
+    let mut checked: usize = 0;
+    for end in 0..sequence.len() {
+        let name = [&sequence[..end + 1], b":"]
+            .concat(rt.alloc())
+            .expect(rt, "memory");
+        checked = checked.saturating_add(check_changed(rt, (&name, 1), EDGES));
+    }
+    checked
 }

@@ -1,17 +1,16 @@
 use Rattle.gix_validate.proofs.Common.{◌≡◌, ◌-◌, ◌∙◌, true, false, None, arith, drop}
 use Rattle.gix_validate.proofs.Common.{length, sym, take}
 use Rattle.gix_validate.specs.Component.{is_component}
-use Rattle.gix_validate.specs.Private.Classes.{switches}
 use Rattle.git_names.proofs.PathLemmas.{LeftOf-start, LeftOf-after, LeftOf-fault, LeftOf-last}
 use Rattle.git_names.proofs.PathLemmas.{LeftOf-none}
 use Rattle.git_names.proofs.path.first_fault.Goals as goal
 
 pub loop-end-init : goal.loop-end-init
-loop-end-init c = LeftOf-start (switches c.args.windows c.args.hfs c.args.ntfs) c.args.mode c.args.path.now
+loop-end-init c = LeftOf-start c.args.options c.args.mode c.args.path.now
 
 pub returns-then-not-is_component : goal.returns-then-not-is_component
 returns-then-not-is_component c =
-    let options = switches c.args.windows c.args.hfs c.args.ntfs in
+    let options = c.args.options in
     let x = c.args.path.now in
     let start = c.loop-end.start in
     let invalid : is_component options None (take (c.in-Some.end - start) (drop start x)) ≡ false =
@@ -23,7 +22,7 @@ returns-then-not-is_component c =
 
 pub loop-end-preserved : goal.loop-end-preserved
 loop-end-preserved c =
-    let options = switches c.args.windows c.args.hfs c.args.ntfs in
+    let options = c.args.options in
     let x = c.args.path.now in
     let start = c.loop-end.start in
     let valid : is_component options None (take (c.in-Some.end - start) (drop start x)) ≡ true =
@@ -32,7 +31,7 @@ loop-end-preserved c =
 
 pub returns-then-is_component : goal.returns-then-is_component
 returns-then-is_component c =
-    let options = switches c.args.windows c.args.hfs c.args.ntfs in
+    let options = c.args.options in
     let x = c.args.path.now in
     let start = c.loop-end.start in
     let valid : is_component options c.args.mode (take (length x - start) (drop start x)) ≡ true =
@@ -41,7 +40,7 @@ returns-then-is_component c =
 
 pub returns : goal.returns
 returns c =
-    let options = switches c.args.windows c.args.hfs c.args.ntfs in
+    let options = c.args.options in
     c.fault_of_part-2.ensures
     ∙ sym (
     LeftOf-last options c.args.mode c.args.path.now c.loop-end.start c.loop-end.invariant c.in_default.ensures

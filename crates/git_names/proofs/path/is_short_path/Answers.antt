@@ -1,7 +1,6 @@
 use Rattle.gix_validate.proofs.Common.{◌≡◌, ◌+◌, ◌-◌, ◌&&◌, ◌∙◌, true, false, None, ap, arith, drop}
 use Rattle.gix_validate.proofs.Common.{length, sym, take}
 use Rattle.gix_validate.specs.Component.{is_component}
-use Rattle.gix_validate.specs.Private.Classes.{switches}
 use Rattle.git_names.specs.Paths.{is_path}
 use Rattle.git_names.proofs.PathLemmas.{path_by_first_part, path_of_one_part}
 use Rattle.git_names.proofs.SlashLemmas.{first_marked, marks_after, none_marked}
@@ -9,7 +8,7 @@ use Rattle.git_names.proofs.path.is_short_path.Goals as goal
 
 pub returns-then-not-is_component : goal.returns-then-not-is_component
 returns-then-not-is_component c =
-    let options = switches c.args.windows c.args.hfs c.args.ntfs in
+    let options = c.args.options in
     let rest = c.loop-slashes.rest.now in
     let end = c.first_lane-end.result in
     let lane = c.first_lane-end.ensures in
@@ -25,7 +24,7 @@ returns-then-not-is_component c =
 
 pub loop-slashes-preserved : goal.loop-slashes-preserved
 loop-slashes-preserved c =
-    let options = switches c.args.windows c.args.hfs c.args.ntfs in
+    let options = c.args.options in
     let rest = c.loop-slashes.rest.now in
     let end = c.first_lane-end.result in
     let lane = c.first_lane-end.ensures in
@@ -43,7 +42,7 @@ loop-slashes-preserved c =
 
 pub returns : goal.returns
 returns c =
-    let options = switches c.args.windows c.args.hfs c.args.ntfs in
+    let options = c.args.options in
     let rest = c.loop-slashes.rest.now in
     let none = none_marked rest c.loop-slashes.slashes c.loop-slashes.invariant.marks
     (omega (arith, c.loop-slashes-test.false)) in

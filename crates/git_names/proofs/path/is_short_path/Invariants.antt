@@ -1,13 +1,12 @@
 -- The text is a path if what is left of it is one, and the bits are the slashes of what is left.
 use Rattle.gix_validate.proofs.Common.{◌≡◌, length}
-use Rattle.gix_validate.specs.Private.Classes.{switches}
 use Rattle.git_names.specs.Paths.{is_path}
 use Rattle.git_names.specs.Private.Slashes.{MarksSlashes}
 use Rattle.git_names.proofs.path.is_short_path.Given as goal
 
 abbrev pub invariant-loop-slashes : goal.invariant-loop-slashes
 invariant-loop-slashes l =
-    let options = switches l.fn.windows l.fn.hfs l.fn.ntfs in
+    let options = l.fn.options in
     record {
       marks : MarksSlashes l.rest l.slashes;
       same : is_path options l.fn.mode l.fn.path ≡ is_path options l.fn.mode l.rest;

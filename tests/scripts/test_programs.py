@@ -1,7 +1,6 @@
 """The commands of the root, which prove a program and then run it, and other scripts that
 have rt prove something: hook/install and bindings/build."""
 
-import math
 import os
 import shutil
 
@@ -12,13 +11,9 @@ COMMANDS += ["git-check-names"]
 
 
 def first_line_of(program):
-    """What is said at once, with how long a proof takes on these processors."""
-    cores = len(os.sched_getaffinity(0))
-    minutes = 7 if program == "check_names" else 15
-    return (
-        f"{program}: proving it and the crates that it uses, in about {minutes} processor "
-        f"minutes: {math.ceil(minutes / cores)} on this machine's {cores} processors"
-    )
+    """What is said at once."""
+    minutes = 8 if program == "check_names" else 12
+    return f"{program}: proving it and the crates that it uses, in about {minutes} minutes"
 
 
 @pytest.mark.parametrize("word", ["-h", "--help"])

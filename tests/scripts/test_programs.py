@@ -12,8 +12,10 @@ COMMANDS += ["git-check-names"]
 
 def first_line_of(program):
     """What is said at once."""
-    minutes = 8 if program == "check_names" else 12
-    return f"{program}: proving it and the crates that it uses, in about {minutes} minutes"
+    minutes = 8 if program == "check_names" else 15
+    return (
+        f"{program}: proving it and the crates that it uses, in about {minutes} minutes"
+    )
 
 
 @pytest.mark.parametrize("word", ["-h", "--help"])
@@ -38,8 +40,6 @@ def test_a_command_proves_its_program_and_passes_on_its_words_and_its_input(
         first_line_of(program),
         "rt: waiting for another rt in /a/b",
         f"{program}: proving {program}",
-        "rt: waiting for another rt in /a/b",
-        f"{program}: proving {program}",
     ]
 
 
@@ -51,7 +51,7 @@ def test_a_command_whose_proof_fails_says_what_is_not_proved_and_no_more(copy):
         "./proofs/f/Answers.antt:3:7: error: they differ",
         "note: src/lib.rt:12:1: it is not proved that it holds",
         "rt: the library low did not build",
-        f"check_refs: it was not built; run `rt all check --jobs {os.cpu_count()}` in "
+        "check_refs: it was not built; run `rt run --jobs 1 -- --version` in "
         f"{copy.path}/crates/check_refs for the whole message",
     ]
 
@@ -193,7 +193,6 @@ def test_what_runs_is_what_rt_itself_has_proved_for_the_text_that_is_there(copy)
     first = copy.run("scripts/program", "app", path=path)
     assert (first.status, first.output) == (0, "the number is 1\n"), first.errors
     assert first.errors.startswith(f"{first_line_of('app')}\n")
-    assert "app: proving app\n" in first.errors
     second = copy.run("scripts/program", "app", path=path)
     assert second == (0, "the number is 1\n", "")
     library.write_text(LIBRARY.replace("    1\n", "    2\n"))

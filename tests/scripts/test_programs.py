@@ -56,13 +56,8 @@ def test_a_command_whose_proof_fails_says_what_is_not_proved_and_no_more(copy):
         "./proofs/f/Answers.antt:3:7: error: they differ",
         "note: src/lib.rt:12:1: it is not proved that it holds",
         "rt: the library low did not build",
-<<<<<<< HEAD
-        f"check_names: it was not built; run `rt all check --jobs {os.cpu_count()}` in "
+        "check_names: it was not built; run `rt run --jobs 1 -- --version` in "
         f"{copy.path}/crates/check_names for the whole message",
-=======
-        "check_refs: it was not built; run `rt run --jobs 1 -- --version` in "
-        f"{copy.path}/crates/check_refs for the whole message",
->>>>>>> dad89b9dd7790094eef0d70f532ba8b7e54ebe60
     ]
 
 
@@ -212,12 +207,8 @@ def test_what_runs_is_what_rt_itself_has_proved_for_the_text_that_is_there(copy)
     first = copy.run("scripts/program", "app", path=path)
     assert (first.status, first.output) == (0, "the number is 1\n"), first.errors
     assert first.errors.startswith(f"{first_line_of('app')}\n")
-<<<<<<< HEAD
-    assert "app: proving app\n" in first.errors
-=======
     second = copy.run("scripts/program", "app", path=path)
     assert second == (0, "the number is 1\n", "")
->>>>>>> dad89b9dd7790094eef0d70f532ba8b7e54ebe60
     library.write_text(LIBRARY.replace("    1\n", "    2\n"))
     second = copy.run("scripts/program", "app", path=path)
     assert (second.status, second.output) == (2, "")

@@ -27,8 +27,8 @@ impl Program {
     }
 
     /// Fails if it isn't that of this release: if it is missing, empty or cut, say by a full disk,
-    /// or of another release. (This protects from accidents. Whoever may write into the folder may
-    /// also replace the program that runs.)
+    /// or of another release. (This protects from accidents: if you may write into the directory,
+    /// you may also replace the program that runs.)
     pub fn check(&self) -> Result<()> {
         let sum =
             fs::read_to_string(self.folder.join(SUM)).or_fail(format!("{SUM} can't be read"))?;

@@ -39,6 +39,8 @@ def wine(tmp_path_factory):
     settings = {
         "WINEPREFIX": str(tmp_path_factory.mktemp("wine") / "prefix"),
         "WINEDEBUG": "-all",
+        # (wineserver leaves a directory there)
+        "TMPDIR": str(tmp_path_factory.mktemp("wine-tmp")),
     }
     yield settings
     # (wine goes on writing there after a program has ended)

@@ -67,9 +67,10 @@ def upgrades(packages, session_room):
 
 
 @need("lintian")
-def test_lintian_has_no_error_and_no_warning(packages):
+def test_lintian_has_no_error_and_no_warning(packages, tmp_path):
     words = ["--no-cfg", "--fail-on", "error,warning"]
-    status, said = run("lintian", *words, *packages)
+    # (It leaves files in the temporary directory.)
+    status, said = run("lintian", *words, *packages, TMPDIR=str(tmp_path))
     assert status == 0, said
 
 

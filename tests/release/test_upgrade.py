@@ -52,7 +52,7 @@ def test_no_hostile_push_is_accepted_during_20_slow_upgrades(
 
 
 def test_the_hook_works_after_an_upgrade_that_is_killed_at_any_moment(
-    upgraded, one, other, fresh, hostile
+    upgraded, one, other, fresh, hostile, room
 ):
     hostile.set_hook(upgraded)
     hook = upgraded / "libexec/gix-validate/pre-receive"
@@ -61,7 +61,7 @@ def test_the_hook_works_after_an_upgrade_that_is_killed_at_any_moment(
         release = other if b"one--" in hook.read_bytes() else one
         delay = random.uniform(0, longest)
         print(f"killed after {delay} of {longest} seconds")
-        kill_after(delay, release / "install", upgraded)
+        kill_after(delay, room, release / "install", upgraded)
         status, said = hostile.push()
         assert status == 1
         assert REFUSED in said
@@ -77,10 +77,12 @@ def seconds_of(*command):
     return 1.5 * (time.monotonic() - begun)
 
 
-def kill_after(seconds, *command):
-    """Runs a command, and kills it after this time with all of its processes."""
+def kill_after(seconds, room, *command):
+    """Runs a command, and kills it after this time with all of its processes. What it
+    leaves in its temporary directory goes with the test."""
     quiet = {"stdout": subprocess.DEVNULL, "stderr": subprocess.DEVNULL}
-    ran = subprocess.Popen(command, env=ENVIRONMENT, start_new_session=True, **quiet)
+    environment = {**ENVIRONMENT, "TMPDIR": str(room)}
+    ran = subprocess.Popen(command, env=environment, start_new_session=True, **quiet)
     time.sleep(seconds)
     os.killpg(ran.pid, signal.SIGKILL)
     ran.wait()

@@ -1,7 +1,7 @@
 //! What errors print (docs/RULES.md, "Printed texts"), with a quoted byte or name.
 
 use crate::reference::Fault;
-use std::alloc::{AllocError, Global};
+use crate::text::{Host, joined};
 
 /// Errors of one kind of name, and their texts.
 pub(crate) type Texts = &'static [(&'static [u8], &'static [u8])];
@@ -69,35 +69,48 @@ pub(crate) const OF_PATHS: Texts = &[
 ];
 
 /// The text of the error, followed by what is quoted after it in its quoted form, if it wants that.
-pub(crate) fn printed(
-    alloc: Global,
-    texts: Texts,
-    (error, quoted): Fault<'_>,
-) -> Result<Vec<u8>, AllocError> {
-    let mut printed = Vec::new(alloc);
-    if let Some((_, text)) = texts.iter().find(|(word, _)| *word == error) {
-        printed.extend_from_slice(text)?;
+pub(crate) fn printed(rt: &impl Host, texts: Texts, (error, quoted): Fault<'_>) -> Vec<u8> {
+    let text = text_of(texts, error);
+    let mut printed = joined(rt, &[text]);
+    if text.ends_with(b": ") {
+        push_quoted(rt, &mut printed, quoted);
     }
-    if printed.ends_with(b": ") {
-        printed.extend_from_slice(b"\"")?;
-        for byte in quoted {
-            printed.extend_from_slice(escaped(alloc, *byte)?.as_bytes())?;
+    printed
+}
+
+/// The text of the error, if it is among these.
+fn text_of(texts: Texts, error: &[u8]) -> &'static [u8] {
+    for (word, text) in texts {
+        if *word == error {
+            return text;
         }
-        printed.extend_from_slice(b"\"")?;
     }
-    Ok(printed)
+    b""
+}
+
+/// Adds the quoted form.
+fn push_quoted(rt: &impl Host, printed: &mut Vec<u8>, quoted: &[u8]) {
+    printed.push(b'"').expect(rt, "memory");
+    for byte in quoted {
+        let form = escaped(rt, *byte);
+        printed
+            .extend_from_slice(form.as_bytes())
+            .expect(rt, "memory");
+    }
+    printed.push(b'"').expect(rt, "memory");
 }
 
 /// The byte as it is in a quoted form.
-fn escaped(alloc: Global, byte: u8) -> Result<String, AllocError> {
-    match byte {
-        0x00 => String::from_str(alloc, "\\0"),
-        b'\t' => String::from_str(alloc, "\\t"),
-        b'\n' => String::from_str(alloc, "\\n"),
-        b'\r' => String::from_str(alloc, "\\r"),
-        b'"' => String::from_str(alloc, "\\\""),
-        b'\\' => String::from_str(alloc, "\\\\"),
-        0x20..0x7F => format!(in alloc; "{}", char::from(byte)),
-        _ => format!(in alloc; "\\x{byte:02x}"),
-    }
+fn escaped(rt: &impl Host, byte: u8) -> String {
+    let form = match byte {
+        0x00 => String::from_str(rt.alloc(), "\\0"),
+        b'\t' => String::from_str(rt.alloc(), "\\t"),
+        b'\n' => String::from_str(rt.alloc(), "\\n"),
+        b'\r' => String::from_str(rt.alloc(), "\\r"),
+        b'"' => String::from_str(rt.alloc(), "\\\""),
+        b'\\' => String::from_str(rt.alloc(), "\\\\"),
+        0x20..0x7F => format!(in rt.alloc(); "{}", char::from(byte)),
+        _ => format!(in rt.alloc(); "\\x{byte:02x}"),
+    };
+    form.expect(rt, "memory")
 }

@@ -1,14 +1,13 @@
 //! Short names of branches and whole paths: worked names, and what docs/RULES.md gives for each.
 
-use crate::agree::{Host, expect, expect_bool, expect_text, expect_told, mode, options};
+use crate::agree::{expect, expect_bool, expect_error, expect_text, expect_valid, mode, options};
 use crate::printed::{OF_BRANCHES, OF_COMPONENTS, OF_PATHS, OF_REFERENCES};
 use crate::reference::{Fault, VALID, of_references};
 use crate::rows::{Names, part};
+use crate::text::{Host, joined};
 use bstr::BStr;
 use git_names::branch::{self, ShortName, ShortNameError};
 use git_names::path::{self, PathError};
-use gix_validate::path::ComponentError;
-use gix_validate::reference::NameError;
 
 /// The error, and the names.
 #[rattlefmt::skip]
@@ -37,8 +36,8 @@ const SHORT_NAMES: &[(Fault<'static>, Names)] = &[
 fn expect_short(rt: &impl Host, text: &[u8], fault: Fault<'_>) {
     let call = ("short_name", text);
     match branch::short_name(BStr::new(text)) {
-        Ok(name) => expect_told::<NameError>(rt, call, (OF_REFERENCES, fault), Ok(name)),
-        Err(error) => expect_short_error(rt, call, fault, error),
+        Ok(name) => expect_valid(rt, call, fault, name.as_bytes()),
+        Err(error) => expect_short_error(rt, call, fault, &error),
     }
 }
 
@@ -47,13 +46,13 @@ fn expect_short_error(
     rt: &impl Host,
     call: (&str, &[u8]),
     fault: Fault<'_>,
-    error: ShortNameError,
+    error: &ShortNameError,
 ) {
     let is_dash = fault.0 == b"StartsWithDash".as_slice();
     let texts = if is_dash { OF_BRANCHES } else { OF_REFERENCES };
-    expect_text(rt, call, (texts, fault), &error);
+    expect_text(rt, call, (texts, fault), error);
     match error {
-        ShortNameError::Name(error) => expect_told(rt, call, (OF_REFERENCES, fault), Err(error)),
+        ShortNameError::Name(error) => expect_error(rt, call, (OF_REFERENCES, fault), error),
         ShortNameError::StartsWithDash => expect(rt, call, fault.0, b"StartsWithDash"),
     }
 }
@@ -81,9 +80,7 @@ fn for_names(rt: &impl Host, fault: Fault<'static>, names: &[&[u8]]) {
 
 /// Whether the second implementation accepts `refs/heads/` with this name as the name of a branch.
 fn is_branch(rt: &impl Host, name: &[u8]) -> bool {
-    let full = [b"refs/heads/".as_slice(), name]
-        .concat(rt.alloc())
-        .expect(rt, "memory");
+    let full = joined(rt, &[b"refs/heads/", name]);
     of_references(&full)[3] == VALID
 }
 
@@ -91,15 +88,20 @@ fn is_branch(rt: &impl Host, name: &[u8]) -> bool {
 fn puts_refs_heads_before_a_short_name(rt: HostRuntime) {
     let name = ShortName::new(BStr::from("topic/a")).expect(&rt, "a short name");
     let full = branch::full_name(rt.alloc(), name).expect(&rt, "memory");
-    expect(
-        &rt,
-        ("full_name", b"topic/a"),
-        b"refs/heads/topic/a",
-        full.as_bytes(),
-    );
+    let wanted = b"refs/heads/topic/a";
+    expect(&rt, ("full_name", b"topic/a"), wanted, full.as_bytes());
+}
+
+#[test]
+fn prints_a_short_name(rt: HostRuntime) {
+    let name = ShortName::new(BStr::from("topic/a")).expect(&rt, "a short name");
     let text = format!(in rt.alloc(); "{name:?} {name}").expect(&rt, "memory");
     let wanted = b"ShortName { name: \"topic/a\" } topic/a";
     expect(&rt, ("Debug", b"topic/a"), wanted, text.as_bytes());
+}
+
+#[test]
+fn refuses_a_short_name_with_a_dash_first(rt: HostRuntime) {
     assert!(rt; ShortName::new(BStr::from("-d")).is_err());
 }
 
@@ -138,22 +140,22 @@ fn expect_whole(
     let call = (settings, text);
     let fault: Fault<'_> = (error, b"");
     match path::whole(BStr::new(text), mode(settings), options(settings)) {
-        Ok(path) => expect_told::<ComponentError>(rt, call, (OF_COMPONENTS, fault), Ok(path)),
+        Ok(path) => expect_valid(rt, call, fault, path.as_bytes()),
         Err(error) => {
-            assert_eq!(rt; error.offset(), offset, "offset of {:?}", BStr::new(text));
-            expect_path_error(rt, call, fault, error);
+            expect_bool(rt, ("the offset", text), true, error.offset() == offset);
+            expect_path_error(rt, call, fault, &error);
         }
     }
 }
 
 /// Checks the error, which prints the text of the error in it.
-fn expect_path_error(rt: &impl Host, call: (&str, &[u8]), fault: Fault<'_>, error: PathError) {
+fn expect_path_error(rt: &impl Host, call: (&str, &[u8]), fault: Fault<'_>, error: &PathError) {
     let is_empty = fault.0 == b"EmptyPart".as_slice();
     let texts = if is_empty { OF_PATHS } else { OF_COMPONENTS };
-    expect_text(rt, call, (texts, fault), &error);
+    expect_text(rt, call, (texts, fault), error);
     match error {
         PathError::InvalidPart { error, .. } => {
-            expect_told(rt, call, (OF_COMPONENTS, fault), Err(error));
+            expect_error(rt, call, (OF_COMPONENTS, fault), error);
         }
         PathError::EmptyPart { .. } => expect(rt, call, fault.0, b"EmptyPart"),
     }

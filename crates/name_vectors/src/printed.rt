@@ -103,14 +103,24 @@ fn push_quoted(rt: &impl Host, printed: &mut Vec<u8>, quoted: &[u8]) {
 /// The byte as it is in a quoted form.
 fn escaped(rt: &impl Host, byte: u8) -> String {
     let form = match byte {
-        0x00 => String::from_str(rt.alloc(), "\\0"),
-        b'\t' => String::from_str(rt.alloc(), "\\t"),
-        b'\n' => String::from_str(rt.alloc(), "\\n"),
-        b'\r' => String::from_str(rt.alloc(), "\\r"),
-        b'"' => String::from_str(rt.alloc(), "\\\""),
-        b'\\' => String::from_str(rt.alloc(), "\\\\"),
+        _ if !after_backslash(byte).is_empty() => {
+            format!(in rt.alloc(); "\\{}", after_backslash(byte))
+        }
         0x20..0x7F => format!(in rt.alloc(); "{}", char::from(byte)),
         _ => format!(in rt.alloc(); "\\x{byte:02x}"),
     };
     form.expect(rt, "memory")
+}
+
+/// What is after the backslash for this byte, if it has a short form.
+fn after_backslash(byte: u8) -> &'static str {
+    match byte {
+        0x00 => "0",
+        b'\t' => "t",
+        b'\n' => "n",
+        b'\r' => "r",
+        b'"' => "\"",
+        b'\\' => "\\",
+        _ => "",
+    }
 }

@@ -97,9 +97,9 @@ fn is_tag(text: &[u8], between_slashes: &[u8]) -> bool {
 pub(crate) fn accepting(text: &[u8], between_slashes: &[u8]) -> usize {
     match text {
         _ if !is_tag(text, between_slashes) => 0,
-        b"@" => 1,
+        _ if text == b"@".as_slice() => 1,
         _ if !may_stand(text) => 2,
-        b"refs/heads/HEAD" => 3,
+        _ if text == b"refs/heads/HEAD".as_slice() => 3,
         _ => 4,
     }
 }

@@ -3,7 +3,7 @@
 use crate::agree::{expect, expect_bool, expect_error, expect_text, expect_valid, mode, options};
 use crate::printed::{OF_BRANCHES, OF_COMPONENTS, OF_PATHS, OF_REFERENCES};
 use crate::reference::{Fault, VALID, of_references};
-use crate::rows::{Names, part};
+use crate::rows::{Names, listed, part};
 use crate::text::{Host, joined};
 use bstr::BStr;
 use git_names::branch::{self, ShortName, ShortNameError};
@@ -12,24 +12,22 @@ use git_names::path::{self, PathError};
 /// The error, and the names.
 #[rattlefmt::skip]
 const SHORT_NAMES: &[(Fault<'static>, Names)] = &[
-    (VALID, &[
-        b"main", b"a/b-", b"a-", b"@", b"@/-", b"a/-b", b"a/HEAD", b"HEAD/a", b"head", b"HEADS", b"FETCH_HEAD",
-        b"refs/heads/main", b"refs/heads/HEAD", b"a./b", b"a.LOCK", b"\xC3\xA9", b"\xFF",
-    ]),
-    ((b"Reserved", b"HEAD"), &[b"HEAD"]),
-    ((b"StartsWithDash", b""), &[b"-", b"-d", b"--", b"-/a", b"-HEAD", b"-lock"]),
-    ((b"Empty", b""), &[b""]),
-    ((b"EndsWithSlash", b""), &[b"/", b"a/", b"-/", b"HEAD/"]),
-    ((b"StartsWithSlash", b""), &[b"/a", b"/HEAD", b"/-"]),
-    ((b"RepeatedSlash", b""), &[b"a//b", b"-//b"]),
-    ((b"InvalidByte", b" "), &[b"my branch", b"- "]),
-    ((b"InvalidByte", b"~"), &[b"main~1", b"-~"]),
-    ((b"Asterisk", b""), &[b"*", b"-*"]),
-    ((b"ReflogPortion", b""), &[b"@{-1}", b"@{u}", b"main@{1}", b"-@{"]),
-    ((b"RepeatedDot", b""), &[b"..", b"a..b", b"-.."]),
-    ((b"StartsWithDot", b""), &[b".", b".a", b"a/.b", b".lock"]),
-    ((b"EndsWithDot", b""), &[b"a.", b"-."]),
-    ((b"LockFileSuffix", b""), &[b"main.lock", b"-.lock"]),
+    (VALID, b"main,a/b-,a-,@,@/-,a/-b,a/HEAD,HEAD/a,head,HEADS,FETCH_HEAD"),
+    (VALID, b"refs/heads/main,refs/heads/HEAD,a./b,a.LOCK,\xC3\xA9,\xFF"),
+    ((b"Reserved", b"HEAD"), b"HEAD"),
+    ((b"StartsWithDash", b""), b"-,-d,--,-/a,-HEAD,-lock"),
+    ((b"Empty", b""), b""),
+    ((b"EndsWithSlash", b""), b"/,a/,-/,HEAD/"),
+    ((b"StartsWithSlash", b""), b"/a,/HEAD,/-"),
+    ((b"RepeatedSlash", b""), b"a//b,-//b"),
+    ((b"InvalidByte", b" "), b"my branch,- "),
+    ((b"InvalidByte", b"~"), b"main~1,-~"),
+    ((b"Asterisk", b""), b"*,-*"),
+    ((b"ReflogPortion", b""), b"@{-1},@{u},main@{1},-@{"),
+    ((b"RepeatedDot", b""), b"..,a..b,-.."),
+    ((b"StartsWithDot", b""), b".,.a,a/.b,.lock"),
+    ((b"EndsWithDot", b""), b"a.,-."),
+    ((b"LockFileSuffix", b""), b"main.lock,-.lock"),
 ];
 
 /// Checks what the function returns for a short name.
@@ -64,7 +62,7 @@ fn checks_short_names(rt: HostRuntime) {
 
 fn for_short_names(rt: &impl Host, rows: &[(Fault<'static>, Names)]) {
     for (fault, names) in rows {
-        for_names(rt, *fault, names);
+        for_names(rt, *fault, &listed(rt, names));
     }
 }
 
@@ -109,26 +107,26 @@ fn refuses_a_short_name_with_a_dash_first(rt: HostRuntime) {
 /// a valid path there is no error, and no offset.
 #[rattlefmt::skip]
 const PATHS: &[(&str, &[u8], usize, Names)] = &[
-    ("whns", b"", 0, &[b"src/main.rs", b"a", b"a/b/c/d", b".gitmodules/a", b"a/.gitignore", b".git2/x"]),
-    ("whn-", b"", 0, &[b".gitmodules", b"a/.gitmodules"]),
-    ("----", b"", 0, &[b"git~1/CON/c:", b"a\\b/.git /\xFF"]),
-    ("whns", b"SymlinkedGitModules", 0, &[b".gitmodules"]),
-    ("whns", b"SymlinkedGitModules", 2, &[b"a/.gitmodules", b"a/GITMOD~1"]),
-    ("whn-", b"EmptyPart", 0, &[b"", b"/", b"//", b"/a", b"//a", b"/.git"]),
-    ("whn-", b"EmptyPart", 2, &[b"a/", b"a//", b"a//b", b"a//.git", b"a//b/"]),
-    ("----", b"EmptyPart", 13, &[b"src/lib/core/", b"src/lib/core//x"]),
-    ("----", b"EmptyPart", 18, &[b"a-longer-folder16/", b"a-longer-folder16//x"]),
-    ("----", b"Relative", 0, &[b".", b"..", b"./a", b"../a", b".//"]),
-    ("----", b"Relative", 2, &[b"a/.", b"a/..", b"a/../b", b"a/..//b"]),
-    ("----", b"DotGitDir", 0, &[b".git", b".GIT/config"]),
-    ("----", b"DotGitDir", 4, &[b"src/.git", b"src/.git/NUL", b"src/.git//"]),
-    ("w---", b"PathSeparator", 2, &[b"a/b\\c", b"a/b\\c/.git"]),
-    ("w---", b"WindowsPathPrefix", 0, &[b"c:/a", b"c:/.git"]),
-    ("w-n-", b"WindowsReservedName", 4, &[b"src/NUL", b"src/aux.c/b"]),
-    ("w-n-", b"WindowsIllegalCharacter", 16, &[b"0123456789abcde/a?b/.git"]),
-    ("--n-", b"DotGitDir", 16, &[b"0123456789abcde/git~1"]),
-    ("--n-", b"DotGitDir", 34, &[b"0123456789abcdef/0123456789abcdef/git~1/x"]),
-    ("-h--", b"DotGitDir", 2, &[b"a/.g\xE2\x80\x8Cit/x"]),
+    ("whns", b"", 0, b"src/main.rs,a,a/b/c/d,.gitmodules/a,a/.gitignore,.git2/x"),
+    ("whn-", b"", 0, b".gitmodules,a/.gitmodules"),
+    ("----", b"", 0, b"git~1/CON/c:,a\\b/.git /\xFF"),
+    ("whns", b"SymlinkedGitModules", 0, b".gitmodules"),
+    ("whns", b"SymlinkedGitModules", 2, b"a/.gitmodules,a/GITMOD~1"),
+    ("whn-", b"EmptyPart", 0, b",/,//,/a,//a,/.git"),
+    ("whn-", b"EmptyPart", 2, b"a/,a//,a//b,a//.git,a//b/"),
+    ("----", b"EmptyPart", 13, b"src/lib/core/,src/lib/core//x"),
+    ("----", b"EmptyPart", 18, b"a-longer-folder16/,a-longer-folder16//x"),
+    ("----", b"Relative", 0, b".,..,./a,../a,.//"),
+    ("----", b"Relative", 2, b"a/.,a/..,a/../b,a/..//b"),
+    ("----", b"DotGitDir", 0, b".git,.GIT/config"),
+    ("----", b"DotGitDir", 4, b"src/.git,src/.git/NUL,src/.git//"),
+    ("w---", b"PathSeparator", 2, b"a/b\\c,a/b\\c/.git"),
+    ("w---", b"WindowsPathPrefix", 0, b"c:/a,c:/.git"),
+    ("w-n-", b"WindowsReservedName", 4, b"src/NUL,src/aux.c/b"),
+    ("w-n-", b"WindowsIllegalCharacter", 16, b"0123456789abcde/a?b/.git"),
+    ("--n-", b"DotGitDir", 16, b"0123456789abcde/git~1"),
+    ("--n-", b"DotGitDir", 34, b"0123456789abcdef/0123456789abcdef/git~1/x"),
+    ("-h--", b"DotGitDir", 2, b"a/.g\xE2\x80\x8Cit/x"),
 ];
 
 /// Checks what the function returns for a path under these settings.
@@ -168,7 +166,7 @@ fn checks_whole_paths(rt: HostRuntime) {
 
 fn for_paths(rt: &impl Host, rows: &[(&str, &'static [u8], usize, Names)]) {
     for (settings, error, offset, paths) in rows {
-        expect_all_whole(rt, settings, (error, *offset), paths);
+        expect_all_whole(rt, settings, (error, *offset), &listed(rt, paths));
     }
 }
 

@@ -1,4 +1,5 @@
-//! Functions on byte strings that the rules and the tests use (docs/RULES.md, "Bytes").
+//! Functions on byte strings that the rules and the tests use (docs/RULES.md, "Bytes"), and what they
+//! need of the runtime.
 
 use bstr::ByteSlice;
 use std::process::Abort;

@@ -2,7 +2,9 @@
 //! wanted: what the second implementation returns, or what a table says.
 
 use crate::path::{SETTINGS, conditions, hfs_form, is_device, of_component};
-use crate::printed::{OF_COMPONENTS, OF_REFERENCES, OF_SUBMODULES, OF_TAGS, Texts, printed};
+use crate::printed::{
+    Texts, component_texts, printed, reference_texts, submodule_texts, tag_texts,
+};
 use crate::reference::{
     Fault, VALID, accepting, between_slashes, of_references, of_submodule, sanitized,
 };
@@ -115,7 +117,12 @@ pub(crate) fn expect_references(
     [tag, partial, full, branch]: [Fault<'_>; 4],
 ) {
     let given = BStr::new(text);
-    expect_told(rt, ("tag::name", text), (OF_TAGS, tag), tag::name(given));
+    expect_told(
+        rt,
+        ("tag::name", text),
+        (tag_texts(), tag),
+        tag::name(given),
+    );
     expect_reference(rt, ("name_partial", text), partial, name_partial(given));
     expect_reference(rt, ("reference::name", text), full, name(given));
     expect_reference(rt, ("branch_name", text), branch, branch_name(given));
@@ -128,12 +135,12 @@ fn expect_reference(
     fault: Fault<'_>,
     told: Result<BStr<'_>, NameError>,
 ) {
-    expect_told(rt, call, (OF_REFERENCES, fault), told);
+    expect_told(rt, call, (reference_texts(), fault), told);
 }
 
 /// Checks the result for a submodule name.
 pub(crate) fn expect_submodule(rt: &impl Host, text: &[u8], error: &'static [u8]) {
-    let wanted = (OF_SUBMODULES, (error, b"".as_slice()));
+    let wanted = (submodule_texts(), (error, b"".as_slice()));
     let told = submodule::name(BStr::new(text));
     expect_told(rt, ("submodule::name", text), wanted, told);
 }
@@ -160,7 +167,7 @@ pub(crate) fn expect_component(
     error: &'static [u8],
 ) {
     let told = component(BStr::new(text), mode(settings), options(settings));
-    let wanted = (OF_COMPONENTS, (error, b"".as_slice()));
+    let wanted = (component_texts(), (error, b"".as_slice()));
     expect_told(rt, (settings, text), wanted, told);
 }
 

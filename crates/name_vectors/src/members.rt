@@ -14,7 +14,7 @@ ghost use Rattle.gix_validate.specs.Tag.{text_of as tag_text_of};
 ghost use Rattle.typed_names.specs.Names.{name_bytes, name_text, component_bytes};
 
 use crate::agree::{expect, expect_error, options};
-use crate::printed::{OF_COMPONENTS, OF_REFERENCES};
+use crate::printed::{component_texts, reference_texts};
 use crate::text::Host;
 use bstr::BStr;
 use gix_validate::path::{ComponentError, ComponentMode, ComponentOptions};
@@ -221,7 +221,7 @@ fn expect_rests(rt: &impl Abort, text: &[u8], rest: Option<TagName<'_>>, wanted:
 fn refuses_invalid_partial_names(rt: HostRuntime) {
     let error = PartialName::new(BStr::from("@")).err();
     let error = error.expect(&rt, "an error");
-    let wanted = (OF_REFERENCES, (b"Reserved".as_slice(), b"@".as_slice()));
+    let wanted = (reference_texts(), (b"Reserved".as_slice(), b"@".as_slice()));
     expect_error(&rt, ("PartialName", b"@"), wanted, &error);
 }
 
@@ -229,7 +229,10 @@ fn refuses_invalid_partial_names(rt: HostRuntime) {
 fn refuses_invalid_full_names(rt: HostRuntime) {
     let error = FullName::new(BStr::from("V1")).err();
     let error = error.expect(&rt, "an error");
-    let wanted = (OF_REFERENCES, (b"SomeLowercase".as_slice(), b"".as_slice()));
+    let wanted = (
+        reference_texts(),
+        (b"SomeLowercase".as_slice(), b"".as_slice()),
+    );
     expect_error(&rt, ("FullName", b"V1"), wanted, &error);
 }
 
@@ -238,7 +241,7 @@ fn refuses_invalid_components(rt: HostRuntime) {
     let error = Component::new(BStr::from("CON"), None, options("whn-")).err();
     let error = error.expect(&rt, "an error");
     let wanted = (
-        OF_COMPONENTS,
+        component_texts(),
         (b"WindowsReservedName".as_slice(), b"".as_slice()),
     );
     expect_error(&rt, ("Component", b"CON"), wanted, &error);

@@ -1,7 +1,7 @@
 //! Short names of branches and whole paths: worked names, and what docs/RULES.md gives for each.
 
 use crate::agree::{expect, expect_bool, expect_error, expect_text, expect_valid, mode, options};
-use crate::printed::{OF_BRANCHES, OF_COMPONENTS, OF_PATHS, OF_REFERENCES};
+use crate::printed::{branch_texts, component_texts, path_texts, reference_texts};
 use crate::reference::{Fault, VALID, of_references};
 use crate::rows::{Names, listed, part};
 use crate::text::{Host, joined};
@@ -47,10 +47,14 @@ fn expect_short_error(
     error: &ShortNameError,
 ) {
     let is_dash = fault.0 == b"StartsWithDash".as_slice();
-    let texts = if is_dash { OF_BRANCHES } else { OF_REFERENCES };
+    let texts = if is_dash {
+        branch_texts()
+    } else {
+        reference_texts()
+    };
     expect_text(rt, call, (texts, fault), error);
     match error {
-        ShortNameError::Name(error) => expect_error(rt, call, (OF_REFERENCES, fault), error),
+        ShortNameError::Name(error) => expect_error(rt, call, (reference_texts(), fault), error),
         ShortNameError::StartsWithDash => expect(rt, call, fault.0, b"StartsWithDash"),
     }
 }
@@ -149,11 +153,15 @@ fn expect_whole(
 /// Checks the error, which prints the text of the error in it.
 fn expect_path_error(rt: &impl Host, call: (&str, &[u8]), fault: Fault<'_>, error: &PathError) {
     let is_empty = fault.0 == b"EmptyPart".as_slice();
-    let texts = if is_empty { OF_PATHS } else { OF_COMPONENTS };
+    let texts = if is_empty {
+        path_texts()
+    } else {
+        component_texts()
+    };
     expect_text(rt, call, (texts, fault), error);
     match error {
         PathError::InvalidPart { error, .. } => {
-            expect_error(rt, call, (OF_COMPONENTS, fault), error);
+            expect_error(rt, call, (component_texts(), fault), error);
         }
         PathError::EmptyPart { .. } => expect(rt, call, fault.0, b"EmptyPart"),
     }

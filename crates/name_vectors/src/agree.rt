@@ -2,48 +2,58 @@
 //! wanted: what the second implementation returns, or what a table says.
 
 use crate::path::{SETTINGS, conditions, hfs_form, is_device, of_component};
-use crate::printed::{OF_COMPONENTS, OF_REFERENCES, OF_SUBMODULES, OF_TAGS, Texts, printed};
-use crate::reference::{Fault, VALID, accepting, of_references, of_submodule, sanitized};
-use crate::text::before_first;
+use crate::printed::{
+    Texts, component_texts, printed, reference_texts, submodule_texts, tag_texts,
+};
+use crate::reference::{
+    Fault, VALID, accepting, between_slashes, of_references, of_submodule, sanitized,
+};
+use crate::text::{Host, before_first, joined};
 use bstr::BStr;
 use gix_validate::path::{ComponentMode, ComponentOptions, component, component_is_windows_device};
 use gix_validate::reference::{
-    branch_name, name, name_partial, name_partial_or_sanitize, sanitize_in_place,
+    NameError, branch_name, name, name_partial, name_partial_or_sanitize, sanitize_in_place,
 };
 use gix_validate::{submodule, tag};
 use std::fmt::{Debug, Display};
 use std::process::Abort;
 
-/// What a check needs of the runtime.
-pub(crate) trait Host: Abort + AllocGlobal {}
-
-impl<T: Abort + AllocGlobal> Host for T {}
-
 /// Passes the name to the functions of the library, and panics if a result isn't that of the second
 /// implementation.
 pub(crate) fn check(rt: &impl Host, text: &[u8]) {
+    check_uncut(rt, text, &between_slashes(rt, text));
+    check_component(rt, text);
+    expect_repair(rt, text, &sanitized(rt, text));
+}
+
+/// Does so with the functions for names of references and submodules.
+fn check_uncut(rt: &impl Host, text: &[u8], between_slashes: &[u8]) {
     let faults = of_references(text);
-    let accepting = accepting(rt.alloc(), text).expect(rt, "memory");
+    expect_accepting(rt, text, accepting(text, between_slashes), &faults);
+    expect_references(rt, text, faults);
+    expect_submodule(rt, text, of_submodule(text, between_slashes));
+}
+
+/// Panics if it isn't the first so many rules that find no error.
+fn expect_accepting(rt: &impl Abort, text: &[u8], accepting: usize, faults: &[Fault<'_>]) {
     for (kind, fault) in faults.iter().enumerate() {
         expect_bool(rt, ("a rule", text), kind < accepting, *fault == VALID);
     }
-    expect_references(rt, text, faults);
-    let error = of_submodule(rt.alloc(), text).expect(rt, "memory");
-    expect_submodule(rt, text, error);
-    check_component(rt, text);
-    let wanted = sanitized(rt.alloc(), text).expect(rt, "memory");
-    expect_repair(rt, text, &wanted);
 }
 
 /// Does so with the functions for components.
 fn check_component(rt: &impl Host, text: &[u8]) {
     let lower = text.to_ascii_lowercase(rt.alloc()).expect(rt, "memory");
-    let on_hfs = hfs_form(rt.alloc(), &lower).expect(rt, "memory");
-    let holds = conditions(&lower, &on_hfs);
-    for settings in SETTINGS {
-        expect_component(rt, (settings, text), of_component(&holds, settings));
-    }
+    let holds = conditions(&lower, &hfs_form(rt, &lower));
+    expect_components(rt, text, &holds);
     expect_device(rt, text, is_device(&lower));
+}
+
+/// Checks the results under all settings for a component of which this holds.
+fn expect_components(rt: &impl Host, text: &[u8], holds: &[bool; 13]) {
+    for settings in SETTINGS {
+        expect_component(rt, (settings, text), of_component(holds, settings));
+    }
 }
 
 /// Panics if the call with this name gave something else than what is wanted.
@@ -66,16 +76,27 @@ pub(crate) fn expect_told<E: Debug + Display + Drop>(
     told: Result<BStr<'_>, E>,
 ) {
     match told {
-        Ok(name) => {
-            let wanted = if fault == VALID { call.1 } else { fault.0 };
-            expect(rt, call, wanted, name.as_bytes());
-        }
-        Err(error) => {
-            let came = format!(in rt.alloc(); "{error:?}").expect(rt, "memory");
-            expect(rt, call, fault.0, before_first(came.as_bytes(), b" "));
-            expect_text(rt, call, (texts, fault), &error);
-        }
+        Ok(name) => expect_valid(rt, call, fault, name.as_bytes()),
+        Err(error) => expect_error(rt, call, (texts, fault), &error),
     }
+}
+
+/// Panics if the name isn't valid, or if something else came.
+pub(crate) fn expect_valid(rt: &impl Abort, call: (&str, &[u8]), fault: Fault<'_>, came: &[u8]) {
+    let wanted = if fault == VALID { call.1 } else { fault.0 };
+    expect(rt, call, wanted, came);
+}
+
+/// Panics if the error is another one, or prints something else than its text.
+pub(crate) fn expect_error<E: Debug + Display>(
+    rt: &impl Host,
+    call: (&str, &[u8]),
+    wanted: (Texts, Fault<'_>),
+    error: &E,
+) {
+    let came = format!(in rt.alloc(); "{error:?}").expect(rt, "memory");
+    expect(rt, call, wanted.1.0, before_first(came.as_bytes(), b" "));
+    expect_text(rt, call, wanted, error);
 }
 
 /// Panics if the error prints something else than its text.
@@ -86,8 +107,7 @@ pub(crate) fn expect_text<E: Display>(
     error: &E,
 ) {
     let came = error.to_string(rt.alloc()).expect(rt, "memory");
-    let wanted = printed(rt.alloc(), texts, fault).expect(rt, "memory");
-    expect(rt, call, &wanted, came.as_bytes());
+    expect(rt, call, &printed(rt, texts, fault), came.as_bytes());
 }
 
 /// Checks the results for a tag name and for the three kinds of reference names.
@@ -97,19 +117,30 @@ pub(crate) fn expect_references(
     [tag, partial, full, branch]: [Fault<'_>; 4],
 ) {
     let given = BStr::new(text);
-    expect_told(rt, ("tag::name", text), (OF_TAGS, tag), tag::name(given));
-    for (call, fault, told) in [
-        ("name_partial", partial, name_partial(given)),
-        ("reference::name", full, name(given)),
-        ("branch_name", branch, branch_name(given)),
-    ] {
-        expect_told(rt, (call, text), (OF_REFERENCES, fault), told);
-    }
+    expect_told(
+        rt,
+        ("tag::name", text),
+        (tag_texts(), tag),
+        tag::name(given),
+    );
+    expect_reference(rt, ("name_partial", text), partial, name_partial(given));
+    expect_reference(rt, ("reference::name", text), full, name(given));
+    expect_reference(rt, ("branch_name", text), branch, branch_name(given));
+}
+
+/// Checks the result for one of these three.
+fn expect_reference(
+    rt: &impl Host,
+    call: (&str, &[u8]),
+    fault: Fault<'_>,
+    told: Result<BStr<'_>, NameError>,
+) {
+    expect_told(rt, call, (reference_texts(), fault), told);
 }
 
 /// Checks the result for a submodule name.
 pub(crate) fn expect_submodule(rt: &impl Host, text: &[u8], error: &'static [u8]) {
-    let wanted = (OF_SUBMODULES, (error, b"".as_slice()));
+    let wanted = (submodule_texts(), (error, b"".as_slice()));
     let told = submodule::name(BStr::new(text));
     expect_told(rt, ("submodule::name", text), wanted, told);
 }
@@ -136,7 +167,7 @@ pub(crate) fn expect_component(
     error: &'static [u8],
 ) {
     let told = component(BStr::new(text), mode(settings), options(settings));
-    let wanted = (OF_COMPONENTS, (error, b"".as_slice()));
+    let wanted = (component_texts(), (error, b"".as_slice()));
     expect_told(rt, (settings, text), wanted, told);
 }
 
@@ -149,13 +180,10 @@ pub(crate) fn expect_device(rt: &impl Abort, text: &[u8], wanted: bool) {
 /// What follows the name in the buffer: no bytes, one or several.
 const AFTER: &[&[u8]] = &[b"", b"?", b"/.lock"];
 
-/// Checks both sanitisers. (A buffer has at least one byte.)
+/// Checks both sanitisers.
 pub(crate) fn expect_repair(rt: &impl Host, text: &[u8], wanted: &[u8]) {
     for after in AFTER {
-        let buffer = [text, after].concat(rt.alloc()).expect(rt, "memory");
-        if !buffer.is_empty() {
-            expect_in_place(rt, (&buffer, text.len()), wanted);
-        }
+        expect_in_place(rt, (&joined(rt, &[text, after]), text.len()), wanted);
     }
     let name = name_partial_or_sanitize(rt.alloc(), BStr::new(text)).expect(rt, "memory");
     let call = ("name_partial_or_sanitize", text);
@@ -163,14 +191,34 @@ pub(crate) fn expect_repair(rt: &impl Host, text: &[u8], wanted: &[u8]) {
 }
 
 /// Checks what is left in the buffer of the name that its first `len` bytes are, and that the bytes
-/// after the name are as they were.
+/// after the name are as they were. (A buffer has at least one byte.)
 pub(crate) fn expect_in_place(rt: &impl Host, (given, len): (&[u8], usize), wanted: &[u8]) {
-    let mut buffer = Vec::from_slice(rt.alloc(), given).expect(rt, "memory");
+    if !given.is_empty() {
+        let mut buffer = joined(rt, &[given]);
+        let left = left_of(rt, &mut buffer, len);
+        expect(
+            rt,
+            ("sanitize_in_place", given),
+            wanted,
+            front(&buffer, left),
+        );
+        let call = ("after sanitize_in_place", given);
+        expect(rt, call, back(given, len), back(&buffer, len));
+    }
+}
+
+/// How many bytes are left of the name.
+fn left_of(rt: &impl Abort, buffer: &mut [u8], len: usize) -> usize {
     assert!(rt; !buffer.is_empty() && len <= buffer.len());
-    let left = sanitize_in_place(&mut buffer, len);
-    let name = buffer.get(..left).unwrap_or(b"");
-    expect(rt, ("sanitize_in_place", given), wanted, name);
-    let after = given.get(len.max(1)..).unwrap_or(b"");
-    let rest = buffer.get(len.max(1)..).unwrap_or(b"");
-    expect(rt, ("after sanitize_in_place", given), after, rest);
+    sanitize_in_place(buffer, len)
+}
+
+/// The first so many bytes of a buffer.
+fn front(buffer: &[u8], len: usize) -> &[u8] {
+    buffer.get(..len).unwrap_or(b"")
+}
+
+/// What is in a buffer after a name of this length, or of one byte if it is empty.
+fn back(buffer: &[u8], len: usize) -> &[u8] {
+    buffer.get(len.max(1)..).unwrap_or(b"")
 }

@@ -8,7 +8,7 @@
 //!   lists all names instead of comparing prefixes. An error is its name in docs/RULES.md.
 //! - Tests that pass tens of thousands of names to `gix_validate` and to the second implementation,
 //!   and compare the results, all names of up to two bytes too.
-//! - A law that is no clause of the library (`laws`).
+//! - A law that no clause of the library states (`laws`).
 //! - What no clause says: that calls which may fail succeed, and what `Debug` prints. And callers
 //!   that show what the ghost members of the types' traits say.
 //!

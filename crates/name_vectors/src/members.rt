@@ -13,18 +13,19 @@ ghost use Rattle.gix_validate.specs.Submodule.{text_of as submodule_text_of};
 ghost use Rattle.gix_validate.specs.Tag.{text_of as tag_text_of};
 ghost use Rattle.typed_names.specs.Names.{name_bytes, name_text, component_bytes};
 
-use crate::agree::{Host, expect, expect_told, options};
-use crate::printed::{OF_COMPONENTS, OF_REFERENCES, Texts};
-use crate::reference::Fault;
+use crate::agree::{expect, expect_error, options};
+use crate::printed::{component_texts, reference_texts};
+use crate::text::Host;
 use bstr::BStr;
 use gix_validate::path::{ComponentError, ComponentMode, ComponentOptions};
 use gix_validate::{reference, submodule, tag};
 use std::alloc::{AllocError, Global};
 use std::convert::AsSlice;
-use std::fmt::{Debug, Display};
+use std::fmt::Debug;
 use std::process::Abort;
 use typed_names::{
-    BranchName, Component, FullName, Name, PartialName, Pieces, Rule, SubmoduleName, TagName,
+    Branch, BranchName, Component, Full, FullName, Name, Partial, PartialName, Pieces, Rule,
+    Submodule, Tag, TagName,
 };
 
 /// What errors print, one after the other.
@@ -144,24 +145,22 @@ fn parts_of<'a>(rt: &impl Abort, text: &'a [u8]) -> (Pieces<'a>, Option<TagName<
 }
 
 /// Checks what `Debug` prints of a name, which no contract says.
-fn expect_debug<R: Rule>(rt: &impl Host, name: &Name<'_, R>, wanted: &[u8]) {
+fn expect_debug<R: Rule>(rt: &impl Host, wanted: &[u8])
+where
+    R::Fault: Debug + Drop,
+{
+    let name = Name::<'_, R>::new(BStr::from("refs/a")).expect(rt, "a name");
     let text = format!(in rt.alloc(); "{name:?}").expect(rt, "memory");
     expect(rt, ("Debug", b"refs/a"), wanted, text.as_bytes());
 }
 
 #[test]
 fn prints_typed_names_with_their_type(rt: HostRuntime) {
-    let name = BStr::from("refs/a");
-    let tag: TagName<'_> = Name::new(name).expect(&rt, "a tag name");
-    expect_debug(&rt, &tag, b"TagName { name: \"refs/a\" }");
-    let partial: PartialName<'_> = Name::new(name).expect(&rt, "a partial name");
-    expect_debug(&rt, &partial, b"PartialName { name: \"refs/a\" }");
-    let full: FullName<'_> = Name::new(name).expect(&rt, "a full name");
-    expect_debug(&rt, &full, b"FullName { name: \"refs/a\" }");
-    let branch: BranchName<'_> = Name::new(name).expect(&rt, "a branch");
-    expect_debug(&rt, &branch, b"BranchName { name: \"refs/a\" }");
-    let submodule: SubmoduleName<'_> = Name::new(name).expect(&rt, "a submodule");
-    expect_debug(&rt, &submodule, b"SubmoduleName { name: \"refs/a\" }");
+    expect_debug::<Tag>(&rt, b"TagName { name: \"refs/a\" }");
+    expect_debug::<Partial>(&rt, b"PartialName { name: \"refs/a\" }");
+    expect_debug::<Full>(&rt, b"FullName { name: \"refs/a\" }");
+    expect_debug::<Branch>(&rt, b"BranchName { name: \"refs/a\" }");
+    expect_debug::<Submodule>(&rt, b"SubmoduleName { name: \"refs/a\" }");
 }
 
 #[test]
@@ -218,46 +217,53 @@ fn expect_rests(rt: &impl Abort, text: &[u8], rest: Option<TagName<'_>>, wanted:
     assert!(rt; rest.is_none());
 }
 
-/// Checks the error of a name of some type.
-fn expect_error<E: Debug + Display + Drop>(
-    rt: &impl Host,
-    call: (&str, &[u8]),
-    wanted: (Texts, Fault<'_>),
-    error: Option<E>,
-) {
-    expect_told(rt, call, wanted, Err(error.expect(rt, "an error")));
-}
-
 #[test]
-fn refuses_invalid_typed_names(rt: HostRuntime) {
+fn refuses_invalid_partial_names(rt: HostRuntime) {
     let error = PartialName::new(BStr::from("@")).err();
-    let wanted: (Texts, Fault<'_>) = (OF_REFERENCES, (b"Reserved", b"@"));
-    expect_error(&rt, ("PartialName", b"@"), wanted, error);
-    let error = FullName::new(BStr::from("V1")).err();
-    let wanted: (Texts, Fault<'_>) = (OF_REFERENCES, (b"SomeLowercase", b""));
-    expect_error(&rt, ("FullName", b"V1"), wanted, error);
-    let error = Component::new(BStr::from("CON"), None, options("whn-")).err();
-    let wanted: (Texts, Fault<'_>) = (OF_COMPONENTS, (b"WindowsReservedName", b""));
-    expect_error(&rt, ("Component", b"CON"), wanted, error);
+    let error = error.expect(&rt, "an error");
+    let wanted = (reference_texts(), (b"Reserved".as_slice(), b"@".as_slice()));
+    expect_error(&rt, ("PartialName", b"@"), wanted, &error);
 }
 
 #[test]
-fn accepts_valid_typed_names(rt: HostRuntime) {
+fn refuses_invalid_full_names(rt: HostRuntime) {
+    let error = FullName::new(BStr::from("V1")).err();
+    let error = error.expect(&rt, "an error");
+    let wanted = (
+        reference_texts(),
+        (b"SomeLowercase".as_slice(), b"".as_slice()),
+    );
+    expect_error(&rt, ("FullName", b"V1"), wanted, &error);
+}
+
+#[test]
+fn refuses_invalid_components(rt: HostRuntime) {
+    let error = Component::new(BStr::from("CON"), None, options("whn-")).err();
+    let error = error.expect(&rt, "an error");
+    let wanted = (
+        component_texts(),
+        (b"WindowsReservedName".as_slice(), b"".as_slice()),
+    );
+    expect_error(&rt, ("Component", b"CON"), wanted, &error);
+}
+
+#[test]
+fn accepts_valid_full_names(rt: HostRuntime) {
     let full = FullName::new(BStr::from("HEAD")).expect(&rt, "a full name");
     let tag = TagName::from(PartialName::from(full));
-    expect(
-        &rt,
-        ("FullName", b"HEAD"),
-        b"HEAD",
-        tag.as_bstr().as_bytes(),
-    );
+    let came = tag.as_bstr().as_bytes();
+    expect(&rt, ("FullName", b"HEAD"), b"HEAD", came);
+}
+
+#[test]
+fn accepts_valid_branch_names(rt: HostRuntime) {
     let branch = BranchName::new(BStr::from("HEAD")).expect(&rt, "a branch");
-    expect(
-        &rt,
-        ("BranchName", b"HEAD"),
-        b"HEAD",
-        tag_of(branch).as_slice(),
-    );
+    let tag = tag_of(branch);
+    expect(&rt, ("BranchName", b"HEAD"), b"HEAD", tag.as_slice());
+}
+
+#[test]
+fn accepts_valid_components(rt: HostRuntime) {
     let name = Component::new(BStr::from("CON"), None, options("w---"));
     let name = name.expect(&rt, "a component");
     expect(&rt, ("Component", b"CON"), b"CON", name.as_slice());

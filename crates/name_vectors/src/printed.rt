@@ -1,103 +1,139 @@
 //! What errors print (docs/RULES.md, "Printed texts"), with a quoted byte or name.
 
 use crate::reference::Fault;
-use std::alloc::{AllocError, Global};
+use crate::text::{Host, joined};
 
-/// Errors of one kind of name, and their texts.
+/// Errors of one kind of name, and their texts. Functions return them, so that a proof has one of these
+/// tables only in its function.
 pub(crate) type Texts = &'static [(&'static [u8], &'static [u8])];
 
 #[rattlefmt::skip]
-pub(crate) const OF_TAGS: Texts = &[
-    (b"InvalidByte", b"A ref must not contain invalid bytes or ascii control characters: "),
-    (b"StartsWithSlash", b"A reference name must not start with a slash '/'"),
-    (b"RepeatedSlash", b"Multiple slashes in a row are not allowed as they may change the reference's meaning"),
-    (b"RepeatedDot", b"A ref must not contain '..' as it may be mistaken for a range"),
-    (b"LockFileSuffix", b"A ref must not end with '.lock'"),
-    (b"ReflogPortion", b"A ref must not contain '@{' which is a part of a ref-log"),
-    (b"Asterisk", b"A ref must not contain '*' character"),
-    (b"StartsWithDot", b"A ref must not start with a '.'"),
-    (b"EndsWithDot", b"A ref must not end with a '.'"),
-    (b"EndsWithSlash", b"A ref must not end with a '/'"),
-    (b"Empty", b"A ref must not be empty"),
-];
+pub(crate) fn tag_texts() -> Texts {
+    &[
+        (b"InvalidByte", b"A ref must not contain invalid bytes or ascii control characters: "),
+        (b"StartsWithSlash", b"A reference name must not start with a slash '/'"),
+        (b"RepeatedSlash", b"Multiple slashes in a row are not allowed as they may change the reference's meaning"),
+        (b"RepeatedDot", b"A ref must not contain '..' as it may be mistaken for a range"),
+        (b"LockFileSuffix", b"A ref must not end with '.lock'"),
+        (b"ReflogPortion", b"A ref must not contain '@{' which is a part of a ref-log"),
+        (b"Asterisk", b"A ref must not contain '*' character"),
+        (b"StartsWithDot", b"A ref must not start with a '.'"),
+        (b"EndsWithDot", b"A ref must not end with a '.'"),
+        (b"EndsWithSlash", b"A ref must not end with a '/'"),
+        (b"Empty", b"A ref must not be empty"),
+    ]
+}
 
 #[rattlefmt::skip]
-pub(crate) const OF_REFERENCES: Texts = &[
-    (b"InvalidByte", b"Reference name contains invalid byte: "),
-    (b"StartsWithSlash", b"Reference name cannot start with a slash"),
-    (b"RepeatedSlash", b"Reference name cannot contain repeated slashes"),
-    (b"RepeatedDot", b"Reference name cannot contain repeated dots"),
-    (b"LockFileSuffix", b"Reference name cannot end with '.lock'"),
-    (b"ReflogPortion", b"Reference name cannot contain '@{'"),
-    (b"Asterisk", b"Reference name cannot contain '*'"),
-    (b"StartsWithDot", b"Reference name cannot start with a dot"),
-    (b"EndsWithDot", b"Reference name cannot end with a dot"),
-    (b"EndsWithSlash", b"Reference name cannot end with a slash"),
-    (b"Empty", b"Reference name cannot be empty"),
-    (b"SomeLowercase", b"Standalone references must be all uppercased, like 'HEAD'"),
-    (b"Reserved", b"Reference name is reserved and cannot be used: "),
-];
+pub(crate) fn reference_texts() -> Texts {
+    &[
+        (b"InvalidByte", b"Reference name contains invalid byte: "),
+        (b"StartsWithSlash", b"Reference name cannot start with a slash"),
+        (b"RepeatedSlash", b"Reference name cannot contain repeated slashes"),
+        (b"RepeatedDot", b"Reference name cannot contain repeated dots"),
+        (b"LockFileSuffix", b"Reference name cannot end with '.lock'"),
+        (b"ReflogPortion", b"Reference name cannot contain '@{'"),
+        (b"Asterisk", b"Reference name cannot contain '*'"),
+        (b"StartsWithDot", b"Reference name cannot start with a dot"),
+        (b"EndsWithDot", b"Reference name cannot end with a dot"),
+        (b"EndsWithSlash", b"Reference name cannot end with a slash"),
+        (b"Empty", b"Reference name cannot be empty"),
+        (b"SomeLowercase", b"Standalone references must be all uppercased, like 'HEAD'"),
+        (b"Reserved", b"Reference name is reserved and cannot be used: "),
+    ]
+}
 
 #[rattlefmt::skip]
-pub(crate) const OF_SUBMODULES: Texts = &[
-    (b"Empty", b"Submodule names cannot be empty"),
-    (b"ParentComponent", b"Submodules names must not contains '..'"),
-];
+pub(crate) fn submodule_texts() -> Texts {
+    &[
+        (b"Empty", b"Submodule names cannot be empty"),
+        (b"ParentComponent", b"Submodules names must not contains '..'"),
+    ]
+}
 
 #[rattlefmt::skip]
-pub(crate) const OF_COMPONENTS: Texts = &[
-    (b"Empty", b"A path component must not be empty"),
-    (b"PathSeparator", b"Path separators like / or \\ are not allowed"),
-    (b"WindowsPathPrefix", b"Windows path prefixes are not allowed"),
-    (b"WindowsReservedName", b"Windows device-names may have side-effects and are not allowed"),
-    (b"WindowsIllegalCharacter", b"Trailing spaces or dots, and the following characters anywhere, are forbidden in Windows paths, along with non-printable ones: <>:\"|?*"),
-    (b"DotGitDir", b"The .git name may never be used"),
-    (b"SymlinkedGitModules", b"The .gitmodules file must not be a symlink"),
-    (b"Relative", b"Relative components '.' and '..' are disallowed"),
-];
+pub(crate) fn component_texts() -> Texts {
+    &[
+        (b"Empty", b"A path component must not be empty"),
+        (b"PathSeparator", b"Path separators like / or \\ are not allowed"),
+        (b"WindowsPathPrefix", b"Windows path prefixes are not allowed"),
+        (b"WindowsReservedName", b"Windows device-names may have side-effects and are not allowed"),
+        (b"WindowsIllegalCharacter", b"Trailing spaces or dots, and the following characters anywhere, are forbidden in Windows paths, along with non-printable ones: <>:\"|?*"),
+        (b"DotGitDir", b"The .git name may never be used"),
+        (b"SymlinkedGitModules", b"The .gitmodules file must not be a symlink"),
+        (b"Relative", b"Relative components '.' and '..' are disallowed"),
+    ]
+}
 
 /// Those that short names of branches have besides those of reference names.
 #[rattlefmt::skip]
-pub(crate) const OF_BRANCHES: Texts = &[
-    (b"StartsWithDash", b"Branch name cannot start with a dash, as it may be mistaken for an option"),
-];
+pub(crate) fn branch_texts() -> Texts {
+    &[
+        (b"StartsWithDash", b"Branch name cannot start with a dash, as it may be mistaken for an option"),
+    ]
+}
 
 /// Those that whole paths have besides those of components.
 #[rattlefmt::skip]
-pub(crate) const OF_PATHS: Texts = &[
-    (b"EmptyPart", b"A path must not be empty, start or end with a slash, or have two in a row"),
-];
+pub(crate) fn path_texts() -> Texts {
+    &[
+        (b"EmptyPart", b"A path must not be empty, start or end with a slash, or have two in a row"),
+    ]
+}
 
 /// The text of the error, followed by what is quoted after it in its quoted form, if it wants that.
-pub(crate) fn printed(
-    alloc: Global,
-    texts: Texts,
-    (error, quoted): Fault<'_>,
-) -> Result<Vec<u8>, AllocError> {
-    let mut printed = Vec::new(alloc);
-    if let Some((_, text)) = texts.iter().find(|(word, _)| *word == error) {
-        printed.extend_from_slice(text)?;
+pub(crate) fn printed(rt: &impl Host, texts: Texts, (error, quoted): Fault<'_>) -> Vec<u8> {
+    let text = text_of(texts, error);
+    let mut printed = joined(rt, &[text]);
+    if text.ends_with(b": ") {
+        push_quoted(rt, &mut printed, quoted);
     }
-    if printed.ends_with(b": ") {
-        printed.extend_from_slice(b"\"")?;
-        for byte in quoted {
-            printed.extend_from_slice(escaped(alloc, *byte)?.as_bytes())?;
+    printed
+}
+
+/// The text of the error, if it is among these.
+fn text_of(texts: Texts, error: &[u8]) -> &'static [u8] {
+    for (word, text) in texts {
+        if *word == error {
+            return text;
         }
-        printed.extend_from_slice(b"\"")?;
     }
-    Ok(printed)
+    b""
+}
+
+/// Adds the quoted form.
+fn push_quoted(rt: &impl Host, printed: &mut Vec<u8>, quoted: &[u8]) {
+    printed.push(b'"').expect(rt, "memory");
+    for byte in quoted {
+        let form = escaped(rt, *byte);
+        printed
+            .extend_from_slice(form.as_bytes())
+            .expect(rt, "memory");
+    }
+    printed.push(b'"').expect(rt, "memory");
 }
 
 /// The byte as it is in a quoted form.
-fn escaped(alloc: Global, byte: u8) -> Result<String, AllocError> {
+fn escaped(rt: &impl Host, byte: u8) -> String {
+    let form = match byte {
+        _ if !after_backslash(byte).is_empty() => {
+            format!(in rt.alloc(); "\\{}", after_backslash(byte))
+        }
+        0x20..0x7F => format!(in rt.alloc(); "{}", char::from(byte)),
+        _ => format!(in rt.alloc(); "\\x{byte:02x}"),
+    };
+    form.expect(rt, "memory")
+}
+
+/// What is after the backslash for this byte, if it has a short form.
+fn after_backslash(byte: u8) -> &'static str {
     match byte {
-        0x00 => String::from_str(alloc, "\\0"),
-        b'\t' => String::from_str(alloc, "\\t"),
-        b'\n' => String::from_str(alloc, "\\n"),
-        b'\r' => String::from_str(alloc, "\\r"),
-        b'"' => String::from_str(alloc, "\\\""),
-        b'\\' => String::from_str(alloc, "\\\\"),
-        0x20..0x7F => format!(in alloc; "{}", char::from(byte)),
-        _ => format!(in alloc; "\\x{byte:02x}"),
+        0x00 => "0",
+        b'\t' => "t",
+        b'\n' => "n",
+        b'\r' => "r",
+        b'"' => "\"",
+        b'\\' => "\\",
+        _ => "",
     }
 }

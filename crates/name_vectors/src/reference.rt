@@ -1,9 +1,8 @@
 //! Tag names, reference names, submodule names and sanitised names (docs/RULES.md, the sections of
 //! these names).
 
-use crate::text::{contains_one, is_bad};
+use crate::text::{Host, before_first, contains_one, is_bad, joined};
 use bstr::ByteSlice;
-use std::alloc::{AllocError, Global};
 
 /// An error of a name, as docs/RULES.md calls it, and what is quoted after its text, if it wants that.
 /// Of a valid name both are empty.
@@ -24,45 +23,54 @@ const AT_OFFSET: &[(&[u8], &[u8], &[u8])] = &[
 /// The error at the lowest offset that has one. (The last byte of `.lock` at the end has no other.)
 fn at_lowest_offset(text: &[u8]) -> Fault<'_> {
     for offset in 0..text.len() {
-        let (before, here) = (&text[..offset], &text[offset..]);
-        if is_bad(text[offset]) {
-            return (b"InvalidByte", &text[offset..offset + 1]);
-        }
-        for (last, next, word) in AT_OFFSET {
-            if before.ends_with(last) && here.starts_with(next) {
-                return (word, b"");
-            }
+        let fault = at_offset(&text[..offset], &text[offset..]);
+        if fault != VALID {
+            return fault;
         }
     }
     let is_lock_file = text.ends_with(b".lock") && text != b".lock".as_slice();
-    first(&[(is_lock_file, (b"LockFileSuffix", b""))])
+    or(VALID, is_lock_file, (b"LockFileSuffix", b""))
 }
 
-/// The first of these errors whose condition holds.
-fn first<'a>(errors: &[(bool, Fault<'a>)]) -> Fault<'a> {
-    let error = errors.iter().find(|(holds, _)| *holds);
-    error.map_or(VALID, |(_, fault)| *fault)
+/// The error at an offset, of the bytes before it and those from it on.
+fn at_offset<'a>(before: &[u8], here: &'a [u8]) -> Fault<'a> {
+    for (last, next, word) in AT_OFFSET {
+        if before.ends_with(last) && here.starts_with(next) {
+            return (word, b"");
+        }
+    }
+    match here {
+        [byte, ..] if is_bad(*byte) => (b"InvalidByte", &here[..1]),
+        _ => VALID,
+    }
+}
+
+/// The error, or if there is none, the next one if its condition holds.
+fn or<'a>(fault: Fault<'a>, holds: bool, next: Fault<'a>) -> Fault<'a> {
+    if fault == VALID && holds { next } else { fault }
+}
+
+/// The first error as a tag name.
+fn of_tag(text: &[u8]) -> Fault<'_> {
+    let lowest = at_lowest_offset(text);
+    match text {
+        b"" => (b"Empty", b""),
+        [.., b'/'] => (b"EndsWithSlash", b""),
+        [b'/', ..] => (b"StartsWithSlash", b""),
+        _ if lowest != VALID => lowest,
+        [b'.', ..] => (b"StartsWithDot", b""),
+        [.., b'.'] => (b"EndsWithDot", b""),
+        _ => VALID,
+    }
 }
 
 /// The first error as a tag name, a partial name, a full name and the name of a branch.
 pub(crate) fn of_references(text: &[u8]) -> [Fault<'_>; 4] {
-    let lowest = at_lowest_offset(text);
-    let tag = first(&[
-        (text.is_empty(), (b"Empty", b"")),
-        (text.ends_with(b"/"), (b"EndsWithSlash", b"")),
-        (text.starts_with(b"/"), (b"StartsWithSlash", b"")),
-        (lowest != VALID, lowest),
-        (text.starts_with(b"."), (b"StartsWithDot", b"")),
-        (text.ends_with(b"."), (b"EndsWithDot", b"")),
-    ]);
-    let errors = [
-        (tag != VALID, tag),
-        (text == b"@".as_slice(), (b"Reserved".as_slice(), text)),
-        (!may_stand(text), (b"SomeLowercase", b"")),
-        (text == b"refs/heads/HEAD".as_slice(), (b"Reserved", text)),
-    ];
-    let partial = first(&errors[..2]);
-    [tag, partial, first(&errors[..3]), first(&errors)]
+    let tag = of_tag(text);
+    let partial = or(tag, text == b"@".as_slice(), (b"Reserved", text));
+    let full = or(partial, !may_stand(text), (b"SomeLowercase", b""));
+    let is_head = text == b"refs/heads/HEAD".as_slice();
+    [tag, partial, full, or(full, is_head, (b"Reserved", text))]
 }
 
 /// Whether the name has a slash, or only bytes that a name without one may have.
@@ -71,66 +79,97 @@ fn may_stand(text: &[u8]) -> bool {
     other.is_none() || text.contains(&b'/')
 }
 
-/// How many of these four rules accept the name, by what it may not have. The slashes around it are
-/// for what a piece may not start with or end in.
-pub(crate) fn accepting(alloc: Global, text: &[u8]) -> Result<usize, AllocError> {
-    let pieces = [b"/", text, b"/"].concat(alloc)?;
-    let is_tag = !text.ends_with(b".")
-        && !text.iter().any(|byte| is_bad(*byte))
-        && !contains_one(&pieces, &[b"*", b"//", b"/.", b"..", b"@{", b".lock/"]);
-    Ok(match text {
-        _ if !is_tag => 0,
-        b"@" => 1,
-        _ if !may_stand(text) => 2,
-        b"refs/heads/HEAD" => 3,
-        _ => 4,
-    })
+/// The name between slashes, which are for what a piece may not start with or end in.
+pub(crate) fn between_slashes(rt: &impl Host, text: &[u8]) -> Vec<u8> {
+    joined(rt, &[b"/", text, b"/"])
 }
 
-/// The error of a submodule name, one of whose parts is `..`. The slashes around it end its parts.
-pub(crate) fn of_submodule(alloc: Global, text: &[u8]) -> Result<&'static [u8], AllocError> {
-    let parts = [b"/", text, b"/"].concat(alloc)?;
-    let has_parent = contains_one(&parts, &[b"/../", b"/..\\", b"\\../", b"\\..\\"]);
-    Ok(match has_parent {
+/// Whether the name, which is also given between slashes, has nothing that a tag name may not have.
+fn is_tag(text: &[u8], between_slashes: &[u8]) -> bool {
+    let has_other = contains_one(
+        between_slashes,
+        &[b"*", b"//", b"/.", b"..", b"@{", b".lock/"],
+    );
+    !has_other && !text.ends_with(b".") && !text.iter().any(|byte| is_bad(*byte))
+}
+
+/// How many of these four rules accept the name, by what it may not have.
+pub(crate) fn accepting(text: &[u8], between_slashes: &[u8]) -> usize {
+    match text {
+        _ if !is_tag(text, between_slashes) => 0,
+        _ if text == b"@".as_slice() => 1,
+        _ if !may_stand(text) => 2,
+        _ if text == b"refs/heads/HEAD".as_slice() => 3,
+        _ => 4,
+    }
+}
+
+/// The error of a submodule name, one of whose parts is `..`.
+pub(crate) fn of_submodule(text: &[u8], between_slashes: &[u8]) -> &'static [u8] {
+    let parents: &[&[u8]] = &[b"/../", b"/..\\", b"\\../", b"\\..\\"];
+    match contains_one(between_slashes, parents) {
         _ if text.is_empty() => b"Empty",
         true => b"ParentComponent",
         false => b"",
-    })
+    }
 }
 
 /// The sanitised name.
-pub(crate) fn sanitized(alloc: Global, text: &[u8]) -> Result<Vec<u8>, AllocError> {
-    let mut name = Vec::new(alloc);
-    for piece in text.split_str(b"/") {
-        if !piece.is_empty() {
-            let separator: &[u8] = if name.is_empty() { b"" } else { b"/" };
-            name.extend_from_slice(separator)?;
-            name.extend_from_slice(cut(&cleaned(alloc, piece)?))?;
-        }
+pub(crate) fn sanitized(rt: &impl Host, text: &[u8]) -> Vec<u8> {
+    let mut name = Vec::new(rt.alloc());
+    let mut rest = text;
+    for _ in 0..text.len() {
+        let piece = before_first(rest, b"/");
+        push_piece(rt, &mut name, piece);
+        rest = after(rest, piece.len());
     }
-    match name.as_slice() {
-        b"" | b"@" => Vec::from_slice(alloc, b"-"),
-        [front @ .., b'.'] => [front, b"-"].concat(alloc),
-        _ => Ok(name),
+    let is_reserved = name.is_empty() || name.as_slice() == b"@".as_slice();
+    if is_reserved || name.ends_with(b".") {
+        name.pop();
+        name.push(b'-').expect(rt, "memory");
+    }
+    name
+}
+
+/// What follows the byte at this offset.
+fn after(text: &[u8], offset: usize) -> &[u8] {
+    match text.get(offset..) {
+        Some([_, rest @ ..]) => rest,
+        _ => b"",
+    }
+}
+
+/// Adds a piece of a name to those before it, unless it is empty.
+fn push_piece(rt: &impl Host, name: &mut Vec<u8>, piece: &[u8]) {
+    if !piece.is_empty() {
+        let separator: &[u8] = if name.is_empty() { b"" } else { b"/" };
+        let text = cleaned(rt, piece);
+        name.extend_from_slice(separator).expect(rt, "memory");
+        name.extend_from_slice(cut(&text)).expect(rt, "memory");
     }
 }
 
 /// The piece with each run cleaned. A run is all dots in a row, or one other byte.
-fn cleaned(alloc: Global, piece: &[u8]) -> Result<Vec<u8>, AllocError> {
-    let mut text = Vec::new(alloc);
+fn cleaned(rt: &impl Host, piece: &[u8]) -> Vec<u8> {
+    let mut text = Vec::new(rt.alloc());
     for offset in 0..piece.len() {
         let (before, byte) = (&piece[..offset], piece[offset]);
         if byte != b'.' || !before.ends_with(b".") {
-            text.push(match byte {
-                b'*' => b'-',
-                b'.' if before.is_empty() => b'-',
-                b'{' if before.ends_with(b"@") => b'-',
-                _ if is_bad(byte) => b'-',
-                _ => byte,
-            })?;
+            text.push(cleaned_byte(before, byte)).expect(rt, "memory");
         }
     }
-    Ok(text)
+    text
+}
+
+/// The byte, or a dash if a piece may not have it after these.
+fn cleaned_byte(before: &[u8], byte: u8) -> u8 {
+    match byte {
+        b'*' => b'-',
+        b'.' if before.is_empty() => b'-',
+        b'{' if before.ends_with(b"@") => b'-',
+        _ if is_bad(byte) => b'-',
+        _ => byte,
+    }
 }
 
 /// The piece without `.lock` at its end, as often as it is there.

@@ -5,16 +5,16 @@
 //! allocations of its own that this one is the one that fails. In the last test none of the calls'
 //! allocations fails.
 
+use crate::agree::expect;
 use crate::rows::part;
+use crate::text::{Host, joined};
 use bstr::{BStr, BString};
 use gix_validate::reference::{self, name_partial_or_sanitize};
 use gix_validate::{path, tag};
-use std::alloc::{AllocError, Global};
-use std::process::Abort;
-use std::test::Fail;
+use std::alloc::AllocError;
 
 /// How each call is printed, and what it has to return.
-const CALLS: [(&str, &[u8]); 4] = [
+const CALLS: &[(&str, &[u8])] = &[
     ("sanitize_nothing", b"-"),
     ("sanitize_pieces", b"refs/heads/-/x/-y-"),
     ("reference_join", b"@/v1.0"),
@@ -22,60 +22,85 @@ const CALLS: [(&str, &[u8]); 4] = [
 ];
 
 /// What the call at this index returns. Each allocates once.
-fn given(alloc: Global, call: usize) -> Result<Result<BString, AllocError>, Fail> {
-    Ok(match call {
-        0 => name_partial_or_sanitize(alloc, BStr::new(b"")),
-        1 => name_partial_or_sanitize(alloc, BStr::new(b"refs//heads/../x.lock.lock/.y*")),
-        2 => {
-            let name = tag::name(BStr::from("@"))?;
-            reference::join(alloc, name, tag::name(BStr::from("v1.0"))?)
+fn given(rt: &impl Host, call: usize) -> Result<BString, AllocError> {
+    match call {
+        0 => name_partial_or_sanitize(rt.alloc(), BStr::new(b"")),
+        1 => name_partial_or_sanitize(rt.alloc(), BStr::new(b"refs//heads/../x.lock.lock/.y*")),
+        2 => joined_names(rt),
+        _ => joined_parts(rt),
+    }
+}
+
+/// Two names, joined.
+fn joined_names(rt: &impl Host) -> Result<BString, AllocError> {
+    let front = tag::name(BStr::from("@")).expect(rt, "a tag name");
+    let back = tag::name(BStr::from("v1.0")).expect(rt, "a tag name");
+    reference::join(rt.alloc(), front, back)
+}
+
+/// Three components, joined.
+fn joined_parts(rt: &impl Host) -> Result<BString, AllocError> {
+    let src = part(b"src").expect(rt, "a component");
+    let inner = part(b".github").expect(rt, "a component");
+    let file = part(b"a.rs").expect(rt, "a component");
+    path::join(
+        rt.alloc(),
+        &[src.as_bstr(), inner.as_bstr(), file.as_bstr()],
+    )
+}
+
+/// Whether the allocation of the call succeeds. What it returns has to be this.
+fn is_answered(rt: &impl Host, call: usize, wanted: &[u8]) -> bool {
+    match given(rt, call) {
+        Ok(name) => {
+            expect(rt, ("the call", b""), wanted, name.as_bytes());
+            true
         }
-        _ => {
-            let (folder, inner, file) = (part(b"src")?, part(b".github")?, part(b"a.rs")?);
-            path::join(alloc, &[folder.as_bstr(), inner.as_bstr(), file.as_bstr()])
-        }
-    })
+        Err(_) => false,
+    }
+}
+
+/// Makes the call, and once more if its allocation fails.
+fn check_call(rt: &(impl Host + Print), call: usize, (name, wanted): (&str, &[u8])) {
+    if !is_answered(rt, call, wanted) {
+        println!(rt; "{name}: refused").expect(rt, "output");
+        assert!(rt; is_answered(rt, call, wanted));
+    }
+    println!(rt; "{name}: answered").expect(rt, "output");
 }
 
 /// Allocates until the given allocation of the calls is the one that fails, and then makes each
-/// call, and once more if its allocation fails.
-fn check_with_refused(rt: &(impl Abort + AllocGlobal + Print), request: usize) -> Result<(), Fail> {
+/// call.
+fn check_with_refused(rt: &(impl Host + Print), request: usize) {
     for _ in request..5 {
-        Vec::from_slice(rt.alloc(), b" ")?;
+        joined(rt, &[b" "]);
     }
-    for (call, (name, wanted)) in CALLS.iter().enumerate() {
-        let mut came = given(rt.alloc(), call)?;
-        if came.is_err() {
-            println!(rt; "{name}: refused")?;
-            came = given(rt.alloc(), call)?;
-        }
-        assert_eq!(rt; came?.as_bytes(), *wanted);
-        println!(rt; "{name}: answered")?;
+    for (call, wanted) in CALLS.iter().enumerate() {
+        check_call(rt, call, *wanted);
     }
-    Ok(())
 }
 
 #[test]
-fn request_1(rt: HostRuntime) -> Result<(), Fail> {
-    check_with_refused(&rt, 1)
+fn request_1(rt: HostRuntime) {
+    check_with_refused(&rt, 1);
 }
 
 #[test]
-fn request_2(rt: HostRuntime) -> Result<(), Fail> {
-    check_with_refused(&rt, 2)
+fn request_2(rt: HostRuntime) {
+    check_with_refused(&rt, 2);
 }
 
 #[test]
-fn request_3(rt: HostRuntime) -> Result<(), Fail> {
-    check_with_refused(&rt, 3)
+fn request_3(rt: HostRuntime) {
+    check_with_refused(&rt, 3);
 }
 
 #[test]
-fn request_4(rt: HostRuntime) -> Result<(), Fail> {
-    check_with_refused(&rt, 4)
+fn request_4(rt: HostRuntime) {
+    check_with_refused(&rt, 4);
 }
 
 #[test]
-fn request_5(rt: HostRuntime) -> Result<(), Fail> {
-    check_with_refused(&rt, 5)
+fn request_5(rt: HostRuntime) {
+    check_with_refused(&rt, 5);
 }

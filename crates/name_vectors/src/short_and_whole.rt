@@ -1,44 +1,41 @@
 //! Short names of branches and whole paths: worked names, and what docs/RULES.md gives for each.
 
-use crate::agree::{Host, expect, expect_bool, expect_text, expect_told, mode, options};
-use crate::printed::{OF_BRANCHES, OF_COMPONENTS, OF_PATHS, OF_REFERENCES};
+use crate::agree::{expect, expect_bool, expect_error, expect_text, expect_valid, mode, options};
+use crate::printed::{branch_texts, component_texts, path_texts, reference_texts};
 use crate::reference::{Fault, VALID, of_references};
-use crate::rows::{Names, part};
+use crate::rows::{Names, listed, part};
+use crate::text::{Host, joined};
 use bstr::BStr;
 use git_names::branch::{self, ShortName, ShortNameError};
 use git_names::path::{self, PathError};
-use gix_validate::path::ComponentError;
-use gix_validate::reference::NameError;
 
 /// The error, and the names.
 #[rattlefmt::skip]
 const SHORT_NAMES: &[(Fault<'static>, Names)] = &[
-    (VALID, &[
-        b"main", b"a/b-", b"a-", b"@", b"@/-", b"a/-b", b"a/HEAD", b"HEAD/a", b"head", b"HEADS", b"FETCH_HEAD",
-        b"refs/heads/main", b"refs/heads/HEAD", b"a./b", b"a.LOCK", b"\xC3\xA9", b"\xFF",
-    ]),
-    ((b"Reserved", b"HEAD"), &[b"HEAD"]),
-    ((b"StartsWithDash", b""), &[b"-", b"-d", b"--", b"-/a", b"-HEAD", b"-lock"]),
-    ((b"Empty", b""), &[b""]),
-    ((b"EndsWithSlash", b""), &[b"/", b"a/", b"-/", b"HEAD/"]),
-    ((b"StartsWithSlash", b""), &[b"/a", b"/HEAD", b"/-"]),
-    ((b"RepeatedSlash", b""), &[b"a//b", b"-//b"]),
-    ((b"InvalidByte", b" "), &[b"my branch", b"- "]),
-    ((b"InvalidByte", b"~"), &[b"main~1", b"-~"]),
-    ((b"Asterisk", b""), &[b"*", b"-*"]),
-    ((b"ReflogPortion", b""), &[b"@{-1}", b"@{u}", b"main@{1}", b"-@{"]),
-    ((b"RepeatedDot", b""), &[b"..", b"a..b", b"-.."]),
-    ((b"StartsWithDot", b""), &[b".", b".a", b"a/.b", b".lock"]),
-    ((b"EndsWithDot", b""), &[b"a.", b"-."]),
-    ((b"LockFileSuffix", b""), &[b"main.lock", b"-.lock"]),
+    (VALID, b"main,a/b-,a-,@,@/-,a/-b,a/HEAD,HEAD/a,head,HEADS,FETCH_HEAD"),
+    (VALID, b"refs/heads/main,refs/heads/HEAD,a./b,a.LOCK,\xC3\xA9,\xFF"),
+    ((b"Reserved", b"HEAD"), b"HEAD"),
+    ((b"StartsWithDash", b""), b"-,-d,--,-/a,-HEAD,-lock"),
+    ((b"Empty", b""), b""),
+    ((b"EndsWithSlash", b""), b"/,a/,-/,HEAD/"),
+    ((b"StartsWithSlash", b""), b"/a,/HEAD,/-"),
+    ((b"RepeatedSlash", b""), b"a//b,-//b"),
+    ((b"InvalidByte", b" "), b"my branch,- "),
+    ((b"InvalidByte", b"~"), b"main~1,-~"),
+    ((b"Asterisk", b""), b"*,-*"),
+    ((b"ReflogPortion", b""), b"@{-1},@{u},main@{1},-@{"),
+    ((b"RepeatedDot", b""), b"..,a..b,-.."),
+    ((b"StartsWithDot", b""), b".,.a,a/.b,.lock"),
+    ((b"EndsWithDot", b""), b"a.,-."),
+    ((b"LockFileSuffix", b""), b"main.lock,-.lock"),
 ];
 
 /// Checks what the function returns for a short name.
 fn expect_short(rt: &impl Host, text: &[u8], fault: Fault<'_>) {
     let call = ("short_name", text);
     match branch::short_name(BStr::new(text)) {
-        Ok(name) => expect_told::<NameError>(rt, call, (OF_REFERENCES, fault), Ok(name)),
-        Err(error) => expect_short_error(rt, call, fault, error),
+        Ok(name) => expect_valid(rt, call, fault, name.as_bytes()),
+        Err(error) => expect_short_error(rt, call, fault, &error),
     }
 }
 
@@ -47,13 +44,17 @@ fn expect_short_error(
     rt: &impl Host,
     call: (&str, &[u8]),
     fault: Fault<'_>,
-    error: ShortNameError,
+    error: &ShortNameError,
 ) {
     let is_dash = fault.0 == b"StartsWithDash".as_slice();
-    let texts = if is_dash { OF_BRANCHES } else { OF_REFERENCES };
-    expect_text(rt, call, (texts, fault), &error);
+    let texts = if is_dash {
+        branch_texts()
+    } else {
+        reference_texts()
+    };
+    expect_text(rt, call, (texts, fault), error);
     match error {
-        ShortNameError::Name(error) => expect_told(rt, call, (OF_REFERENCES, fault), Err(error)),
+        ShortNameError::Name(error) => expect_error(rt, call, (reference_texts(), fault), error),
         ShortNameError::StartsWithDash => expect(rt, call, fault.0, b"StartsWithDash"),
     }
 }
@@ -65,7 +66,7 @@ fn checks_short_names(rt: HostRuntime) {
 
 fn for_short_names(rt: &impl Host, rows: &[(Fault<'static>, Names)]) {
     for (fault, names) in rows {
-        for_names(rt, *fault, names);
+        for_names(rt, *fault, &listed(rt, names));
     }
 }
 
@@ -81,9 +82,7 @@ fn for_names(rt: &impl Host, fault: Fault<'static>, names: &[&[u8]]) {
 
 /// Whether the second implementation accepts `refs/heads/` with this name as the name of a branch.
 fn is_branch(rt: &impl Host, name: &[u8]) -> bool {
-    let full = [b"refs/heads/".as_slice(), name]
-        .concat(rt.alloc())
-        .expect(rt, "memory");
+    let full = joined(rt, &[b"refs/heads/", name]);
     of_references(&full)[3] == VALID
 }
 
@@ -91,15 +90,20 @@ fn is_branch(rt: &impl Host, name: &[u8]) -> bool {
 fn puts_refs_heads_before_a_short_name(rt: HostRuntime) {
     let name = ShortName::new(BStr::from("topic/a")).expect(&rt, "a short name");
     let full = branch::full_name(rt.alloc(), name).expect(&rt, "memory");
-    expect(
-        &rt,
-        ("full_name", b"topic/a"),
-        b"refs/heads/topic/a",
-        full.as_bytes(),
-    );
+    let wanted = b"refs/heads/topic/a";
+    expect(&rt, ("full_name", b"topic/a"), wanted, full.as_bytes());
+}
+
+#[test]
+fn prints_a_short_name(rt: HostRuntime) {
+    let name = ShortName::new(BStr::from("topic/a")).expect(&rt, "a short name");
     let text = format!(in rt.alloc(); "{name:?} {name}").expect(&rt, "memory");
     let wanted = b"ShortName { name: \"topic/a\" } topic/a";
     expect(&rt, ("Debug", b"topic/a"), wanted, text.as_bytes());
+}
+
+#[test]
+fn refuses_a_short_name_with_a_dash_first(rt: HostRuntime) {
     assert!(rt; ShortName::new(BStr::from("-d")).is_err());
 }
 
@@ -107,26 +111,26 @@ fn puts_refs_heads_before_a_short_name(rt: HostRuntime) {
 /// a valid path there is no error, and no offset.
 #[rattlefmt::skip]
 const PATHS: &[(&str, &[u8], usize, Names)] = &[
-    ("whns", b"", 0, &[b"src/main.rs", b"a", b"a/b/c/d", b".gitmodules/a", b"a/.gitignore", b".git2/x"]),
-    ("whn-", b"", 0, &[b".gitmodules", b"a/.gitmodules"]),
-    ("----", b"", 0, &[b"git~1/CON/c:", b"a\\b/.git /\xFF"]),
-    ("whns", b"SymlinkedGitModules", 0, &[b".gitmodules"]),
-    ("whns", b"SymlinkedGitModules", 2, &[b"a/.gitmodules", b"a/GITMOD~1"]),
-    ("whn-", b"EmptyPart", 0, &[b"", b"/", b"//", b"/a", b"//a", b"/.git"]),
-    ("whn-", b"EmptyPart", 2, &[b"a/", b"a//", b"a//b", b"a//.git", b"a//b/"]),
-    ("----", b"EmptyPart", 13, &[b"src/lib/core/", b"src/lib/core//x"]),
-    ("----", b"EmptyPart", 18, &[b"a-longer-folder16/", b"a-longer-folder16//x"]),
-    ("----", b"Relative", 0, &[b".", b"..", b"./a", b"../a", b".//"]),
-    ("----", b"Relative", 2, &[b"a/.", b"a/..", b"a/../b", b"a/..//b"]),
-    ("----", b"DotGitDir", 0, &[b".git", b".GIT/config"]),
-    ("----", b"DotGitDir", 4, &[b"src/.git", b"src/.git/NUL", b"src/.git//"]),
-    ("w---", b"PathSeparator", 2, &[b"a/b\\c", b"a/b\\c/.git"]),
-    ("w---", b"WindowsPathPrefix", 0, &[b"c:/a", b"c:/.git"]),
-    ("w-n-", b"WindowsReservedName", 4, &[b"src/NUL", b"src/aux.c/b"]),
-    ("w-n-", b"WindowsIllegalCharacter", 16, &[b"0123456789abcde/a?b/.git"]),
-    ("--n-", b"DotGitDir", 16, &[b"0123456789abcde/git~1"]),
-    ("--n-", b"DotGitDir", 34, &[b"0123456789abcdef/0123456789abcdef/git~1/x"]),
-    ("-h--", b"DotGitDir", 2, &[b"a/.g\xE2\x80\x8Cit/x"]),
+    ("whns", b"", 0, b"src/main.rs,a,a/b/c/d,.gitmodules/a,a/.gitignore,.git2/x"),
+    ("whn-", b"", 0, b".gitmodules,a/.gitmodules"),
+    ("----", b"", 0, b"git~1/CON/c:,a\\b/.git /\xFF"),
+    ("whns", b"SymlinkedGitModules", 0, b".gitmodules"),
+    ("whns", b"SymlinkedGitModules", 2, b"a/.gitmodules,a/GITMOD~1"),
+    ("whn-", b"EmptyPart", 0, b",/,//,/a,//a,/.git"),
+    ("whn-", b"EmptyPart", 2, b"a/,a//,a//b,a//.git,a//b/"),
+    ("----", b"EmptyPart", 13, b"src/lib/core/,src/lib/core//x"),
+    ("----", b"EmptyPart", 18, b"a-longer-folder16/,a-longer-folder16//x"),
+    ("----", b"Relative", 0, b".,..,./a,../a,.//"),
+    ("----", b"Relative", 2, b"a/.,a/..,a/../b,a/..//b"),
+    ("----", b"DotGitDir", 0, b".git,.GIT/config"),
+    ("----", b"DotGitDir", 4, b"src/.git,src/.git/NUL,src/.git//"),
+    ("w---", b"PathSeparator", 2, b"a/b\\c,a/b\\c/.git"),
+    ("w---", b"WindowsPathPrefix", 0, b"c:/a,c:/.git"),
+    ("w-n-", b"WindowsReservedName", 4, b"src/NUL,src/aux.c/b"),
+    ("w-n-", b"WindowsIllegalCharacter", 16, b"0123456789abcde/a?b/.git"),
+    ("--n-", b"DotGitDir", 16, b"0123456789abcde/git~1"),
+    ("--n-", b"DotGitDir", 34, b"0123456789abcdef/0123456789abcdef/git~1/x"),
+    ("-h--", b"DotGitDir", 2, b"a/.g\xE2\x80\x8Cit/x"),
 ];
 
 /// Checks what the function returns for a path under these settings.
@@ -138,22 +142,26 @@ fn expect_whole(
     let call = (settings, text);
     let fault: Fault<'_> = (error, b"");
     match path::whole(BStr::new(text), mode(settings), options(settings)) {
-        Ok(path) => expect_told::<ComponentError>(rt, call, (OF_COMPONENTS, fault), Ok(path)),
+        Ok(path) => expect_valid(rt, call, fault, path.as_bytes()),
         Err(error) => {
-            assert_eq!(rt; error.offset(), offset, "offset of {:?}", BStr::new(text));
-            expect_path_error(rt, call, fault, error);
+            expect_bool(rt, ("the offset", text), true, error.offset() == offset);
+            expect_path_error(rt, call, fault, &error);
         }
     }
 }
 
 /// Checks the error, which prints the text of the error in it.
-fn expect_path_error(rt: &impl Host, call: (&str, &[u8]), fault: Fault<'_>, error: PathError) {
+fn expect_path_error(rt: &impl Host, call: (&str, &[u8]), fault: Fault<'_>, error: &PathError) {
     let is_empty = fault.0 == b"EmptyPart".as_slice();
-    let texts = if is_empty { OF_PATHS } else { OF_COMPONENTS };
-    expect_text(rt, call, (texts, fault), &error);
+    let texts = if is_empty {
+        path_texts()
+    } else {
+        component_texts()
+    };
+    expect_text(rt, call, (texts, fault), error);
     match error {
         PathError::InvalidPart { error, .. } => {
-            expect_told(rt, call, (OF_COMPONENTS, fault), Err(error));
+            expect_error(rt, call, (component_texts(), fault), error);
         }
         PathError::EmptyPart { .. } => expect(rt, call, fault.0, b"EmptyPart"),
     }
@@ -166,7 +174,7 @@ fn checks_whole_paths(rt: HostRuntime) {
 
 fn for_paths(rt: &impl Host, rows: &[(&str, &'static [u8], usize, Names)]) {
     for (settings, error, offset, paths) in rows {
-        expect_all_whole(rt, settings, (error, *offset), paths);
+        expect_all_whole(rt, settings, (error, *offset), &listed(rt, paths));
     }
 }
 

@@ -1,8 +1,8 @@
 //! The functions of the library, compared with the second implementation on many names.
 
-use crate::agree::{Host, check};
+use crate::agree::check;
 use crate::path::{DEVICES, IGNORED_CHARACTERS, SEQUENCES};
-use std::alloc::{AllocError, Global};
+use crate::text::{Host, joined};
 
 /// The parts of which names are made, and how many names there are of at most five, four or three:
 /// special bytes of the rules for references, the suffix that Git reserves for its own files among
@@ -19,28 +19,31 @@ const PARTS: &[(&[&[u8]], usize)] = &[
 
 /// The name of at most five parts with this number. Shorter names have the lower numbers: 0 is the
 /// empty name, and with N parts those of one part are 1 to N.
-fn numbered(alloc: Global, parts: &[&[u8]], number: usize) -> Result<Vec<u8>, AllocError> {
-    let mut text = Vec::new(alloc);
+fn numbered(rt: &impl Host, parts: &[&[u8]], number: usize) -> Vec<u8> {
+    let mut text = Vec::new(rt.alloc());
     let mut left = number;
     for _ in 0..5 {
         if left > 0 && !parts.is_empty() {
             left -= 1;
-            text.extend_from_slice(parts[left % parts.len()])?;
+            let part = parts[left % parts.len()];
+            text.extend_from_slice(part).expect(rt, "memory");
             left /= parts.len();
         }
     }
-    Ok(text)
+    text
 }
 
 #[test]
 fn agrees_on_names_of_few_parts(rt: HostRuntime) {
     for (parts, end) in PARTS {
-        for number in 0..*end {
-            check(
-                &rt,
-                &numbered(rt.alloc(), parts, number).expect(&rt, "memory"),
-            );
-        }
+        check_numbered(&rt, parts, *end);
+    }
+}
+
+/// Checks the names of these parts that have the lower numbers.
+fn check_numbered(rt: &impl Host, parts: &[&[u8]], end: usize) {
+    for number in 0..end {
+        check(rt, &numbered(rt, parts, number));
     }
 }
 
@@ -55,12 +58,7 @@ const AROUND: &[(&[u8], &[u8])] = &[
 /// Checks the byte within names.
 fn check_around(rt: &impl Host, byte: &[u8]) {
     for (front, back) in AROUND {
-        check(
-            rt,
-            &[*front, byte, *back]
-                .concat(rt.alloc())
-                .expect(rt, "memory"),
-        );
+        check(rt, &joined(rt, &[front, byte, back]));
     }
 }
 
@@ -102,12 +100,7 @@ fn check_changed(rt: &impl Host, (name, len): (&[u8], usize), words: &[&[u8]]) -
     for offset in 0..name.len() + 1 {
         let back = name.get(offset.saturating_add(len)..).unwrap_or(b"");
         for word in words {
-            check(
-                rt,
-                &[&name[..offset], *word, back]
-                    .concat(rt.alloc())
-                    .expect(rt, "memory"),
-            );
+            check(rt, &joined(rt, &[&name[..offset], word, back]));
             checked = checked.saturating_add(1);
         }
     }
@@ -116,14 +109,14 @@ fn check_changed(rt: &impl Host, (name, len): (&[u8], usize), words: &[&[u8]]) -
 
 /// The name with uppercase letters at the first so many of each two offsets, and lowercase ones
 /// otherwise.
-fn spelled(alloc: Global, name: &[u8], uppercase: usize) -> Result<Vec<u8>, AllocError> {
-    let mut text = name.to_ascii_lowercase(alloc)?;
+fn spelled(rt: &impl Host, name: &[u8], uppercase: usize) -> Vec<u8> {
+    let mut text = name.to_ascii_lowercase(rt.alloc()).expect(rt, "memory");
     for (offset, byte) in text.iter_mut().enumerate() {
         if offset % 2 < uppercase {
             *byte = byte.to_ascii_uppercase();
         }
     }
-    Ok(text)
+    text
 }
 
 /// The digits, the bytes next to them, and nothing.
@@ -177,8 +170,7 @@ fn check_spelling(
     len: usize,
     words: &[&[u8]],
 ) -> usize {
-    let name = spelled(rt.alloc(), name, uppercase).expect(rt, "memory");
-    check_changed(rt, (&name, len), words)
+    check_changed(rt, (&spelled(rt, name, uppercase), len), words)
 }
 
 /// The edges of the table of whole sequences, and the bytes next to them.
@@ -205,9 +197,7 @@ fn agrees_on_each_edge_of_sequences(rt: HostRuntime) {
 fn check_truncated(rt: &impl Host, sequence: &[u8]) -> usize {
     let mut checked: usize = 0;
     for end in 0..sequence.len() {
-        let name = [&sequence[..end + 1], b":"]
-            .concat(rt.alloc())
-            .expect(rt, "memory");
+        let name = joined(rt, &[&sequence[..end + 1], b":"]);
         checked = checked.saturating_add(check_changed(rt, (&name, 1), EDGES));
     }
     checked

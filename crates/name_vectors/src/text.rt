@@ -1,6 +1,18 @@
-//! Functions on byte strings that the rules and the tests use (docs/RULES.md, "Bytes").
+//! Functions on byte strings that the rules and the tests use (docs/RULES.md, "Bytes"), and what they
+//! need of the runtime.
 
 use bstr::ByteSlice;
+use std::process::Abort;
+
+/// What a check needs of the runtime.
+pub(crate) trait Host: Abort + AllocGlobal {}
+
+impl<T: Abort + AllocGlobal> Host for T {}
+
+/// The byte strings, one after the other.
+pub(crate) fn joined(rt: &impl Host, parts: &[&[u8]]) -> Vec<u8> {
+    parts.concat(rt.alloc()).expect(rt, "memory")
+}
 
 /// Whether the byte is a bad byte: 0x00 to 0x1F, DEL, the space, and `:` `?` `[` `\` `^` `~`. (`*` has
 /// an error of its own.)

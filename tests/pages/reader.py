@@ -31,9 +31,11 @@ class Reader:
     def __init__(self, room):
         self.room = room
         (room / "new").mkdir()
+        (room / "tmp").mkdir()
         self.environment = {
             **os.environ,
             "PATH": f"{room}/usr/local/bin:{os.environ['PATH']}",
+            "TMPDIR": f"{room}/tmp",  # (Dask, for one, leaves a directory there)
             "PYTHONPATH": f"{room}/module",
             "LIBRARY": str(ROOT),
             "GIT_CONFIG_SYSTEM": f"{room}/SYSTEM",

@@ -453,7 +453,7 @@ def pack_anew(out):
 def keep(sums, out):
     """Moves what --built has packed to out/release, if it is of the commit that is here,
     and neither it nor what was built has changed while the tests ran. (Objects may be
-    gone: `rt ci` builds the programs anew, and leaves none.)"""
+    gone: the release has them.)"""
     for file, sum in recorded(sums).items():
         path = ROOT / file
         if path.suffix == ".o" and not path.exists():

@@ -1,8 +1,9 @@
 """A pytest plugin: a run leaves nothing in the temporary directory.
 
 Each run has a temporary directory of its own, below that of the machine. It goes with the
-run, and pytest's own files with it, unless a test failed. A run whose tests left anything
-else in it fails, too.
+run, and pytest's own files with it, unless a test failed. What else tests left in it is
+named at the end. (That is no failure: tools of others, such as wine, sometimes leave
+something there, and it goes, too.)
 """
 
 import os
@@ -35,8 +36,7 @@ class Room:
     def pytest_sessionfinish(self, session):
         left = [it for it in os.listdir(self.path) if it != "pytest"]
         if left:
-            session.exitstatus = session.exitstatus or pytest.ExitCode.TESTS_FAILED
-            self.say(f"FAILED: tests left in the temporary directory: {' '.join(left)}")
+            self.say(f"tests left in the temporary directory: {' '.join(left)}")
         self.is_kept = session.exitstatus == pytest.ExitCode.TESTS_FAILED
 
     def pytest_unconfigure(self):

@@ -1,18 +1,11 @@
 # shellcheck shell=bash disable=SC2154
-# For release/aarch64 and release/wasm, which set `target`: rt refuses these targets, so this calls
-# rattle, by its documented options. The libraries below have to be proved already.
+# For bindings/build, and for release/aarch64 and release/wasm, which set `target`. The libraries
+# below gix_validate_c have to be built.
 
 cd -- "$(dirname -- "${BASH_SOURCE[0]}")/../crates/gix_validate_c" || exit 1
 kit=$(dirname -- "$(rt doc)")
 room=$(mktemp -d)
 trap 'rm -rf -- "$room"' EXIT
-options=(--crate-name gix_validate_c --crate-type staticlib src/lib.rt -L "dependency=$kit/rlibs"
-    --antt-project "$kit/rattle/logic/antt-project.json" --target "$target")
-for crate in std $(sed -n 's/^gix_validate_c staticlib: //p' ../../crates.txt); do
-    rlib=../$crate/out/rlib/$crate.rlib
-    [[ -d ../$crate ]] || rlib=$kit/rlibs/$crate.rlib
-    options+=(--extern "$crate=$rlib")
-done
 
 # Runs a command, and shows the end of what it says if it fails. quiet COMMAND..
 quiet() {
@@ -22,17 +15,21 @@ quiet() {
     }
 }
 
-# Proves the functions for the target, and builds an archive of them by the clang on standard
-# input, which calls that of the kit. (rattle empties its environment.) archive FILE
-archive() {
-    cp -rL --symbolic-link -- "$kit/toolchain" "$room"
-    install -m 755 -- /dev/stdin "$room/toolchain/bin/clang"
-    quiet "$kit/bin/rattle" check "${options[@]}" --logic-built "$kit/logic_built" --jobs 2 \
-        -o "$room/checked"
+# Proves the functions, and builds an archive of them. (What one system's build has proved is kept
+# for the next, where it is the same.) compile BACKEND TOOLCHAIN FILE
+compile() {
+    quiet ../../scripts/rattle build ${target:+--target "$target"} --jobs 2 --backend "$1" \
+        --toolchain "$2" -o "$3"
     grep -q '^logic=proved ' "$room/log" || {
         tail -n 20 -- "$room/log" >&2
         exit 1
     }
-    quiet "$kit/bin/rattle" build "${options[@]}" --crate-checked "$room/checked" \
-        --toolchain "$room/toolchain" --backend llvm -o "$1"
+}
+
+# The same by the clang on standard input, which calls that of the kit. (rattle empties its
+# environment.) archive FILE
+archive() {
+    cp -rL --symbolic-link -- "$kit/toolchain" "$room"
+    install -m 755 -- /dev/stdin "$room/toolchain/bin/clang"
+    compile llvm "$room/toolchain" "$1"
 }

@@ -5,9 +5,8 @@
     .ci/run CRATE..         these crates and those that stand on them, over what is proved
 
 Each part is a command that you can type; CONTRIBUTING.md says which one to run after which
-change. `rt ci` proves each crate from nothing, and builds the programs. The bindings are
-then proved and built, because `rt ci` leaves no library that a build can use. Before the
-check begins it removes all that was built here.
+change. `rt ci` proves each crate from nothing, and builds the programs. What follows builds
+over what it has proved. Before the check begins it removes all that was built here.
 
 The edits of must-fail/ are tried each time, those of mutants/ by turns: scripts/dev
 try-edits --help says which. With --all-edits all are tried. If such a check passes on a tree
@@ -179,7 +178,7 @@ def check_all(commit, edits):
         yield run("dist", "release/dist", "--built", BUILT, RELEASE)
         release = [f"--release={file}" for file in Path(RELEASE).glob("*.tar.gz")]
     # The edits need the processors now and then, and the tests wait now and then.
-    edits = start("edits", "scripts/dev", "try-edits", *edits)
+    edits = start("edits", "scripts/dev", "try-edits", "--after-gate", *edits)
     early = [f"--ignore={it}" for it in EARLY]
     yield run("tests", *PYTEST, "tests", *early, "--built", *release)
     yield finish(edits)

@@ -25,6 +25,9 @@ changes with its own files and its line in crates.txt, not with the crates below
 must-fail/, whose edits `rt ci` tries, it tries the controls in these crates. Without such a
 commit it tries all.
 
+Before the edits, rt checks their crates as they are. With --after-gate the libraries below are
+those that `rt ci` has just proved, which rt would prove anew.
+
 With --controls it draws edits of mutants/, by the hash of HEAD or --seed, and tries their
 controls. For an edit without one that is braces around what the edit changes. If these
 are refused, the edit may be hollow; that is said and counted, and is no failure.
@@ -45,6 +48,7 @@ from scripts.sources import Edit, Wrong, bodies, edits, read, replaced
 # The commit for which all edits were tried, in a line, and how many are tried besides those
 # of crates that changed since.
 TRIED, MORE = ".ci/edits-tried", 30
+RATTLE = Path(__file__).parents[1] / "rattle"
 
 # How a function is refused, the best evidence first.
 VALUE = "by values at which it is false"
@@ -93,10 +97,12 @@ class Tried(NamedTuple):
     said: list  # what the check said of it
 
 
-def checked(crate):
-    """The status of a check in this folder of a crate, and what it said."""
+def checked(crate, *by):
+    """The status of a check in this folder of a crate, and what it said. It is over the
+    libraries that are there, unless it is by `rt`, which proves them if they have changed.
+    """
     done = subprocess.run(
-        ["rt", "check", "--jobs", "1"],
+        [*(by or [RATTLE]), "check", "--jobs", "1"],
         cwd=crate,
         stdin=subprocess.DEVNULL,
         capture_output=True,
@@ -414,15 +420,23 @@ def add_arguments(parser):
         action="store_true",
         help="the crates were just proved without an edit",
     )
+    parser.add_argument(
+        "--after-gate",
+        action="store_true",
+        help="the libraries below were just proved by `rt ci`",
+    )
 
 
-def check_unedited(chosen):
+def check_unedited(chosen, args):
     """Fails if a crate of these edits isn't proved without one, or if there is none."""
     if not chosen:
         raise Wrong("there is no edit to try")
+    if args.built:
+        return
+    by = [] if args.after_gate else ["rt"]
     crates = sorted({it.crate for it in chosen})
     with ThreadPoolExecutor(len(os.sched_getaffinity(0))) as pool:
-        found = pool.map(lambda it: checked(f"crates/{it}"), crates)
+        found = pool.map(lambda it: checked(f"crates/{it}", *by), crates)
     for crate, (status, _) in zip(crates, found):
         if status:
             raise Wrong(
@@ -435,16 +449,15 @@ def run(args):
     well."""
     os.makedirs("out", exist_ok=True)
     if args.controls is not None:
-        return try_drawn(args.controls, args.seed or head(), args.built)
+        return try_drawn(args.controls, args.seed or head(), args)
     chosen, others = in_turn() if args.turns else (named(args.names), [])
-    return try_all(chosen, others, args.built)
+    check_unedited([*chosen, *others], args)
+    return try_all(chosen, others)
 
 
-def try_all(chosen, others, is_built):
+def try_all(chosen, others):
     """Tries edits, and the controls of these and of others."""
     every = [*chosen, *others]
-    if not is_built:
-        check_unedited(every)
     controls = batches(by_control(it) for it in every if it.control)
     same, plan = shortest(every), batches(chosen)
     with ThreadPoolExecutor(len(os.sched_getaffinity(0))) as pool:
@@ -498,13 +511,12 @@ def end_of(edit, result, said):
     return is_failed, [f"{edit.file}: {', '.join(ends)}", *wrong]
 
 
-def try_drawn(number, seed, is_built):
+def try_drawn(number, seed, args):
     """Tries controls of edits of mutants/ that are drawn by lot."""
     every = [it for it in edits() if is_mutant(it)]
     chosen = drawn(every, number, seed)
     print(f"drawn by {seed} of {len(every)} edits")
-    if not is_built:
-        check_unedited(chosen)
+    check_unedited(chosen, args)
     plan = batches(by_control(it) if it.control else around_line(it) for it in chosen)
     with ThreadPoolExecutor(len(os.sched_getaffinity(0))) as pool:
         found = [it for batch in pool.map(accepted, plan) for it in batch]

@@ -7,10 +7,14 @@ from typing import NamedTuple
 
 from tests.pages.blocks import CRATES, ROOT, blocks_of
 
-# The tutorial's checks are left out, since rt run proves the crates as its last step leaves
-# them.
+# The tutorial's checks are left out, since what stands for `rt run` proves the crates as its
+# last step leaves them.
 START = """rt() {
-    if [ "$1" != check ]; then command rt "$@"; fi
+    case $1 in
+    check) ;;
+    run) "$LIBRARY/tests/pages/rt_run" ;;
+    *) command rt "$@" ;;
+    esac
 }
 """
 

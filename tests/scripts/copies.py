@@ -61,12 +61,14 @@ class Copy:
                 shutil.copy2(ROOT / name, self.path / name, follow_symlinks=False)
         self.bin.mkdir()
         (self.bin / "rt").symlink_to(STAND_IN)
+        (room / "kit/bin").mkdir(parents=True)
+        (room / "kit/bin/rattle").symlink_to(STAND_IN)
         self.does = "nothing"
         self.state = state_of(self.path)
 
     def restore(self):
         """Makes all as it was before a test, which changes few files."""
-        for path in {*self.room.iterdir()} - {self.path, self.bin}:
+        for path in {*self.room.iterdir()} - {self.path, self.bin, self.room / "kit"}:
             remove(path)
         now = state_of(self.path)
         for name in sorted(now.keys() - self.state.keys()):

@@ -105,6 +105,19 @@ def test_scripts_program_builds_a_program(copy):
     assert (copy.path / "crates/check_push/out/check_push").exists()
 
 
+def test_what_rt_ci_has_built_runs_until_a_source_changes(copy):
+    program = copy.path / "crates/check_names/out/check_names"
+    program.parent.mkdir()
+    program.write_text("#!/bin/sh\necho by rt ci\n")
+    program.chmod(0o755)
+    copy.run("scripts/program", "--built", "check_names")
+    before = len(copy.calls)
+    assert copy.run("check_names") == (0, "by rt ci\n", "")
+    assert copy.calls[before:] == ["a copy: rt version"]
+    copy.change("crates/gix_validate/src/lib.rt", "^//!", "//! ")
+    assert copy.run("check_names").output == "check_names|tag a\ntag b\n"
+
+
 @pytest.mark.parametrize(
     "words, name", [(["--build"], ""), (["check_nothing"], "check_nothing"), ([], "")]
 )
@@ -156,15 +169,17 @@ def bindings(copy):
     return copy
 
 
-def test_bindings_build_builds_both_libraries_and_fails_if_a_part_does(bindings):
-    bindings.does = "builds"
-    ended = bindings.run("bindings/build", CC="true")
+@pytest.mark.parametrize(
+    "words, before", [([], ["git_names: rt lib"]), (["--after-gate"], [])]
+)
+def test_bindings_build_proves_what_it_builds_and_fails_if_a_part_does(
+    bindings, words, before
+):
+    bindings.does = "judges"
+    ended = bindings.run("bindings/build", *words, CC="true")
     assert (ended.status, ended.output) == (1, "")
     assert "bindings/build: proving gix_validate_c" in ended.errors
-    assert bindings.calls == [
-        "gix_validate_c: rt lib --backend rattle",
-        "gix_validate_c: rt lib",
-    ]
+    assert bindings.calls == [*before, *2 * ["gix_validate_c: rattle build"]]
 
 
 def test_bindings_build_says_what_is_not_proved(bindings):

@@ -31,19 +31,35 @@ def blocks(heading, language="sh"):
     return re.findall(rf"(?ms)^```{language}\n(.*?)^```$", section)
 
 
-class Push(NamedTuple):
-    """How a push ended, and what its author read."""
+class Ended(NamedTuple):
+    """How a command ended, and what was said."""
 
     status: int
     said: str
 
     @property
-    def is_refused_by_name(self):
-        return self.status == 1 and re.search("(?m)^remote: .*aux[.]h: ", self.said)
-
-    @property
     def is_refused(self):
         return self.status == 1 and "pre-receive hook declined" in self.said
+
+    @property
+    def is_refused_by_name(self):
+        return self.is_refused and bool(REFUSED.search(self.said))
+
+
+REFUSED = re.compile("^remote: (.*: )?aux[.]h: ", re.M)
+
+
+def run(words, cwd, env, given=""):
+    done = subprocess.run(
+        words,
+        cwd=cwd,
+        env={name: str(value) for name, value in env.items()},
+        input=given,
+        stdout=subprocess.PIPE,
+        stderr=subprocess.STDOUT,
+        text=True,
+    )
+    return Ended(done.returncode, done.stdout)
 
 
 class Server:
@@ -64,7 +80,7 @@ class Server:
         write_script(self.ssh, f'exec env -i {words} SSH_ORIGINAL_COMMAND="$2" {shell}')
         self.author = {
             **ENVIRONMENT,
-            "GIT_SSH": str(self.ssh),
+            "GIT_SSH": self.ssh,
             "GIT_SSH_VARIANT": "simple",
             "AUTHOR": "alice",
         }
@@ -81,45 +97,25 @@ class Server:
         """Runs commands of the page, for the places of this server."""
         for path, place in self.paths.items():
             script = script.replace(path, str(place))
-        variables = {name: str(value) for name, value in self.account.items()}
-        return subprocess.run(
-            ["sh", "-e"],
-            cwd=cwd or self.home,
-            input=script,
-            env={"GIT_CONFIG_NOSYSTEM": "1", **variables, **env},
-            stdout=subprocess.PIPE,
-            stderr=subprocess.STDOUT,
-            text=True,
-        )
+        env = {"GIT_CONFIG_NOSYSTEM": 1, **self.account, **env}
+        return run(["sh", "-e"], cwd or self.home, env, script)
 
     def paste(self, heading, number=0, cwd=None):
         """Runs a block of the page, which has to succeed."""
-        done = self.run(blocks(heading)[number], cwd)
-        assert done.returncode == 0, done.stdout
+        ended = self.run(blocks(heading)[number], cwd)
+        assert ended.status == 0, ended.said
 
-    def push(self, commit, repository, branch="main", author="alice"):
+    def push(self, commit, repository, branch="main"):
         """Pushes a commit by ssh."""
-        done = subprocess.run(
-            [
-                "git",
-                "push",
-                "-f",
-                f"git@server:{repository}",
-                f"{commit}:refs/heads/{branch}",
-            ],
-            cwd=self.clone.path,
-            env={**self.author, "AUTHOR": author},
-            stdout=subprocess.PIPE,
-            stderr=subprocess.STDOUT,
-            text=True,
-        )
-        return Push(done.returncode, done.stdout)
+        words = f"git push -f git@server:{repository} {commit}:refs/heads/{branch}"
+        return run(words.split(), self.clone.path, self.author)
 
     def checks(self, repository):
-        """Whether a repository accepts a harmless push, and refuses a hostile one."""
+        """Whether a repository refuses a hostile push, and accepts a harmless one."""
         refused = self.push(self.hostile, repository, "hostile")
-        accepted = self.push(self.clean, repository)
-        return bool(refused.is_refused_by_name) and accepted.status == 0
+        return (
+            refused.is_refused_by_name and not self.push(self.clean, repository).status
+        )
 
 
 # On every server.
@@ -158,7 +154,7 @@ def test_the_script_for_syslog_passes_on_why_a_push_is_refused(server, repositor
     log = server.room / "log"
     write_script(server.room / "logger", f"cat >> '{log}'")
     script = blocks("Logs")[0].replace("logger -t", f"'{server.room}/logger' -t")
-    assert server.run(script, server.room).returncode == 0
+    assert server.run(script, server.room).status == 0
     (server.room / "10-names").rename(repository / "hooks/pre-receive")
     assert server.push(server.clean, repository).status == 0
     assert not log.exists()
@@ -182,7 +178,7 @@ class Gitolite(Server):
 
     def __init__(self, room, installed):
         super().__init__(room, installed, f'{GITOLITE_SHELL} "$AUTHOR"')
-        assert self.run("gitolite setup --admin admin").returncode == 0
+        assert self.run("gitolite setup --admin admin").status == 0
         self.file = self.home / ".gitolite.rc"
         [lines] = blocks("gitolite", "perl")
         self.change_file("(?m)^ *GIT_CONFIG_KEYS .*\n", lines)
@@ -191,7 +187,7 @@ class Gitolite(Server):
         self.paste("gitolite")
         self.admin = room / "admin"
         self.as_admin("clone", "-q", "git@server:gitolite-admin", self.admin, cwd=room)
-        self.text = project("new") + project("logged") + project("own")
+        self.text = "".join(map(project, ["testing", "new", "logged", "own"]))
         self.text += "repo wild/..*\n    C = alice\n    RW+ = CREATOR\n\n"
         self.configure()
 
@@ -202,13 +198,8 @@ class Gitolite(Server):
         self.file.write_text(changed)
 
     def as_admin(self, *words, cwd=None):
-        return subprocess.run(
-            ["git", *words],
-            cwd=cwd or self.admin,
-            env={**self.author, "AUTHOR": "admin"},
-            stdout=subprocess.PIPE,
-            stderr=subprocess.STDOUT,
-            text=True,
+        return run(
+            ["git", *words], cwd or self.admin, {**self.author, "AUTHOR": "admin"}
         )
 
     def try_to_configure(self, text=""):
@@ -216,8 +207,7 @@ class Gitolite(Server):
         start = "repo gitolite-admin\n    RW+ = admin\n\n"
         (self.admin / "conf/gitolite.conf").write_text(start + self.text + text)
         self.as_admin("commit", "-qam", "configuration")
-        done = self.as_admin("push", "-q", "origin", "HEAD:master")
-        return Push(done.returncode, done.stdout)
+        return self.as_admin("push", "-q", "origin", "HEAD:master")
 
     def configure(self, text=""):
         done = self.try_to_configure(text)
@@ -226,7 +216,7 @@ class Gitolite(Server):
     def settings(self, repository):
         file = self.home / f"repositories/{repository}.git/config"
         words = ["git", "config", "--file", file, "--get-regexp", "^names[.]"]
-        return subprocess.run(words, stdout=subprocess.PIPE, text=True).stdout
+        return run(words, self.home, self.account).said
 
 
 @pytest.fixture(scope="module")
@@ -235,7 +225,7 @@ def gitolite(tmp_path_factory, installed):
 
 
 def test_gitolite_checks_pushes_to_old_new_and_wild_repositories(gitolite):
-    assert gitolite.as_admin("push", "origin", "HEAD:refs/heads/HEAD").returncode == 1
+    assert gitolite.as_admin("push", "origin", "HEAD:refs/heads/HEAD").is_refused
     for repository in ["testing", "new", "wild/of-alice"]:
         assert gitolite.checks(repository), repository
 
@@ -243,9 +233,7 @@ def test_gitolite_checks_pushes_to_old_new_and_wild_repositories(gitolite):
 def test_the_push_by_which_the_page_probes_a_server_is_refused(gitolite):
     [script] = blocks("Check it")
     script = script.replace("git@git.example.org:project", "git@server:new")
-    done = gitolite.run(script, gitolite.room, **gitolite.author)
-    assert done.returncode == 1
-    assert re.search("(?m)^remote: aux[.]h: ", done.stdout)
+    assert gitolite.run(script, gitolite.room, **gitolite.author).is_refused_by_name
 
 
 def test_gitolite_logs_no_update_of_a_push_that_is_refused(gitolite):
@@ -260,7 +248,7 @@ def test_after_an_upgrade_gitolite_still_checks_pushes(gitolite, installed):
     shutil.rmtree(gitolite.hook)
     shutil.copytree(installed, gitolite.hook)
     assert gitolite.checks("new")
-    assert gitolite.run("gitolite setup").returncode == 0
+    assert gitolite.run("gitolite setup").status == 0
     assert gitolite.checks("new")
 
 
@@ -345,7 +333,7 @@ class Gitea(Server):
     def make(self, name):
         """Makes a repository as Gitea does."""
         path = self.git / f"gitea-repositories/owner/{name}.git"
-        assert self.run(f"git init -q --bare '{path}'").returncode == 0
+        assert self.run(f"git init -q --bare '{path}'").status == 0
         (path / "hooks/pre-receive.d").mkdir(exist_ok=True)
         write_script(path / "hooks/pre-receive", GITEA)
         seen = path / "seen"

@@ -1,10 +1,10 @@
-"""The hook on Git servers, as docs/SERVERS.md installs it: with the page's own commands, and
-its paths replaced by those of the test.
+"""The hook on Git servers, as docs/SERVERS.md installs it: with the page's own commands,
+for the directories of the test.
 
 Authors push by ssh, of which a script plays both ends: it runs what sshd would run for
-the author's key, with no variable of the author. gitolite is Debian's. Of Gitea and
-Gitaly there is what runs the hooks of a repository: Gitea's script, and a program that
-does what Gitaly does, both written from what is known of them.
+the author's key, with no variable of the author. gitolite is Debian's. Gitea and Gitaly
+aren't there: instead of them there is a script like Gitea's, and a program that runs
+hooks as Gitaly does, both written from what is known of them.
 """
 
 import os
@@ -23,6 +23,8 @@ from tests.hook.processes import write_script
 PAGE = (ROOT / "docs/SERVERS.md").read_text()
 HOOK = "/usr/local/libexec/gix-validate"
 GITOLITE_SHELL = "/usr/share/gitolite3/gitolite-shell"
+# What the author of a hostile push reads.
+REFUSED = re.compile("^remote: (.*: )?aux[.]h: ", re.M)
 
 
 def blocks(heading, language="sh"):
@@ -44,9 +46,6 @@ class Ended(NamedTuple):
     @property
     def is_refused_by_name(self):
         return self.is_refused and bool(REFUSED.search(self.said))
-
-
-REFUSED = re.compile("^remote: (.*: )?aux[.]h: ", re.M)
 
 
 def run(words, cwd, env, given=""):
@@ -210,8 +209,8 @@ class Gitolite(Server):
         return self.as_admin("push", "-q", "origin", "HEAD:master")
 
     def configure(self, text=""):
-        done = self.try_to_configure(text)
-        assert done.status == 0, done.said
+        ended = self.try_to_configure(text)
+        assert ended.status == 0, ended.said
 
     def settings(self, repository):
         file = self.home / f"repositories/{repository}.git/config"
@@ -219,23 +218,30 @@ class Gitolite(Server):
         return run(words, self.home, self.account).said
 
 
+# (it is set up once)
+on_gitolite = pytest.mark.xdist_group("gitolite")
+
+
 @pytest.fixture(scope="module")
 def gitolite(tmp_path_factory, installed):
     return Gitolite(tmp_path_factory.mktemp("gitolite"), installed)
 
 
+@on_gitolite
 def test_gitolite_checks_pushes_to_old_new_and_wild_repositories(gitolite):
     assert gitolite.as_admin("push", "origin", "HEAD:refs/heads/HEAD").is_refused
     for repository in ["testing", "new", "wild/of-alice"]:
         assert gitolite.checks(repository), repository
 
 
+@on_gitolite
 def test_the_push_by_which_the_page_probes_a_server_is_refused(gitolite):
     [script] = blocks("Check it")
     script = script.replace("git@git.example.org:project", "git@server:new")
     assert gitolite.run(script, gitolite.room, **gitolite.author).is_refused_by_name
 
 
+@on_gitolite
 def test_gitolite_logs_no_update_of_a_push_that_is_refused(gitolite):
     assert gitolite.checks("logged")
     [log] = (gitolite.home / ".gitolite/logs").iterdir()
@@ -244,6 +250,7 @@ def test_gitolite_logs_no_update_of_a_push_that_is_refused(gitolite):
     assert [it for it in kinds if it != "END"] == ["pre_git", "pre_git", "update"]
 
 
+@on_gitolite
 def test_after_an_upgrade_gitolite_still_checks_pushes(gitolite, installed):
     shutil.rmtree(gitolite.hook)
     shutil.copytree(installed, gitolite.hook)
@@ -252,6 +259,7 @@ def test_after_an_upgrade_gitolite_still_checks_pushes(gitolite, installed):
     assert gitolite.checks("new")
 
 
+@on_gitolite
 def test_settings_in_gitolite_conf_reach_the_repositories_and_leave_them(gitolite):
     [text] = [it for it in blocks("gitolite", "text") if "@all" in it]
     one, two = (gitolite.clone.commit_of("aux.c", *it) for it in ([], ["con.txt"]))
@@ -269,6 +277,7 @@ def test_settings_in_gitolite_conf_reach_the_repositories_and_leave_them(gitolit
     assert gitolite.settings("other") == ""
 
 
+@on_gitolite
 def test_a_setting_for_all_that_is_misspelled_is_removed_as_the_page_says(gitolite):
     wrong = "repo @all\n    config names.protekt = {}\n\n"
     gitolite.configure(wrong.format("none"))
@@ -280,6 +289,7 @@ def test_a_setting_for_all_that_is_misspelled_is_removed_as_the_page_says(gitoli
     assert "protekt" not in gitolite.settings("new")
 
 
+@on_gitolite
 def test_an_option_for_a_hook_of_one_repository_also_has_to_name_ours(gitolite):
     folder = gitolite.home / "local/hooks/repo-specific"
     folder.mkdir()

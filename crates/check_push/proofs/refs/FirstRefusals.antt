@@ -1,20 +1,20 @@
 -- The first of the reasons why a name is refused: that of the name itself, or of the innermost one.
-use Rattle.gix_validate.proofs.Common.{◌≡◌, ℕ, zero, suc, ◌<◌, ◌&&◌, not, Bool, true, false, List, []}
-use Rattle.gix_validate.proofs.Common.{◌∷◌, Option, Some, None, length, map, option_map, codes, refl}
-use Rattle.gix_validate.proofs.Common.{sym, ap, ◌∙◌, arith, list_any, is_none, IfSome, ◌++◌, if◌then◌else◌}
+use Rattle.gix_validate.proofs.Common.{◌≡◌, ℕ, zero, suc, ◌<◌, not, Bool, true, false, List, []}
+use Rattle.gix_validate.proofs.Common.{◌∷◌, Option, Some, None, length, map, codes, refl}
+use Rattle.gix_validate.proofs.Common.{sym, ap, ◌∙◌, arith, list_any, is_none, ◌++◌, if◌then◌else◌}
 use Rattle.std.specs.List.{last_or}
 use Rattle.std.specs.Option.{option_map_or}
 use Rattle.gix_validate.proofs.TagNames.Grammar.{tag_grammar_law}
 use Rattle.gix_validate.specs.Bytes.{begins}
-use Rattle.gix_validate.specs.Faults.{when, first_of, ◌orelse◌}
+use Rattle.gix_validate.specs.Faults.{first_of, ◌orelse◌}
 use Rattle.gix_validate.specs.Quoted.{quoted}
 use Rattle.gix_validate.specs.Reference.{is_partial_name, is_full_name}
 use Rattle.gix_validate.specs.Reference.{partial_fault_of, full_fault_of}
 use Rattle.check_push.specs.declared.refs.refusal.Refusal.{Refusal}
-use Rattle.check_push.specs.Refs.Namespaces.{namespaces, inner_of, names_of}
+use Rattle.check_push.specs.Refs.Namespaces.{inner_of, names_of}
 use Rattle.check_push.specs.Refs.Private.{innermost}
 use Rattle.check_push.specs.Refs.Refs.{is_replacement, own_refusal_of, refusal_of, shown_name}
-use Rattle.check_push.proofs.refs.InnerNames.{begins_true, inner_shorter, in_namespaces, names_first}
+use Rattle.check_push.proofs.refs.InnerNames.{inner_shorter, in_namespaces, names_first}
 use Rattle.check_push.proofs.refs.InnerNames.{full_inside}
 
 -- ---- full names

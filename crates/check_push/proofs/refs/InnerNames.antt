@@ -1,11 +1,10 @@
 -- The names that a name stands for: what they are, and which of them can be refused.
 use Rattle.gix_validate.proofs.Common.{◌≡◌, ◌≢◌, ◌↔◌, ◌⊎◌, inl, inr, ℕ, zero, suc, ◌<◌, ◌≤◌, Bool}
 use Rattle.gix_validate.proofs.Common.{true, false, IsTrue, List, [], ◌∷◌, ◌++◌, Option, Some, None}
-use Rattle.gix_validate.proofs.Common.{All, IfSome, length, drop, map, flat_map, codes, byte, refl, ap}
-use Rattle.gix_validate.proofs.Common.{sym, subst, ◌∙◌, arith, nat_tests, append_assoc, length-append}
+use Rattle.gix_validate.proofs.Common.{All, IfSome, length, drop, flat_map, codes, byte, refl, ap}
+use Rattle.gix_validate.proofs.Common.{sym, ◌∙◌, arith, nat_tests, append_assoc, length-append}
 use Rattle.gix_validate.proofs.Common.{take-append-drop, bytes_eq-Decides, AllByRecursion, IfSome_then}
-use Rattle.gix_validate.proofs.Common.{All-from_recursion, list_all, list_any, option_and_then, if◌then◌else◌}
-use Rattle.std.specs.List.{last_or}
+use Rattle.gix_validate.proofs.Common.{All-from_recursion, option_and_then, if◌then◌else◌}
 use Rattle.std.specs.Option.{option_map_or}
 use Rattle.gix_validate.proofs.Texts.Pieces.{pieces_front}
 use Rattle.gix_validate.proofs.Texts.Endings.{ends_cons}
@@ -13,7 +12,7 @@ use Rattle.gix_validate.specs.Bytes.{begins, ends}
 use Rattle.gix_validate.specs.Faults.{when}
 use Rattle.gix_validate.specs.Pieces.{pieces, has_no_slash}
 use Rattle.gix_validate.specs.Reference.{is_partial_name, is_full_name}
-use Rattle.gix_validate.specs.Tag.{is_good_piece, is_tag_name}
+use Rattle.gix_validate.specs.Tag.{is_tag_name}
 use Rattle.programs.specs.Texts.{split_once}
 use Rattle.programs.proofs.CutTexts.{IsCut, split_found, split_cuts}
 use Rattle.check_push.specs.Refs.Namespaces.{namespaces, inner_of, names_within, names_of, StandsFor}
@@ -130,8 +129,7 @@ module _ (P : List ℕ → Type 0) where
       → ((last : List ℕ) → StandsFor name last → P last) → AllByRecursion P (names_of name)
   listed_within zero name few each = absurd (omega arith)
   listed_within (suc fuel) name few each =
-      rw (names_first name)
-      (
+      rw (names_first name) (
         each name ([], tt, refl, inl refl),
         listed_in name (inner_of name) (inside name)
             (λ inner less more. listed_within fuel inner (omega arith) more) each,

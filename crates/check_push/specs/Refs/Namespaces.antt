@@ -1,7 +1,7 @@
 -- The names that a reference name stands for. Git stores the references of a namespace NS
 -- under `refs/namespaces/NS/`, and shows them without that to those who work in the namespace.
 use Rattle.std.specs.Prelude.{ℕ, zero, suc, ◌≡◌, ◌⊎◌, ◌++◌, if◌then◌else◌, List, [], ◌∷◌, length, drop}
-use Rattle.std.specs.Prelude.{codes, flat_map, Option, Some, None, option_and_then, IsTrue}
+use Rattle.std.specs.Prelude.{codes, flat_map, Option, None, option_and_then, IsTrue}
 use Rattle.std.specs.List.{AllByRecursion}
 use Rattle.std.specs.Option.{option_map_or}
 use Rattle.std.specs.Str.{byte}

@@ -19,7 +19,7 @@ pub struct AcceptedNames<'a> {
 
 impl<'a> AcceptedNames<'a> {
     /// No list.
-    pub const fn none() -> Self
+    pub(crate) const fn none() -> Self
         ensures names { names_in result ≡ [] }
         ensures len { result.len ≡ 0 }
     {
@@ -30,7 +30,7 @@ impl<'a> AcceptedNames<'a> {
     }
 
     /// The lists with one more; `None` if there are [`MAX_LISTS`] already.
-    pub fn with(mut self, list: &'a str) -> Option<Self>
+    pub(crate) fn with(mut self, list: &'a str) -> Option<Self>
         ensures { MatchOption result (16 ≤ self.entry.len) (λ names.
             (names_in names ≡ names_in self.entry ++ pieces list.entry.now)
             × (names.len ≡ self.entry.len + 1) × (self.entry.len < 16)) }
@@ -44,7 +44,7 @@ impl<'a> AcceptedNames<'a> {
     }
 
     /// Whether a name is one of them.
-    pub fn contains(&self, name: &[u8]) -> bool
+    pub(crate) fn contains(&self, name: &[u8]) -> bool
         ensures { result ≡ list_any (λ accepted. bytes_eq accepted name.now) (names_in self.now) }
     {
         let mut lists = self.lists.iter().take(self.len);

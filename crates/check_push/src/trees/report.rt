@@ -112,11 +112,7 @@ fn push_place(
 }
 
 /// Appends a quoted path: the directory, if it is known, a slash and the name.
-fn push_path(
-    line: &mut Vec<u8>,
-    directory: Option<&[u8]>,
-    name: &[u8],
-) -> Result<(), AllocError>
+fn push_path(line: &mut Vec<u8>, directory: Option<&[u8]>, name: &[u8]) -> Result<(), AllocError>
     ensures { OnOk result (line.new.items ≡ line.old.items
         ++ quoted (path_of (option_map (λ directory. directory.now) directory.entry) name.now)) }
 {

@@ -86,7 +86,8 @@ module _ (allows : Bool) where
   inwards : (name inner : List ℕ) → inner_of name ≡ Some inner
       → refusal_of allows name ≡ (own_refusal_of allows name orelse refusal_of allows inner)
   unfolding refusal_of
-  inwards name inner e = ap (λ names. first_of (map (own_refusal_of allows) names)) (names_inside name inner e)
+  inwards name inner e =
+      ap (λ names. first_of (map (own_refusal_of allows) names)) (names_inside name inner e)
 
   of_valid : (fuel : ℕ) (name last : List ℕ) (inner : Option (List ℕ)) → length name < fuel
       → inner_of name ≡ inner → is_full_name name ≡ true → Some last ≡ innermost name
@@ -119,7 +120,8 @@ pub own_first : (allows : Bool) (name : List ℕ) (refusal : Refusal)
 unfolding refusal_of
 own_first allows name refusal e =
     ap (λ names. first_of (map (own_refusal_of allows) names)) (names_first name)
-    ∙ ap (λ own. own orelse first_of (map (own_refusal_of allows) (option_map_or names_of (inner_of name) []))) e
+    ∙ ap (λ own. own orelse first_of (map (own_refusal_of allows)
+    (option_map_or names_of (inner_of name) []))) e
 
 pub first_refusal : (allows : Bool) (name last : List ℕ) → Some last ≡ innermost name
     → refusal_of allows name ≡ (own_refusal_of allows name orelse own_refusal_of allows last)

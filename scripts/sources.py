@@ -16,7 +16,7 @@ BEGIN = re.compile(
     r"""(?mx)^(?P<margin>[ ]{4})?
     (?P<pub>pub[ ])? (?:pub\([\w ]+\)[ ])? (?:const[ ]|extern[ ]"C"[ ])* (?:
     (?P<kind>fn|struct|enum|trait|type|const|static|impl)\b
-    (?:<[^>]*>)?[ ] (?:.*[ ]for[ ])? (?P<name>[\w:]*\w)
+    (?:<[^>]*>)?[ ] (?:.*[ ]for[ ]&?)? (?P<name>[\w:]*\w)
     |[ ]*(?P<member>ghost|ensures)(?:[ ](?P<clause>\w+))?(?::|[ ]=)?[ ]\{)"""
 )
 Item = namedtuple("Item", "file offset path clause is_public")

@@ -195,9 +195,11 @@ def tried(batch):
     refused = refusals(batch[0].crate, text)
     is_read = came_to_its_end(status, text, refused)
     said = SHOWN.findall(text) if len(batch) == 1 else []
-    # (The check adds the trait of an impl to its type.)
+    # (The check adds the trait of an impl to its type, and `Ref` in front of that of
+    # references.)
     functions = [
-        re.compile(re.sub(r"([A-Z]\w*)::", r"\1\\w*::", it.function)) for it in batch
+        re.compile(re.sub(r"([A-Z]\w*)::", r"(Ref)?\1\\w*::", it.function))
+        for it in batch
     ]
     others = [it for it in refused if not any(of.fullmatch(it) for of in functions)]
     found = []

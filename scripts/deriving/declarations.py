@@ -27,7 +27,7 @@ PUB = r"(?:pub(?:\([\w ]+\))? )?"
 FUNCTION = re.compile(rf'{PUB}(?:const |extern "C" )*fn (\w+)')
 TYPE = re.compile(rf"{PUB}(struct|enum|trait|type|const|static) (\w+)")
 IMPL = re.compile(
-    r"impl(?:<.*?>)? (?:(?P<trait>[\w:]+)(?:<.*?>)? for )?(?P<type>[\w:]+)"
+    r"impl(?:<.*?>)? (?:(?P<trait>[\w:]+)(?:<.*?>)? for &?)?(?P<type>[\w:]+)"
 )
 EXPORT = re.compile(r"macro_rules! |pub (?:use|mod) ")
 # What a source has beside declarations.

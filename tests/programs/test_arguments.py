@@ -155,32 +155,35 @@ def refused_lines(on, accepted=""):
     lines = ""
     for name, quoted, switches, why in PROTECTED:
         here = on - {"windows"} if name in accepted.split("/") else on
-        lines += f"{ID} 100644 {quoted} {why}\n" if switches <= here else ""
+        mark = "windows " * ("windows" in switches)
+        lines += f"{mark}{ID} 100644 {quoted} {why}\n" if switches <= here else ""
     return lines
 
 
 # What a list of `--protect` turns on: its words in each order, also with one of them
-# twice, or nothing.
+# twice, or nothing. Windows has NTFS.
 SWITCH_LISTS = [
-    (",".join(words), set(words))
+    (",".join(words), set(words) | ({"ntfs"} if "windows" in words else set()))
     for some in (1, 2, 3)
     for words in itertools.permutations(sorted(ALL_SWITCHES), some)
 ]
 SWITCH_LISTS += [(f"{words},hfs", on | {"hfs"}) for words, on in SWITCH_LISTS]
 SWITCH_LISTS.append(("none", set()))
-# Which switches are on, and which names are accepted: the last list and the last names
-# count.
-LAST_COUNTS = [
+# Which switches are on, and which names are accepted: the last list counts, and all
+# names.
+SEVERAL = [
     ([], ALL_SWITCHES, ""),
     (["--protect=hfs", "--protect=ntfs"], {"ntfs"}, ""),
     (["--protect=ntfs", "--protect=hfs"], {"hfs"}, ""),
-    (["--protect=none", "--protect=windows"], {"windows"}, ""),
-    (["--protect=windows,ntfs", "--protect=none"], set(), ""),
-    (["--accept=aux.c", "--accept=con"], ALL_SWITCHES, "con"),
+    (["--protect=none", "--protect=windows"], {"windows", "ntfs"}, ""),
+    (["--protect=windows", "--protect=none"], set(), ""),
+    (["--accept=aux.c", "--accept=con"], ALL_SWITCHES, "aux.c"),
     (["--accept=con", "--accept=aux.c"], ALL_SWITCHES, "aux.c"),
-    (["--accept=aux.c", "--accept="], ALL_SWITCHES, ""),
+    (["--accept=con", "--accept", "a\\b/nul"], ALL_SWITCHES, "a\\b"),
+    (["--accept=aux.c", "--accept="], ALL_SWITCHES, "aux.c"),
+    ([*15 * ["--accept=con"], "--accept=aux.c"], ALL_SWITCHES, "aux.c"),
     (
-        ["--accept", "a\\b/aux.c", "--protect", "windows,ntfs"],
+        ["--accept", "a\\b/aux.c", "--protect", "windows"],
         {"windows", "ntfs"},
         "a\\b/aux.c",
     ),
@@ -201,12 +204,32 @@ def test_a_list_protects_by_its_words(check_push_trees, words, on):
 
 
 @pytest.mark.parametrize(
-    "words, on, accepted", LAST_COUNTS, ids=[" ".join(it[0]) for it in LAST_COUNTS]
+    "words, on, accepted", SEVERAL, ids=[" ".join(it[0]) for it in SEVERAL]
 )
-def test_of_several_lists_or_accepted_names_the_last_counts(
+def test_the_last_list_counts_and_accepted_names_add_up(
     check_push_trees, words, on, accepted
 ):
     check_protected(check_push_trees, words, on, accepted)
+
+
+def test_names_are_accepted_at_most_16_times(check_push_trees):
+    words = 17 * ["--accept=aux.c"]
+    why = 'invalid --accept "aux.c": give --accept at most 16 times'
+    ran = check_push_trees.run(PROTECTED_TREE.encode(), *words)
+    assert ran == check_push_trees.fails(why, status=2)
+
+
+def test_names_of_more_than_128_kib_are_accepted(check_push_trees):
+    """Linux passes no more in one argument."""
+    names = [f"con.{number}" for number in range(40000)]
+    lists = ["/".join(names[at::4]) for at in range(4)]
+    assert sum(map(len, lists)) > 2 * 128 * 1024
+    given = "".join(
+        f"{ID} tree {len(name) + 28}\n100644 {name}\0{20 * '.'}\n"
+        for name in [names[0], names[-1]]
+    )
+    ran = check_push_trees.run(given.encode(), *(f"--accept={it}" for it in lists))
+    assert ran == Ran(0, b"", "")
 
 
 # What is no list.
@@ -225,6 +248,7 @@ def test_a_list_with_another_word_is_refused(check_push_trees, value):
 # What options print of an input, in whichever order, and also if each is given twice.
 REPLACED = f"refs/replace/{ID}"
 UPDATES = f"{ZERO} {ID} HEAD\n{ZERO} {ID} {REPLACED}\n"
+ALL_IDS = f'{ID}\n{ID} "{REPLACED}"\n'
 NOT_ALLOWED = f'ref "{REPLACED}" replacement references are not allowed\n'
 BLOB = f"{ID} blob 1\na\n"
 BLOB_AND_END = f"{BLOB}..end missing\n"
@@ -240,7 +264,7 @@ ANY_ORDER = [
     choice_of("check_push refs", [], UPDATES, 1, NOT_ALLOWED),
     choice_of("check_push refs", ["--ids"], UPDATES, 1, f"{ID}\n{NOT_ALLOWED}"),
     choice_of("check_push refs", ["--replace"], UPDATES, 0),
-    choice_of("check_push refs", ["--ids", "--replace"], UPDATES, 0, f"{ID}\n{ID}\n"),
+    choice_of("check_push refs", ["--ids", "--replace"], UPDATES, 0, ALL_IDS),
     choice_of("check_push submodules", [], BLOB, 0),
     choice_of("check_push submodules", ["--end"], BLOB, 2, "", NO_END, " without one"),
     choice_of("check_push submodules", ["--end"], BLOB_AND_END, 0),

@@ -245,15 +245,16 @@ def test_a_name_of_a_gigabyte_is_refused_while_it_comes(git_check_names):
     assert ran == git_check_names.fails(why)
 
 
-# What --protect turns on, by the names that RULES.md refuses under one switch alone.
+# What --protect turns on, by the names that RULES.md refuses under NTFS alone, or under
+# both NTFS and Windows. Windows has NTFS.
 @pytest.mark.parametrize(
     "words, lines",
     [
         ([], ["aux.c", "git~1"]),
         (["--protect=none"], []),
         (["--protect=ntfs"], ["git~1"]),
-        (["--protect=windows"], []),
-        (["--protect", "windows,ntfs"], ["aux.c", "git~1"]),
+        (["--protect=windows"], ["aux.c", "git~1"]),
+        (["--protect", "ntfs,windows"], ["aux.c", "git~1"]),
         (["--protect=ntfs", "--protect=hfs"], []),
     ],
     ids=lambda it: " ".join(it) or "nothing",

@@ -16,6 +16,7 @@ from tests.programs.program import (
     rows,
 )
 
+DOTS = "Relative components '.' and '..' are disallowed"
 HEADER = "the header line is not 'OID TYPE SIZE' or 'OID missing'"
 
 
@@ -116,6 +117,139 @@ def test_a_reference_is_checked_unless_it_is_deleted(program, row):
     assert program.run_row(row) == row.expected
 
 
+# Names in namespaces, and why each is refused without --replace, and with it.
+NO_REPLACEMENT = "replacement references are not allowed"
+RESERVED_BRANCH = f'{RESERVED} "refs/heads/HEAD"'
+REPEATED_SLASHES = "Reference name cannot contain repeated slashes"
+IN_NAMESPACES = [
+    ("refs/namespaces/a/refs/heads/b", "", ""),
+    ("refs/namespaces/a/refs/heads/HEAD", RESERVED_BRANCH, RESERVED_BRANCH),
+    (
+        "refs/namespaces/a/refs/namespaces/b/refs/heads/HEAD",
+        RESERVED_BRANCH,
+        RESERVED_BRANCH,
+    ),
+    ("refs/namespaces/a/refs/replace/b", NO_REPLACEMENT, ""),
+    (
+        "refs/namespaces/a/refs/namespaces/b/refs/namespaces/c/refs/replace/d",
+        NO_REPLACEMENT,
+        "",
+    ),
+    # the reason of the outermost name that is refused
+    ("refs/namespaces//refs/replace/a", REPEATED_SLASHES, REPEATED_SLASHES),
+    ("refs/replace/refs/namespaces/a/refs/heads/HEAD", NO_REPLACEMENT, ""),
+    # no name inside, since that begins with refs/
+    ("refs/namespaces/a/HEAD", "", ""),
+    ("refs/namespaces/a/refs", "", ""),
+    ("refs/namespaces/a/b/refs/heads/HEAD", "", ""),
+    ("refs/namespaces/refs/heads/HEAD", "", ""),
+    ("refs/heads/refs/namespaces/a/refs/heads/HEAD", "", ""),
+    ("refs/namespaces/a/refs/replace", "", ""),
+]
+# The names of replacements, if each is allowed.
+REPLACEMENTS = {
+    "refs/namespaces/a/refs/replace/b",
+    "refs/namespaces/a/refs/namespaces/b/refs/namespaces/c/refs/replace/d",
+    "refs/replace/refs/namespaces/a/refs/heads/HEAD",
+}
+
+
+def in_namespaces():
+    for name, why, why_with_replace in IN_NAMESPACES:
+        id_line = f'{ID} "{name}"\n' if name in REPLACEMENTS else f"{ID}\n"
+        for words, reason, line in [
+            ([], why, ""),
+            (["--ids"], why, f"{ID}\n"),
+            (["--ids", "--replace"], why_with_replace, id_line),
+        ]:
+            yield Row(
+                "check_push refs",
+                f"{' '.join(words) or 'no option'}, {name}",
+                words,
+                f"{ZERO} {ID} {name}\n",
+                1 if reason else 0,
+                f'ref "{name}" {reason}\n' if reason else line,
+            )
+
+
+@rows(list(in_namespaces()))
+def test_a_name_in_a_namespace_is_checked_there_too(program, row):
+    assert program.run_row(row) == row.expected
+
+
+# A tree's header and a name in the tree, and the path that is printed.
+PATHS = [
+    ("", ".git", ".git"),
+    (" ", ".git", ".git"),
+    (" src", ".git", "src/.git"),
+    (" src/lib", ".GIT", "src/lib/.GIT"),
+    (" a b", ".git", "a b/.git"),
+    (' "\t\\', ".git", '\\"\\t\\\\/.git'),
+    (f" {128 * 'b'}", "..", f"{128 * 'b'}/.."),
+    (f" {129 * 'b'}", "..", f"{128 * 'b'}.../.."),
+    (f" {127 * 'b'}\u00e9", "..", f"{127 * 'b'}\\xc3.../.."),
+]
+PATH_ROWS = [
+    Row(
+        "check_push trees",
+        f"{name!r} after {rest[:9]!r} of {len(rest.encode())} bytes",
+        [],
+        f"{ID} tree {len(name) + 27}{rest}\n40000 {name}\0{20 * '.'}\n",
+        1,
+        f'{ID} 40000 "{path}" {DOT_GIT if "g" in name.lower() else DOTS}\n',
+    )
+    for rest, name, path in PATHS
+]
+
+
+@rows(PATH_ROWS)
+def test_a_line_has_the_path_of_the_entry(program, row):
+    assert program.run_row(row) == row.expected
+
+
+# Names that are refused, and whether only the rules of Windows do so, by default and
+# without NTFS.
+DEVICE = "Windows device-names may have side-effects and are not allowed"
+SEPARATOR = "Path separators like / or \\ are not allowed"
+MARKED = [
+    ("aux.c", DEVICE, True),
+    ("a\\b", SEPARATOR, True),
+    ("C:x", "Windows path prefixes are not allowed", True),
+    (".git", DOT_GIT, False),
+    ("git~1", DOT_GIT, False),
+    (".git\\x", SEPARATOR, False),
+    ("..", DOTS, False),
+    ("a/b", SEPARATOR, False),
+]
+MARKED_ROWS = [
+    Row(
+        "check_push trees",
+        f"{name}, {' '.join(words) or 'no option'}",
+        words,
+        f"{ID} tree {len(name) + 28}\n100644 {name}\0{20 * '.'}\n",
+        status,
+        output,
+    )
+    for name, why, is_marked in MARKED
+    for quoted in [name.replace("\\", "\\\\")]
+    for line in [f'{"windows " * is_marked}{ID} 100644 "{quoted}" {why}\n']
+    for words, status, output in [
+        ([], 1, line),
+        (["--protect=windows"], 1, line),
+        *(
+            [([f"--accept={name}"], 0, ""), (["--protect=hfs,ntfs"], 0, "")]
+            if is_marked
+            else []
+        ),
+    ]
+]
+
+
+@rows(MARKED_ROWS)
+def test_what_only_windows_forbids_is_marked_and_can_be_accepted(program, row):
+    assert program.run_row(row) == row.expected
+
+
 # No file is listed but one.
 LISTED_FILE = f'modules {20 * "2e"} {ID} 100644 ".gitmodules"\n'
 MODES = [
@@ -146,7 +280,7 @@ def limits():
         line = f"{ZERO} {ID} refs/heads/".ljust(size - 1, "a") + "\n"
         header = f"{ID} blob 0 ".ljust(size - 1, "a") + "\n\n"
         entry = f"{'100644 '.ljust(size - 1, 'a')}\0{20 * '.'}"
-        cut_path = f'(in "{128 * "a"}"{over * "..."})'
+        cut_path = f"{128 * 'a'}{over * '...'}/.git"
         yield Row("check_push refs", f"a line {where}", [], line, 2 * over, "", in_line)
         yield Row(
             "git_check_names",
@@ -175,7 +309,7 @@ def limits():
             [],
             f"{ID} tree 31 {path}\n40000 .git\0{20 * '.'}\n",
             1,
-            f'{ID} 40000 ".git" {DOT_GIT} {cut_path}\n',
+            f'{ID} 40000 "{cut_path}" {DOT_GIT}\n',
         )
         yield Row(
             "check_push submodules",

@@ -30,8 +30,7 @@ The other arguments are names and options, in any order:
     -z                reads them too, but each name ends with a NUL
     --protect LIST    the file systems to protect from paths and components,
                       separated by commas: windows, hfs and ntfs, or none. The
-                      default is all three. For Windows give windows,ntfs: with
-                      windows alone, aux.c is valid
+                      default is all three. windows protects NTFS, too
     --repair          prints each name of a branch or a ref, repaired if it is
                       invalid; after -z each with a NUL at its end. Some have no
                       valid repair: the branch HEAD, an empty name, a branch

@@ -1,9 +1,7 @@
 //! The report of a stream of objects.
 
 ghost use Rattle.std.specs.Prelude.{◌≡◌, [], codes, ℕ, ◌<◌, ◌≤◌, List, Option, Some, false, true};
-ghost use Rattle.std.specs.Prelude.{IfOk, IfSome};
-ghost use Rattle.std.specs.List.{list_any};
-ghost use Rattle.std.specs.Str.{bytes_eq};
+ghost use Rattle.std.specs.Prelude.{IfOk, IfSome, is_none};
 ghost use Rattle.std.proofs.Common.{ap, subst};
 ghost use Rattle.programs.specs.Command.{EndsAs, Ran};
 ghost use Rattle.programs.specs.Ends.{Gives, end_of};
@@ -11,16 +9,16 @@ ghost use Rattle.programs.specs.Spelled.{IsReportedInOrder, IsWellFormedOnlyIfSp
 ghost use Rattle.programs.specs.Reports.{IsCleanIff};
 ghost use Rattle.programs.specs.Objects.{IsWholeStream, object_reach};
 ghost use Rattle.programs.specs.Promises.{Runs, FollowsRule, ReadsWithin, as_object};
-ghost use Rattle.gix_validate.specs.Pieces.{pieces};
+ghost use Rattle.gix_validate.specs.Component.{fault_of};
 ghost use Rattle.check_push.specs.Trees.Report.{finding_of, finding_said, is_gitmodules, report, tree_rule};
-ghost use Rattle.check_push.specs.Trees.Spelled.{IsAcceptedStream, IsReadAsItems};
+ghost use Rattle.check_push.specs.Trees.Spelled.{IsAcceptedStream, IsMarkedIfAcceptable, IsReadAsItems};
 ghost use Rattle.check_push.specs.Trees.Private.{EntryGives, EntryReads, ReadsOrSkipsId, Says};
 ghost use Rattle.check_push.specs.Trees.Private.{as_entry_header, tree_report};
-ghost use Rattle.check_push.specs.Trees.Arguments.{as_options, protections_for};
+ghost use Rattle.check_push.specs.Trees.Arguments.{as_options, protections_for, without_windows};
 
 use crate::trees::entry::{EntryHeader, parse_entry_header};
 use crate::trees::options::Options;
-use crate::trees::report::{set_modules, set_refused};
+use crate::trees::report::{set_modules, set_refused, set_refused_by_windows};
 use bstr::BStr;
 use gix_validate::path::{self, ComponentError, ComponentMode, ComponentOptions};
 use programs::command::Command;
@@ -73,8 +71,9 @@ impl<'a> Command<'a> for Options<'a> {
             (tree_rule (as_options self.entry)) self.entry.needs_end }
         ensures whole { IsWholeStream (tree_rule (as_options self.entry)) self.entry.needs_end }
         ensures items { IsReadAsItems (as_options self.entry) }
+        ensures marked { IsMarkedIfAcceptable (as_options self.entry) }
     {
-        objects::run(alloc, self, self.needs_end, input, output)
+        objects::run(alloc, &self, self.needs_end, input, output)
     }
 
     fn end<E: Write>(
@@ -94,8 +93,8 @@ impl<'a> Command<'a> for Options<'a> {
 }
 
 /// Trees are checked, and other objects are skipped.
-impl ObjectCheck for Options<'_> {
-    ghost object_rule = { λ options. tree_rule (as_options options) };
+impl ObjectCheck for &Options<'_> {
+    ghost object_rule = { λ options. tree_rule (as_options options.now) };
 
     fn check_object<R: BufRead, W: Write>(
         self,
@@ -116,14 +115,14 @@ impl ObjectCheck for Options<'_> {
 
 /// Checks a tree, and returns whether an entry was refused.
 fn check_tree<R: BufRead, W: Write>(
-    options: Options<'_>,
+    options: &Options<'_>,
     tree: Object<'_>,
     input: &mut R,
     output: &mut W,
     buffers: &mut Buffers,
 ) -> Result<bool, Stop>
     ensures gives { IfSome (R.remaining input.old) (λ text.
-        FollowsRule (tree_report (as_options options.entry) (as_object tree.entry) tree.entry.size text)
+        FollowsRule (tree_report (as_options options.now) (as_object tree.entry) tree.entry.size text)
         (R.remaining input.new) (W.contents output.old) (W.contents output.new) result) }
     ensures within { ReadsWithin tree.entry.size (R.remaining input.old) (R.remaining input.new) result }
 {
@@ -145,7 +144,7 @@ struct Checked {
 
 /// Checks the first entry of the last `left` bytes of a tree.
 fn check_entry<R: BufRead, W: Write>(
-    options: Options<'_>,
+    options: &Options<'_>,
     tree: Object<'_>,
     left: u64,
     input: &mut R,
@@ -155,7 +154,7 @@ fn check_entry<R: BufRead, W: Write>(
     requires { 0 < left }
     ensures bound { IfOk result (λ entry. (0 < entry.len) × (entry.len ≤ left)) }
     ensures gives { IfSome (R.remaining input.old) (λ text.
-        EntryGives (as_options options.entry) (as_object tree.entry) left text (R.remaining input.new)
+        EntryGives (as_options options.now) (as_object tree.entry) left text (R.remaining input.new)
         (W.contents output.old) (W.contents output.new) result) }
     ensures within { EntryReads left (R.remaining input.old) (R.remaining input.new) result }
 {
@@ -198,13 +197,16 @@ enum Finding {
     Accepted,
     /// A file that a checkout reads as `.gitmodules`, to be listed.
     Modules,
-    /// Refused.
+    /// Refused, whichever names are accepted.
     Refused(ComponentError),
+    /// Refused by the rules of Windows alone, so that its name can be accepted (`--accept`).
+    RefusedByWindows(ComponentError),
 }
 
 /// The result for an entry with these options.
-fn finding_of(options: Options<'_>, front: EntryHeader<'_>) -> Finding
-    ensures { result ≡ finding_of (as_options options.entry) (as_entry_header front.entry) }
+#[tactic(auto, using(crate::proofs::trees::Findings::valid_as_symlink))]
+fn finding_of(options: &Options<'_>, front: EntryHeader<'_>) -> Finding
+    ensures { result ≡ finding_of (as_options options.now) (as_entry_header front.entry) }
 {
     // A name that is valid for a symbolic link is valid for any entry, and under fewer switches. Nearly
     // every name is, and so isn't looked for in the list of accepted names.
@@ -218,11 +220,14 @@ fn finding_of(options: Options<'_>, front: EntryHeader<'_>) -> Finding
 /// The result for an entry whose name may be refused.
 #[cold]
 #[inline(never)]
-fn finding_of_suspect(options: Options<'_>, front: EntryHeader<'_>) -> Finding
-    ensures { result ≡ finding_of (as_options options.entry) (as_entry_header front.entry) }
+fn finding_of_suspect(options: &Options<'_>, front: EntryHeader<'_>) -> Finding
+    ensures { result ≡ finding_of (as_options options.now) (as_entry_header front.entry) }
 {
     let protections = protections_for(options, front.name);
     match path::component(BStr::new(front.name), front.mode, protections) {
+        Err(fault) if is_valid_without_windows(protections, front) => {
+            Finding::RefusedByWindows(fault)
+        }
         Err(fault) => Finding::Refused(fault),
         Ok(_) if options.modules && front.is_file && is_gitmodules(protections, front.name) => {
             Finding::Modules
@@ -231,26 +236,34 @@ fn finding_of_suspect(options: Options<'_>, front: EntryHeader<'_>) -> Finding
     }
 }
 
-/// The switches for a name.
-fn protections_for(options: Options<'_>, name: &[u8]) -> ComponentOptions
-    ensures { result ≡ protections_for (as_options options.entry) name.now }
+/// Whether an entry's name is valid if Windows isn't protected.
+fn is_valid_without_windows(protections: ComponentOptions, front: EntryHeader<'_>) -> bool
+    ensures { result ≡ is_none
+        (fault_of (without_windows protections) front.entry.mode front.entry.name.now) }
 {
-    if is_piece(name, options.accepted) {
-        ComponentOptions {
-            protect_windows: false,
-            ..options.protections
-        }
+    let protections = without_windows(protections);
+    path::component(BStr::new(front.name), front.mode, protections).is_ok()
+}
+
+/// The switches for a name.
+fn protections_for(options: &Options<'_>, name: &[u8]) -> ComponentOptions
+    ensures { result ≡ protections_for (as_options options.now) name.now }
+{
+    if options.accepted.contains(name) {
+        without_windows(options.protections)
     } else {
         options.protections
     }
 }
 
-/// Whether a name is one of the texts between the slashes of `names`.
-fn is_piece(name: &[u8], names: &str) -> bool
-    ensures { result ≡ list_any (λ piece. bytes_eq piece name.now) (pieces names.now) }
+/// The switches without that for Windows.
+fn without_windows(protections: ComponentOptions) -> ComponentOptions
+    ensures { result ≡ without_windows protections }
 {
-    let mut pieces = names.as_bytes().split(|byte| *byte == b'/');
-    pieces.any(|piece| piece == name)
+    ComponentOptions {
+        protect_windows: false,
+        ..protections
+    }
 }
 
 /// Whether a protected system takes a name for `.gitmodules`.
@@ -276,7 +289,9 @@ fn read_or_skip_id<R: BufRead>(
 {
     match finding {
         Finding::Modules => read_bytes(input, count as usize, id),
-        Finding::Accepted | Finding::Refused(_) => skip(input, count),
+        Finding::Accepted | Finding::Refused(_) | Finding::RefusedByWindows(_) => {
+            skip(input, count)
+        }
     }
 }
 
@@ -302,6 +317,11 @@ fn write_finding<W: Write>(
         }
         Finding::Refused(fault) => {
             set_refused(line, tree, front, fault).map_err(|_| RunError::Memory)?;
+            output.write_all(line).map_err(|_| RunError::Write)?;
+            Ok(true)
+        }
+        Finding::RefusedByWindows(fault) => {
+            set_refused_by_windows(line, tree, front, fault).map_err(|_| RunError::Memory)?;
             output.write_all(line).map_err(|_| RunError::Write)?;
             Ok(true)
         }

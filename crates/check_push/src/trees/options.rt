@@ -3,6 +3,7 @@
 ghost use Rattle.check_push.specs.Trees.Arguments.{no_options, rule};
 ghost use Rattle.check_push.specs.Trees.Arguments.{Options, as_options};
 
+use crate::trees::accepted::AcceptedNames;
 use gix_validate::path::ComponentOptions;
 use programs::arguments::{ParseOptions, Setting};
 use programs::protections::{PROTECTIONS, protections_of};
@@ -14,22 +15,29 @@ Prints a line for each entry of a Git tree whose name is refused:
         --filter-provided-objects --all | git cat-file --batch |
         check_push trees
 
-Standard input is what `git cat-file --batch` prints, also with %(rest) at the
-end of its format. A line has the id of the tree, the mode, the quoted name, why
-it is refused, and the rest of the tree's header line, if it is not empty: its
-first 128 bytes, with '...' after them if it has more.
+Standard input is what `git cat-file --batch` prints. If its format ends with
+%(rest), the directory of the tree is known. A line has the id of the tree, the
+mode, the quoted path, and why it is refused, as
+
+    4b825dc.. 40000 \"src/.GIT\" The .git name may never be used
+
+The path is the directory, if it is known, a slash and the name. Of a directory
+of more than 128 bytes it has the first 128 and '...'. A line begins with
+'windows ' if only the rules of Windows refuse the name: then --accept accepts
+it.
 
     --protect LIST    the file systems to protect, separated by commas: windows,
-                      hfs and ntfs, or none. The default is all three. For
-                      Windows give windows,ntfs (see below)
+                      hfs and ntfs, or none. The default is all three. windows
+                      protects NTFS, too
     --modules         also prints a line for each file that a checkout reads as
                       .gitmodules: 'modules', its id, and then the tree, the
-                      mode, the name and the rest as above
+                      mode and the path as above
     --end             the input has to be complete: no object is missing, and
                       the last line is '..end missing', which git cat-file
                       prints for the word ..end
     --accept NAMES    names, separated by slashes, that are checked without
-                      windows: aux.c/con.h accepts these two
+                      windows: aux.c/con.h accepts these two. For more names
+                      than fit into an argument it can be given 16 times
     -h, --help        prints this text
     --version         prints the version
 
@@ -37,10 +45,11 @@ A value may also follow '=', as in --protect=hfs.
 
 The status is 0 if nothing is refused, 1 if something is, and 2 if the input is
 malformed, reading or writing fails, memory runs out, or an argument is wrong.
-A server wants the default. Devices such as NUL and aux.c, and what Windows
-forbids in a name, such as a dot at its end, are refused only if windows and
-ntfs are both protected. ntfs without windows accepts a\\.git, which Windows
+A server wants the default. A list without windows accepts a\\.git, which Windows
 reads as a path, and which `git fsck` refuses.";
+
+/// What is said if there are too many lists of accepted names.
+const FEWER_LISTS: &str = "--accept at most 16 times";
 
 /// How the input is checked.
 #[derive(Clone, Copy)]
@@ -52,11 +61,11 @@ pub struct Options<'a> {
     /// Whether the input needs its end line (`--end`): no object is missing, and the line `..end
     /// missing` ends it.
     pub needs_end: bool,
-    /// The names to which the rules of Windows do not apply, separated by slashes (`--accept`).
-    pub accepted: &'a str,
+    /// The names to which the rules of Windows do not apply (`--accept`).
+    pub accepted: AcceptedNames<'a>,
 }
 
-/// If there are several lists of protections or of names, the last one counts.
+/// If there are several lists of protections, the last one counts. Lists of names add up.
 impl<'a> ParseOptions<'a> for Options<'a> {
     ghost View = { Options };
 
@@ -71,7 +80,7 @@ impl<'a> ParseOptions<'a> for Options<'a> {
             protections: ComponentOptions::default(),
             modules: false,
             needs_end: false,
-            accepted: "",
+            accepted: AcceptedNames::none(),
         }
     }
 
@@ -84,7 +93,10 @@ impl<'a> ParseOptions<'a> for Options<'a> {
                 Some(protections) => self.protections = protections,
                 None => return Setting::Invalid(list, PROTECTIONS),
             },
-            ("--accept", Some(names)) => self.accepted = names,
+            ("--accept", Some(names)) => match self.accepted.with(names) {
+                Some(accepted) => self.accepted = accepted,
+                None => return Setting::Invalid(names, FEWER_LISTS),
+            },
             _ => return Setting::Unknown,
         }
         Setting::Set(self)

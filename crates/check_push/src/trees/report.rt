@@ -1,27 +1,31 @@
 //! The lines of the report.
 //!
-//! The rest of a header line, the path at which Git found the tree, is only displayed: it is one of
-//! many, and cut at a newline. Each line of a tree repeats it, and a push decides how long it is. So
-//! only its first bytes are displayed: what is printed stays linear in what is read.
+//! The directory of an entry is what Git prints for `%(rest)`, the path at which it found the tree. It is
+//! only displayed: it is one of many, and cut at a newline. Each line of a tree repeats it, and a push
+//! decides how long it is. So only its first bytes are displayed: what is printed stays linear in what
+//! is read.
 //!
-//! A `modules` line refuses nothing: `check_push submodules` checks the file's contents. No other line
-//! begins with that word, since the others begin with an id.
+//! The first word tells the lines apart, since a line of neither kind begins with an id. `modules` is
+//! for a file that isn't refused: `check_push submodules` checks its contents. `windows` is for an entry
+//! that only the rules of Windows refuse, and that `--accept` can accept.
 
-ghost use Rattle.std.specs.Prelude.{◌≡◌, ◌++◌, OnOk, codes};
+ghost use Rattle.std.specs.Prelude.{◌≡◌, ◌++◌, OnOk, codes, flat_map};
 ghost use Rattle.std.specs.Option.{option_map};
+ghost use Rattle.gix_validate.specs.Quoted.{escape_of, quoted};
 ghost use Rattle.programs.specs.Promises.{as_object};
-ghost use Rattle.check_push.specs.Trees.Report.{in_path, modules_line, place, refused_line, shown_path};
+ghost use Rattle.check_push.specs.Trees.Report.{modules_line, path_of, place, refused_line};
+ghost use Rattle.check_push.specs.Trees.Report.{shown_directory, windows_line};
 ghost use Rattle.check_push.specs.Trees.Private.{as_entry_header};
 
 use crate::trees::entry::EntryHeader;
 use gix_validate::path::ComponentError;
 use programs::header::Object;
-use programs::output::{push_hex, push_quoted};
+use programs::output::{push_escaped, push_hex};
 use std::alloc::AllocError;
 use std::io::Write;
 
-/// How many bytes of a path are displayed at most.
-const MAX_PATH: usize = 128;
+/// How many bytes of a directory are displayed at most.
+const MAX_DIRECTORY: usize = 128;
 
 /// Replaces the last line with that of a refused entry. Most entries have none.
 #[cold]
@@ -36,9 +40,24 @@ pub(crate) fn set_refused(
         (line.new.items ≡ refused_line (as_object tree.entry) (as_entry_header front.entry) fault) }
 {
     line.clear();
-    push_place(line, tree, front)?;
-    write!(line, " {fault}").map_err(|_| AllocError)?;
-    push_end(line, tree.rest)
+    push_refused(line, tree, front, fault)
+}
+
+/// Replaces the last line with that of an entry that only the rules of Windows refuse.
+#[cold]
+#[inline(never)]
+pub(crate) fn set_refused_by_windows(
+    line: &mut Vec<u8>,
+    tree: Object<'_>,
+    front: EntryHeader<'_>,
+    fault: ComponentError,
+) -> Result<(), AllocError>
+    ensures { OnOk result
+        (line.new.items ≡ windows_line (as_object tree.entry) (as_entry_header front.entry) fault) }
+{
+    line.clear();
+    line.extend_from_slice(b"windows ")?;
+    push_refused(line, tree, front, fault)
 }
 
 /// Replaces the last line with that of a file that is read as `.gitmodules`. Its id is in bytes.
@@ -58,10 +77,25 @@ pub(crate) fn set_modules(
     push_hex(line, id)?;
     line.push(b' ')?;
     push_place(line, tree, front)?;
-    push_end(line, tree.rest)
+    line.push(b'\n')?;
+    Ok(())
 }
 
-/// Appends the tree's id, the mode and the quoted name of an entry.
+/// Appends the line of a refused entry, without a mark.
+fn push_refused(
+    line: &mut Vec<u8>,
+    tree: Object<'_>,
+    front: EntryHeader<'_>,
+    fault: ComponentError,
+) -> Result<(), AllocError>
+    ensures { OnOk result (line.new.items
+        ≡ line.old.items ++ refused_line (as_object tree.entry) (as_entry_header front.entry) fault) }
+{
+    push_place(line, tree, front)?;
+    writeln!(line, " {fault}").map_err(|_| AllocError)
+}
+
+/// Appends the tree's id, the mode and the quoted path of an entry.
 fn push_place(
     line: &mut Vec<u8>,
     tree: Object<'_>,
@@ -74,35 +108,37 @@ fn push_place(
     line.push(b' ')?;
     line.extend_from_slice(front.digits)?;
     line.push(b' ')?;
-    push_quoted(line, front.name)
+    push_path(line, tree.rest, front.name)
 }
 
-/// Appends the path of the tree, if it is known, or its first bytes, and a newline.
-fn push_end(line: &mut Vec<u8>, rest: Option<&[u8]>) -> Result<(), AllocError>
-    ensures { OnOk result (line.new.items
-        ≡ line.old.items ++ in_path (option_map (λ rest. rest.now) rest.entry) ++ codes "\n") }
+/// Appends a quoted path: the directory, if it is known, a slash and the name.
+fn push_path(line: &mut Vec<u8>, directory: Option<&[u8]>, name: &[u8]) -> Result<(), AllocError>
+    ensures { OnOk result (line.new.items ≡ line.old.items
+        ++ quoted (path_of (option_map (λ directory. directory.now) directory.entry) name.now)) }
 {
-    match rest {
-        Some(path) if !path.is_empty() => {
-            line.extend_from_slice(b" (in ")?;
-            push_shown(line, path)?;
-            line.extend_from_slice(b")\n")?;
-        }
-        _ => line.push(b'\n')?,
+    line.push(b'"')?;
+    match directory {
+        Some(directory) if !directory.is_empty() => push_directory(line, directory)?,
+        _ => {}
     }
+    push_escaped(line, name)?;
+    line.push(b'"')?;
     Ok(())
 }
 
-/// Appends a quoted path, or the first [`MAX_PATH`] bytes of it and dots.
-#[tactic(auto, using(std::proofs::lemmas::Bool::Decides::nat_tests))]
-fn push_shown(line: &mut Vec<u8>, path: &[u8]) -> Result<(), AllocError>
-    ensures { OnOk result (line.new.items ≡ line.old.items ++ shown_path path.now) }
+/// Appends the escaped bytes of a directory, or the first [`MAX_DIRECTORY`] of them and dots, and a
+/// slash.
+fn push_directory(line: &mut Vec<u8>, directory: &[u8]) -> Result<(), AllocError>
+    ensures { OnOk result (line.new.items
+        ≡ line.old.items ++ flat_map escape_of (shown_directory directory.now) ++ codes "/") }
 {
-    if path.len() <= MAX_PATH {
-        return push_quoted(line, path);
+    if directory.len() <= MAX_DIRECTORY {
+        push_escaped(line, directory)?;
+        line.push(b'/')?;
+    } else {
+        let front = &directory[..MAX_DIRECTORY];
+        push_escaped(line, front)?;
+        line.extend_from_slice(b".../")?;
     }
-    let front = &path[..MAX_PATH];
-    push_quoted(line, front)?;
-    line.extend_from_slice(b"...")?;
     Ok(())
 }

@@ -22,6 +22,16 @@ def exports(header):
         yield result, name, [(" ".join(it[:-1]), it[-1]) for it in split if it[:-1]]
 
 
+def without_unused(prelude, code):
+    """The prelude without the functions that neither the code nor another one calls: compilers warn of these."""
+    inline = r"(?m)^static inline \w+ (\w+)\(.*\{(?:.*\}\n|.*\n(?:  .*\n)*\}\n)"
+    for found in reversed([*re.finditer(inline, prelude)]):
+        others = re.sub(inline, lambda it: "" if it[1] == found[1] else it[0], prelude)
+        if not re.search(rf"\b{found[1]}\(", others + code):
+            prelude = prelude.replace(found[0], "")
+    return prelude
+
+
 class C:
     """C99."""
 
@@ -104,14 +114,16 @@ class C:
 
     def whole(self, module):
         """The lines of the file."""
-        yield (HERE / "prelude.c").read_text()
+        prelude = (HERE / "prelude.c").read_text()
+        texts = [it.text() for it in module.functions]
+        yield without_unused(prelude, "\n".join(texts))
         yield f"#define STACK {module.stack}\n"
         yield f"static ALIGNED const u8 constants[{len(module.constants)}] = {{"
         for row in rows_of(module):
             yield f"  {', '.join(map(str, row))},"
         yield "};\n"
         yield from (f"{it.head()};" for it in module.functions)
-        yield from (f"\n{it.text()}" for it in module.functions)
+        yield from (f"\n{it}" for it in texts)
         for result, name, params in self.exports:
             given = [
                 f"P({it[1:]})"

@@ -17,14 +17,11 @@ typedef int16_t i16;
 typedef int32_t i32;
 typedef int64_t i64;
 
-/* (No version of the functions needs all helpers.) */
 #if defined(__GNUC__)
-#define HELPER static inline __attribute__((unused))
 #define ALIGNED __attribute__((aligned(16)))
 #define TRAP() __builtin_trap()
 #else
 #include <stdlib.h>
-#define HELPER static inline
 #define TRAP() abort()
 #if defined(_MSC_VER)
 #define ALIGNED __declspec(align(16))
@@ -39,62 +36,62 @@ typedef int64_t i64;
 
 /* WebAssembly has the low byte of a number first. (Compilers read and write
    such a number at once where the processor can.) */
-HELPER u8 load8(u64 at) { return *AT(at); }
-HELPER u16 load16(u64 at) {
+static inline u8 load8(u64 at) { return *AT(at); }
+static inline u16 load16(u64 at) {
   const u8 *b = AT(at);
   return (u16)(b[0] | b[1] << 8);
 }
-HELPER u32 load32(u64 at) {
+static inline u32 load32(u64 at) {
   const u8 *b = AT(at);
   return (u32)b[0] | (u32)b[1] << 8 | (u32)b[2] << 16 | (u32)b[3] << 24;
 }
-HELPER u64 load64(u64 at) {
+static inline u64 load64(u64 at) {
   return (u64)load32(at) | (u64)load32(at + 4) << 32;
 }
-HELPER void store8(u64 at, u8 value) { *AT(at) = value; }
-HELPER void store16(u64 at, u16 value) {
+static inline void store8(u64 at, u8 value) { *AT(at) = value; }
+static inline void store16(u64 at, u16 value) {
   store8(at, (u8)value);
   store8(at + 1, (u8)(value >> 8));
 }
-HELPER void store32(u64 at, u32 value) {
+static inline void store32(u64 at, u32 value) {
   store16(at, (u16)value);
   store16(at + 2, (u16)(value >> 16));
 }
-HELPER void store64(u64 at, u64 value) {
+static inline void store64(u64 at, u64 value) {
   store32(at, (u32)value);
   store32(at + 4, (u32)(value >> 32));
 }
 /* (C's functions may not get NULL, even if the length is 0.) */
-HELPER void copy_bytes(u64 to, u64 from, u64 length) {
+static inline void copy_bytes(u64 to, u64 from, u64 length) {
   if (length != 0)
     memmove(AT(to), AT(from), (size_t)length);
 }
-HELPER void fill_bytes(u64 to, u32 byte, u64 length) {
+static inline void fill_bytes(u64 to, u32 byte, u64 length) {
   if (length != 0)
     memset(AT(to), (u8)byte, (size_t)length);
 }
 
-HELPER u32 rotated32(u32 value, u32 by) {
+static inline u32 rotated32(u32 value, u32 by) {
   return value << (by & 31) | value >> ((32 - by) & 31);
 }
-HELPER u64 rotated64(u64 value, u64 by) {
+static inline u64 rotated64(u64 value, u64 by) {
   return value << (by & 63) | value >> ((64 - by) & 63);
 }
 #if defined(__GNUC__)
-HELPER u32 zeros32(u32 value) {
+static inline u32 zeros32(u32 value) {
   return value == 0 ? 32 : (u32)__builtin_ctz(value);
 }
-HELPER u64 zeros64(u64 value) {
+static inline u64 zeros64(u64 value) {
   return value == 0 ? 64 : (u64)__builtin_ctzll(value);
 }
 #else
-HELPER u32 zeros32(u32 value) {
+static inline u32 zeros32(u32 value) {
   u32 count = 0;
   while (count < 32 && (value >> count & 1) == 0)
     count++;
   return count;
 }
-HELPER u64 zeros64(u64 value) {
+static inline u64 zeros64(u64 value) {
   return (u32)value != 0 ? zeros32((u32)value)
                          : 32u + (u64)zeros32((u32)(value >> 32));
 }

@@ -1,11 +1,14 @@
 # shellcheck shell=bash disable=SC2154
-# For release/aarch64 and release/wasm, which set `target`: rt refuses these targets, so this calls
-# rattle, by its documented options. The libraries below have to be proved already.
+# For release/aarch64, release/portable and release/wasm, which set `target`: rt refuses these
+# targets, so this calls rattle, by its documented options. The libraries below have to be proved
+# already. A proof stays in the directory CHECKED, if that is set, and is taken from there: rattle
+# refuses one of other sources.
 
 cd -- "$(dirname -- "${BASH_SOURCE[0]}")/../crates/gix_validate_c" || exit 1
 kit=$(dirname -- "$(rt doc)")
 room=$(mktemp -d)
 trap 'rm -rf -- "$room"' EXIT
+checked=${CHECKED:-$room/checked}
 options=(--crate-name gix_validate_c --crate-type staticlib src/lib.rt -L "dependency=$kit/rlibs"
     --antt-project "$kit/rattle/logic/antt-project.json" --target "$target")
 for crate in std $(sed -n 's/^gix_validate_c staticlib: //p' ../../crates.txt); do
@@ -27,12 +30,14 @@ quiet() {
 archive() {
     cp -rL --symbolic-link -- "$kit/toolchain" "$room"
     install -m 755 -- /dev/stdin "$room/toolchain/bin/clang"
-    quiet "$kit/bin/rattle" check "${options[@]}" --logic-built "$kit/logic_built" --jobs 2 \
-        -o "$room/checked"
-    grep -q '^logic=proved ' "$room/log" || {
-        tail -n 20 -- "$room/log" >&2
-        exit 1
-    }
-    quiet "$kit/bin/rattle" build "${options[@]}" --crate-checked "$room/checked" \
+    if [[ ! -d $checked ]]; then
+        quiet "$kit/bin/rattle" check "${options[@]}" --logic-built "$kit/logic_built" --jobs 2 \
+            -o "$checked"
+        grep -q '^logic=proved ' "$room/log" || {
+            tail -n 20 -- "$room/log" >&2
+            exit 1
+        }
+    fi
+    quiet "$kit/bin/rattle" build "${options[@]}" --crate-checked "$checked" \
         --toolchain "$room/toolchain" --backend llvm -o "$1"
 }

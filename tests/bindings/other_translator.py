@@ -22,6 +22,13 @@ BEFORE = """\
 #define wasm_rt_is_initialized() 1
 #define wasm_rt_register_func_type(...) 0
 #define IN struct Z_env_instance_t *unused __attribute__((unused))
+u32 Z_envZ___rattle_enter(IN) { return 0; }
+void Z_envZ___rattle_leave(IN) {}
+void Z_envZ___rattle_trap(IN) { abort(); }
+/* (The functions below fill in the module's globals themselves.) */
+u64 *Z_envZ___memory_base(IN) { abort(); }
+u64 *Z_envZ___stack_pointer(IN) { abort(); }
+u64 *Z_envZ___table_base(IN) { abort(); }
 """
 # What a load or a store does: the address and the offset are added.
 LOAD = """\
@@ -49,7 +56,8 @@ START = """\
 {result} {name}({params}) {{
     u64 stack[512], top = (u64)(uintptr_t)(stack + 512) & ~15ull;
     u64 base = (u64)(uintptr_t)constants;
-    Z_module_instance_t module = {{.Z_envZ___memory_base = &base, .Z_envZ___stack_pointer = &top}};
+    Z_module_instance_t module = {{
+        .Z_envZ___memory_base = &base, .Z_envZ___stack_pointer = &top}};
     return ({result})Z_moduleZ_{name}({given});
 }}
 """

@@ -14,6 +14,7 @@ from .tools import (
     CC,
     OUT,
     PORTABLE_GO,
+    ROOT,
     need,
     output,
     run,
@@ -24,13 +25,13 @@ MODULE = BINDINGS / "go"
 BLOCKS = {"amd64": BLOCK, "arm64": AARCH64_BLOCK}
 # What a user needs to build for a processor: nothing that is C's.
 PURE_GO = {"CGO_ENABLED": "0", "CC": "false"}
-# A processor of each size of numbers and order of bytes, for which there is no block, and what
-# runs a program for it.
+# Processors without a block, of both sizes of addresses and both orders of bytes, and what runs
+# a program for them. (qemu-i386 doesn't run Go's programs, but a processor for x86-64 does.)
 OTHER_PROCESSORS = {
-    "386": "qemu-i386",
-    "riscv64": "qemu-riscv64",
-    "s390x": "qemu-s390x",
-    "mips": "qemu-mips",
+    "386": [],
+    "mips": ["-exec=qemu-mips"],
+    "riscv64": ["-exec=qemu-riscv64"],
+    "s390x": ["-exec=qemu-s390x"],
 }
 ENVIRONMENT = {
     **os.environ,
@@ -138,11 +139,20 @@ def test_its_tests_pass_for_arm64():
     run_tests("-exec=qemu-aarch64", GOARCH="arm64", **PURE_GO)
 
 
-@pytest.mark.parametrize("processor", OTHER_PROCESSORS)
+def in_turn():
+    """The processors whose turn it is: one, by the commit's hash, since Go compiles its
+    library for each. With ALL_TARGETS=true it is the turn of all."""
+    if os.environ.get("ALL_TARGETS") == "true":
+        return [*OTHER_PROCESSORS]
+    commit = output("git", "rev-parse", "HEAD", cwd=ROOT)
+    return [[*OTHER_PROCESSORS][int(commit, 16) % len(OTHER_PROCESSORS)]]
+
+
+@pytest.mark.parametrize("processor", in_turn())
 def test_its_tests_pass_for_a_processor_without_a_block(processor):
-    emulator = OTHER_PROCESSORS[processor]
-    need(emulator, PORTABLE_GO)
-    run_tests(f"-exec={emulator}", GOARCH=processor, **PURE_GO)
+    need("qemu-s390x", PORTABLE_GO)
+    words = ["-vet=off", *OTHER_PROCESSORS[processor]]
+    run_tests(*words, GOARCH=processor, **PURE_GO)
 
 
 def test_each_target_of_go_has_the_block_or_pure_go_and_no_c():

@@ -368,15 +368,23 @@ class Function:
     # What is written.
 
     def frame(self):
-        """How many bytes of the stack it takes itself."""
-        steps = self.code.steps
-        sizes = [
-            int(steps[at + 1][1])
-            for at, step in enumerate(steps[:-2])
-            if step == ["global.get", "$__stack_pointer"]
-            and steps[at + 2] == ["i64.sub"]
-        ]
-        return max(sizes, default=0)
+        """How many bytes of the stack it takes itself. It subtracts them from the pointer. (It also looks whether that is
+        above the end of the stack, as it is.)"""
+        steps, sizes = self.code.steps, [0]
+        for at, step in enumerate(steps):
+            if step == ["global.get", "$__stack_pointer"]:
+                following = [
+                    it for it in steps[at + 1 : at + 4] if it[0] != "local.tee"
+                ]
+                (op, *size), (after, *_) = following[:2]
+                if op != "i64.const" or after not in (
+                    "i64.sub",
+                    "i64.lt_s",
+                    "i64.gt_s",
+                ):
+                    raise Unknown(f"a stack of another form in {self.code.name}")
+                sizes.append(int(size[0]))
+        return max(sizes)
 
     def head(self):
         """The line that its text begins with, without the brace."""

@@ -185,7 +185,7 @@ STACKS = {
     "arm64": (
         r"\tsub\tsp, sp, #(?P<size>0x[0-9a-f]+)$|\tst[pr]\t.*\[sp, #-(?P<pushed>\d+)\]!$",
         r" R_AARCH64_(?:CALL|JUMP)26\t(?:\.text\.)?(.*)$",
-        r"\tblr\t|\tsub\tsp, sp, .*(?:lsl|x\d)|\tst[pr]\t.*\[sp\], #-",
+        r"\tblr\t|\tsub\tsp, sp, (?!#0x[0-9a-f]+$)|\tst[pr]\t.*\[sp\], #-",
         0,
     ),
 }

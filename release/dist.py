@@ -37,12 +37,21 @@ WASM = "bindings/out/gix_validate.wasm"
 JAVASCRIPT = "bindings/js/gix_validate_wasm.mjs"
 PAGE = "docs/names.html"
 BLOCKS = ["bindings/rust/native/aarch64.s", "bindings/rust/native/x86_64.s"]
-GO_BLOCKS = [f"bindings/go/block_{it}" for it in ("amd64.go", "amd64.s", "arm64.S")]
+GO_BLOCKS = [
+    f"bindings/go/block_{it}" for it in ("amd64.go", "amd64.s", "arm64.go", "arm64.s")
+]
+# The functions without machine code, and the folder of the release that has them.
+PORTABLE = {
+    "bindings/c/gix_validate.c": "c",
+    "bindings/go/portable.go": "go/gitnames",
+    "bindings/rust/native/portable.rs": "rust/gix-validate/native",
+}
 # All that is built and then packed, or tested in place of what is packed.
 BUILT = [
     *(f"crates/{it}/out/{it}{end}" for it in PROGRAMS for end in ("", ".o")),
     *[ARCHIVE, "bindings/out/libgix_validate_c.so", WASM, JAVASCRIPT, PAGE, *BLOCKS],
     *GO_BLOCKS,
+    *PORTABLE,
 ]
 # Why the full check is named in MANIFEST.
 IN_THE_CHECK = "passed: it packed this, and keeps an archive only if all passes"
@@ -88,7 +97,7 @@ def empty():
     built = [*(it / "out" for it in crates), KEPT, ROOT / "bindings/rust/native"]
     # (the crates of gitoxide are fetched)
     built += {*ROOT.glob("bindings/out/*")} - {ROOT / "bindings/out/gitoxide"}
-    built += [ROOT / JAVASCRIPT, ROOT / PAGE]
+    built += [ROOT / it for it in (JAVASCRIPT, PAGE, *PORTABLE)]
     for path in [*built, *ROOT.glob("bindings/go/block_*")]:
         if path.is_dir() and not path.is_symlink():
             shutil.rmtree(path)
@@ -164,6 +173,7 @@ class Release:
         self.write_manuals()
         self.make_libraries()
         self.copy_go()
+        self.copy_portable()
         self.pack_python()
         self.pack_javascript()
         self.build_site()
@@ -310,6 +320,10 @@ class Release:
     def copy_go(self):
         for block in GO_BLOCKS:
             self.copy_built(block, self.tree / "go/gitnames" / Path(block).name)
+
+    def copy_portable(self):
+        for file, folder in PORTABLE.items():
+            self.copy_built(file, self.tree / folder / Path(file).name)
 
     def pack_python(self):
         """Packs the module as a wheel, and as a source archive, which has the blocks of

@@ -1,3 +1,5 @@
+//go:build gc && !purego
+
 #include "textflag.h"
 
 // The functions have the calling convention of C on Unix, on each system, and keep BX.
@@ -19,8 +21,8 @@ TEXT ·callBlock(SB), 0, $4096-56
 	MOVQ AX, ret+48(FP)
 	RET
 
-// func callForText(at uintptr, name unsafe.Pointer, length uintptr, text unsafe.Pointer, room uintptr) uintptr
-TEXT ·callForText(SB), 0, $4096-48
+// func callBlockForText(at uintptr, name unsafe.Pointer, length uintptr, text unsafe.Pointer, room uintptr) uintptr
+TEXT ·callBlockForText(SB), 0, $4096-48
 	LEAQ ·block(SB), AX
 	ADDQ at+0(FP), AX
 	MOVQ name+8(FP), DI

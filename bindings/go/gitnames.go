@@ -1,5 +1,3 @@
-//go:build amd64 || (arm64 && cgo)
-
 // Package gitnames validates the names that Git uses: tags, references, branches,
 // submodules and paths. It says why a name is invalid, and repairs bad reference names.
 //
@@ -8,9 +6,10 @@
 // [errors.Is] finds its [Fault]. [Faults] and [FaultsOf] check many names, those of a
 // buffer in one call.
 //
-// The functions are proved: the package has them as machine code. docs/RULES.md has the
-// rules, docs/ASSURANCE.md what is proved. They have no state, and may be called by any
-// goroutine.
+// The functions are proved: for amd64 and arm64 the package has them as machine code, for
+// other processors, and with the build tag purego, as Go that was translated from them.
+// docs/RULES.md has the rules, docs/ASSURANCE.md what is proved. Any goroutine may call them
+// at any time.
 package gitnames
 
 import "unsafe"
@@ -108,6 +107,11 @@ func view[T Name](name T) string {
 	return *(*string)(unsafe.Pointer(&name))
 }
 
+// bytesOf is the same memory: a Fault is a byte.
+func bytesOf(faults []Fault) []byte {
+	return *(*[]byte)(unsafe.Pointer(&faults))
+}
+
 func check(kind Kind, flags Flags, name string) error {
 	if code := code(kind, flags, name); code != Valid {
 		text, offset := why(kind, flags, name)
@@ -122,12 +126,4 @@ func sanitized(name string) []byte {
 		buffer = append(buffer, 0) // room for the byte that an empty name becomes
 	}
 	return buffer[:sanitizeInPlace(buffer, len(name))]
-}
-
-// needProcessor panics on a processor that lacks what the functions need, before that
-// would be an illegal instruction.
-func needProcessor() {
-	if !isSupported {
-		panic("gitnames needs a processor with SSE 4.2 (x86-64-v2)")
-	}
 }

@@ -1,5 +1,3 @@
-//go:build amd64 || (arm64 && cgo)
-
 package gitnames
 
 import "strings"
@@ -40,7 +38,6 @@ func FaultsOf[T Name](kind Kind, names []T) []Fault {
 }
 
 func faults(kind Kind, names string, end byte) []Fault {
-	needProcessor()
 	needKind(kind)
 	faults := make([]Fault, strings.Count(names, string([]byte{end}))+1)
 	return faults[:checkMany(kind, names, end, faults)]

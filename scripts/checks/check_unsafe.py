@@ -23,14 +23,15 @@ BUILT = (
     "bindings/rust/drop_in/target",
     "bindings/go/block_amd64.go",
     "bindings/go/block_amd64.s",
-    "bindings/go/block_arm64.S",
-    "bindings/go/gix_validate.h",
+    "bindings/go/block_arm64.go",
+    "bindings/go/block_arm64.s",
+    "bindings/go/portable.go",
     "hook/out",
     "hook/target",
 )
 # The words that a file may have.
 ALLOWED = {
-    "bindings/rust/src/block.rs": {"unsafe", "global_asm", "include_str"},
+    "bindings/rust/src/block.rs": {"unsafe", "global_asm", "include_str", "include"},
     "hook/src/system.rs": {"unsafe"},
     # Git's setting `include.path`, and what the scan prints of it.
     "hook/src/scan/room.rs": {"include"},
@@ -43,13 +44,12 @@ ALLOWED = {
     "bindings/rust/README.md": {"unsafe", "path"},
     "bindings/rust/Cargo.toml": {"include"},
     "bindings/rust/drop_in/Cargo.toml": {"path"},
-    # The calls of the block: by Go's assembler, and by cgo. Its strings and slices of bytes
-    # are read as one type.
-    "bindings/go/calls_amd64.go": {"unsafe"},
+    # The calls of the block, by Go's assembler. Strings and slices of bytes are read as one
+    # type, and so are faults and bytes.
+    "bindings/go/calls_block.go": {"unsafe"},
     "bindings/go/calls_amd64.s": {"unsafe", "include"},
-    "bindings/go/calls_arm64.go": {"unsafe", "include", "C"},
+    "bindings/go/calls_arm64.s": {"unsafe", "include"},
     "bindings/go/gitnames.go": {"unsafe"},
-    "bindings/go/gitnames.h": {"include", "C"},
     # What writes the block.
     "bindings/go/make": {"include"},
     # The shared object, with which a test compares.

@@ -47,9 +47,10 @@ def cargo_settings(crates):
     return settings.replace(str(DEBIAN), str(crates.resolve()))
 
 
-def program(name, default_features=True, by_debian=False, **settings):
-    """Lays a program out, in a folder of this name. Cargo knows a package by its path, so
-    the folder is the same in each run, and each worker has its own."""
+def program(name, default_features=True, by_debian=False, features=(), **settings):
+    """Lays a program out, in a folder of this name, which takes the crate with these
+    features. Cargo knows a package by its path, so the folder is the same in each run,
+    and each worker has its own."""
     crates = DEBIAN if by_debian else registry()
     need("cargo", crates)
     out = OUT / "rust" / os.environ.get("PYTEST_XDIST_WORKER", "alone")
@@ -72,7 +73,8 @@ def program(name, default_features=True, by_debian=False, **settings):
         replace(
             folder / "Cargo.toml",
             '(?m)^gix-validate = "0.13.1"',
-            'gix-validate = { version = "0.13.1", default-features = false }',
+            'gix-validate = { version = "0.13.1", default-features = false, '
+            f"features = {[*features]} }}",
         )
     if by_debian:
         path = f"/usr/bin:{os.environ['PATH']}"

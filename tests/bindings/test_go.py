@@ -1,17 +1,38 @@
-"""Go's module, by its own tests and as a user builds it."""
+"""Go's module, by its own tests and as a user builds it: with the blocks of machine code, and in pure Go."""
 
 import os
 import re
 
 import pytest
 
-from .tools import ARCHIVE, BINDINGS, BLOCK, CC, OUT, need, output, run
+from .tools import (
+    AARCH64_ARCHIVE,
+    AARCH64_BLOCK,
+    ARCHIVE,
+    BINDINGS,
+    BLOCK,
+    CC,
+    OUT,
+    PORTABLE_GO,
+    ROOT,
+    need,
+    output,
+    run,
+)
 
 MODULE = BINDINGS / "go"
-# What bindings/go/make makes.
-AMD64 = MODULE / "block_amd64.s"
-ARM64 = MODULE / "block_arm64.S"
-CALLS = MODULE / "calls_amd64.s"
+# The blocks by the processor, as Go calls it.
+BLOCKS = {"amd64": BLOCK, "arm64": AARCH64_BLOCK}
+# What a user needs to build for a processor: nothing that is C's.
+PURE_GO = {"CGO_ENABLED": "0", "CC": "false"}
+# Processors without a block, of both sizes of addresses and both orders of bytes, and what runs
+# a program for them. (qemu-i386 doesn't run Go's programs, but a processor for x86-64 does.)
+OTHER_PROCESSORS = {
+    "386": [],
+    "mips": ["-exec=qemu-mips"],
+    "riscv64": ["-exec=qemu-riscv64"],
+    "s390x": ["-exec=qemu-s390x"],
+}
 ENVIRONMENT = {
     **os.environ,
     "GOCACHE": str(OUT / "go"),
@@ -33,21 +54,29 @@ func main() {
 }
 """
 SAYS = "A ref must not contain '..' as it may be mistaken for a range\n"
-LACKS_CGO = (
-    "gitnames is machine code for amd64, and for arm64 by cgo: "
-    "set CGO_ENABLED=1, and CC to a C compiler for the target"
-)
 
 
 @pytest.fixture(autouse=True)
 def module_is_built():
-    """Fails if the module has another block than the Rust crate."""
+    """Fails if the module has other blocks than the Rust crate."""
     need("go", CC)
-    words = re.findall("0x([0-9a-f]{16})", BLOCK.read_text())
-    made = AMD64.read_text() if AMD64.exists() else ""
-    halves = re.findall("0x([0-9a-f]{8})", made)
-    if [high + low for low, high in zip(halves[::2], halves[1::2])] != words:
-        pytest.fail("run bindings/go/make", pytrace=False)
+    for processor, block in BLOCKS.items():
+        made = MODULE / f"block_{processor}.s"
+        if block.exists() != made.exists():
+            pytest.fail("run bindings/go/make", pytrace=False)
+        if made.exists() and bytes_in_assembler(made) != bytes_of(block):
+            pytest.fail("run bindings/go/make", pytrace=False)
+
+
+def bytes_of(block):
+    """The machine code of a block."""
+    words = re.findall("0x([0-9a-f]{16})", block.read_text())
+    return b"".join(bytes.fromhex(it)[::-1] for it in words)
+
+
+def bytes_in_assembler(file):
+    numbers = re.findall(r"(?:LONG|WORD) \$0x([0-9a-f]+)", file.read_text())
+    return b"".join(bytes.fromhex(it[-8:].rjust(8, "0"))[::-1] for it in numbers)
 
 
 def go(*words, cwd=MODULE, status=0, **environment):
@@ -75,13 +104,6 @@ def run_tests(*flags, **environment):
     assert re.findall(r"(?m)^--- PASS: (\w+)", printed) == wanted
 
 
-def refusal(**environment):
-    """What the compiler says as it refuses to build the module."""
-    status = 2 if minor_version() < 20 else 1
-    _, said = go("build", ".", status=status, **environment)
-    return said
-
-
 def program(folder):
     """Makes a user's program, which takes the module from where it is."""
     (folder / "main.go").write_text(FIRST_CHECK)
@@ -96,72 +118,138 @@ def test_go_vet_finds_nothing():
 
 
 def test_its_tests_pass_without_cgo():
-    run_tests(CGO_ENABLED="0")
+    run_tests(**PURE_GO)
 
 
 def test_its_tests_pass_under_the_race_detector():
     run_tests("-race")
 
 
+def test_its_tests_pass_in_pure_go_under_the_race_detector():
+    need(PORTABLE_GO)
+    run_tests("-race", "-tags=purego")
+
+
 def test_its_tests_pass_for_windows(wine):
     run_tests("-exec=wine", GOOS="windows", CGO_ENABLED="0", **wine)
 
 
-def test_its_tests_pass_for_aarch64_while_cgo_checks_pointers():
-    need("qemu-aarch64", "aarch64-linux-gnu-gcc", ARM64)
-    target = {"GOARCH": "arm64", "CC": "aarch64-linux-gnu-gcc"}
-    checks = {"GODEBUG": "cgocheck=2"}
-    if minor_version() > 20:
-        checks = {"GOEXPERIMENT": "cgocheck2"}
-    run_tests("-exec=qemu-aarch64 -L /usr/aarch64-linux-gnu", **target, **checks)
+def test_its_tests_pass_for_arm64():
+    need("qemu-aarch64", AARCH64_BLOCK)
+    run_tests("-exec=qemu-aarch64", GOARCH="arm64", **PURE_GO)
 
 
-def stack_of_functions():
+def in_turn():
+    """The processors whose turn it is: one, by the commit's hash, since Go compiles its
+    library for each. With ALL_TARGETS=true it is the turn of all."""
+    if os.environ.get("ALL_TARGETS") == "true":
+        return [*OTHER_PROCESSORS]
+    commit = output("git", "rev-parse", "HEAD", cwd=ROOT)
+    return [[*OTHER_PROCESSORS][int(commit, 16) % len(OTHER_PROCESSORS)]]
+
+
+@pytest.mark.parametrize("processor", in_turn())
+def test_its_tests_pass_for_a_processor_without_a_block(processor):
+    need("qemu-s390x", PORTABLE_GO)
+    words = ["-vet=off", *OTHER_PROCESSORS[processor]]
+    run_tests(*words, GOARCH=processor, **PURE_GO)
+
+
+def test_each_target_of_go_has_the_block_or_pure_go_and_no_c():
+    need(PORTABLE_GO, AARCH64_BLOCK)
+    targets, _ = go("tool", "dist", "list")
+    assert len(targets.split()) > 40
+    for target in targets.split():
+        system, processor = target.split("/")
+        words = ["list", "-f", "{{.GoFiles}} {{.SFiles}} {{.CgoFiles}} {{.CFiles}}"]
+        files, _ = go(*words, ".", GOOS=system, GOARCH=processor)
+        has_block = "calls_block.go" in files
+        assert has_block == (processor in BLOCKS), target
+        assert has_block != ("portable.go" in files), target
+        if has_block:
+            made = f"[block_{processor}.s calls_{processor}.s]"
+            assert files.endswith(f"] {made} [] []\n"), target
+        else:
+            assert files.endswith("] [] [] []\n"), target
+
+
+# For each processor how its objdump shows that a function takes bytes of the stack, that it
+# calls another, and that it calls what isn't known, and how many bytes a call takes.
+STACKS = {
+    "amd64": (
+        r"\t(?:sub +\$(?P<size>0x[0-9a-f]+),%rsp|(?P<eight>push )|(?P<half>add +\$0xf+80,%rsp))",
+        r" R_X86_64_PLT32\t(?:\.text\.)?(.*)-0x4$",
+        r"\tcall +\*",
+        8,
+    ),
+    "arm64": (
+        r"\tsub\tsp, sp, #(?P<size>0x[0-9a-f]+)$|\tst[pr]\t.*\[sp, #-(?P<pushed>\d+)\]!$",
+        r" R_AARCH64_(?:CALL|JUMP)26\t(?:\.text\.)?(.*)$",
+        r"\tblr\t|\tsub\tsp, sp, (?!#0x[0-9a-f]+$)|\tst[pr]\t.*\[sp\], #-",
+        0,
+    ),
+}
+
+
+def stack_of_functions(processor, objdump, archive):
     """How many bytes of the stack each function takes, with those that it calls."""
+    takes, called, unknown, of_call = STACKS[processor]
     frames, calls, name = {}, {}, ""
-    for line in output("objdump", "-dr", "--no-show-raw-insn", ARCHIVE).splitlines():
-        assert not re.search(r"\tcall +\*", line)
+    for line in output(objdump, "-dr", "--no-show-raw-insn", archive).splitlines():
+        assert not re.search(unknown, line)
         if found := re.fullmatch(r"[0-9a-f]+ <(.*)>:", line):
             name = found[1]
-            frames[name], calls[name] = 8, set()
-        elif "\tpush " in line:
-            frames[name] += 8
-        elif found := re.search(r"\tsub +\$(0x[0-9a-f]+),%rsp", line):
-            frames[name] += int(found[1], 16)
-        elif "\tadd    $0xffffffffffffff80,%rsp" in line:
-            frames[name] += 128
-        elif found := re.search(r" R_X86_64_PLT32\t(?:\.text\.)?(.*)-0x4$", line):
+            frames[name], calls[name] = of_call, set()
+        elif found := re.search(takes, line):
+            of = found.groupdict()
+            frames[name] += int(of["size"] or "0", 16) + int(of.get("pushed") or 0)
+            frames[name] += 8 * bool(of.get("eight")) + 128 * bool(of.get("half"))
+        elif found := re.search(called, line):
             calls[name].add(found[1])
 
     def depth(name, above=()):
         assert name not in above
         below = [depth(it, (*above, name)) for it in calls.get(name, ())]
-        return frames.get(name, 8) + max(below, default=0)
+        return frames.get(name, of_call) + max(below, default=0)
 
     return {name: depth(name) for name in frames}
 
 
-def test_the_functions_take_less_of_the_stack_than_go_gives_them():
-    stacks = stack_of_functions()
+@pytest.mark.parametrize(
+    "processor, objdump, archive",
+    [
+        ("amd64", "objdump", ARCHIVE),
+        ("arm64", "aarch64-linux-gnu-objdump", AARCH64_ARCHIVE),
+    ],
+)
+def test_the_functions_take_less_of_the_stack_than_go_gives_them(
+    processor, objdump, archive
+):
+    need(objdump, archive)
+    stacks = stack_of_functions(processor, objdump, archive)
     assert stacks["gix_validate_partial_text"] > 300
-    given = re.findall(r"(?m)\$(\d+)-\d+$", CALLS.read_text())
-    assert given == ["4096", "4096", "0"]
+    calls = (MODULE / f"calls_{processor}.s").read_text()
+    given = re.findall(r"(?m)^TEXT ·call.*\$(\d+)-\d+$", calls)
+    assert given == ["4096", "4096"]
     assert max(stacks.values()) < 1024
 
 
-def test_random_names_have_the_results_of_the_library_for_c():
+@pytest.mark.parametrize("processor", BLOCKS)
+def test_a_program_has_the_bytes_of_the_block(processor, tmp_path):
+    # (Go's assembler for arm64 writes `WORD $0` wrongly.)
+    block = BLOCKS[processor]
+    need(block)
+    words = ["build", "-o", "program", "."]
+    go(*words, cwd=program(tmp_path), GOARCH=processor, **PURE_GO)
+    assert bytes_of(block) in (tmp_path / "program").read_bytes()
+
+
+@pytest.mark.parametrize("tags", ["", "purego"])
+def test_random_names_have_the_results_of_the_library_for_c(tags):
     fuzz = ["-run=^$", "-fuzz=FuzzNextToC", "-fuzztime=20000x", "-parallel=2"]
-    printed, _ = go("test", *fuzz, ".")
+    printed, _ = go("test", f"-tags={tags}", *fuzz, ".")
     assert re.search(r"execs: 200\d\d ", printed)
     assert "\nPASS\n" in printed
-
-
-def test_for_arm64_without_cgo_the_compiler_says_what_to_set():
-    assert LACKS_CGO in refusal(GOARCH="arm64", CGO_ENABLED="0")
-
-
-def test_for_another_processor_the_compiler_says_which_there_are():
-    assert LACKS_CGO in refusal(GOARCH="riscv64", CGO_ENABLED="0")
 
 
 def test_a_program_that_replaces_the_module_runs(tmp_path):
@@ -173,17 +261,9 @@ def test_a_vendored_copy_is_whole(tmp_path):
     folder = program(tmp_path)
     go("mod", "vendor", cwd=folder)
     vendored = folder / "vendor/dihareku/gitnames/block_amd64.s"
-    assert vendored.read_bytes() == AMD64.read_bytes()
+    assert vendored.read_bytes() == (MODULE / "block_amd64.s").read_bytes()
     printed, _ = go("run", "-mod=vendor", ".", cwd=folder)
     assert printed == SAYS
-
-
-def test_the_stack_of_a_program_for_arm64_is_not_executable(tmp_path):
-    need("readelf", "aarch64-linux-gnu-gcc", ARM64)
-    target = {"GOARCH": "arm64", "CC": "aarch64-linux-gnu-gcc"}
-    go("build", "-o", "program", ".", cwd=program(tmp_path), **target)
-    segments = run("readelf", "-lW", tmp_path / "program").stdout
-    assert re.search(r"GNU_STACK .* RW +0x", segments)
 
 
 def test_an_older_processor_is_a_panic_that_says_what_is_needed(tmp_path):
@@ -192,3 +272,5 @@ def test_an_older_processor_is_a_panic_that_says_what_is_needed(tmp_path):
     old = ["qemu-x86_64", "-cpu", "core2duo", tmp_path / "program"]
     said = run(*old, status=2).stderr
     assert "panic: gitnames needs a processor with SSE 4.2 (x86-64-v2)" in said
+    go("build", "-tags=purego", "-o", "program", ".", cwd=tmp_path)
+    assert output(*old) == SAYS

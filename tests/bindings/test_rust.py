@@ -1,15 +1,24 @@
 """The Rust crate, under a program that was written for gix-validate 0.13.1."""
 import re
+from pathlib import Path
 
 import pytest
 
 from .cargo import DEBIAN, SID, program, registry
-from .tools import BINDINGS, need, run
+from .tools import BINDINGS, PORTABLE_RUST, need, run
 
 # (`--dist loadgroup` has one process run them all, which builds once.)
 pytestmark = pytest.mark.xdist_group("rust")
 EXPECTED = (BINDINGS / "rust/drop_in/expected").read_text()
 STANDARD_LIBRARY = "/usr/lib/rustlib"
+WASI = Path(__file__).parent / "wasi.mjs"
+
+
+@pytest.fixture(scope="module")
+def portable_program():
+    """A program over the crate with the functions in Rust."""
+    need(PORTABLE_RUST)
+    return program("portable", default_features=False, features=["portable"])
 
 
 def passed(said):
@@ -49,6 +58,21 @@ def test_an_older_processor_is_told_what_is_needed(rust_program):
     assert "need a processor with SSE 4.2" in ended.stderr
 
 
+def test_the_crate_passes_its_own_tests_with_the_functions_in_rust(portable_program):
+    words = ["--quiet", "--package", "gix-validate", "--tests"]
+    said = portable_program.cargo("test", *words).stdout
+    assert [it > 0 for it in passed(said)] == [True] * 4
+
+
+def test_with_the_functions_in_rust_a_program_runs_on_an_older_processor(
+    portable_program,
+):
+    need("qemu-x86_64")
+    portable_program.cargo("build", "--quiet")
+    built = portable_program.target / "debug/checkout"
+    assert run("qemu-x86_64", "-cpu", "core2duo", built).stdout == EXPECTED
+
+
 def test_the_crate_and_a_program_work_on_windows(wine):
     need(f"{STANDARD_LIBRARY}/x86_64-pc-windows-gnu", *DEBIAN.glob("bstr-*"))
     wine["CARGO_TARGET_X86_64_PC_WINDOWS_GNU_RUNNER"] = "wine"
@@ -59,8 +83,11 @@ def test_the_crate_and_a_program_work_on_windows(wine):
     assert windows.cargo("run", *target).stdout == EXPECTED
 
 
-def test_a_target_without_the_functions_is_told_how_to_build():
-    need(f"{STANDARD_LIBRARY}/wasm32-unknown-unknown", *DEBIAN.glob("bstr-*"))
-    other = program("wasm32", default_features=False, by_debian=True)
-    ended = other.cargo("build", "--target", "wasm32-unknown-unknown", status=101)
-    assert "take gix-validate out of [patch.crates-io]" in ended.stderr
+def test_the_crate_passes_its_own_tests_on_a_target_without_machine_code():
+    standard_library = f"{STANDARD_LIBRARY}/wasm32-wasi"
+    need("node", "rust-lld", standard_library, PORTABLE_RUST, *DEBIAN.glob("bstr-*"))
+    runner = {"CARGO_TARGET_WASM32_WASI_RUNNER": f"node --no-warnings {WASI}"}
+    other = program("wasm32", default_features=False, by_debian=True, **runner)
+    words = ["--quiet", "--target", "wasm32-wasi", "--package", "gix-validate"]
+    said = other.cargo("test", *words, "--tests").stdout
+    assert [it > 0 for it in passed(said)] == [True] * 4

@@ -42,9 +42,12 @@ def test_the_shared_object_exports_what_the_header_declares(prefix, declared):
     assert sorted(exported) == declared
 
 
-@pytest.mark.parametrize("linked", ["block", "libgix_validate_c.a", LIBRARY])
-def test_the_rows_pass_with_each_form_of_the_library(prefix, native, room, linked):
-    library = native / "x86_64.s" if linked == "block" else prefix / "lib" / linked
+@pytest.mark.parametrize("linked", ["block", "C99", "libgix_validate_c.a", LIBRARY])
+def test_the_rows_pass_with_each_form_of_the_library(
+    tree, prefix, native, room, linked
+):
+    files = {"block": native / "x86_64.s", "C99": tree / "c/gix_validate.c"}
+    library = files.get(linked, prefix / "lib" / linked)
     source, path = "bindings/c/rows.c", f"-Wl,-rpath,{prefix}/lib"
     flags = ["-Wa,--noexecstack", f"-I{prefix}/include"]
     built = run(COMPILER, *flags, "-o", room / "rows", source, library, path)
@@ -73,7 +76,7 @@ def test_cargo_packs_the_licences_the_page_the_blocks_and_the_sources(native, ro
     assert status == 0, said
     packed = {
         *["LICENSE-APACHE", "LICENSE-MIT", "README.md", "src/lib.rs"],
-        *["native/aarch64.s", "native/x86_64.s"],
+        *["native/aarch64.s", "native/portable.rs", "native/x86_64.s"],
     }
     assert packed <= set(said.splitlines())
 

@@ -162,12 +162,13 @@ def test_an_export_may_be_where_c_calls_it(planted):
 def test_a_word_that_one_file_may_have_is_found_in_another(planted):
     text = (ROOT / "bindings/rust/src/block.rs").read_text("utf-8")
     found = planted("bindings/rust/src/blocks.rs", text)
-    assert {it.split("`")[1] for it in found} == {"unsafe", "global_asm", "include_str"}
+    words = {"unsafe", "global_asm", "include", "include_str"}
+    assert {it.split("`")[1] for it in found} == words
 
 
 def test_a_word_that_a_file_may_not_have_is_found_where_it_may_have_others(planted):
-    [found] = planted("bindings/rust/src/block.rs", 'include!("text");\n')
-    assert found.endswith(" has `include`, and may not")
+    [found] = planted("bindings/rust/src/block.rs", 'include_bytes!("text");\n')
+    assert found.endswith(" has `include_bytes`, and may not")
 
 
 def test_one_file_of_the_hook_may_have_unsafe_code(planted):

@@ -1,67 +1,89 @@
-//! The proved functions, which are one block of machine code, each behind a safe function. All unsafe code of this crate
-//! is here.
+//! The proved functions, each behind a safe function: one block of machine code, or the same translated to Rust. All
+//! unsafe code of this crate is here, and in what is included.
 //!
-//! The declarations have to say what `bindings/c/gix_validate.h` says; the compiler compares them with nothing.
+//! The declarations have to say what `bindings/c/gix_validate.h` says; the compiler compares those of the block with
+//! nothing.
 
 use bstr::{BStr, BString};
 
-#[cfg(all(target_arch = "x86_64", target_pointer_width = "64"))]
-std::arch::global_asm!(include_str!("../native/x86_64.s"), options(att_syntax)); // in a clone, bindings/build makes this file
-
+/// The block of machine code. (In a clone bindings/build and release/aarch64 make it.)
 #[cfg(all(
-    target_arch = "aarch64",
+    not(feature = "portable"),
     target_pointer_width = "64",
-    target_endian = "little"
-))]
-std::arch::global_asm!(include_str!("../native/aarch64.s")); // in a clone, release/aarch64 makes this file
-
-#[cfg(not(any(
-    all(target_arch = "x86_64", target_pointer_width = "64"),
-    all(
-        target_arch = "aarch64",
-        target_pointer_width = "64",
-        target_endian = "little"
+    any(
+        target_arch = "x86_64",
+        all(target_arch = "aarch64", target_endian = "little")
     )
-)))]
-compile_error!(
-    "the proved functions of gix-validate are there for x86-64 and AArch64, but not for this target; to build for it, \
-     take gix-validate out of [patch.crates-io]"
-);
+))]
+mod functions {
+    #[cfg(target_arch = "x86_64")]
+    std::arch::global_asm!(include_str!("../native/x86_64.s"), options(att_syntax));
+    #[cfg(target_arch = "aarch64")]
+    std::arch::global_asm!(include_str!("../native/aarch64.s"));
 
-#[allow(non_camel_case_types)]
-type size_t = usize;
+    #[allow(non_camel_case_types)]
+    type size_t = usize;
 
-macro_rules! declare {
-    ($abi:literal) => {
-        extern $abi {
-            fn gix_validate_tag(name: *const u8, name_len: size_t) -> u32;
-            fn gix_validate_partial(name: *const u8, name_len: size_t) -> u32;
-            fn gix_validate_full(name: *const u8, name_len: size_t) -> u32;
-            fn gix_validate_branch(name: *const u8, name_len: size_t) -> u32;
-            fn gix_validate_short_branch(name: *const u8, name_len: size_t) -> u32;
-            fn gix_validate_submodule(name: *const u8, name_len: size_t) -> u32;
-            fn gix_validate_component(name: *const u8, name_len: size_t, flags: u32) -> u32;
-            fn gix_validate_path(path: *const u8, path_len: size_t, flags: u32) -> u32;
-            fn gix_validate_path_offset(path: *const u8, path_len: size_t, flags: u32) -> size_t;
-            fn gix_validate_invalid_byte(name: *const u8, name_len: size_t) -> u32;
-            fn gix_validate_fault_offset(name: *const u8, name_len: size_t) -> size_t;
-            fn gix_validate_is_windows_device(name: *const u8, name_len: size_t) -> bool;
-            fn gix_validate_sanitize_in_place(
-                buffer: *mut u8,
-                buffer_len: size_t,
-                name_len: size_t,
-            ) -> size_t;
-            #[cfg(test)]
-            fn gix_validate_version() -> u32;
-        }
-    };
+    macro_rules! declare {
+        ($abi:literal) => {
+            extern $abi {
+                pub(super) fn gix_validate_tag(name: *const u8, name_len: size_t) -> u32;
+                pub(super) fn gix_validate_partial(name: *const u8, name_len: size_t) -> u32;
+                pub(super) fn gix_validate_full(name: *const u8, name_len: size_t) -> u32;
+                pub(super) fn gix_validate_branch(name: *const u8, name_len: size_t) -> u32;
+                pub(super) fn gix_validate_short_branch(name: *const u8, name_len: size_t) -> u32;
+                pub(super) fn gix_validate_submodule(name: *const u8, name_len: size_t) -> u32;
+                pub(super) fn gix_validate_component(name: *const u8, name_len: size_t, flags: u32) -> u32;
+                pub(super) fn gix_validate_path(path: *const u8, path_len: size_t, flags: u32) -> u32;
+                pub(super) fn gix_validate_path_offset(path: *const u8, path_len: size_t, flags: u32) -> size_t;
+                pub(super) fn gix_validate_invalid_byte(name: *const u8, name_len: size_t) -> u32;
+                pub(super) fn gix_validate_fault_offset(name: *const u8, name_len: size_t) -> size_t;
+                pub(super) fn gix_validate_is_windows_device(name: *const u8, name_len: size_t) -> bool;
+                pub(super) fn gix_validate_sanitize_in_place(
+                    buffer: *mut u8,
+                    buffer_len: size_t,
+                    name_len: size_t,
+                ) -> size_t;
+                #[cfg(test)]
+                pub(super) fn gix_validate_version() -> u32;
+            }
+        };
+    }
+
+    // The block is called as on Linux, whatever the system's own convention is.
+    #[cfg(target_arch = "x86_64")]
+    declare!("sysv64");
+    #[cfg(target_arch = "aarch64")]
+    declare!("C");
+
+    /// Panics on a processor that lacks what the block needs, before that would be an illegal instruction.
+    #[inline]
+    pub(super) fn check_processor() {
+        #[cfg(target_arch = "x86_64")]
+        assert!(
+            std::is_x86_feature_detected!("sse4.2"),
+            "the proved functions of gix-validate need a processor with SSE 4.2 (x86-64-v2), or the feature `portable`"
+        );
+    }
 }
 
-// The block is called as on Linux, whatever the system's own convention is.
-#[cfg(target_arch = "x86_64")]
-declare!("sysv64");
-#[cfg(not(target_arch = "x86_64"))]
-declare!("C");
+/// The functions in Rust, for all other targets. (In a clone release/portable makes them.)
+#[cfg(not(all(
+    not(feature = "portable"),
+    target_pointer_width = "64",
+    any(
+        target_arch = "x86_64",
+        all(target_arch = "aarch64", target_endian = "little")
+    )
+)))]
+#[allow(unused, clippy::all)]
+mod functions {
+    include!("../native/portable.rs");
+
+    pub(super) fn check_processor() {}
+}
+
+use functions::*;
 
 /// Whether a name is accepted, or the number of its fault.
 pub(crate) type Code = u32;
@@ -91,16 +113,6 @@ checks! {
     submodule: gix_validate_submodule();
     component: gix_validate_component(flags);
     path: gix_validate_path(flags);
-}
-
-/// Panics on a processor that lacks what the block needs, before that would be an illegal instruction.
-#[inline]
-fn check_processor() {
-    #[cfg(target_arch = "x86_64")]
-    assert!(
-        std::is_x86_feature_detected!("sse4.2"),
-        "the proved functions of gix-validate need a processor with SSE 4.2 (x86-64-v2)"
-    );
 }
 
 #[inline]
@@ -145,7 +157,7 @@ pub(crate) fn sanitized(name: &BStr) -> BString {
 }
 
 #[test]
-fn the_block_has_the_version_of_the_crate() {
+fn the_functions_have_the_version_of_the_crate() {
     let version = env!("CARGO_PKG_VERSION")
         .rsplit("dihareku.")
         .next()

@@ -1,0 +1,127 @@
+"""The functions as they are translated to C for other targets."""
+import os
+import random
+import re
+
+import pytest
+
+from . import comparing, other_translator
+from .tools import (
+    BINDINGS,
+    CC,
+    HEADER,
+    OUT,
+    PORTABLE,
+    PORTABLE_MODULE,
+    ROWS,
+    STRICT,
+    need,
+    output,
+    rows,
+    run,
+)
+
+SOURCE = BINDINGS / "c/rows.c"
+ALL_HOLD = f"{len(rows())} rows, 0 wrong\n"
+# The tests of a processor run where its compiler is, and the name of qemu's program.
+PROCESSORS = {
+    "aarch64": "qemu-aarch64",
+    "i686": "qemu-i386",
+    "riscv64": "qemu-riscv64",
+    "s390x": "qemu-s390x",
+}
+# What MSVC's C library has for these functions.
+HEADERS = {
+    "string.h": "#include <stddef.h>\n"
+    "size_t strlen(const char *); void *memmove(void *, const void *, size_t); void *memset(void *, int, size_t);\n",
+    "stdlib.h": "__declspec(noreturn) void abort(void);\n",
+}
+
+
+@pytest.fixture(autouse=True)
+def it_is_translated():
+    need(PORTABLE)
+
+
+def replayed(tmp_path, compiler, *flags, by=(), env=None):
+    """What the program for the rows says, as this compiler builds it with the functions."""
+    program, functions = tmp_path / "rows.exe", tmp_path / "functions.o"
+    run(*compiler, "-std=c99", "-c", *STRICT, "-o", functions, PORTABLE)
+    words = ["-std=gnu11", f"-I{HEADER.parent}", "-o", program, *flags]
+    run(*compiler, *words, SOURCE, functions)
+    return output(*by, program, ROWS, env=env and {**os.environ, **env})
+
+
+def test_the_rows_hold_as_clang_builds_the_functions(tmp_path):
+    need("clang")
+    assert replayed(tmp_path, ["clang", "-O1"]) == ALL_HOLD
+
+
+@pytest.mark.parametrize("processor", PROCESSORS)
+def test_the_rows_hold_on_another_processor(processor, tmp_path):
+    compiler, emulator = f"{processor}-linux-gnu-gcc", PROCESSORS[processor]
+    need(compiler, emulator)
+    assert replayed(tmp_path, [compiler, "-O1"], "-static", by=[emulator]) == ALL_HOLD
+
+
+@pytest.mark.parametrize("convention", [[], ["-DGIX_VALIDATE_PORTABLE"]])
+def test_the_rows_hold_on_windows_by_either_convention(convention, tmp_path, wine):
+    words = ["-O0", f"-I{SOURCE.parent}/windows", *convention]
+    compiler = ["x86_64-w64-mingw32-gcc", *words]
+    assert replayed(tmp_path, compiler, by=["wine"], env=wine) == ALL_HOLD
+
+
+def test_the_rows_hold_with_sanitizers(tmp_path):
+    flags = ["-fsanitize=address,undefined", "-fno-sanitize-recover"]
+    assert replayed(tmp_path, [CC, *flags]) == ALL_HOLD
+
+
+@pytest.mark.parametrize("processor", ["x86_64", "i686", "aarch64"])
+def test_the_compiler_of_msvc_takes_the_functions_and_warns_of_nothing(
+    processor, tmp_path
+):
+    # (clang's mode for MSVC's options stands in for the compiler itself.)
+    need("clang")
+    for name, text in HEADERS.items():
+        (tmp_path / name).write_text(text)
+    words = ["clang", "--driver-mode=cl", f"--target={processor}-pc-windows-msvc"]
+    words += ["/c", "/W4", "/WX", "-fmsc-version=1937", "/clang:-ffreestanding"]
+    words += [f"/I{tmp_path}", f"/I{HEADER.parent}", "/DGIX_VALIDATE_PORTABLE"]
+    run(*words, f"/Fo{tmp_path}/functions.obj", PORTABLE)
+    assert (tmp_path / "functions.obj").stat().st_size > 10_000
+
+
+@pytest.fixture(scope="module")
+def libraries(tmp_path_factory):
+    """The functions as shared objects: as machine code, translated, and by wasm2c."""
+    need("wasm2c", "wat2wasm", PORTABLE_MODULE)
+    folder = tmp_path_factory.mktemp("libraries")
+    shared = [CC, "-O1", f"-I{HEADER.parent}", "-shared", "-fPIC", "-o"]
+    run(*shared, folder / "translated.so", PORTABLE)
+    other = other_translator.write(PORTABLE_MODULE, folder)
+    run(*shared, folder / "by_wasm2c.so", f"-I{folder}", other)
+    names = ["translated.so", "by_wasm2c.so"]
+    return [OUT / "libgix_validate_c.so", *(folder / it for it in names)]
+
+
+@pytest.mark.parametrize("library", [1, 2], ids=["translated", "by wasm2c"])
+def test_the_rows_hold_as_either_translator_has_the_functions(
+    library, libraries, tmp_path
+):
+    file = libraries[library]
+    program, path = tmp_path / "rows", f"-Wl,-rpath,{file.parent}"
+    run(CC, "-std=gnu11", *STRICT, "-o", program, SOURCE, file, path)
+    assert output(program, ROWS) == ALL_HOLD
+
+
+def test_a_million_names_have_the_results_of_machine_code_and_of_another_translator(
+    libraries, tmp_path
+):
+    (tmp_path / "compare.c").write_text(comparing.program())
+    program = tmp_path / "compare"
+    words = ["-O2", f"-I{HEADER.parent}", "-o", program, tmp_path / "compare.c", "-ldl"]
+    run(CC, *words)
+    seed = random.getrandbits(63)
+    faults = re.search(r"(?s)enum gix_validate_fault \{(.*?)\n\};", HEADER.read_text())
+    said = output(program, 1_000_000, seed, *libraries)
+    assert said == f"0 differ, {faults[1].count(' = ') - 1} faults\n"

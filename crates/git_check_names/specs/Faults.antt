@@ -6,8 +6,8 @@ use Rattle.gix_validate.specs.declared.reference.NameError.{NameError as Referen
 use Rattle.gix_validate.specs.declared.path.ComponentError.TheVariants as part
 use Rattle.gix_validate.specs.declared.reference.NameError.TheVariants as reference
 use Rattle.gix_validate.specs.declared.submodule.NameError.TheVariants as submodule
-use Rattle.git_names.specs.declared.branch.ShortNameError.TheVariants as short
-use Rattle.git_names.specs.declared.path.PathError.TheVariants as whole
+use Rattle.git_names.specs.declared.branches.ShortNameError.TheVariants as short
+use Rattle.git_names.specs.declared.paths.PathError.TheVariants as whole
 use Rattle.gix_validate.specs.Component
 use Rattle.gix_validate.specs.Reference
 use Rattle.gix_validate.specs.Submodule

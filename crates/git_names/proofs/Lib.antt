@@ -1,5 +1,6 @@
 pub mod ShortNameLemmas
 pub mod PathLemmas
+pub mod SafeRefLemmas
 pub mod SlashLemmas
 pub mod JoinLemmas
 mod Rows

@@ -26,8 +26,8 @@ use Rattle.git_names.proofs.SlashLemmas.{last_piece_from, piece_from}
 use Rattle.git_names.specs.Private.Slashes.{IsFirstSlash, NoSlash}
 use Rattle.git_names.specs.Paths.{are_components, is_path, part_fault_of, fault_from, fault_of}
 use Rattle.git_names.specs.Paths.{offset_of}
-use Rattle.git_names.specs.declared.path.PathError.{PathError}
-use Rattle.git_names.specs.declared.path.PathError.TheVariants.{InvalidPart}
+use Rattle.git_names.specs.declared.paths.PathError.{PathError}
+use Rattle.git_names.specs.declared.paths.PathError.TheVariants.{InvalidPart}
 
 -- no component is empty
 empty_component : (options : ComponentOptions) (mode : Option ComponentMode)

@@ -11,8 +11,8 @@ use Rattle.gix_validate.specs.declared.reference.NameError.TheVariants as refere
 use Rattle.git_names.specs.Paths.{is_path, fault_of as path_fault_of, text_of as path_text_of}
 use Rattle.git_names.specs.ShortNames.{full_name, is_short_name, fault_of as short_fault_of}
 use Rattle.git_names.specs.ShortNames.{text_of as short_text_of}
-use Rattle.git_names.specs.declared.branch.ShortNameError.TheVariants.{Name, StartsWithDash}
-use Rattle.git_names.specs.declared.path.PathError.TheVariants.{EmptyPart, InvalidPart}
+use Rattle.git_names.specs.declared.branches.ShortNameError.TheVariants.{Name, StartsWithDash}
+use Rattle.git_names.specs.declared.paths.PathError.TheVariants.{EmptyPart, InvalidPart}
 
 -- paths of symlinks under every switch
 paths : Judges (path_fault_of all_protections (Some Symlink)) (is_path all_protections (Some Symlink))

@@ -1,3 +1,4 @@
 pub mod ShortNames
 pub mod Paths
+pub mod SafeRefs
 pub mod Private

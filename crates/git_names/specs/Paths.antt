@@ -8,8 +8,8 @@ use Rattle.gix_validate.specs.Faults.{when, ◌orelse◌}
 use Rattle.gix_validate.specs.Pieces.{pieces}
 use Rattle.gix_validate.specs.declared.path.ComponentMode.{ComponentMode}
 use Rattle.gix_validate.specs.declared.path.ComponentOptions.{ComponentOptions}
-use Rattle.git_names.specs.declared.path.PathError.{PathError}
-use Rattle.git_names.specs.declared.path.PathError.TheVariants.{EmptyPart, InvalidPart}
+use Rattle.git_names.specs.declared.paths.PathError.{PathError}
+use Rattle.git_names.specs.declared.paths.PathError.TheVariants.{EmptyPart, InvalidPart}
 
 -- these parts are components: the last one under the mode, the others without one
 abbrev pub are_components : ComponentOptions → Option ComponentMode → List (List ℕ) → Bool

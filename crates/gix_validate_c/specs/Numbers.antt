@@ -9,10 +9,10 @@ use Rattle.gix_validate.specs.declared.tag.NameError.TheVariants as tag
 use Rattle.gix_validate.specs.declared.reference.NameError.TheVariants as reference
 use Rattle.gix_validate.specs.declared.submodule.NameError.TheVariants as submodule
 use Rattle.gix_validate.specs.declared.path.ComponentError.TheVariants as path
-use Rattle.git_names.specs.declared.branch.ShortNameError.{ShortNameError}
-use Rattle.git_names.specs.declared.branch.ShortNameError.TheVariants as short
-use Rattle.git_names.specs.declared.path.PathError.{PathError}
-use Rattle.git_names.specs.declared.path.PathError.TheVariants as whole
+use Rattle.git_names.specs.declared.branches.ShortNameError.{ShortNameError}
+use Rattle.git_names.specs.declared.branches.ShortNameError.TheVariants as short
+use Rattle.git_names.specs.declared.paths.PathError.{PathError}
+use Rattle.git_names.specs.declared.paths.PathError.TheVariants as whole
 
 -- the number of a fault, or 0 where there is none
 abbrev pub code_by : {E : Type 0} → (E → ℕ) → Option E → ℕ

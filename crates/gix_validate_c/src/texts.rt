@@ -22,8 +22,7 @@ use crate::flags::{mode_of, options_of};
 use crate::names::checked_path;
 use arrayvec::ArrayString;
 use bstr::BStr;
-use git_names::branch::short_name;
-use git_names::path::PathError;
+use git_names::PathError;
 use gix_validate::path::ComponentError;
 pub use gix_validate::text::MAX_TEXT;
 use gix_validate::text::{Text, escape};
@@ -113,7 +112,7 @@ pub extern "C" fn gix_validate_short_branch_text(name: &[u8], text: &mut [u8]) -
     ensures none { (result ≡ 0) ↔ IsTrue (short.is_short_name name.now) }
     ensures longest { result ≤ MAX_TEXT }
 {
-    match short_name(BStr::new(name)) {
+    match git_names::branch(BStr::new(name)) {
         Ok(_) => 0,
         Err(fault) => write_text(fault.text(), text),
     }

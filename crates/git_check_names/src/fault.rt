@@ -104,6 +104,7 @@ pub fn fault_word(fault: Fault) -> &'static str
         Fault::Branch(ShortNameError::StartsWithDash) => "StartsWithDash",
         Fault::Path(PathError::EmptyPart { .. }) => "EmptyPart",
         Fault::Path(PathError::InvalidPart { error, .. }) => component_word(error),
+        Fault::Path(PathError::Nul { .. }) => "Nul",
         Fault::Tag(fault) => reference_word(fault.into()),
         Fault::Reference(fault) => reference_word(fault),
         Fault::Submodule(submodule::NameError::Empty) => "Empty",

@@ -2,5 +2,9 @@ pub mod ShortNameLemmas
 pub mod PathLemmas
 pub mod SafeRefLemmas
 pub mod SlashLemmas
+pub mod SubmoduleLemmas
+pub mod SuggestionLemmas
+pub mod SuggestionLaws
+pub mod NulLemmas
 pub mod JoinLemmas
 mod Rows

@@ -3,7 +3,7 @@ use Rattle.gix_validate.proofs.Common.{◌≡◌, ℕ, List, None, arith, is_non
 use Rattle.gix_validate.proofs.TagNames.Grammar.{tag_grammar_law}
 use Rattle.gix_validate.specs.Reference.{full_fault_of, is_full_name, is_partial_name, partial_fault_of}
 use Rattle.gix_validate.specs.declared.path.ComponentOptions.{ComponentOptions}
-use Rattle.git_names.proofs.PathLemmas.{path_grammar_law}
+use Rattle.git_names.proofs.NulLemmas.{path_grammar_law}
 use Rattle.git_names.specs.SafeRefs.{fault_of, is_safe_ref}
 
 -- a text is a full name if and only if it has no fault

@@ -63,6 +63,12 @@ pub tag_is_branch : (x : List ℕ) → is_short_tag x ≡ is_short_name x
 unfolding is_short_tag is_short_name is_full_name is_partial_name
 tag_is_branch x = grind (arith, branch_full x, tag_full_tag x, slashed_tag x, not_at_tag x)
 
+-- a short name is a tag name other than `HEAD` that doesn't begin with a dash
+pub short_parts : (x : List ℕ)
+    → is_short_name x ≡ (is_tag_name x && not (bytes_eq x (codes "HEAD")) && not (begins x (codes "-")))
+unfolding is_short_name
+short_parts x = grind (arith, branch_full x)
+
 -- A text is the short name of a branch if and only if it has no fault.
 pub short_grammar_law : (x : List ℕ) → is_short_name x ≡ is_none (fault_of x)
 unfolding is_short_name fault_of

@@ -1,4 +1,6 @@
 pub mod ShortNames
 pub mod Paths
 pub mod SafeRefs
+pub mod Submodules
+pub mod Suggestions
 pub mod Private

@@ -9,6 +9,7 @@
 //! | [`safe_ref`] | full names that a store may use as paths |
 //! | [`partial`], [`tag_name`] | names that are a part of a full name |
 //! | [`path`] | whole paths, as `src/main.rs` |
+//! | [`submodule`] | submodule names |
 //! | [`component`], [`symlink`] | names of files and directories, and of symbolic links |
 //!
 //! The rules of [`branch_ref`], [`reference`], [`partial`] and [`tag_name`] are functions of
@@ -20,6 +21,8 @@ mod branches;
 mod components;
 mod paths;
 mod references;
+mod submodules;
+mod suggestions;
 mod tags;
 
 pub use branches::{Short, ShortName, ShortNameError, branch, full_name};
@@ -30,4 +33,6 @@ pub use gix_validate::reference::{
 pub use gix_validate::tag::name as tag_name;
 pub use paths::{PathError, join, path};
 pub use references::{SafeRefError, safe_ref};
+pub use submodules::{SubmoduleError, submodule};
+pub use suggestions::{suggest, suggest_into};
 pub use tags::tag;

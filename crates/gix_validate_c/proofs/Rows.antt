@@ -53,7 +53,8 @@ numbers_of_short_names : map short_name_number (short.StartsWithDash ∷ short.N
     ≡ 22 ∷ 11 ∷ []
 numbers_of_short_names = refl
 
-numbers_of_paths : map path_number (whole.EmptyPart 7 ∷ whole.InvalidPart 7 path.Relative ∷ []) ≡ 23 ∷ 21 ∷ []
+numbers_of_paths : map path_number (whole.EmptyPart 7 ∷ whole.InvalidPart 7 path.Relative ∷ whole.Nul 7 ∷ [])
+    ≡ 23 ∷ 21 ∷ 24 ∷ []
 numbers_of_paths = refl
 
 -- what else is a number

@@ -70,10 +70,11 @@ abbrev pub short_name_number : ShortNameError → ℕ
 short_name_number (short.Name e) = reference_number e
 short_name_number short.StartsWithDash = 22
 
--- Those of whole paths: faults of components keep their numbers, and there is one more.
+-- Those of whole paths: faults of components keep their numbers, and there are two more.
 abbrev pub path_number : PathError → ℕ
 path_number (whole.InvalidPart at e) = component_number e
 path_number (whole.EmptyPart at) = 23
+path_number (whole.Nul at) = 24
 
 -- the byte of the fault `InvalidByte`, and 256, which is not a byte, where there is no such fault
 abbrev pub invalid_byte_of : Option TagError → ℕ

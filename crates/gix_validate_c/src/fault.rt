@@ -96,6 +96,7 @@ impl Fault for PathError {
         match self {
             Self::EmptyPart { .. } => 23,
             Self::InvalidPart { error, .. } => error.number(),
+            Self::Nul { .. } => 24,
         }
     }
 }

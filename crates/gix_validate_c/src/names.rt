@@ -159,7 +159,7 @@ pub extern "C" fn gix_validate_component(name: &[u8], flags: u32) -> u32
 }
 
 /// Returns 0 if it is a valid path, whose parts are separated by slashes, otherwise the number of the
-/// fault of its first part that has one (docs/RULES.md, "Whole paths").
+/// fault of its first part that has one, or that of a NUL (docs/RULES.md, "Whole paths").
 ///
 /// The flags are those of [`gix_validate_component`]; 8 is for the last part alone.
 ///
@@ -174,13 +174,14 @@ pub extern "C" fn gix_validate_path(path: &[u8], flags: u32) -> u32
     ensures answer { result
         ≡ code_by path_number (paths.fault_of (options_of flags) (mode_of flags) path.now) }
     ensures grammar { (result ≡ 0) ↔ IsTrue (paths.is_path (options_of flags) (mode_of flags) path.now) }
-    ensures range { (result ≡ 0) ⊎ ((15 ≤ result) × (result ≤ 21)) ⊎ (result ≡ 23) }
+    ensures range { (result ≡ 0) ⊎ ((15 ≤ result) × (result ≤ 21)) ⊎ (result ≡ 23) ⊎ (result ≡ 24) }
 {
     code(git_names::path(BStr::new(path), mode_of(flags), options_of(flags))).into()
 }
 
 /// Returns the offset in bytes of the part for which [`gix_validate_path`] refuses the path, and the
-/// length of the path if it is valid. An empty part at the end has that offset, too.
+/// length of the path if it is valid. An empty part at the end has that offset, too. Of a NUL it is
+/// the offset of the first one.
 ///
 /// ```c
 /// gix_validate_path_offset((const uint8_t *)"src/.git/a", 10, 7); // 4

@@ -157,7 +157,8 @@ pub extern "C" fn gix_validate_component_text(name: &[u8], flags: u32, text: &mu
     }
 }
 
-/// Writes the text of the fault of a path under these flags: that of its first part that has one.
+/// Writes the text of the fault of a path under these flags: that of its first part that has one,
+/// or that it has a NUL.
 ///
 /// ```c
 /// gix_validate_path_text((const uint8_t *)"a//b", 4, 7, text, sizeof text); // 73
@@ -176,6 +177,11 @@ pub extern "C" fn gix_validate_path_text(path: &[u8], flags: u32, text: &mut [u8
         Err(PathError::InvalidPart { error, .. }) => write_component_text(error, text),
         Err(PathError::EmptyPart { .. }) => {
             let words = "A path must not be empty, start or end with a slash, or have two in a row";
+            let quoted = None;
+            write_text(Text { words, quoted }, text)
+        }
+        Err(PathError::Nul { .. }) => {
+            let words = "A path must not have a NUL byte";
             let quoted = None;
             write_text(Text { words, quoted }, text)
         }

@@ -130,6 +130,10 @@ const PATHS: &[(&str, &[u8], usize, Names)] = &[
     ("--n-", b"DotGitDir", 16, b"0123456789abcde/git~1"),
     ("--n-", b"DotGitDir", 34, b"0123456789abcdef/0123456789abcdef/git~1/x"),
     ("-h--", b"DotGitDir", 2, b"a/.g\xE2\x80\x8Cit/x"),
+    ("----", b"Nul", 4, b".git\0x,.git\0,.git\0/b\0,src/\0"),
+    ("w---", b"Nul", 1, b"a\0b"),
+    ("-hns", b"Nul", 18, b"a-longer-folder16/\0"),
+    ("w-n-", b"WindowsIllegalCharacter", 2, b"a/.git\0x"),
 ];
 
 /// Checks what the function returns for a path under these settings.
@@ -151,8 +155,8 @@ fn expect_whole(
 
 /// Checks the error, which prints the text of the error in it.
 fn expect_path_error(rt: &impl Host, call: (&str, &[u8]), fault: Fault<'_>, error: &PathError) {
-    let is_empty = fault.0 == b"EmptyPart".as_slice();
-    let texts = if is_empty {
+    let is_own = fault.0 == b"EmptyPart".as_slice() || fault.0 == b"Nul".as_slice();
+    let texts = if is_own {
         path_texts()
     } else {
         component_texts()
@@ -163,6 +167,7 @@ fn expect_path_error(rt: &impl Host, call: (&str, &[u8]), fault: Fault<'_>, erro
             expect_error(rt, call, (component_texts(), fault), error);
         }
         PathError::EmptyPart { .. } => expect(rt, call, fault.0, b"EmptyPart"),
+        PathError::Nul { .. } => expect(rt, call, fault.0, b"Nul"),
     }
 }
 

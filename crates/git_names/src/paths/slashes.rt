@@ -33,7 +33,7 @@ pub(super) fn slashes_of(text: &[u8]) -> u64
 /// The offset of the first slash from this one on. The last block overlaps the one before it, since
 /// most parts are shorter than a block.
 #[inline(always)]
-pub(super) fn first_slash(text: &[u8], start: usize) -> Option<usize>
+pub(crate) fn first_slash(text: &[u8], start: usize) -> Option<usize>
     requires { start ≤ length text.now }
     ensures { MatchOption result
         (NoSlash text.now start (length text.now))

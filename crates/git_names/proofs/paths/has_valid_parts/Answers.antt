@@ -1,10 +1,10 @@
 use Rattle.gix_validate.proofs.Common.{◌≡◌, ◌+◌, ◌-◌, ◌&&◌, ◌∙◌, true, false, None, ap, arith, drop}
 use Rattle.gix_validate.proofs.Common.{length, sym, take}
 use Rattle.gix_validate.specs.Component.{is_component}
-use Rattle.git_names.specs.Paths.{is_path}
+use Rattle.git_names.specs.Paths.{has_valid_parts}
 use Rattle.git_names.proofs.PathLemmas.{path_by_first_part, path_of_one_part}
 use Rattle.git_names.proofs.SlashLemmas.{first_marked, marks_after, none_marked}
-use Rattle.git_names.proofs.paths.is_short_path.Goals as goal
+use Rattle.git_names.proofs.paths.has_valid_parts.Goals as goal
 
 pub returns-then-not-is_component : goal.returns-then-not-is_component
 returns-then-not-is_component c =
@@ -19,7 +19,7 @@ returns-then-not-is_component c =
     grind (arith, c.is_component.ensures, c.if-not-is_component.true) in
     sym (
     c.loop-slashes.invariant.same ∙ path_by_first_part options c.args.mode rest end first
-    ∙ ap (λ t. t && is_path options c.args.mode after) invalid
+    ∙ ap (λ t. t && has_valid_parts options c.args.mode after) invalid
     )
 
 pub loop-slashes-preserved : goal.loop-slashes-preserved
@@ -37,7 +37,7 @@ loop-slashes-preserved c =
       marks = marks_after rest c.loop-slashes.slashes end marks;
       same =
           c.loop-slashes.invariant.same ∙ path_by_first_part options c.args.mode rest end first
-          ∙ ap (λ t. t && is_path options c.args.mode after) valid;
+          ∙ ap (λ t. t && has_valid_parts options c.args.mode after) valid;
     }
 
 pub returns : goal.returns

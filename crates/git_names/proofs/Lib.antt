@@ -6,5 +6,6 @@ pub mod SubmoduleLemmas
 pub mod SuggestionLemmas
 pub mod SuggestionLaws
 pub mod NulLemmas
+pub mod OffsetLemmas
 pub mod JoinLemmas
 mod Rows

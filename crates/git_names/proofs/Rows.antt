@@ -1,5 +1,5 @@
 -- Paths and short names of branches: the definitions computed on literals.
-use Rattle.gix_validate.proofs.Common.{[], ◌∷◌, ◌++◌, Some, None, codes, false, refl, true}
+use Rattle.gix_validate.proofs.Common.{[], ◌∷◌, ◌++◌, ◌≡◌, ℕ, List, Option, Some, None, codes, false, map, option_map, refl, true}
 use Rattle.gix_validate.proofs.OnLiterals.{names_on_literals, components_on_literals}
 use Rattle.gix_validate.proofs.Rows.Tables.{Gives, Judges}
 use Rattle.gix_validate.specs.Component.{all_protections}
@@ -13,6 +13,8 @@ use Rattle.gix_validate.specs.declared.path.ComponentMode.TheVariants.{Symlink}
 use Rattle.gix_validate.specs.declared.path.ComponentOptions.{ComponentOptions}
 use Rattle.gix_validate.specs.declared.reference.NameError.TheVariants as reference
 use Rattle.gix_validate.specs.declared.submodule.NameError.TheVariants.{ParentComponent}
+use Rattle.gix_validate.specs.Tag.{fault_offset_of as tag_fault_offset_of}
+use Rattle.git_names.specs.Kinds.{fault_of}
 use Rattle.git_names.specs.Paths.{is_path, fault_of as path_fault_of, has_valid_parts}
 use Rattle.git_names.specs.Paths.{parts_fault_of, text_of as path_text_of}
 use Rattle.git_names.specs.SafeRefs.{fault_of as safe_fault_of, is_safe_ref, is_set_apart}
@@ -21,6 +23,8 @@ use Rattle.git_names.specs.ShortNames.{full_name, is_short_name, fault_of as sho
 use Rattle.git_names.specs.ShortNames.{text_of as short_text_of}
 use Rattle.git_names.specs.Suggestions.{repaired, suggested_piece, suggestion, trimmed}
 use Rattle.git_names.specs.declared.branches.ShortNameError.TheVariants.{Name, StartsWithDash}
+use Rattle.git_names.specs.declared.faults.Kind.{Kind}
+use Rattle.git_names.specs.declared.faults.Kind.TheVariants as kind
 use Rattle.git_names.specs.declared.paths.PathError.TheVariants.{EmptyPart, InvalidPart, Nul}
 use Rattle.git_names.specs.declared.references.SafeRefError.TheVariants as safe
 use Rattle.git_names.specs.declared.references.SafeRefError.TheVariants.{OutsideRefs, Piece}
@@ -135,6 +139,35 @@ suggestions = refl
 full_names : Gives full_name ((codes "main", codes "refs/heads/main") ∷ ([], codes "refs/heads/") ∷ [])
 unfolding full_name
 full_names = refl
+
+-- where a name's error is, as a name of a kind, under every switch
+faults : (kind : Kind) → List ℕ → Option ℕ
+faults kind x = option_map (λ f. f.offset) (fault_of all_protections kind x)
+
+offsets : map (λ (row : Kind × List ℕ). faults row.0 row.1)
+    ((kind.Branch, codes "main")
+    ∷ (kind.Branch, codes "a b")
+    ∷ (kind.Branch, codes "HEAD")
+    ∷ (kind.Branch, codes "-d")
+    ∷ (kind.Branch, codes "topic.lock")
+    ∷ (kind.Reference, codes "HEAd")  -- the first byte that may not stand alone
+    ∷ (kind.Reference, codes "x.lock/y")
+    ∷ (kind.SafeRef, codes "hooks/a")
+    ∷ (kind.SafeRef, codes "refs/heads/a./b")
+    ∷ (kind.Component, codes "aux.c:1")
+    ∷ (kind.Component, codes "a?b")
+    ∷ (kind.Component, codes "ab. .")  -- the dots and spaces at the end
+    ∷ (kind.Component, codes "a\\b")
+    ∷ (kind.Component, codes "C:a")
+    ∷ (kind.Path, codes "src/a?b/c")
+    ∷ (kind.Path, codes "src//b")
+    ∷ (kind.Submodule, codes "a\\..")
+    ∷ (kind.Submodule, codes "a..b/../..")
+    ∷ [])
+    ≡ None ∷ Some 1 ∷ Some 0 ∷ Some 0 ∷ Some 5 ∷ Some 3 ∷ Some 1 ∷ Some 0 ∷ Some 12 ∷ Some 0 ∷ Some 1 ∷ Some 2
+    ∷ Some 1 ∷ Some 1 ∷ Some 5 ∷ Some 4 ∷ Some 2 ∷ Some 5 ∷ []
+unfolding faults tag_fault_offset_of short_fault_of safe_fault_of is_set_apart submodule_fault_of is_disguised is_path has_valid_parts path_fault_of parts_fault_of names_on_literals components_on_literals
+offsets = refl
 
 -- what errors print: the error of the part or of the name, and two texts more
 printed_of_paths : Gives path_text_of

@@ -1,5 +1,7 @@
 pub mod ShortNames
 pub mod Paths
+pub mod Offsets
+pub mod Kinds
 pub mod SafeRefs
 pub mod Submodules
 pub mod Suggestions

@@ -19,6 +19,8 @@
 
 mod branches;
 mod components;
+mod faults;
+mod offsets;
 mod paths;
 mod references;
 mod submodules;
@@ -27,6 +29,7 @@ mod tags;
 
 pub use branches::{Short, ShortName, ShortNameError, branch, full_name};
 pub use components::{component, symlink};
+pub use faults::{Fault, Kind, Reason, check};
 pub use gix_validate::reference::{
     branch_name as branch_ref, name as reference, name_partial as partial,
 };

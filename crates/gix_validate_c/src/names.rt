@@ -98,7 +98,7 @@ pub extern "C" fn gix_validate_branch(name: &[u8]) -> u32
 }
 
 /// Returns 0 if it is a valid short name of a branch, otherwise its fault's number (docs/RULES.md,
-/// "Short branch names").
+/// "Short names").
 ///
 /// ```c
 /// gix_validate_short_branch((const uint8_t *)"main", 4); // 0

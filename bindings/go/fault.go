@@ -35,6 +35,7 @@ const (
 	Relative                Fault = 21 // it is . or ..
 	StartsWithDash          Fault = 22 // it starts with a dash, as an option of a command does
 	EmptyPart               Fault = 23 // a part is empty: a slash is first or last, or follows another one, or the path is empty
+	Nul                     Fault = 24 // it has a NUL byte, although each part is a component
 )
 
 var faultNames = [...]string{
@@ -42,7 +43,7 @@ var faultNames = [...]string{
 	"InvalidByte", "StartsWithSlash", "RepeatedSlash", "RepeatedDot", "LockFileSuffix", "ReflogPortion", "Asterisk",
 	"StartsWithDot", "EndsWithDot", "EndsWithSlash", "Empty", "SomeLowercase", "Reserved", "ParentComponent",
 	"PathSeparator", "WindowsPathPrefix", "WindowsReservedName", "WindowsIllegalCharacter", "DotGitDir",
-	"SymlinkedGitModules", "Relative", "StartsWithDash", "EmptyPart",
+	"SymlinkedGitModules", "Relative", "StartsWithDash", "EmptyPart", "Nul",
 }
 
 // String is the fault's name, such as RepeatedDot, and Valid for 0.

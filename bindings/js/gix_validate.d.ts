@@ -24,7 +24,7 @@ export type Fault =
     | "InvalidByte" | "StartsWithSlash" | "RepeatedSlash" | "RepeatedDot" | "LockFileSuffix" | "ReflogPortion" | "Asterisk"
     | "StartsWithDot" | "EndsWithDot" | "EndsWithSlash" | "Empty" | "SomeLowercase" | "Reserved" | "ParentComponent"
     | "PathSeparator" | "WindowsPathPrefix" | "WindowsReservedName" | "WindowsIllegalCharacter" | "DotGitDir"
-    | "SymlinkedGitModules" | "Relative" | "StartsWithDash" | "EmptyPart";
+    | "SymlinkedGitModules" | "Relative" | "StartsWithDash" | "EmptyPart" | "Nul";
 
 // clang-format on
 

@@ -16,7 +16,7 @@ export const FAULTS = Object.freeze([null,
     "InvalidByte", "StartsWithSlash", "RepeatedSlash", "RepeatedDot", "LockFileSuffix", "ReflogPortion", "Asterisk",
     "StartsWithDot", "EndsWithDot", "EndsWithSlash", "Empty", "SomeLowercase", "Reserved", "ParentComponent",
     "PathSeparator", "WindowsPathPrefix", "WindowsReservedName", "WindowsIllegalCharacter", "DotGitDir",
-    "SymlinkedGitModules", "Relative", "StartsWithDash", "EmptyPart"
+    "SymlinkedGitModules", "Relative", "StartsWithDash", "EmptyPart", "Nul"
 ]);
 // clang-format on
 const INVALID_BYTE = 1;

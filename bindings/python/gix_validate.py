@@ -132,6 +132,7 @@ class Fault(enum.Enum):
     RELATIVE = 21, "it is . or .."
     STARTS_WITH_DASH = 22, "it starts with a dash, as an option of a command does"
     EMPTY_PART = 23, "a part is empty: a slash is first or last, or follows another one, or the path is empty"
+    NUL = 24, "it has a NUL byte, although each part is a component"
 
     text: str
     # fmt: on

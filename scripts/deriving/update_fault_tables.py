@@ -21,11 +21,11 @@ TYPES = {
     "submodule::NameError": "submodule",
     "path::ComponentError": "component",
 }
-# Types whose other errors are those of one above: where each is, its spec, and the name
-# that its numbers have.
+# Types whose other errors are those of one above: the module and the spec of each, and the
+# name that its numbers have.
 WRAPPERS = {
-    "branch::ShortNameError": ("ShortNames", "short_name"),
-    "path::PathError": ("Paths", "path"),
+    "git_names::ShortNameError": ("branches", "ShortNames", "short_name"),
+    "git_names::PathError": ("paths", "Paths", "path"),
 }
 # What the documentation of each error of the Rust crate says.
 RUST_ERRORS = {
@@ -80,7 +80,7 @@ def faults_of(type):
 
 def own_faults_of(type):
     """The faults that a type has besides those of the one that it wraps."""
-    (module, _), (spec, name) = type.split("::"), WRAPPERS[type]
+    module, spec, name = WRAPPERS[type]
     path = f"crates/git_names/specs/{spec}.antt"
     source = read(f"crates/git_names/src/{module}.rt")
     numbers = re.findall(

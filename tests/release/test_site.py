@@ -52,7 +52,7 @@ def test_the_search_finds_a_heading_of_another_page_from_a_disk(site, room):
     opened = shown(f"{front}?q=short%20branch", room)
     assert opened.status == 0
     found = re.findall('href="([^"]*)" class="md-search-result__link"', opened.said)
-    assert (site.path / "docs/RULES.html").as_uri() + "#short-branch-names" in found
+    assert (site.path / "docs/RULES.html").as_uri() + "#short-names" in found
 
 
 def test_each_link_leads_to_a_page_and_to_an_anchor_of_it(site):

@@ -12,7 +12,7 @@ from tests.scripts.copies import ROOT
 
 PAGE = "docs/PUBLIC_API.md"
 CHECK = "crates/check_push/src/refs/check.rt"
-BRANCH = "crates/git_names/src/branch.rt"
+BRANCH = "crates/git_names/src/branches.rt"
 SHORT = "crates/git_names/specs/ShortNames.antt"
 
 
@@ -79,14 +79,16 @@ def test_a_clause_that_cites_another_definition_by_the_same_name_is_shown(copy):
 
 def test_a_definition_that_cites_another_one_by_the_same_name_is_shown(copy):
     copy.change(
-        SHORT, r"is_branch_name, reserved", "is_full_name as is_branch_name, reserved"
+        SHORT,
+        r"is_branch_name, is_full_name, reserved",
+        "is_partial_name as is_branch_name, is_full_name, reserved",
     )
     before, after = [it for it in difference(copy) if "is_branch_name" in it]
     assert before.startswith(
         "-use gix_validate.specs.Reference: carried, is_branch_name,"
     )
     assert after.startswith(
-        "+use gix_validate.specs.Reference: carried, is_full_name as is_"
+        "+use gix_validate.specs.Reference: carried, is_full_name, is_partial_name as is_"
     )
 
 

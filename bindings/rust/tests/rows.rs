@@ -48,6 +48,7 @@ fn whole(name: &BStr, settings: &str) -> (String, String) {
         Err(path::whole::Error::EmptyPart { .. }) => {
             ("EmptyPart".into(), printed.clone().unwrap_or_default())
         }
+        Err(path::whole::Error::Nul { .. }) => ("Nul".into(), printed.clone().unwrap_or_default()),
         given => answer(name, given),
     };
     assert_eq!(printed.unwrap_or_default(), text);

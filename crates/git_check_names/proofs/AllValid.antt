@@ -12,7 +12,7 @@ use Rattle.gix_validate.specs.Submodule.{is_submodule_name, fault_of as submodul
 use Rattle.gix_validate.specs.Pieces.{names_in}
 use Rattle.gix_validate.specs.declared.path.ComponentOptions.{ComponentOptions}
 use Rattle.git_names.proofs.ShortNameLemmas.{short_grammar_law}
-use Rattle.git_names.proofs.PathLemmas.{path_grammar_law}
+use Rattle.git_names.proofs.NulLemmas.{path_grammar_law}
 use Rattle.programs.specs.Command.{Ran}
 use Rattle.programs.specs.Reports.{Said}
 use Rattle.git_check_names.specs.Kinds.{kind_of}

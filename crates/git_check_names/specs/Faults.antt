@@ -6,8 +6,8 @@ use Rattle.gix_validate.specs.declared.reference.NameError.{NameError as Referen
 use Rattle.gix_validate.specs.declared.path.ComponentError.TheVariants as part
 use Rattle.gix_validate.specs.declared.reference.NameError.TheVariants as reference
 use Rattle.gix_validate.specs.declared.submodule.NameError.TheVariants as submodule
-use Rattle.git_names.specs.declared.branch.ShortNameError.TheVariants as short
-use Rattle.git_names.specs.declared.path.PathError.TheVariants as whole
+use Rattle.git_names.specs.declared.branches.ShortNameError.TheVariants as short
+use Rattle.git_names.specs.declared.paths.PathError.TheVariants as whole
 use Rattle.gix_validate.specs.Component
 use Rattle.gix_validate.specs.Reference
 use Rattle.gix_validate.specs.Submodule
@@ -47,7 +47,7 @@ text_of (fault.Reference e) = Reference.text_of e
 text_of (fault.Submodule e) = Submodule.text_of e
 text_of (fault.Component e) = Component.text_of e
 
--- where in the name the fault is: a part of a path, or the first fault of a tag name, which other names of
+-- where in the name the fault is: a part of a path, a NUL in it, or the first fault of a tag name, which other names of
 -- references have at the same place
 abbrev pub offset_of : List ℕ → Fault → Option ℕ
 offset_of name (fault.Branch e) = Tag.fault_offset_of name
@@ -88,6 +88,7 @@ fault_word (fault.Branch (short.Name e)) = reference_word e
 fault_word (fault.Branch short.StartsWithDash) = codes "StartsWithDash"
 fault_word (fault.Path (whole.EmptyPart at)) = codes "EmptyPart"
 fault_word (fault.Path (whole.InvalidPart at e)) = component_word e
+fault_word (fault.Path (whole.Nul at)) = codes "Nul"
 fault_word (fault.Tag e) = reference_word (Reference.carried e)
 fault_word (fault.Reference e) = reference_word e
 fault_word (fault.Submodule submodule.Empty) = codes "Empty"

@@ -6,8 +6,7 @@ ghost use Rattle.git_check_names.specs.Faults.{component_word, fault_word, refer
 
 use crate::kind::Kind;
 use bstr::BStr;
-use git_names::branch::{self, ShortNameError};
-use git_names::path::{self, PathError};
+use git_names::{PathError, ShortNameError};
 use gix_validate::path::{ComponentError, ComponentOptions, component};
 use gix_validate::{reference, submodule, tag};
 use std::fmt;
@@ -52,11 +51,11 @@ pub fn fault_of(kind: Kind, protections: ComponentOptions, name: &[u8]) -> Optio
 {
     let name = BStr::new(name);
     match kind {
-        Kind::Branch => match branch::short_name(name) {
+        Kind::Branch => match git_names::branch(name) {
             Err(fault) => Some(Fault::Branch(fault)),
             Ok(_) => None,
         },
-        Kind::Path => match path::whole(name, None, protections) {
+        Kind::Path => match git_names::path(name, None, protections) {
             Err(fault) => Some(Fault::Path(fault)),
             Ok(_) => None,
         },
@@ -105,6 +104,7 @@ pub fn fault_word(fault: Fault) -> &'static str
         Fault::Branch(ShortNameError::StartsWithDash) => "StartsWithDash",
         Fault::Path(PathError::EmptyPart { .. }) => "EmptyPart",
         Fault::Path(PathError::InvalidPart { error, .. }) => component_word(error),
+        Fault::Path(PathError::Nul { .. }) => "Nul",
         Fault::Tag(fault) => reference_word(fault.into()),
         Fault::Reference(fault) => reference_word(fault),
         Fault::Submodule(submodule::NameError::Empty) => "Empty",

@@ -24,10 +24,10 @@ use Rattle.gix_validate.specs.declared.path.ComponentOptions.{ComponentOptions}
 use Rattle.std.proofs.lemmas.List.Elements.{All-nil}
 use Rattle.git_names.proofs.SlashLemmas.{last_piece_from, piece_from}
 use Rattle.git_names.specs.Private.Slashes.{IsFirstSlash, NoSlash}
-use Rattle.git_names.specs.Paths.{are_components, is_path, part_fault_of, fault_from, fault_of}
+use Rattle.git_names.specs.Paths.{are_components, has_valid_parts, part_fault_of, fault_from, parts_fault_of}
 use Rattle.git_names.specs.Paths.{offset_of}
-use Rattle.git_names.specs.declared.path.PathError.{PathError}
-use Rattle.git_names.specs.declared.path.PathError.TheVariants.{InvalidPart}
+use Rattle.git_names.specs.declared.paths.PathError.{PathError}
+use Rattle.git_names.specs.declared.paths.PathError.TheVariants.{InvalidPart}
 
 -- no component is empty
 empty_component : (options : ComponentOptions) (mode : Option ComponentMode)
@@ -52,10 +52,10 @@ grammar_from options mode at (part ∷ next ∷ more) = grind (
 )
 
 -- A text is a path if and only if it has no fault.
-pub path_grammar_law : (options : ComponentOptions) (mode : Option ComponentMode) (x : List ℕ)
-    → is_path options mode x ≡ is_none (fault_of options mode x)
-unfolding fault_of is_path
-path_grammar_law options mode x = grammar_from options mode 0 (pieces x)
+pub parts_grammar_law : (options : ComponentOptions) (mode : Option ComponentMode) (x : List ℕ)
+    → has_valid_parts options mode x ≡ is_none (parts_fault_of options mode x)
+unfolding parts_fault_of has_valid_parts
+parts_grammar_law options mode x = grammar_from options mode 0 (pieces x)
 
 -- a part without a fault is a basic name
 basic_part : (options : ComponentOptions) (mode : Option ComponentMode) (at : ℕ) (part : List ℕ)
@@ -73,10 +73,10 @@ basic_from options mode at (part ∷ next ∷ more) none =
     (basic_from options mode (at + (length part + 1)) (next ∷ more) (grind arith))
 
 -- The parts of a path are basic names.
-pub path_basic_law : (options : ComponentOptions) (mode : Option ComponentMode) (x : List ℕ)
-    → fault_of options mode x ≡ None → All IsBasicName (pieces x)
-unfolding fault_of
-path_basic_law options mode x none = basic_from options mode 0 (pieces x) none
+pub parts_basic_law : (options : ComponentOptions) (mode : Option ComponentMode) (x : List ℕ)
+    → parts_fault_of options mode x ≡ None → All IsBasicName (pieces x)
+unfolding parts_fault_of
+parts_basic_law options mode x none = basic_from options mode 0 (pieces x) none
 
 -- a line that doesn't find that a name is empty, and lines of which each doesn't
 abbrev Others : List (Option ComponentError) → Type 0
@@ -152,20 +152,20 @@ other_from options mode at (part ∷ next ∷ more) k e = grind (
 )
 
 -- An empty part has a fault of its own, and never that of a component.
-pub path_other_law : (options : ComponentOptions) (mode : Option ComponentMode) (x : List ℕ) (k : ℕ)
-    → fault_of options mode x ≢ Some (InvalidPart k Empty)
-unfolding fault_of
-path_other_law options mode x k e = other_from options mode 0 (pieces x) k e
+pub parts_other_law : (options : ComponentOptions) (mode : Option ComponentMode) (x : List ℕ) (k : ℕ)
+    → parts_fault_of options mode x ≢ Some (InvalidPart k Empty)
+unfolding parts_fault_of
+parts_other_law options mode x k e = other_from options mode 0 (pieces x) k e
 
 -- the rest of a path, from the offset on, has the fault of the whole
 pub record LeftOf (options : ComponentOptions) (mode : Option ComponentMode) (x : List ℕ)
     (start : ℕ) : Type 0 where
   pub within : start ≤ length x
-  pub fault : fault_of options mode x ≡ fault_from options mode start (pieces (drop start x))
+  pub fault : parts_fault_of options mode x ≡ fault_from options mode start (pieces (drop start x))
 
 pub LeftOf-start : (options : ComponentOptions) (mode : Option ComponentMode) (x : List ℕ)
     → LeftOf options mode x 0
-unfolding fault_of
+unfolding parts_fault_of
 LeftOf-start options mode x = record { within = grind arith; fault = refl }
 
 -- a part that is a component passes the fault on
@@ -209,7 +209,7 @@ fault_here options mode at part (next ∷ more) some invalid =
 pub LeftOf-fault : (options : ComponentOptions) (mode : Option ComponentMode) (x : List ℕ) (start end : ℕ)
     → LeftOf options mode x start → IsFirstSlash x start end
     → is_component options None (take (end - start) (drop start x)) ≡ false
-    → fault_of options mode x ≡ part_fault_of options None start (take (end - start) (drop start x))
+    → parts_fault_of options mode x ≡ part_fault_of options None start (take (end - start) (drop start x))
 LeftOf-fault options mode x start end left first invalid =
     left.fault ∙ ap (fault_from options mode start) (piece_from x start end first)
     ∙ fault_here options mode start (take (end - start) (drop start x)) (pieces (drop (end + 1) x))
@@ -218,7 +218,7 @@ LeftOf-fault options mode x start end left first invalid =
 -- at the last part
 pub LeftOf-last : (options : ComponentOptions) (mode : Option ComponentMode) (x : List ℕ) (start : ℕ)
     → LeftOf options mode x start → NoSlash x start (length x)
-    → fault_of options mode x
+    → parts_fault_of options mode x
     ≡ part_fault_of options mode start (take (length x - start) (drop start x))
 LeftOf-last options mode x start left none =
     let rest : take (length x - start) (drop start x) ≡ drop start x = grind (arith, take_rest) in
@@ -228,7 +228,7 @@ LeftOf-last options mode x start left none =
 pub LeftOf-none : (options : ComponentOptions) (mode : Option ComponentMode) (x : List ℕ) (start : ℕ)
     → LeftOf options mode x start → NoSlash x start (length x)
     → is_component options mode (take (length x - start) (drop start x)) ≡ true
-    → fault_of options mode x ≡ None
+    → parts_fault_of options mode x ≡ None
 LeftOf-none options mode x start left none valid =
     let part = take (length x - start) (drop start x) in
     LeftOf-last options mode x start left none ∙ grind (arith, part_grammar options mode start part, valid)
@@ -243,10 +243,10 @@ first_part options mode part (next ∷ more) some = refl
 
 pub path_by_first_part : (options : ComponentOptions) (mode : Option ComponentMode) (x : List ℕ) (end : ℕ)
     → IsFirstSlash x 0 end
-    → is_path options mode x
+    → has_valid_parts options mode x
     ≡ (is_component options None (take end x)
-    && is_path options mode (take (length x - (end + 1)) (drop (end + 1) x)))
-unfolding is_path
+    && has_valid_parts options mode (take (length x - (end + 1)) (drop (end + 1) x)))
+unfolding has_valid_parts
 path_by_first_part options mode x end first =
     let rest : take (length x - (end + 1)) (drop (end + 1) x) ≡ drop (end + 1) x = grind (arith, take_rest) in
     let split : pieces x ≡ take end x ∷ pieces (drop (end + 1) x) = grind (arith, piece_from x 0 end first) in
@@ -257,8 +257,8 @@ path_by_first_part options mode x end first =
 
 -- a part without a slash is one if it is a component
 pub path_of_one_part : (options : ComponentOptions) (mode : Option ComponentMode) (x : List ℕ)
-    → NoSlash x 0 (length x) → is_path options mode x ≡ is_component options mode x
-unfolding is_path
+    → NoSlash x 0 (length x) → has_valid_parts options mode x ≡ is_component options mode x
+unfolding has_valid_parts
 path_of_one_part options mode x none =
     ap (are_components options mode) (last_piece_from x 0 (omega arith) none)
 
@@ -283,11 +283,8 @@ begins_within options mode at (part ∷ next ∷ more) e some = grind (
 )
 
 -- A fault is at an offset of the path, or right after it.
-pub path_within_law : (options : ComponentOptions) (mode : Option ComponentMode) (x : List ℕ) (e : PathError)
-    → fault_of options mode x ≡ Some e → offset_of e ≤ length x
-unfolding fault_of
-path_within_law options mode x e some =
+pub parts_within_law : (options : ComponentOptions) (mode : Option ComponentMode) (x : List ℕ) (e : PathError)
+    → parts_fault_of options mode x ≡ Some e → offset_of e ≤ length x
+unfolding parts_fault_of
+parts_within_law options mode x e some =
     omega (arith, begins_within options mode 0 (pieces x) e some, ap length (join_with_byte-slice_split 47 x))
-
--- what `path::whole` takes from here
-pub ruleset path_laws = (path_grammar_law, path_basic_law, path_other_law, path_within_law)

@@ -12,8 +12,8 @@ use Rattle.gix_validate.specs.Pieces.{joined}
 use Rattle.gix_validate.specs.Reference.{is_branch_name, is_full_name, is_partial_name}
 use Rattle.gix_validate.specs.Reference.{has_slash_or_stands_alone}
 use Rattle.gix_validate.specs.Tag.{fault_of as tag_fault_of, is_good_piece, is_tag_name}
-use Rattle.git_names.specs.declared.branch.ShortNameError.TheVariants.{StartsWithDash}
-use Rattle.git_names.specs.ShortNames.{fault_of, full_name, is_short_name}
+use Rattle.git_names.specs.declared.branches.ShortNameError.TheVariants.{StartsWithDash}
+use Rattle.git_names.specs.ShortNames.{fault_of, full_name, full_tag_name, is_short_name, is_short_tag}
 
 -- where the text is long enough, what is before it has no say in how it ends
 ends_front : (front y f : List ℕ) → length f ≤ length y → ends (front ++ y) f ≡ ends y f
@@ -43,6 +43,31 @@ head_full x = refl
 branch_full : (x : List ℕ) → is_branch_name (full_name x) ≡ (is_tag_name x && not (bytes_eq x (codes "HEAD")))
 unfolding is_branch_name is_full_name is_partial_name
 branch_full x = grind (arith, tag_full x, slashed x, not_at x, head_full x)
+
+-- the full name of a tag is a tag name if and only if the short one is
+tag_full_tag : (x : List ℕ) → is_tag_name (full_tag_name x) ≡ is_tag_name x
+unfolding full_tag_name is_tag_name is_good_piece is_bad
+tag_full_tag [] = refl
+tag_full_tag (b ∷ x) = grind (arith, ends_front (codes "refs/tags/") (b ∷ x) (codes ".") (omega arith))
+
+slashed_tag : (x : List ℕ) → has_slash_or_stands_alone (full_tag_name x) ≡ true
+unfolding full_tag_name
+slashed_tag x = refl
+
+not_at_tag : (x : List ℕ) → bytes_eq (full_tag_name x) (codes "@") ≡ false
+unfolding full_tag_name
+not_at_tag x = refl
+
+-- A tag and a branch may have the same short names.
+pub tag_is_branch : (x : List ℕ) → is_short_tag x ≡ is_short_name x
+unfolding is_short_tag is_short_name is_full_name is_partial_name
+tag_is_branch x = grind (arith, branch_full x, tag_full_tag x, slashed_tag x, not_at_tag x)
+
+-- a short name is a tag name other than `HEAD` that doesn't begin with a dash
+pub short_parts : (x : List ℕ)
+    → is_short_name x ≡ (is_tag_name x && not (bytes_eq x (codes "HEAD")) && not (begins x (codes "-")))
+unfolding is_short_name
+short_parts x = grind (arith, branch_full x)
 
 -- A text is the short name of a branch if and only if it has no fault.
 pub short_grammar_law : (x : List ℕ) → is_short_name x ≡ is_none (fault_of x)

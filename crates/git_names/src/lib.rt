@@ -1,13 +1,41 @@
-//! Names as people write them: a branch without `refs/heads/`, and a whole path.
+//! The kinds of names that people have in hand, a call for each.
 //!
-//! | Module | What it has |
+//! | Call | Names |
 //! |---|---|
-//! | [`branch`] | short names of branches, as `main`; a type for them; the full name |
-//! | [`path`] | whole paths, as `src/main.rs`, and the path of components |
+//! | [`branch`] | branches as people write them, as `main` |
+//! | [`branch_ref`] | full branch names, as `refs/heads/main` |
+//! | [`tag`] | tags as people write them, as `v1.2.3` |
+//! | [`reference`] | full reference names, as `HEAD` and `refs/remotes/origin/main` |
+//! | [`safe_ref`] | full names that a store may use as paths |
+//! | [`partial`], [`tag_name`] | names that are a part of a full name |
+//! | [`path`] | whole paths, as `src/main.rs` |
+//! | [`submodule`] | submodule names |
+//! | [`component`], [`symlink`] | names of files and directories, and of symbolic links |
 //!
-//! The rules are those of `gix_validate` for each part of a path, and for `refs/heads/` with a short
-//! name after it. Only [`branch::full_name`] and [`path::join`] allocate.
+//! The rules of [`branch_ref`], [`reference`], [`partial`] and [`tag_name`] are functions of
+//! `gix_validate` by other names. The other rules are built on those of `gix_validate`. Only
+//! [`full_name`] and [`join`] allocate.
 #![tactic(auto)]
 
-pub mod branch;
-pub mod path;
+mod branches;
+mod components;
+mod faults;
+mod offsets;
+mod paths;
+mod references;
+mod submodules;
+mod suggestions;
+mod tags;
+
+pub use branches::{Short, ShortName, ShortNameError, branch, full_name};
+pub use components::{component, symlink};
+pub use faults::{Fault, Kind, Reason, check};
+pub use gix_validate::reference::{
+    branch_name as branch_ref, name as reference, name_partial as partial,
+};
+pub use gix_validate::tag::name as tag_name;
+pub use paths::{PathError, join, path};
+pub use references::{SafeRefError, safe_ref};
+pub use submodules::{SubmoduleError, submodule};
+pub use suggestions::{suggest, suggest_into};
+pub use tags::tag;

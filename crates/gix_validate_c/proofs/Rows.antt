@@ -16,8 +16,8 @@ use Rattle.gix_validate.specs.Private.Classes.{switches}
 use Rattle.gix_validate_c.specs.Numbers.{tag_number, reference_number, submodule_number}
 use Rattle.gix_validate_c.specs.Numbers.{component_number, code_by, invalid_byte_of, offset_or}
 use Rattle.gix_validate_c.specs.Numbers.{short_name_number, path_number, version_number}
-use Rattle.git_names.specs.declared.branch.ShortNameError.TheVariants as short
-use Rattle.git_names.specs.declared.path.PathError.TheVariants as whole
+use Rattle.git_names.specs.declared.branches.ShortNameError.TheVariants as short
+use Rattle.git_names.specs.declared.paths.PathError.TheVariants as whole
 use Rattle.gix_validate_c.specs.Flags.{options_of, mode_of}
 use Rattle.gix_validate_c.specs.Texts.{text_by, with_text}
 
@@ -53,7 +53,8 @@ numbers_of_short_names : map short_name_number (short.StartsWithDash ∷ short.N
     ≡ 22 ∷ 11 ∷ []
 numbers_of_short_names = refl
 
-numbers_of_paths : map path_number (whole.EmptyPart 7 ∷ whole.InvalidPart 7 path.Relative ∷ []) ≡ 23 ∷ 21 ∷ []
+numbers_of_paths : map path_number (whole.EmptyPart 7 ∷ whole.InvalidPart 7 path.Relative ∷ whole.Nul 7 ∷ [])
+    ≡ 23 ∷ 21 ∷ 24 ∷ []
 numbers_of_paths = refl
 
 -- what else is a number

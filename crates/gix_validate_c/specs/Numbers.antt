@@ -9,10 +9,10 @@ use Rattle.gix_validate.specs.declared.tag.NameError.TheVariants as tag
 use Rattle.gix_validate.specs.declared.reference.NameError.TheVariants as reference
 use Rattle.gix_validate.specs.declared.submodule.NameError.TheVariants as submodule
 use Rattle.gix_validate.specs.declared.path.ComponentError.TheVariants as path
-use Rattle.git_names.specs.declared.branch.ShortNameError.{ShortNameError}
-use Rattle.git_names.specs.declared.branch.ShortNameError.TheVariants as short
-use Rattle.git_names.specs.declared.path.PathError.{PathError}
-use Rattle.git_names.specs.declared.path.PathError.TheVariants as whole
+use Rattle.git_names.specs.declared.branches.ShortNameError.{ShortNameError}
+use Rattle.git_names.specs.declared.branches.ShortNameError.TheVariants as short
+use Rattle.git_names.specs.declared.paths.PathError.{PathError}
+use Rattle.git_names.specs.declared.paths.PathError.TheVariants as whole
 
 -- the number of a fault, or 0 where there is none
 abbrev pub code_by : {E : Type 0} → (E → ℕ) → Option E → ℕ
@@ -70,10 +70,11 @@ abbrev pub short_name_number : ShortNameError → ℕ
 short_name_number (short.Name e) = reference_number e
 short_name_number short.StartsWithDash = 22
 
--- Those of whole paths: faults of components keep their numbers, and there is one more.
+-- Those of whole paths: faults of components keep their numbers, and there are two more.
 abbrev pub path_number : PathError → ℕ
 path_number (whole.InvalidPart at e) = component_number e
 path_number (whole.EmptyPart at) = 23
+path_number (whole.Nul at) = 24
 
 -- the byte of the fault `InvalidByte`, and 256, which is not a byte, where there is no such fault
 abbrev pub invalid_byte_of : Option TagError → ℕ

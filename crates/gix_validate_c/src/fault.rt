@@ -5,8 +5,7 @@ ghost use Rattle.gix_validate_c.specs.Numbers.{tag_number, reference_number, sub
 ghost use Rattle.gix_validate_c.specs.Numbers.{component_number, short_name_number, path_number};
 
 use bstr::BStr;
-use git_names::branch::ShortNameError;
-use git_names::path::PathError;
+use git_names::{PathError, ShortNameError};
 use gix_validate::path::ComponentError;
 use gix_validate::{reference, submodule, tag};
 
@@ -97,6 +96,7 @@ impl Fault for PathError {
         match self {
             Self::EmptyPart { .. } => 23,
             Self::InvalidPart { error, .. } => error.number(),
+            Self::Nul { .. } => 24,
         }
     }
 }

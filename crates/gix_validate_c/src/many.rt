@@ -21,7 +21,7 @@ ghost use Rattle.gix_validate.specs.Pieces.{names_in};
 
 use crate::fault::{Fault, code};
 use bstr::BStr;
-use git_names::branch::Short;
+use git_names::Short;
 use memchr::memchr;
 use typed_names::{Branch, Full, Partial, Rule, Submodule, Tag};
 

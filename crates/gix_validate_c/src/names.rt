@@ -26,8 +26,7 @@ ghost use Rattle.git_names.specs.ShortNames as short;
 use crate::fault::code;
 use crate::flags::{mode_of, options_of};
 use bstr::BStr;
-use git_names::branch::short_name;
-use git_names::path::{PathError, whole};
+use git_names::PathError;
 use gix_validate::{path, reference, submodule, tag};
 
 /// Returns 0 if it is a valid tag name, otherwise its fault's number (docs/RULES.md, "Tag names").
@@ -99,7 +98,7 @@ pub extern "C" fn gix_validate_branch(name: &[u8]) -> u32
 }
 
 /// Returns 0 if it is a valid short name of a branch, otherwise its fault's number (docs/RULES.md,
-/// "Short branch names").
+/// "Short names").
 ///
 /// ```c
 /// gix_validate_short_branch((const uint8_t *)"main", 4); // 0
@@ -113,7 +112,7 @@ pub extern "C" fn gix_validate_short_branch(name: &[u8]) -> u32
     ensures range { (result ≤ 11) ⊎ (result ≡ 13) ⊎ (result ≡ 22) }
     ensures as_tag { let number = code_by tag_number (tag.fault_of name.now) in 1 ≤ number → result ≡ number }
 {
-    code(short_name(BStr::new(name))).into()
+    code(git_names::branch(BStr::new(name))).into()
 }
 
 /// Returns 0 if it is a valid submodule name, otherwise its fault's number (docs/RULES.md,
@@ -160,7 +159,7 @@ pub extern "C" fn gix_validate_component(name: &[u8], flags: u32) -> u32
 }
 
 /// Returns 0 if it is a valid path, whose parts are separated by slashes, otherwise the number of the
-/// fault of its first part that has one (docs/RULES.md, "Whole paths").
+/// fault of its first part that has one, or that of a NUL (docs/RULES.md, "Whole paths").
 ///
 /// The flags are those of [`gix_validate_component`]; 8 is for the last part alone.
 ///
@@ -175,13 +174,14 @@ pub extern "C" fn gix_validate_path(path: &[u8], flags: u32) -> u32
     ensures answer { result
         ≡ code_by path_number (paths.fault_of (options_of flags) (mode_of flags) path.now) }
     ensures grammar { (result ≡ 0) ↔ IsTrue (paths.is_path (options_of flags) (mode_of flags) path.now) }
-    ensures range { (result ≡ 0) ⊎ ((15 ≤ result) × (result ≤ 21)) ⊎ (result ≡ 23) }
+    ensures range { (result ≡ 0) ⊎ ((15 ≤ result) × (result ≤ 21)) ⊎ (result ≡ 23) ⊎ (result ≡ 24) }
 {
-    code(whole(BStr::new(path), mode_of(flags), options_of(flags))).into()
+    code(git_names::path(BStr::new(path), mode_of(flags), options_of(flags))).into()
 }
 
 /// Returns the offset in bytes of the part for which [`gix_validate_path`] refuses the path, and the
-/// length of the path if it is valid. An empty part at the end has that offset, too.
+/// length of the path if it is valid. An empty part at the end has that offset, too. Of a NUL it is
+/// the offset of the first one.
 ///
 /// ```c
 /// gix_validate_path_offset((const uint8_t *)"src/.git/a", 10, 7); // 4
@@ -199,7 +199,7 @@ pub extern "C" fn gix_validate_path_offset(path: &[u8], flags: u32) -> usize
     }
 }
 
-/// The result of [`whole`] under these flags. (Most paths are valid, so what asks for more than the
+/// The result of [`git_names::path`] under these flags. (Most paths are valid, so what asks for more than the
 /// number needn't have all of its code once more.)
 #[inline(never)]
 pub(crate) fn checked_path(path: &[u8], flags: u32) -> Result<BStr<'_>, PathError>
@@ -207,7 +207,7 @@ pub(crate) fn checked_path(path: &[u8], flags: u32) -> Result<BStr<'_>, PathErro
     ensures grammar { IsOk result ↔ IsTrue (paths.is_path (options_of flags) (mode_of flags) path.now) }
     ensures within { IfErr result (λ e. paths.offset_of e ≤ length path.now) }
 {
-    whole(BStr::new(path), mode_of(flags), options_of(flags))
+    git_names::path(BStr::new(path), mode_of(flags), options_of(flags))
 }
 
 /// Returns the invalid byte if the fault of the tag name is `InvalidByte`, and otherwise 256.

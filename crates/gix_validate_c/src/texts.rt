@@ -22,8 +22,7 @@ use crate::flags::{mode_of, options_of};
 use crate::names::checked_path;
 use arrayvec::ArrayString;
 use bstr::BStr;
-use git_names::branch::short_name;
-use git_names::path::PathError;
+use git_names::PathError;
 use gix_validate::path::ComponentError;
 pub use gix_validate::text::MAX_TEXT;
 use gix_validate::text::{Text, escape};
@@ -113,7 +112,7 @@ pub extern "C" fn gix_validate_short_branch_text(name: &[u8], text: &mut [u8]) -
     ensures none { (result ≡ 0) ↔ IsTrue (short.is_short_name name.now) }
     ensures longest { result ≤ MAX_TEXT }
 {
-    match short_name(BStr::new(name)) {
+    match git_names::branch(BStr::new(name)) {
         Ok(_) => 0,
         Err(fault) => write_text(fault.text(), text),
     }
@@ -158,7 +157,8 @@ pub extern "C" fn gix_validate_component_text(name: &[u8], flags: u32, text: &mu
     }
 }
 
-/// Writes the text of the fault of a path under these flags: that of its first part that has one.
+/// Writes the text of the fault of a path under these flags: that of its first part that has one,
+/// or that it has a NUL.
 ///
 /// ```c
 /// gix_validate_path_text((const uint8_t *)"a//b", 4, 7, text, sizeof text); // 73
@@ -177,6 +177,11 @@ pub extern "C" fn gix_validate_path_text(path: &[u8], flags: u32, text: &mut [u8
         Err(PathError::InvalidPart { error, .. }) => write_component_text(error, text),
         Err(PathError::EmptyPart { .. }) => {
             let words = "A path must not be empty, start or end with a slash, or have two in a row";
+            let quoted = None;
+            write_text(Text { words, quoted }, text)
+        }
+        Err(PathError::Nul { .. }) => {
+            let words = "A path must not have a NUL byte";
             let quoted = None;
             write_text(Text { words, quoted }, text)
         }

@@ -78,6 +78,7 @@ pub(crate) fn branch_texts() -> Texts {
 pub(crate) fn path_texts() -> Texts {
     &[
         (b"EmptyPart", b"A path must not be empty, start or end with a slash, or have two in a row"),
+        (b"Nul", b"A path must not have a NUL byte"),
     ]
 }
 

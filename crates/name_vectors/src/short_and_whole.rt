@@ -6,8 +6,7 @@ use crate::reference::{Fault, VALID, of_references};
 use crate::rows::{Names, listed, part};
 use crate::text::{Host, joined};
 use bstr::BStr;
-use git_names::branch::{self, ShortName, ShortNameError};
-use git_names::path::{self, PathError};
+use git_names::{PathError, ShortName, ShortNameError};
 
 /// The error, and the names.
 #[rattlefmt::skip]
@@ -33,7 +32,7 @@ const SHORT_NAMES: &[(Fault<'static>, Names)] = &[
 /// Checks what the function returns for a short name.
 fn expect_short(rt: &impl Host, text: &[u8], fault: Fault<'_>) {
     let call = ("short_name", text);
-    match branch::short_name(BStr::new(text)) {
+    match git_names::branch(BStr::new(text)) {
         Ok(name) => expect_valid(rt, call, fault, name.as_bytes()),
         Err(error) => expect_short_error(rt, call, fault, &error),
     }
@@ -89,7 +88,7 @@ fn is_branch(rt: &impl Host, name: &[u8]) -> bool {
 #[test]
 fn puts_refs_heads_before_a_short_name(rt: HostRuntime) {
     let name = ShortName::new(BStr::from("topic/a")).expect(&rt, "a short name");
-    let full = branch::full_name(rt.alloc(), name).expect(&rt, "memory");
+    let full = git_names::full_name(rt.alloc(), name).expect(&rt, "memory");
     let wanted = b"refs/heads/topic/a";
     expect(&rt, ("full_name", b"topic/a"), wanted, full.as_bytes());
 }
@@ -131,6 +130,10 @@ const PATHS: &[(&str, &[u8], usize, Names)] = &[
     ("--n-", b"DotGitDir", 16, b"0123456789abcde/git~1"),
     ("--n-", b"DotGitDir", 34, b"0123456789abcdef/0123456789abcdef/git~1/x"),
     ("-h--", b"DotGitDir", 2, b"a/.g\xE2\x80\x8Cit/x"),
+    ("----", b"Nul", 4, b".git\0x,.git\0,.git\0/b\0,src/\0"),
+    ("w---", b"Nul", 1, b"a\0b"),
+    ("-hns", b"Nul", 18, b"a-longer-folder16/\0"),
+    ("w-n-", b"WindowsIllegalCharacter", 2, b"a/.git\0x"),
 ];
 
 /// Checks what the function returns for a path under these settings.
@@ -141,7 +144,7 @@ fn expect_whole(
 ) {
     let call = (settings, text);
     let fault: Fault<'_> = (error, b"");
-    match path::whole(BStr::new(text), mode(settings), options(settings)) {
+    match git_names::path(BStr::new(text), mode(settings), options(settings)) {
         Ok(path) => expect_valid(rt, call, fault, path.as_bytes()),
         Err(error) => {
             expect_bool(rt, ("the offset", text), true, error.offset() == offset);
@@ -152,8 +155,8 @@ fn expect_whole(
 
 /// Checks the error, which prints the text of the error in it.
 fn expect_path_error(rt: &impl Host, call: (&str, &[u8]), fault: Fault<'_>, error: &PathError) {
-    let is_empty = fault.0 == b"EmptyPart".as_slice();
-    let texts = if is_empty {
+    let is_own = fault.0 == b"EmptyPart".as_slice() || fault.0 == b"Nul".as_slice();
+    let texts = if is_own {
         path_texts()
     } else {
         component_texts()
@@ -164,6 +167,7 @@ fn expect_path_error(rt: &impl Host, call: (&str, &[u8]), fault: Fault<'_>, erro
             expect_error(rt, call, (component_texts(), fault), error);
         }
         PathError::EmptyPart { .. } => expect(rt, call, fault.0, b"EmptyPart"),
+        PathError::Nul { .. } => expect(rt, call, fault.0, b"Nul"),
     }
 }
 
@@ -194,6 +198,6 @@ fn expect_all_whole(
 fn checks_a_joined_path(rt: HostRuntime) {
     let src = part(b"src").expect(&rt, "a component");
     let file = part(b"a.rs").expect(&rt, "a component");
-    let joined = path::join(rt.alloc(), &[src, file]).expect(&rt, "memory");
+    let joined = git_names::join(rt.alloc(), &[src, file]).expect(&rt, "memory");
     expect_whole(&rt, ("whn-", joined.as_bytes()), (b"", 0));
 }

@@ -1,0 +1,168 @@
+//! One check for all kinds of names, whose error has an offset.
+
+ghost use Rattle.std.specs.Prelude.{◌≡◌, ◌↔◌, ◌≤◌, IsOk, IfOk, IfSome, IsTrue, None, length};
+ghost use Rattle.bstr.specs.BStr.{bstr_bytes};
+ghost use Rattle.gix_validate.specs.Faults.{Validates};
+ghost use Rattle.git_names.specs.Kinds.{fault_of, is_name, reason_of};
+ghost use Rattle.git_names.specs.Offsets.{offset_of};
+ghost use Rattle.git_names.specs.Private.Starts.{path_start};
+
+use crate::branches::{ShortNameError, branch};
+use crate::components::{component, symlink};
+use crate::offsets::{
+    component_offset, path_offset, reference_offset, submodule_offset, tag_name_offset,
+};
+use crate::paths::{PathError, path};
+use crate::references::{SafeRefError, safe_ref};
+use crate::submodules::{SubmoduleError, submodule};
+use crate::tags::tag;
+use bstr::BStr;
+use gix_validate::path::{ComponentError, ComponentOptions};
+use gix_validate::{reference, tag as tag_names};
+
+/// What kind of name a name is to be.
+#[derive(Debug, Copy, Clone, PartialEq, Eq)]
+pub enum Kind {
+    Branch,
+    BranchRef,
+    Tag,
+    Reference,
+    Partial,
+    TagName,
+    SafeRef,
+    Path,
+    Component,
+    Symlink,
+    Submodule,
+}
+
+/// Why a name is not of a kind: the error of that kind's call.
+#[derive(Debug, Drop)]
+pub enum Reason {
+    /// Of a branch or tag as people write them.
+    Short(ShortNameError),
+    /// Of a full branch name, another full name or a partial name.
+    Reference(reference::NameError),
+    /// Of a tag name.
+    TagName(tag_names::NameError),
+    /// Of a safe reference name.
+    SafeRef(SafeRefError),
+    /// Of a whole path.
+    Path(PathError),
+    /// Of a component, or the name of a symbolic link.
+    Component(ComponentError),
+    /// Of a submodule name.
+    Submodule(SubmoduleError),
+}
+
+/// What is wrong with a name, and where.
+#[derive(Debug, Drop)]
+pub struct Fault {
+    pub reason: Reason,
+    /// Where in the name the reason is, in bytes (docs/RULES.md, "Offsets").
+    pub offset: usize,
+}
+
+/// Returns `name` if it is a valid name of this kind.
+///
+/// It is the call of that kind, but that its error has an offset. The options are for paths,
+/// components, submodules and safe reference names. The function doesn't allocate. On `Ok` it returns
+/// the value that it was passed.
+///
+/// ```
+/// check(Kind::Branch, BStr::from("main"), ComponentOptions::default())?; // `main`
+/// check(Kind::Branch, BStr::from("a b"), ComponentOptions::default()); // InvalidByte, at 1
+/// check(Kind::Reference, BStr::from("x.lock/y"), ComponentOptions::default()); // LockFileSuffix, at 1
+/// ```
+///
+/// # Errors
+///
+/// The error of the kind's call, with its offset in bytes.
+pub fn check<'a>(kind: Kind, name: BStr<'a>, options: ComponentOptions) -> Result<BStr<'a>, Fault>
+    ensures answer { Validates (fault_of options kind) (bstr_bytes name.entry) result }
+    ensures grammar { IsOk result ↔ IsTrue (is_name options kind (bstr_bytes name.entry)) }
+    ensures same { IfOk result (λ kept. kept ≡ name.entry) }
+{
+    match reason_by_kind(kind, name, options) {
+        None => Ok(name),
+        Some(reason) => {
+            let offset = offset(&reason, name.as_bytes(), options);
+            Err(Fault { reason, offset })
+        }
+    }
+}
+
+#[tactic(auto, using(crate::proofs::OffsetLemmas::starts_within))]
+fn reason_by_kind(kind: Kind, name: BStr<'_>, options: ComponentOptions) -> Option<Reason>
+    ensures reason { result ≡ reason_of options kind (bstr_bytes name.entry) }
+    ensures grammar { (result ≡ None) ↔ IsTrue (is_name options kind (bstr_bytes name.entry)) }
+    ensures within { IfSome result (λ reason. path_start reason ≤ length (bstr_bytes name.entry)) }
+{
+    match kind {
+        Kind::Branch => match branch(name) {
+            Err(error) => Some(Reason::Short(error)),
+            Ok(_) => None,
+        },
+        Kind::BranchRef => match reference::branch_name(name) {
+            Err(error) => Some(Reason::Reference(error)),
+            Ok(_) => None,
+        },
+        Kind::Tag => match tag(name) {
+            Err(error) => Some(Reason::Short(error)),
+            Ok(_) => None,
+        },
+        Kind::Reference => match reference::name(name) {
+            Err(error) => Some(Reason::Reference(error)),
+            Ok(_) => None,
+        },
+        Kind::Partial => match reference::name_partial(name) {
+            Err(error) => Some(Reason::Reference(error)),
+            Ok(_) => None,
+        },
+        Kind::TagName => match tag_names::name(name) {
+            Err(error) => Some(Reason::TagName(error)),
+            Ok(_) => None,
+        },
+        Kind::SafeRef => match safe_ref(name, options) {
+            Err(error) => Some(Reason::SafeRef(error)),
+            Ok(_) => None,
+        },
+        Kind::Path => match path(name, None, options) {
+            Err(error) => Some(Reason::Path(error)),
+            Ok(_) => None,
+        },
+        Kind::Component => match component(name, options) {
+            Err(error) => Some(Reason::Component(error)),
+            Ok(_) => None,
+        },
+        Kind::Symlink => match symlink(name, options) {
+            Err(error) => Some(Reason::Component(error)),
+            Ok(_) => None,
+        },
+        Kind::Submodule => match submodule(name, options) {
+            Err(error) => Some(Reason::Submodule(error)),
+            Ok(_) => None,
+        },
+    }
+}
+
+/// Where the reason is.
+fn offset(reason: &Reason, name: &[u8], options: ComponentOptions) -> usize
+    requires { path_start reason.now ≤ length name.now }
+    ensures { result ≡ offset_of options name.now reason.now }
+{
+    match reason {
+        Reason::Short(ShortNameError::Name(error)) => reference_offset(error, name),
+        Reason::Short(ShortNameError::StartsWithDash) => 0,
+        Reason::Reference(error) => reference_offset(error, name),
+        Reason::TagName(error) => tag_name_offset(error, name),
+        Reason::SafeRef(SafeRefError::Name(error)) => reference_offset(error, name),
+        Reason::SafeRef(SafeRefError::OutsideRefs) => 0,
+        Reason::SafeRef(SafeRefError::Piece(error)) => path_offset(error, name, options),
+        Reason::Path(error) => path_offset(error, name, options),
+        Reason::Component(error) => component_offset(error, name, options),
+        Reason::Submodule(SubmoduleError::Name(error)) => submodule_offset(error, name),
+        Reason::Submodule(SubmoduleError::Part(error)) => path_offset(error, name, options),
+        Reason::Submodule(SubmoduleError::Disguised { offset }) => *offset,
+    }
+}

@@ -6,8 +6,10 @@
 use std::io::{self, BufRead, BufReader, ErrorKind, Read};
 use std::ops::ControlFlow;
 
-/// How much of a line's front is kept: more than two ids and some words need.
+/// How much of a line's front is kept: more than two ids and some words need. And how much of a name,
+/// and of what follows it: a file system allows no more.
 const LONGEST_FRONT: usize = 300;
+const LONGEST_NAME: usize = 4096;
 
 /// A line, without its newline.
 #[derive(Default)]
@@ -22,40 +24,25 @@ pub struct Line {
     pub rest: Vec<u8>,
 }
 
-/// How long reports may be.
-#[derive(Clone, Copy)]
-pub struct Lengths {
-    /// How many bytes a report may have.
-    pub report: u64,
-    /// How many bytes of a name are kept, and of what follows it.
-    pub name: usize,
-}
-
-/// Reads all lines of a report, until one breaks off. A report that is too long is an error, and so
-/// is one whose last line has no newline: it was cut.
+/// Reads all lines of a report, until one breaks off. If the last line has no newline, the report was
+/// cut, which is an error.
 pub fn each_line<B>(
     input: impl Read,
-    lengths: Lengths,
     mut line_is: impl FnMut(&Line) -> ControlFlow<B>,
 ) -> io::Result<ControlFlow<B>> {
     let mut input = BufReader::with_capacity(1 << 16, input);
-    let mut reader = Reader::new(lengths.name);
-    let mut left = lengths.report;
+    let mut reader = Reader::new();
     loop {
         let bytes = match input.fill_buf() {
             Ok(bytes) => bytes,
             Err(error) if error.kind() == ErrorKind::Interrupted => continue,
             Err(error) => return Err(error),
         };
+        if bytes.is_empty() && reader.is_at_start {
+            return Ok(ControlFlow::Continue(()));
+        }
         if bytes.is_empty() {
-            return if reader.is_at_start {
-                Ok(ControlFlow::Continue(()))
-            } else {
-                Err(io::Error::new(
-                    ErrorKind::UnexpectedEof,
-                    "the last line was cut",
-                ))
-            };
+            return Err(ErrorKind::UnexpectedEof.into());
         }
         for byte in bytes {
             if *byte != b'\n' {
@@ -68,13 +55,8 @@ pub fn each_line<B>(
             reader = reader.after_line();
         }
         let length = bytes.len();
-        left = left.checked_sub(length as u64).ok_or_else(too_long)?;
         input.consume(length);
     }
-}
-
-fn too_long() -> io::Error {
-    io::Error::new(ErrorKind::Other, "it is too long")
 }
 
 /// Where the next byte belongs.
@@ -94,16 +76,14 @@ struct Reader {
     line: Line,
     part: Part,
     is_at_start: bool,
-    longest: usize,
 }
 
 impl Reader {
-    fn new(longest: usize) -> Self {
+    fn new() -> Self {
         Self {
             line: Line::default(),
             part: Part::Front,
             is_at_start: true,
-            longest,
         }
     }
 
@@ -134,14 +114,14 @@ impl Reader {
             }
             (Part::Space, b' ') => Part::Rest,
             (Part::Space | Part::Rest, _) => {
-                push(&mut self.line.rest, byte, self.longest);
+                push(&mut self.line.rest, byte, LONGEST_NAME);
                 Part::Rest
             }
         };
     }
 
     fn push_name(&mut self, byte: u8) -> Part {
-        self.line.is_cut |= !push(&mut self.line.name, byte, self.longest);
+        self.line.is_cut |= !push(&mut self.line.name, byte, LONGEST_NAME);
         Part::Name
     }
 
@@ -179,27 +159,19 @@ fn digit(byte: u8) -> u8 {
 
 #[cfg(test)]
 mod tests {
-    use super::{each_line, Lengths, Line};
+    use super::{each_line, Line, LONGEST_NAME};
     use std::io;
     use std::ops::ControlFlow;
 
     type Parts = (Vec<u8>, Vec<u8>, Vec<u8>);
 
-    fn lines(report: &[u8], longest: usize) -> io::Result<Vec<Parts>> {
+    fn lines(report: &[u8]) -> io::Result<Vec<Parts>> {
         let mut all = Vec::new();
         let keep = |line: &Line| {
             all.push((line.front.clone(), line.name.clone(), line.rest.clone()));
             ControlFlow::<()>::Continue(())
         };
-        each_line(
-            report,
-            Lengths {
-                report: 99,
-                name: longest,
-            },
-            keep,
-        )
-        .map(|_| all)
+        each_line(report, keep).map(|_| all)
     }
 
     fn line(front: &str, name: &[u8], rest: &str) -> Parts {
@@ -208,40 +180,27 @@ mod tests {
 
     #[test]
     fn a_line_is_taken_apart_at_the_quotes_of_its_name() {
-        let read = lines(
-            b"1f 100644 \"a\\\"\\\\ \\x00\\xff\\n\" \"no\" (in \"b\")\n",
-            99,
-        )
-        .unwrap();
-        assert_eq!(
-            read,
-            [line("1f 100644 ", b"a\"\\ \x00\xff\n", "\"no\" (in \"b\")")]
-        );
+        let report = b"1f 100644 \"a\\\"\\\\ \\x00\\xff\\n\" \"no\" (in \"b\")\n";
+        let expected = line("1f 100644 ", b"a\"\\ \x00\xff\n", "\"no\" (in \"b\")");
+        assert_eq!(lines(report).unwrap(), [expected]);
     }
 
     #[test]
     fn a_line_may_have_no_name_or_be_empty() {
-        assert_eq!(
-            lines(b"abc\n\n", 99).unwrap(),
-            [line("abc", b"", ""), line("", b"", "")]
-        );
+        let expected = [line("abc", b"", ""), line("", b"", "")];
+        assert_eq!(lines(b"abc\n\n").unwrap(), expected);
     }
 
     #[test]
-    fn of_long_lines_the_beginnings_are_kept() {
-        let read = lines(b"a \"123\\\"5678\" 123456789\nb\n", 4).unwrap();
-        assert_eq!(read, [line("a ", b"123\"", "1234"), line("b", b"", "")]);
+    fn of_a_long_line_the_beginnings_are_kept() {
+        let long = [b"a \"".as_slice(), &[b'x'; 9999], b"\" no\nb\n"].concat();
+        let expected = [line("a ", &[b'x'; LONGEST_NAME], "no"), line("b", b"", "")];
+        assert_eq!(lines(&long).unwrap(), expected);
     }
 
     #[test]
     fn a_line_without_its_newline_is_an_error() {
-        assert!(lines(b"a\nb", 9).is_err());
-        assert!(lines(b"", 9).unwrap().is_empty());
-    }
-
-    #[test]
-    fn a_report_that_is_too_long_is_an_error() {
-        assert!(lines(&[b'\n'; 99], 9).is_ok());
-        assert!(lines(&[b'\n'; 100], 9).is_err());
+        assert!(lines(b"a\nb").is_err());
+        assert!(lines(b"").unwrap().is_empty());
     }
 }

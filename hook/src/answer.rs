@@ -1,0 +1,207 @@
+//! What the hook answers to the author of a push that it refuses.
+
+use crate::commits;
+use crate::finding::{Finding, Kind};
+use crate::git::Git;
+use crate::messages::printable;
+use crate::settings::Settings;
+use std::collections::hash_map::Entry;
+use std::collections::HashMap;
+use std::ops::ControlFlow::{self, Break, Continue};
+
+/// How many lines of names are shown, and how much of each. And how many refused names are read: a push
+/// can have millions.
+const MOST_LINES: usize = 10;
+const LONGEST_LINE: usize = 300;
+const MOST_READ: usize = 10_000;
+/// How much of a commit's id is shown.
+const ABBREVIATED: usize = 12;
+
+/// What is refused.
+#[derive(Default)]
+pub struct Answer {
+    /// One finding for each line, in the order in which they were found.
+    shown: Vec<Finding>,
+    places: HashMap<String, usize>,
+    read: usize,
+    /// The settings that are ignored, and their scopes.
+    ignored: Vec<(String, String)>,
+}
+
+impl Answer {
+    pub fn has_some(&self) -> bool {
+        self.read > 0
+    }
+
+    /// Adds what is refused, until it is very much.
+    pub fn add(&mut self, finding: Finding) -> ControlFlow<()> {
+        self.read += 1;
+        match self.places.entry(finding.line()) {
+            Entry::Vacant(place) => {
+                place.insert(self.shown.len());
+                self.shown.push(finding);
+            }
+            // A line can be accepted only if all that it stands for can.
+            Entry::Occupied(place) => {
+                if !finding.can_be_accepted() {
+                    self.shown[*place.get()].kind = finding.kind;
+                }
+            }
+        }
+        if self.read < MOST_READ {
+            Continue(())
+        } else {
+            Break(())
+        }
+    }
+
+    pub fn ignore(&mut self, settings: &Settings) {
+        self.ignored.clone_from(&settings.ignored);
+    }
+
+    /// Lines about settings that are ignored, if a push isn't accepted that they may have been made for.
+    pub fn ignored(&self) -> Vec<String> {
+        let mut lines: Vec<String> = Vec::new();
+        for (key, scope) in &self.ignored {
+            let line = format!("The server ignores its setting {key} with the scope {scope}: it counts in the repository, or for the whole system.");
+            if !lines.contains(&line) {
+                lines.push(line);
+            }
+        }
+        lines
+    }
+
+    /// The lines of what is refused, each once, how many there are, and what helps.
+    pub fn text(&self, git: &Git, pushed: &[u8]) -> String {
+        let shown = &self.shown[..self.shown.len().min(MOST_LINES)];
+        let first = commits::first(git, pushed, &shown.iter().collect::<Vec<_>>());
+        let mut text = String::new();
+        for (finding, commit) in shown.iter().zip(&first) {
+            text += &cut(finding.line());
+            text += &details(finding, commit.as_deref());
+        }
+        text += &self.count();
+        let commit = first.iter().flatten().next().map(String::as_str);
+        text += &self.advice(commit, || {
+            commit.map_or(false, |commit| commits::is_root(git, commit))
+        });
+        text
+    }
+
+    fn count(&self) -> String {
+        let count = self.shown.len();
+        let least = if self.read < MOST_READ {
+            ""
+        } else {
+            "at least "
+        };
+        let names = if count == 1 { "name is" } else { "names are" };
+        if count <= MOST_LINES {
+            return format!("push refused: {least}{count} {names} not allowed\n");
+        }
+        format!(
+            "push refused: {least}{count} {names} not allowed ({MOST_LINES} of them shown)\n\
+             This lists all in your clone: git scan-names origin/main..HEAD\n"
+        )
+    }
+
+    /// What to do about each kind that there is.
+    fn advice(&self, commit: Option<&str>, is_root: impl FnOnce() -> bool) -> String {
+        let has = |is: fn(&Finding) -> bool| self.shown.iter().any(is);
+        let mut advice = Vec::new();
+        if has(is_plain_reference) {
+            advice.push("Push a refused reference under another name: git push origin HEAD:refs/heads/OTHER".into());
+        }
+        if has(Finding::is_replacement) {
+            advice.push(
+                "An administrator can allow refs/replace/: git config names.replace true".into(),
+            );
+        }
+        if has(is_name) {
+            advice.push("Rename a refused file or directory in the commit that adds it, not in a later one.".into());
+        }
+        if has(Finding::is_symlink) {
+            advice.push(
+                "Make .gitmodules a file, not a symlink, in the commit that changes it.".into(),
+            );
+        }
+        if has(is_named_submodule) {
+            advice.push("Give a refused submodule another name in .gitmodules, in the commit that changes that file.".into());
+        }
+        if has(is_unreadable) {
+            advice.push("Correct a .gitmodules file in the commit that changes it.".into());
+        }
+        if has(is_in_a_commit) {
+            advice.push(rebase(commit, is_root));
+            advice.push(ON_THE_SERVER.into());
+        }
+        advice.extend(self.accepting());
+        advice.into_iter().map(|line: String| line + "\n").collect()
+    }
+
+    /// How an administrator accepts the names that Windows alone forbids.
+    fn accepting(&self) -> Option<String> {
+        let acceptable = self.shown.iter().filter(|it| it.can_be_accepted());
+        let mut names = acceptable.map(|it| printable(it.name()));
+        let first = names.next()?;
+        let is_plain = |it: char| it.is_ascii_alphanumeric() || "._+-".contains(it);
+        let is_one = names.all(|it| it == first) && first.chars().all(is_plain);
+        let name = if is_one { &first } else { "NAME" };
+        Some(format!("An administrator can accept a name that only Windows forbids: git config --add names.accept {name}"))
+    }
+}
+
+fn is_plain_reference(finding: &Finding) -> bool {
+    matches!(finding.kind, Kind::Reference) && !finding.is_replacement()
+}
+
+fn is_name(finding: &Finding) -> bool {
+    matches!(finding.kind, Kind::Entry { .. }) && !finding.is_symlink()
+}
+
+fn is_named_submodule(finding: &Finding) -> bool {
+    matches!(finding.kind, Kind::Submodule { name: Some(_), .. })
+}
+
+fn is_unreadable(finding: &Finding) -> bool {
+    matches!(finding.kind, Kind::Submodule { name: None, .. })
+}
+
+fn is_in_a_commit(finding: &Finding) -> bool {
+    !matches!(finding.kind, Kind::Reference)
+}
+
+const ON_THE_SERVER: &str = "\
+If no commit of the push has it first, the server has it already: push one commit on top of the server's branch that changes it.";
+
+/// How to change the first commit that has something refused.
+fn rebase(commit: Option<&str>, is_root: impl FnOnce() -> bool) -> String {
+    let from = match commit {
+        Some(_) if is_root() => "--root".into(),
+        Some(commit) => format!("{}~1", abbreviated(commit)),
+        None => "COMMIT~1".into(),
+    };
+    format!("To change that commit: git rebase -i {from}, and write \"edit\" in its line.")
+}
+
+fn abbreviated(commit: &str) -> &str {
+    commit.get(..ABBREVIATED).unwrap_or(commit)
+}
+
+/// What offends, and the first commit that has it.
+fn details(finding: &Finding, commit: Option<&str>) -> String {
+    let offender = finding.offender().map(|it| format!("because of {it}"));
+    let commit = commit.map(|it| format!("first in commit {}", abbreviated(it)));
+    let details = offender.into_iter().chain(commit).collect::<Vec<_>>();
+    match details.join(", ") {
+        details if details.is_empty() => "\n".into(),
+        details => format!("\n    {details}\n"),
+    }
+}
+
+fn cut(line: String) -> String {
+    match line.get(..LONGEST_LINE - 3) {
+        Some(front) if line.len() > LONGEST_LINE => format!("{front}..."),
+        _ => line,
+    }
+}

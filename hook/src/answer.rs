@@ -75,17 +75,18 @@ impl Answer {
     pub fn text(&self, git: &Git, pushed: &[u8]) -> String {
         let shown = &self.shown[..self.shown.len().min(MOST_LINES)];
         let first = commits::first(git, pushed, &shown.iter().collect::<Vec<_>>());
-        let mut text = String::new();
-        for (finding, commit) in shown.iter().zip(&first) {
-            text += &cut(finding.line());
-            text += &details(finding, commit.as_deref());
-        }
-        text += &self.count();
-        let commit = first.iter().flatten().next().map(String::as_str);
-        text += &self.advice(commit, || {
-            commit.map_or(false, |commit| commits::is_root(git, commit))
+        let lines = shown.iter().zip(&first).map(|(finding, commit)| {
+            let details = details(finding, commit.as_deref());
+            format!("{}\n{details}", cut(finding.line()))
         });
-        text
+        let is_old = |(finding, commit): (&Finding, &Option<String>)| {
+            commit.is_none() && !matches!(finding.kind, Kind::Reference)
+        };
+        let change = first.iter().flatten().next().map(|it| change(git, it));
+        let old = shown.iter().zip(&first).any(is_old).then(|| OLD.into());
+        let advice = self.advice().chain(change).chain(old);
+        let advice = advice.chain(self.accepting()).map(|it| it + "\n");
+        lines.chain([self.count()]).chain(advice).collect()
     }
 
     fn count(&self) -> String {
@@ -106,37 +107,10 @@ impl Answer {
     }
 
     /// What to do about each kind that there is.
-    fn advice(&self, commit: Option<&str>, is_root: impl FnOnce() -> bool) -> String {
+    fn advice(&self) -> impl Iterator<Item = String> + '_ {
         let has = |is: fn(&Finding) -> bool| self.shown.iter().any(is);
-        let mut advice = Vec::new();
-        if has(is_plain_reference) {
-            advice.push("Push a refused reference under another name: git push origin HEAD:refs/heads/OTHER".into());
-        }
-        if has(Finding::is_replacement) {
-            advice.push(
-                "An administrator can allow refs/replace/: git config names.replace true".into(),
-            );
-        }
-        if has(is_name) {
-            advice.push("Rename a refused file or directory in the commit that adds it, not in a later one.".into());
-        }
-        if has(Finding::is_symlink) {
-            advice.push(
-                "Make .gitmodules a file, not a symlink, in the commit that changes it.".into(),
-            );
-        }
-        if has(is_named_submodule) {
-            advice.push("Give a refused submodule another name in .gitmodules, in the commit that changes that file.".into());
-        }
-        if has(is_unreadable) {
-            advice.push("Correct a .gitmodules file in the commit that changes it.".into());
-        }
-        if has(is_in_a_commit) {
-            advice.push(rebase(commit, is_root));
-            advice.push(ON_THE_SERVER.into());
-        }
-        advice.extend(self.accepting());
-        advice.into_iter().map(|line: String| line + "\n").collect()
+        let advice = ADVICE.iter().filter(move |(is, _)| has(*is));
+        advice.map(|(_, advice)| (*advice).to_owned())
     }
 
     /// How an administrator accepts the names that Windows alone forbids.
@@ -167,35 +141,57 @@ fn is_unreadable(finding: &Finding) -> bool {
     matches!(finding.kind, Kind::Submodule { name: None, .. })
 }
 
-fn is_in_a_commit(finding: &Finding) -> bool {
-    !matches!(finding.kind, Kind::Reference)
-}
-
-const ON_THE_SERVER: &str = "\
-If no commit of the push has it first, the server has it already: push one commit on top of the server's branch that changes it.";
+/// What to do about a finding of each kind.
+const ADVICE: [(fn(&Finding) -> bool, &str); 6] = [
+    (
+        is_plain_reference,
+        "Push a refused reference under another name: git push origin HEAD:refs/heads/OTHER",
+    ),
+    (
+        Finding::is_replacement,
+        "An administrator can allow refs/replace/: git config names.replace true",
+    ),
+    (
+        is_name,
+        "Rename a refused file or directory in the commit that adds it, not in a later one.",
+    ),
+    (
+        Finding::is_symlink,
+        "Make .gitmodules a file, not a symlink, in the commit that changes it.",
+    ),
+    (
+        is_named_submodule,
+        "Give a refused submodule another name in the commit that changes its .gitmodules file.",
+    ),
+    (
+        is_unreadable,
+        "Correct a .gitmodules file in the commit that changes it.",
+    ),
+];
+const OLD: &str = "If no commit of your push adds a name, the server has it already: first push one commit on top of the server's branch that changes it.";
 
 /// How to change the first commit that has something refused.
-fn rebase(commit: Option<&str>, is_root: impl FnOnce() -> bool) -> String {
-    let from = match commit {
-        Some(_) if is_root() => "--root".into(),
-        Some(commit) => format!("{}~1", abbreviated(commit)),
-        None => "COMMIT~1".into(),
+fn change(git: &Git, commit: &str) -> String {
+    let short = abbreviated(commit);
+    let from = if commits::is_root(git, commit) {
+        "--root".into()
+    } else {
+        format!("{short}~1")
     };
-    format!("To change that commit: git rebase -i {from}, and write \"edit\" in its line.")
+    format!("To change commit {short}: git rebase -i {from}, and write \"edit\" in its line.")
 }
 
 fn abbreviated(commit: &str) -> &str {
     commit.get(..ABBREVIATED).unwrap_or(commit)
 }
 
-/// What offends, and the first commit that has it.
+/// A line of what offends, and of the first commit that has it, if that is known.
 fn details(finding: &Finding, commit: Option<&str>) -> String {
     let offender = finding.offender().map(|it| format!("because of {it}"));
     let commit = commit.map(|it| format!("first in commit {}", abbreviated(it)));
-    let details = offender.into_iter().chain(commit).collect::<Vec<_>>();
-    match details.join(", ") {
-        details if details.is_empty() => "\n".into(),
-        details => format!("\n    {details}\n"),
+    match [offender, commit].into_iter().flatten().collect::<Vec<_>>() {
+        details if details.is_empty() => String::new(),
+        details => format!("    {}\n", details.join(", ")),
     }
 }
 

@@ -141,8 +141,10 @@ fn is_unreadable(finding: &Finding) -> bool {
     matches!(finding.kind, Kind::Submodule { name: None, .. })
 }
 
+type IsOfKind = fn(&Finding) -> bool;
+
 /// What to do about a finding of each kind.
-const ADVICE: [(fn(&Finding) -> bool, &str); 6] = [
+const ADVICE: [(IsOfKind, &str); 6] = [
     (
         is_plain_reference,
         "Push a refused reference under another name: git push origin HEAD:refs/heads/OTHER",

@@ -8,8 +8,7 @@ use crate::verdict::OLD;
 use std::ffi::OsStr;
 use std::io::{Read, Write};
 use std::os::unix::ffi::OsStrExt;
-use std::os::unix::io::OwnedFd;
-use std::process::{Command, Stdio};
+use std::process::Stdio;
 use std::thread;
 
 /// How much of the differences is read.
@@ -68,39 +67,54 @@ fn has(change: &[u8], finding: &Finding) -> bool {
 /// each with a NUL.
 fn changes(git: &Git, ids: &[u8], findings: &[&Finding]) -> Result<Vec<u8>> {
     let paths = || findings.iter().map(|it| OsStr::from_bytes(&it.path));
-    let commits = ["--stdin", "--reverse", "--topo-order", "--full-history"];
-    let words = [&["--literal-pathspecs", "rev-list"], &commits[..], &OLD].concat();
-    let mut command = git.command(&words);
-    command.arg("--").args(paths());
+    let mut command = git.command(&REV_LIST);
+    command.args(OLD).arg("--").args(paths());
     command.stdin(Stdio::piped()).stdout(Stdio::piped());
     let mut rev_list = Child::start("git rev-list", command)?;
-
-    let raw = ["--raw", "--no-abbrev", "--no-renames", "-z"];
-    let words = [
-        &["--literal-pathspecs", "diff-tree", "--stdin", "--root"],
-        &["-r", "-t", "-c"][..],
-        &raw,
-    ]
-    .concat();
-    let mut command: Command = git.command(&words);
+    // (it would read an index, and note that)
+    let git = git.with("GIT_INDEX_FILE", "/proc/none");
+    let mut command = git.command(&DIFF_TREE);
     command.arg("--").args(paths());
-    command
-        .stdin(OwnedFd::from(rev_list.output()?))
-        .stdout(Stdio::piped());
+    command.stdin(rev_list.output()?).stdout(Stdio::piped());
     let mut diff_tree = Child::start("git diff-tree", command)?;
 
     let (mut to, from) = (rev_list.input()?, diff_tree.output()?);
     let mut changes = Vec::new();
     thread::scope(|scope| {
-        let writer = spawn(scope, move || {
-            to.write_all(ids).or_unread("no ids were read")
-        })?;
+        let write = move || to.write_all(ids).or_unread("no ids were read");
+        let writer = spawn(scope, write)?;
         let read = from.take(MOST).read_to_end(&mut changes);
         read.or_fail("the changes could not be read")?;
         join(writer)
     })?;
     Ok(changes)
 }
+
+/// The commits that change paths, the oldest first, also those of which a later one takes back all.
+const REV_LIST: [&str; 6] = [
+    "--literal-pathspecs",
+    "rev-list",
+    "--stdin",
+    "--reverse",
+    "--topo-order",
+    "--full-history",
+];
+/// What each of them changes.
+const DIFF_TREE: [&str; 13] = [
+    "--literal-pathspecs",
+    "-c",
+    "core.fsmonitor=false",
+    "diff-tree",
+    "--stdin",
+    "--root",
+    "-r",
+    "-t",
+    "-c",
+    "--raw",
+    "--no-abbrev",
+    "--no-renames",
+    "-z",
+];
 
 #[cfg(test)]
 mod tests {

@@ -21,6 +21,8 @@ pub enum Failure {
     Other(String),
     /// The scan was called with wrong arguments.
     Misused(String),
+    /// A failure, with what may help.
+    Helped(Box<Failure>, &'static str),
 }
 
 /// A process that has ended: what it is called, how it ended, and the end of what it wrote to standard error.
@@ -93,17 +95,17 @@ impl<T> OrFail<T> for io::Result<T> {
 mod tests {
     use super::{first_of, Ended, Failure, How};
 
-    fn ended(process: &'static str, how: How) -> Option<Failure> {
+    fn ended(process: &'static str, how: How) -> Failure {
         let said = Vec::new();
-        Some(Failure::Ended(Ended { process, how, said }))
+        Failure::Ended(Ended { process, how, said })
     }
 
     #[test]
     fn the_first_failure_is_the_one_that_does_not_come_from_another() {
-        let killed_by_a_pipe = ended("a", How::Signal(13));
-        let failures = [killed_by_a_pipe, None, ended("b", How::Status(2))];
+        let by_a_pipe = || Some(ended("a", How::Signal(13)));
+        let failures = [by_a_pipe(), None, Some(ended("b", How::Status(2)))];
         assert!(matches!(first_of(failures), Failure::Ended(it) if it.process == "b"));
-        let failures = [Some(Failure::Unread("c")), ended("a", How::Signal(13))];
+        let failures = [Some(Failure::Unread("c")), by_a_pipe()];
         assert!(matches!(first_of(failures), Failure::Unread("c")));
     }
 }

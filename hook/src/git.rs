@@ -46,7 +46,8 @@ impl Git {
 
     /// Which fails where grafts or the borders of a shallow clone would hide history.
     pub fn with_whole_history(&self) -> Self {
-        let git = self.with("GIT_GRAFT_FILE", "/dev/null");
+        // (a file that is there would be called deprecated)
+        let git = self.with("GIT_GRAFT_FILE", "/dev/null/none");
         git.with("GIT_SHALLOW_FILE", "")
     }
 

@@ -128,6 +128,7 @@ pub fn of_failure(failure: &Failure, limits: Option<Limits>) -> (String, Option<
         Failure::Malformed(process) => (format!("{process} reported in another way"), None),
         Failure::Setting(key, what) => (format!("the setting {key} {what}"), None),
         Failure::Other(what) | Failure::Misused(what) => (what.clone(), None),
+        Failure::Helped(failure, help) => (of_failure(failure, limits).0, Some((*help).into())),
     }
 }
 

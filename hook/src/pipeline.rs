@@ -135,7 +135,6 @@ impl Pipeline {
             command.arg("--accept").arg(names);
         }
         command.stdin(list.cat_file.output()?);
-        let check = Child::start(CHECK_TREES, command)?;
         let Ids {
             lines,
             replacements: mut modules,
@@ -146,7 +145,9 @@ impl Pipeline {
             end,
         } = list;
         thread::scope(|scope| {
+            // (while that reads its ids, the other program starts)
             let lister = spawn(scope, move || finish_list(rev_list, &lines, end))?;
+            let check = Child::start(CHECK_TREES, command)?;
             let report = Report::read(check, |line| {
                 if let Some(rest) = line.front.strip_prefix(b"modules ") {
                     return modules.add_file(rest, line);

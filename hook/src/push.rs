@@ -35,9 +35,13 @@ pub fn run(program: PathBuf) -> Option<Verdict> {
         say(&format!(
             "push refused: the server could not check the names: {what}"
         ));
-        help.iter().for_each(|help| say(help));
+        if let Some(help) = help {
+            say(&help);
+        }
     }
-    push.answer.ignored().iter().for_each(|line| say(line));
+    for line in push.answer.ignored() {
+        say(&line);
+    }
     checked.ok()
 }
 

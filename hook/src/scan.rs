@@ -7,7 +7,7 @@ mod options;
 
 use crate::child::{run as output_of, Child};
 use crate::failure::{failed, Ended, Failure, How, OrFail, Result};
-use crate::finding::{id, Finding};
+use crate::finding::{id, split_once, Finding};
 use crate::git::{with_version, Git};
 use crate::messages::{of_failure, printable, say};
 use crate::pipeline::{Ids, Pipeline};
@@ -44,14 +44,16 @@ pub fn run(program: PathBuf) -> Outcome {
         Err(failure) => {
             let (what, help) = of_failure(&failure, None);
             say(&format!("scan failed: {what}"));
-            help.iter().for_each(|help| say(help));
+            if let Some(help) = help {
+                say(&help);
+            }
             Outcome::Failed
         }
     }
 }
 
 fn try_to_run(program: PathBuf) -> Result<Outcome> {
-    let options = match options::parse(env::args_os().skip(1))? {
+    let mut options = match options::parse(env::args_os().skip(1))? {
         Asked::Scan(options) => options,
         Asked::Help => {
             let printed = io::stdout().write_all(options::help().as_bytes());
@@ -62,53 +64,42 @@ fn try_to_run(program: PathBuf) -> Result<Outcome> {
     };
     let git = Git::find()?;
     let (_, version) = with_version(git.start_with_version("git version", &["version"])?)?;
-    match &options.copy {
-        Some(source) => {
-            let copy = Copy::of(git, source, version)?;
-            say(NOT_COPIED);
-            scan(program, copy.git.clone(), &options)
-        }
-        None => {
-            let revisions = enter_directory(&git, &options.words)?;
-            scan(
-                program,
-                git,
-                &Options {
-                    words: revisions,
-                    ..options
-                },
-            )
-        }
+    if let Some(source) = &options.copy {
+        let copy = Copy::of(git, source, version)?;
+        say(NOT_COPIED);
+        return scan(program, &copy.git, &options);
     }
+    enter_directory(&git, &mut options.words)?;
+    scan(program, &git, &options)
 }
 
 const NOT_COPIED: &str = "A copy lacks what Git doesn't serve: the index, the HEADs of other worktrees, and references that Git calls broken.";
 const COPY_IT: &str =
-    "git scan-names --copy PATH scans a copy of a repository that you don't own or trust";
+    "To scan a copy of a repository that you don't own or trust: git scan-names --copy PATH";
 
-/// Enters the directory that the only word may be. Returns the revisions, of which there are none then.
-fn enter_directory(git: &Git, words: &[OsString]) -> Result<Vec<OsString>> {
-    let directory = match words {
+/// Enters the directory that the only word may be, and takes that word away.
+fn enter_directory(git: &Git, words: &mut Vec<OsString>) -> Result<()> {
+    let directory = match &words[..] {
         [word] if Path::new(word).is_dir() => word,
-        _ => return Ok(words.to_vec()),
+        _ => return Ok(()),
     };
     let mut command = git.command(&["rev-parse", "--quiet", "--verify"]);
     command.arg(directory);
-    if let (How::Status(0), _) = (output_of("git rev-parse", command)?.0.how, ()) {
+    if output_of("git rev-parse", command)?.0.how == How::Status(0) {
         let shown = printable(directory.as_bytes());
         return misused(format!(
             "\"{shown}\" is a revision and a directory: write ./{shown} or its id"
         ));
     }
     let entered = env::set_current_dir(directory);
-    entered.or_fail("the directory could not be entered")?;
-    Ok(Vec::new())
+    words.clear();
+    entered.or_fail("the directory could not be entered")
 }
 
 /// Scans the repository in which Git is, and prints what is refused.
-fn scan(program: PathBuf, git: Git, options: &Options) -> Result<Outcome> {
-    check_repository(&git)?;
-    let settings = settings(&git, options)?;
+fn scan(program: PathBuf, git: &Git, options: &Options) -> Result<Outcome> {
+    check_repository(git)?;
+    let settings = settings(git, options)?;
     let pipeline = Pipeline {
         program,
         git: git.with_whole_history(),
@@ -120,7 +111,8 @@ fn scan(program: PathBuf, git: Git, options: &Options) -> Result<Outcome> {
         Continue(())
     };
     let verdict = match (options.index, options.words.is_empty()) {
-        (true, _) => check_index(&pipeline, &mut found),
+        (true, true) => check_index(&pipeline, &mut found),
+        (true, false) => misused("--index accepts no revisions"),
         (false, true) => check_all(&pipeline, &mut found),
         (false, false) => check_revisions(&pipeline, &options.words, &mut found),
     };
@@ -144,34 +136,45 @@ fn check_all(pipeline: &Pipeline, found: Found) -> Result<Verdict> {
     let format = "--format=%(objectname) %(objectname) %(refname)";
     let command = pipeline.git.command(&["for-each-ref", format]);
     let (listed, lines) = succeeded(output_of("git for-each-ref", command)?)?;
-    let (references, ids) = if lines.is_empty() {
+    let (references, mut ids) = if lines.is_empty() {
         (None, Ids::default())
     } else {
         let write = |mut to: ChildStdin| to.write_all(&lines).or_unread("check_push refs");
         let (report, ids, _) = pipeline.references(write, found)?;
         (Some(report), ids)
     };
-    let words = [OsString::from("--all"), "--".into()];
-    let verdict = if selects_some(&pipeline.git, &words)? {
-        check_trees(pipeline, &words, references, ids, found)?
-    } else {
-        say("the repository is empty");
-        Verdict::of(Checked {
-            references,
-            trees: None,
-            submodules: None,
-        })
-    };
-    if listed.said.is_empty() {
-        return Ok(verdict);
+    if !listed.said.is_empty() {
+        return check_unbroken(pipeline, &listed.said, &lines, found);
     }
-    listed
-        .said
+    let words = ["--all".into(), "--".into()];
+    if selects_some(&pipeline.git, &words)? {
+        ids.lines.clear(); // (the words select all of them)
+        return check_trees(pipeline, &words, references, ids, found);
+    }
+    say("the repository is empty");
+    Ok(Verdict::of(Checked {
+        references,
+        trees: None,
+        submodules: None,
+    }))
+}
+
+/// What the references lead to that Git doesn't call broken. It leaves out the others, and says so.
+fn check_unbroken(pipeline: &Pipeline, said: &[u8], lines: &[u8], found: Found) -> Result<Verdict> {
+    for line in said
         .split(|byte| *byte == b'\n')
         .filter(|it| !it.is_empty())
-        .for_each(|line| {
-            say(&format!("git for-each-ref: {}", printable(line)));
-        });
+    {
+        say(&format!("git for-each-ref: {}", printable(line)));
+    }
+    let mut ids = Ids::default();
+    for line in lines.split(|byte| *byte == b'\n') {
+        if let Some((id, _)) = split_once(line, b' ') {
+            ids.lines.extend_from_slice(id);
+            ids.lines.push(b'\n');
+        }
+    }
+    check_trees(pipeline, &["--stdin".into(), "--".into()], None, ids, found)?;
     failed("references are broken, as said above, and were not checked")
 }
 
@@ -188,12 +191,17 @@ fn check_revisions(pipeline: &Pipeline, revisions: &[OsString], found: Found) ->
 /// What `git commit` would commit.
 fn check_index(pipeline: &Pipeline, found: Found) -> Result<Verdict> {
     let git = &pipeline.git;
-    let unmerged = git.command(&["ls-files", "--unmerged"]);
+    let unmerged = git.command(&["ls-files", "--unmerged", "--", ":/"]);
     let (_, unmerged) = succeeded(output_of("git ls-files", unmerged)?)?;
     if !unmerged.is_empty() {
         return failed("the index has a conflict: resolve it first");
     }
-    let (_, tree) = succeeded(output_of("git write-tree", git.command(&["write-tree"]))?)?;
+    let write_tree = output_of("git write-tree", git.command(&["write-tree"]))?;
+    let (ended, tree) = succeeded(write_tree)?;
+    if !ended.said.is_empty() {
+        // (of a sparse index Git 2.39 leaves out directories, with a message and status 0)
+        return Err(Failure::Ended(ended));
+    }
     let tree = tree.strip_suffix(b"\n").and_then(id);
     let tree = tree.ok_or(Failure::Malformed("git write-tree"))?;
     if EMPTY_TREES.iter().any(|it| it.as_bytes() == &*tree)
@@ -216,10 +224,9 @@ fn check_trees(
     pipeline: &Pipeline,
     words: &[OsString],
     references: Option<Report>,
-    mut ids: Ids,
+    ids: Ids,
     found: Found,
 ) -> Result<Verdict> {
-    ids.lines.clear(); // (the words select all of them)
     let list = pipeline.start_list(words)?;
     let (trees, modules) = pipeline.trees(list, ids, found)?;
     let submodules = pipeline.submodules(modules, found)?;
@@ -271,8 +278,8 @@ fn check_patterns(git: &Git, revisions: &[OsString]) -> Result<()> {
 fn check_repository(git: &Git) -> Result<()> {
     let (ended, _) = output_of("git rev-parse", git.command(&["rev-parse", "--git-dir"]))?;
     if ended.how != How::Status(0) {
-        say(COPY_IT);
-        return Err(Failure::Ended(ended));
+        let failure = Box::new(Failure::Ended(ended));
+        return Err(Failure::Helped(failure, COPY_IT));
     }
     Ok(())
 }

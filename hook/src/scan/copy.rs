@@ -11,15 +11,17 @@ use std::env;
 use std::ffi::{OsStr, OsString};
 use std::fs::{self, DirBuilder};
 use std::hash::{BuildHasher, Hasher};
-use std::io::ErrorKind;
+use std::io::Read;
 use std::os::unix::fs::DirBuilderExt;
 use std::path::{Path, PathBuf};
 use std::process::{self, Command, Stdio};
 
 /// Also shows what the repository hides from those who fetch.
 const UPLOAD: &str = "git -c transfer.hideRefs=!refs/ upload-pack";
-/// Removes a directory when its standard input ends, and so also if the scan is killed.
-const REMOVE: &str = "trap '' HUP INT TERM; while read -r line; do :; done; rm -rf -- \"$1\"";
+/// Removes a directory if it is there when standard input ends, as when the scan is killed. (Git may go on
+/// then, and make it again.)
+const REMOVE: &str = "trap '' HUP INT TERM; echo; while read -r line; do :; done
+while [ -e \"$1\" ]; do rm -rf -- \"$1\"; sleep 1; done";
 /// What Git's commands would take for their repository.
 const OF_A_REPOSITORY: [&str; 8] = [
     "GIT_DIR",
@@ -36,6 +38,7 @@ const OF_A_REPOSITORY: [&str; 8] = [
 pub struct Copy {
     /// Git that works in it.
     pub git: Git,
+    directory: PathBuf,
     remover: process::Child,
 }
 
@@ -44,28 +47,41 @@ impl Copy {
     pub fn of(git: Git, source: &OsStr, version: Version) -> Result<Self> {
         let names = OF_A_REPOSITORY.iter();
         let git = names.fold(git, |git, name| git.without(name));
-        let directory = temporary_directory()?;
-        let mut remove = Command::new("/bin/sh");
-        remove.args(["-c", REMOVE, "sh"]).arg(&directory);
-        remove.stdin(Stdio::piped()).stdout(Stdio::null());
-        let remover = remove.stderr(Stdio::null()).spawn();
-        let remover = remover.or_fail("/bin/sh could not be started")?;
-        let mut copy = Self { git, remover };
+        let mut copy = Self::in_new_directory(git)?;
         let path = Path::new(source);
         let options = if path.exists() {
             check_lazy_fetch(version)?;
             copy.git = copy
                 .git
-                .with("GIT_CONFIG_GLOBAL", configuration(&directory)?);
+                .with("GIT_CONFIG_GLOBAL", configuration(&copy.directory)?);
             vec!["--no-local", "-u", UPLOAD]
         } else {
             Vec::new()
         };
         let source = fs::canonicalize(path).map_or_else(|_| source.into(), OsString::from);
-        let copied = directory.join("copy.git");
+        let copied = copy.directory.join("copy.git");
         copy.clone(&options, &source, &copied)?;
         copy.git = copy.git.with("GIT_DIR", copied);
         Ok(copy)
+    }
+
+    /// In a new directory, which nobody else can read, and which is removed whatever happens.
+    fn in_new_directory(git: Git) -> Result<Self> {
+        let directory = new_path()?;
+        let mut remove = Command::new("/bin/sh");
+        remove.args(["-c", REMOVE, "sh"]).arg(&directory);
+        remove.stdin(Stdio::piped()).stdout(Stdio::piped());
+        let remover = remove.stderr(Stdio::null()).spawn();
+        let mut remover = remover.or_fail("/bin/sh could not be started")?;
+        let ready = remover.stdout.take().map(|mut it| it.read_exact(&mut [0]));
+        let made = ready.unwrap_or(Ok(()));
+        let made = made.and_then(|()| DirBuilder::new().mode(0o700).create(&directory));
+        made.or_fail(NOT_MADE)?;
+        Ok(Self {
+            git,
+            directory,
+            remover,
+        })
     }
 
     fn clone(&self, options: &[&str], source: &OsStr, to: &Path) -> Result<()> {
@@ -86,6 +102,7 @@ impl Copy {
 
 impl Drop for Copy {
     fn drop(&mut self) {
+        let _ = fs::remove_dir_all(&self.directory);
         drop(self.remover.stdin.take());
         let _ = self.remover.wait();
     }
@@ -116,21 +133,16 @@ fn check_lazy_fetch(version: Version) -> Result<()> {
     failed(format!("git version {major}.{minor}.{patch} may run commands of a repository that it copies from a path: use Git 2.45.1 or later, or the last of its series"))
 }
 
-/// A new directory that nobody else can read.
-fn temporary_directory() -> Result<PathBuf> {
-    const FAILED: &str = "no temporary directory could be made";
+/// A path of which nobody knows.
+fn new_path() -> Result<PathBuf> {
     // (`env::temp_dir` would take an empty TMPDIR for the current directory)
     let parent = env::var_os("TMPDIR").filter(|it| !it.is_empty());
-    let parent = fs::canonicalize(parent.unwrap_or_else(|| "/tmp".into())).or_fail(FAILED)?;
-    loop {
-        let number = RandomState::new().build_hasher().finish();
-        let path = parent.join(format!("scan-names.{number:016x}"));
-        match DirBuilder::new().mode(0o700).create(&path) {
-            Err(error) if error.kind() == ErrorKind::AlreadyExists => {}
-            made => return made.or_fail(FAILED).map(|()| path),
-        }
-    }
+    let parent = fs::canonicalize(parent.unwrap_or_else(|| "/tmp".into())).or_fail(NOT_MADE)?;
+    let number = RandomState::new().build_hasher().finish();
+    Ok(parent.join(format!("scan-names.{number:016x}")))
 }
+
+const NOT_MADE: &str = "no temporary directory could be made";
 
 #[cfg(test)]
 mod tests {

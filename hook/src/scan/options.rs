@@ -60,8 +60,8 @@ the history that git rev-list selects. REVISION is a commit, a range (v1..v2,
 ^v1), --all, --branches, --tags, --remotes, --glob, --exclude or --not.
 
     --index           checks what git commit would commit, and no history
-    --copy SOURCE     checks a copy of the repository with this path or URL, which
-                      you need not trust, and removes the copy
+    --copy SOURCE     checks a copy of the repository with this path or URL,
+                      which you need not trust, and removes the copy
     --protect LIST    the file systems to protect, separated by commas:
                       windows, hfs and ntfs, or none. The default is all three
     --accept NAMES    names, separated by slashes, that are checked without
@@ -78,8 +78,8 @@ Git runs here as usual, by the settings of the repository. So scan a repository
 that you don't trust by --copy.
 
 The status is 0 if all names are allowed, 1 if one is not, and 2 if the scan
-failed, nothing is selected, or a reference is broken. It says nothing about what
-files contain, or about the repository's hooks and settings.
+failed, nothing is selected, or a reference is broken. It says nothing about
+what files contain, or about the repository's hooks and settings.
 ";
 
 /// The options up to the first other word.
@@ -150,9 +150,8 @@ impl Options {
         if self.index && self.copy.is_some() {
             return misused("--index and --copy don't go together");
         }
-        let accepts_none = if self.index { "--index" } else { "--copy" };
-        if (self.index || self.copy.is_some()) && !self.words.is_empty() {
-            return misused(format!("{accepts_none} accepts no revisions"));
+        if self.copy.is_some() && !self.words.is_empty() {
+            return misused("--copy accepts no revisions");
         }
         self.words.iter().try_for_each(|word| check_word(word))
     }

@@ -91,11 +91,7 @@ impl Answer {
 
     fn count(&self) -> String {
         let count = self.shown.len();
-        let least = if self.read < MOST_READ {
-            ""
-        } else {
-            "at least "
-        };
+        let least = if self.read < MOST_READ { "" } else { "at least " };
         let names = if count == 1 { "name is" } else { "names are" };
         if count <= MOST_LINES {
             return format!("push refused: {least}{count} {names} not allowed\n");
@@ -153,33 +149,20 @@ const ADVICE: [(IsOfKind, &str); 6] = [
         Finding::is_replacement,
         "An administrator can allow refs/replace/: git config names.replace true",
     ),
-    (
-        is_name,
-        "Rename a refused file or directory in the commit that adds it, not in a later one.",
-    ),
-    (
-        Finding::is_symlink,
-        "Make .gitmodules a file, not a symlink, in the commit that changes it.",
-    ),
+    (is_name, "Rename a refused file or directory in the commit that adds it, not in a later one."),
+    (Finding::is_symlink, "Make .gitmodules a file, not a symlink, in the commit that changes it."),
     (
         is_named_submodule,
         "Give a refused submodule another name in the commit that changes its .gitmodules file.",
     ),
-    (
-        is_unreadable,
-        "Correct a .gitmodules file in the commit that changes it.",
-    ),
+    (is_unreadable, "Correct a .gitmodules file in the commit that changes it."),
 ];
 const OLD: &str = "If no commit of your push adds a name, the server has it already: first push one commit on top of the server's branch that changes it.";
 
 /// How to change the first commit that has something refused.
 fn change(git: &Git, commit: &str) -> String {
     let short = abbreviated(commit);
-    let from = if commits::is_root(git, commit) {
-        "--root".into()
-    } else {
-        format!("{short}~1")
-    };
+    let from = if commits::is_root(git, commit) { "--root".into() } else { format!("{short}~1") };
     format!("To change commit {short}: git rebase -i {from}, and write \"edit\" in its line.")
 }
 

@@ -28,16 +28,10 @@ impl Child {
     /// it: a pipe has to end when its writer does, and a writer has to fail when its reader is gone.
     pub fn start(name: &'static str, mut command: Command) -> Result<Self> {
         command.stderr(Stdio::piped());
-        let mut process = command
-            .spawn()
-            .or_fail(format!("{name} could not be started"))?;
+        let mut process = command.spawn().or_fail(format!("{name} could not be started"))?;
         let (sender, errors) = channel();
         let pipe = process.stderr.take();
-        let child = Self {
-            name,
-            process,
-            errors,
-        };
+        let child = Self { name, process, errors };
         let read = move || {
             let _ = sender.send(pipe.map(end_of).unwrap_or_default());
         };
@@ -117,14 +111,10 @@ pub fn spawn<'scope, T: Send + 'scope>(
     scope: &'scope Scope<'scope, '_>,
     task: impl FnOnce() -> T + Send + 'scope,
 ) -> Result<ScopedJoinHandle<'scope, T>> {
-    thread::Builder::new()
-        .spawn_scoped(scope, task)
-        .or_fail(NO_THREAD)
+    thread::Builder::new().spawn_scoped(scope, task).or_fail(NO_THREAD)
 }
 
 /// What a thread returned.
 pub fn join<T>(thread: ScopedJoinHandle<Result<T>>) -> Result<T> {
-    thread
-        .join()
-        .unwrap_or_else(|_| failed("a thread panicked"))
+    thread.join().unwrap_or_else(|_| failed("a thread panicked"))
 }

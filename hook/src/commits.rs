@@ -91,14 +91,8 @@ fn changes(git: &Git, ids: &[u8], findings: &[&Finding]) -> Result<Vec<u8>> {
 }
 
 /// The commits that change paths, the oldest first, also those of which a later one takes back all.
-const REV_LIST: [&str; 6] = [
-    "--literal-pathspecs",
-    "rev-list",
-    "--stdin",
-    "--reverse",
-    "--topo-order",
-    "--full-history",
-];
+const REV_LIST: [&str; 6] =
+    ["--literal-pathspecs", "rev-list", "--stdin", "--reverse", "--topo-order", "--full-history"];
 /// What each of them changes.
 const DIFF_TREE: [&str; 13] = [
     "--literal-pathspecs",
@@ -126,23 +120,9 @@ mod tests {
         let (old, new) = ("a".repeat(40), "b".repeat(40));
         let one = format!(":100644 120000 {old} {new} T");
         let merge = format!("::100644 100644 120000 {old} {old} {new} MT");
-        let finding = |kind| Finding {
-            kind,
-            path: Vec::new(),
-            reason: Vec::new(),
-        };
-        let entry = |mode| {
-            finding(Kind::Entry {
-                mode,
-                is_windows: false,
-            })
-        };
-        let blob = |id: &str| {
-            finding(Kind::Submodule {
-                blob: id.as_bytes().into(),
-                name: None,
-            })
-        };
+        let finding = |kind| Finding { kind, path: Vec::new(), reason: Vec::new() };
+        let entry = |mode| finding(Kind::Entry { mode, is_windows: false });
+        let blob = |id: &str| finding(Kind::Submodule { blob: id.as_bytes().into(), name: None });
         for change in [one.as_bytes(), merge.as_bytes()] {
             assert!(has(change, &entry(0o120_000)) && !has(change, &entry(0o100_644)));
             assert!(has(change, &blob(&new)) && !has(change, &blob(&old)));

@@ -1,6 +1,5 @@
 //! Why a check ended without a verdict. Failures are values; `messages.rs` has their texts.
 
-use crate::messages::printable;
 use std::io;
 
 #[derive(Debug)]
@@ -11,12 +10,8 @@ pub enum Failure {
     System(String, io::Error),
     /// Something wasn't read to its end, most likely since what reads it had failed.
     Unread(&'static str),
-    /// A program printed a line in another form than it may.
-    Malformed(&'static str),
     /// This process itself has used up its memory.
     Memory,
-    /// A setting `names.*`: which one, and what is wrong with it.
-    Setting(String, String),
     /// Something else, which this says.
     Other(String),
     /// The scan was called with wrong arguments.
@@ -25,7 +20,7 @@ pub enum Failure {
     Helped(Box<Failure>, &'static str),
 }
 
-/// A process that has ended: what it is called, how it ended, and the end of what it wrote to standard error.
+/// A process that has ended, and the end of what it wrote to standard error.
 #[derive(Debug)]
 pub struct Ended {
     pub process: &'static str,
@@ -64,11 +59,6 @@ pub type Result<T> = std::result::Result<T, Failure>;
 
 pub fn failed<T>(what: impl Into<String>) -> Result<T> {
     Err(Failure::Other(what.into()))
-}
-
-/// A setting is wrong.
-pub fn wrong_setting<T>(key: &[u8], what: impl Into<String>) -> Result<T> {
-    Err(Failure::Setting(printable(key), what.into()))
 }
 
 /// Says what could not be done.

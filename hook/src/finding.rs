@@ -35,8 +35,8 @@ impl Finding {
     pub fn of_reference(line: &Line) -> Option<Self> {
         (line.front == b"ref ").then(|| Self {
             kind: Kind::Reference,
-            path: path_in(line),
-            reason: line.rest.clone(),
+            path: line.name.clone(),
+            reason: line.rest.into(),
         })
     }
 
@@ -44,7 +44,7 @@ impl Finding {
     /// `windows `.
     pub fn of_entry(line: &Line) -> Option<Self> {
         let without = line.front.strip_prefix(b"windows ");
-        let (tree, mode) = split_once(without.unwrap_or(&line.front), b' ')?;
+        let (tree, mode) = split_once(without.unwrap_or(line.front), b' ')?;
         id(tree)?;
         let mode = std::str::from_utf8(mode).ok()?.trim_end();
         let kind = Kind::Entry {
@@ -52,36 +52,22 @@ impl Finding {
             mode: u32::from_str_radix(mode, 8).unwrap_or_default(),
             is_windows: without.is_some(),
         };
-        Some(Self {
-            kind,
-            path: path_in(line),
-            reason: line.rest.clone(),
-        })
+        Some(Self { kind, path: line.name.clone(), reason: line.rest.into() })
     }
 
     /// A submodule that a line of `check_push submodules` says: `BLOB OFFSET "NAME" REASON`, or without a
     /// name `BLOB OFFSET REASON` or `BLOB REASON`. `path_of` knows where the blob is.
     pub fn of_submodule(line: &Line, path_of: impl Fn(&[u8]) -> Option<Vec<u8>>) -> Option<Self> {
-        let (blob, rest) = split_once(&line.front, b' ')?;
+        let (blob, rest) = split_once(line.front, b' ')?;
         let path = path_of(blob)?;
         let blob = id(blob)?;
         let (name, reason) = if rest.ends_with(b" ") {
-            (Some(path_in(line)), line.rest.clone())
+            (Some(line.name.clone()), line.rest.into())
         } else {
             (None, without_offset(rest))
         };
-        Some(Self {
-            kind: Kind::Submodule { blob, name },
-            path,
-            reason,
-        })
+        Some(Self { kind: Kind::Submodule { blob, name }, path, reason })
     }
-}
-
-/// The name in a line, with dots if that is only its beginning.
-pub fn path_in(line: &Line) -> Vec<u8> {
-    let dots = if line.is_cut { b"...".as_slice() } else { b"" };
-    [&line.name, dots].concat()
 }
 
 /// A reason, with the offset that is before it at its end.
@@ -111,13 +97,8 @@ mod tests {
     use super::{id, split_once, Finding, Kind};
     use crate::report::Line;
 
-    fn line(front: &str, name: &[u8], rest: &str) -> Line {
-        Line {
-            front: front.into(),
-            name: name.into(),
-            is_cut: false,
-            rest: rest.into(),
-        }
+    fn line<'a>(front: &'a str, name: &[u8], rest: &'a str) -> Line<'a> {
+        Line { front: front.as_bytes(), name: name.into(), rest: rest.as_bytes() }
     }
 
     #[test]
@@ -152,11 +133,13 @@ mod tests {
     fn a_submodule_is_in_a_file_and_what_can_not_be_read_has_an_offset() {
         let blob = "b".repeat(40);
         let path_of = |id: &[u8]| (id == blob.as_bytes()).then(|| b"file".to_vec());
-        let found = |line| Finding::of_submodule(&line, path_of);
-        let named = found(line(&format!("{blob} 20 "), b"../x", "no")).unwrap();
+        let found = |line: Line| Finding::of_submodule(&line, path_of);
+        let front = format!("{blob} 20 ");
+        let named = found(line(&front, b"../x", "no")).unwrap();
         assert!(matches!(named.kind, Kind::Submodule { name: Some(name), .. } if name == b"../x"));
         assert!(named.path == b"file" && named.reason == b"no");
-        let section = found(line(&format!("{blob} 20 a section"), b"", "")).unwrap();
+        let front = format!("{blob} 20 a section");
+        let section = found(line(&front, b"", "")).unwrap();
         assert!(matches!(section.kind, Kind::Submodule { name: None, .. }));
         assert_eq!(section.reason, b"a section (at byte 20)");
         assert!(found(line("c 20 ", b"../x", "no")).is_none());

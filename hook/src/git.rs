@@ -4,41 +4,35 @@ use crate::child::{output_of, Child};
 use crate::failure::{failed, Ended, Failure, How, Result};
 use crate::messages::printable;
 use std::env;
-use std::ffi::{OsStr, OsString};
+use std::ffi::OsString;
 use std::os::unix::fs::PermissionsExt;
 use std::path::PathBuf;
 use std::process::{Command, Stdio};
 
-/// A variable of the environment: its name, and its value if it is set.
-type Variable = (OsString, Option<OsString>);
-
+/// Git with the variables that it gets.
 #[derive(Clone)]
 pub struct Git {
     program: PathBuf,
-    environment: Vec<Variable>,
-    /// Whether Git also gets all other variables of the caller.
-    has_others: bool,
+    environment: Vec<(OsString, OsString)>,
 }
 
+/// What a push needs of the caller's environment. Without HOME, Git would fail at a path such as
+/// `~/attributes` in the server's settings.
+const OF_A_PUSH: [&str; 3] = ["HOME", "GIT_OBJECT_DIRECTORY", "GIT_ALTERNATE_OBJECT_DIRECTORIES"];
+
 impl Git {
-    /// The first `git` in the absolute directories of PATH that can be executed, as for `execvp`. It has the
+    /// The first `git` in the absolute directories of PATH that can be executed, as for `execvp`, with the
     /// caller's environment.
     pub fn find() -> Result<Self> {
         let path = env::var_os("PATH").unwrap_or_default();
         let directories = env::split_paths(&path).filter(|it| it.is_absolute());
         let is_program = |it: &PathBuf| {
             let metadata = it.metadata();
-            metadata.map_or(false, |it| {
-                it.is_file() && it.permissions().mode() & 0o111 != 0
-            })
+            metadata.map_or(false, |it| it.is_file() && it.permissions().mode() & 0o111 != 0)
         };
-        let git = Self {
-            program: match directories.map(|it| it.join("git")).find(is_program) {
-                Some(program) => program,
-                None => return failed("there is no git on the PATH"),
-            },
-            environment: Vec::new(),
-            has_others: true,
+        let git = match directories.map(|it| it.join("git")).find(is_program) {
+            Some(program) => Self { program, environment: env::vars_os().collect() },
+            None => return failed("there is no git on the PATH"),
         };
         // (the objects as they are, not what refs/replace/ shows in their place)
         Ok(git.with("GIT_NO_REPLACE_OBJECTS", "1"))
@@ -51,94 +45,58 @@ impl Git {
         git.with("GIT_SHALLOW_FILE", "")
     }
 
-    /// In the repository of a push, as receive-pack has set it: a hook runs in it, and the objects
-    /// of the push are in a quarantine of their own.
-    ///
-    /// Git gets no other variable but HOME: neither settings of the account that pushes, nor a file
-    /// into which it would write what it does (`GIT_TRACE`), nor libraries (`LD_PRELOAD`). Without HOME
-    /// it fails at a path such as `~/attributes` in the server's settings.
+    /// In the repository of a push, as receive-pack has set it: a hook runs in it, and the objects of the
+    /// push are in a quarantine of their own. Git gets no other variable: neither settings of the account
+    /// that pushes, nor a file into which it would write what it does (`GIT_TRACE`), nor libraries
+    /// (`LD_PRELOAD`).
     pub fn in_push() -> Result<Self> {
         let mut git = Self::find()?;
-        git.has_others = false;
+        git.environment.retain(|(name, _)| OF_A_PUSH.iter().any(|it| name == it));
         let directory = env::var_os("GIT_DIR").unwrap_or_else(|| ".".into());
-        let git = git.with("GIT_DIR", directory);
-        let names = [
-            "HOME",
-            "GIT_OBJECT_DIRECTORY",
-            "GIT_ALTERNATE_OBJECT_DIRECTORIES",
-        ];
-        Ok(names
-            .iter()
-            .fold(git, |git, name| git.with_that_of_the_caller(name))
-            .with("GIT_CONFIG_GLOBAL", "/dev/null")
-            // (of a partial clone: a missing object is missing)
-            .with("GIT_NO_LAZY_FETCH", "1"))
+        let git = git.with("GIT_DIR", directory).with("GIT_NO_REPLACE_OBJECTS", "1");
+        // (of a partial clone a missing object is missing)
+        Ok(git.with("GIT_NO_LAZY_FETCH", "1").with("GIT_CONFIG_GLOBAL", "/dev/null"))
     }
 
-    /// With the settings that the caller's account and environment have, of which Git then says the
-    /// scope.
+    /// With the settings that the caller's account and environment have, of which Git then says the scope.
     pub fn with_all_settings(&self) -> Self {
-        let mut git = self.clone();
-        git.environment
-            .retain(|(name, _)| name != "GIT_CONFIG_GLOBAL");
-        let is_setting = |name: &OsStr| {
+        let mut git = self.without("GIT_CONFIG_GLOBAL");
+        git.environment.extend(env::vars_os().filter(|(name, _)| {
             let name = name.to_string_lossy();
             let starts = ["GIT_CONFIG_KEY_", "GIT_CONFIG_VALUE_"];
-            let names = [
-                "GIT_CONFIG_GLOBAL",
-                "GIT_CONFIG_PARAMETERS",
-                "GIT_CONFIG_COUNT",
-            ];
-            name == "XDG_CONFIG_HOME"
+            let names = ["GIT_CONFIG_GLOBAL", "GIT_CONFIG_PARAMETERS", "GIT_CONFIG_COUNT"];
+            starts.iter().any(|it| name.starts_with(it))
                 || names.contains(&&*name)
-                || starts.iter().any(|it| name.starts_with(it))
-        };
-        let settings = env::vars_os().filter(|(name, _)| is_setting(name));
-        git.environment
-            .extend(settings.map(|(name, value)| (name, Some(value))));
+                || name == "XDG_CONFIG_HOME"
+        }));
         git
     }
 
-    fn with_that_of_the_caller(&self, name: &str) -> Self {
-        env::var_os(name).map_or_else(|| self.clone(), |value| self.with(name, value))
-    }
-
-    /// With this variable.
     pub fn with(&self, name: &str, value: impl Into<OsString>) -> Self {
-        let mut git = self.clone();
-        git.environment.retain(|(other, _)| other != name);
-        git.environment.push((name.into(), Some(value.into())));
+        let mut git = self.without(name);
+        git.environment.push((name.into(), value.into()));
         git
     }
 
-    /// Without a variable of the caller.
     pub fn without(&self, name: &str) -> Self {
         let mut git = self.clone();
-        git.environment.push((name.into(), None));
+        git.environment.retain(|(other, _)| other != name);
         git
     }
 
     /// A command that runs Git with these words, without streams.
     pub fn command(&self, words: &[&str]) -> Command {
         let mut command = Command::new(&self.program);
-        if !self.has_others {
-            command.env_clear();
-        }
-        for (name, value) in &self.environment {
-            match value {
-                Some(value) => command.env(name, value),
-                None => command.env_remove(name),
-            };
-        }
-        command.args(words);
+        let environment = self.environment.iter().map(|(name, value)| (name, value));
+        command.env_clear().envs(environment).args(words);
         command.stdin(Stdio::null()).stdout(Stdio::null());
         command
     }
 
     /// Starts a short command that also says Git's version, for `with_version`.
     pub fn start_with_version(&self, name: &'static str, words: &[&str]) -> Result<Child> {
-        let mut command = self.command(words);
-        command.envs([("GIT_TRACE2", "1"), ("GIT_TRACE2_BRIEF", "1")]);
+        let traced = self.with("GIT_TRACE2", "1").with("GIT_TRACE2_BRIEF", "1");
+        let mut command = traced.command(words);
         command.stdout(Stdio::piped());
         Child::start(name, command)
     }
@@ -150,54 +108,46 @@ pub type Version = (u32, u32, u32);
 /// Of such a command: what it printed if it ended with 0, or printed nothing and ended with 1, and
 /// Git's version.
 pub fn with_version(child: Child) -> Result<(Vec<u8>, Version)> {
-    let (ended, output) = output_of(child)?;
+    let (mut ended, output) = output_of(child)?;
     let is_well = match ended.how {
         How::Status(0) => true,
         How::Status(1) => output.is_empty(),
-        _ => false,
+        How::Status(_) | How::Signal(_) => false,
     };
-    match (is_well, version_in(&ended.said)?) {
+    match (is_well, version_in(&ended)?) {
         (true, Some(version)) => Ok((output, version)),
         (true, None) => failed("Git does not trace its version: it has to be 2.39 or later"),
-        (false, _) => Err(Failure::Ended(without_trace(ended))),
+        (false, _) => {
+            let lines = ended.said.split_inclusive(|byte| *byte == b'\n');
+            let is_message = |it: &&[u8]| it.starts_with(b"fatal: ") || it.starts_with(b"error: ");
+            ended.said = lines.filter(is_message).collect::<Vec<_>>().concat();
+            Err(Failure::Ended(ended))
+        }
     }
-}
-
-/// Without what Git traced: all but its messages.
-fn without_trace(mut ended: Ended) -> Ended {
-    let lines = ended.said.split_inclusive(|byte| *byte == b'\n');
-    let starts: [&[u8]; 3] = [b"fatal: ", b"error: ", b"warning: "];
-    let is_message = |line: &&[u8]| starts.iter().any(|it| line.starts_with(it));
-    ended.said = lines.filter(is_message).collect::<Vec<_>>().concat();
-    ended
 }
 
 /// The version in a line `version 2.39.5` of what Git traced. Fails if it is too old: before 2.39
 /// Git can believe a tag that calls a commit a blob, and then lists no tree of it.
-fn version_in(traced: &[u8]) -> Result<Option<Version>> {
-    let mut lines = traced.split(|byte| *byte == b'\n');
+fn version_in(traced: &Ended) -> Result<Option<Version>> {
+    let mut lines = traced.said.split(|byte| *byte == b'\n');
     let version = match lines.find_map(|line| line.strip_prefix(b"version ")) {
         Some(version) => printable(version),
         None => return Ok(None),
     };
     match numbers(&version) {
         Some(numbers) if numbers >= (2, 39, 0) => Ok(Some(numbers)),
-        Some(_) => failed(format!(
-            "git version {version} is too old: it has to be 2.39 or later"
-        )),
+        Some(_) => failed(format!("git version {version} is too old: it has to be 2.39 or later")),
         None => failed(format!("git version {version} is unknown")),
     }
 }
 
 /// The first three numbers of a version. The last may be missing.
 fn numbers(version: &str) -> Option<Version> {
-    let mut parts = version.splitn(3, '.');
-    let mut next = || {
-        let part = parts.next()?;
+    let mut parts = version.splitn(3, '.').map(|part| {
         let end = part.find(|it: char| !it.is_ascii_digit());
         part[..end.unwrap_or(part.len())].parse().ok()
-    };
-    Some((next()?, next()?, next().unwrap_or(0)))
+    });
+    Some((parts.next()??, parts.next()??, parts.next().flatten().unwrap_or(0)))
 }
 
 #[cfg(test)]

@@ -30,34 +30,32 @@ pub struct Limits {
     pub megabytes: u64,
 }
 
-/// `RLIMIT_CPU`, `RLIMIT_DATA` and `RLIMIT_CORE`.
-const TIME: c_uint = 0;
-const MEMORY: c_uint = 2;
-const CORE: c_uint = 4;
-
 impl Limits {
-    /// Sets them.
+    /// Sets them, and that no process leaves a core file, which could be as large as its memory.
     pub fn set(self) -> io::Result<()> {
+        const TIME: c_uint = 0; // RLIMIT_CPU
+        const MEMORY: c_uint = 2; // RLIMIT_DATA
+        const CORE: c_uint = 4; // RLIMIT_CORE
         set(TIME, self.seconds)?;
         set(MEMORY, self.megabytes << 20)?;
-        set(CORE, 0) // (at its limit of time a process could write a file as large as its memory)
+        set(CORE, 0)
     }
 }
 
-/// Sets the soft limit, which can be raised again. It ends a process by a signal that says why. A
-/// hard limit that is lower stays.
+/// Sets the soft limit, which can be raised again, and ends a process by a signal that says why. A hard
+/// limit that is lower stays.
 fn set(resource: c_uint, limit: u64) -> io::Result<()> {
-    let mut old = Limit { soft: 0, hard: 0 };
-    call(resource, std::ptr::null(), &mut old)?;
-    let soft = limit.min(old.hard);
-    call(resource, &Limit { soft, ..old }, std::ptr::null_mut())
-}
-
-fn call(resource: c_uint, new: *const Limit, old: *mut Limit) -> io::Result<()> {
-    // SAFETY: both pointers are null, or those of a value that is alive and has the layout of
-    // struct rlimit.
-    match unsafe { prlimit(0, resource, new, old) } {
-        0 => Ok(()),
-        _ => Err(io::Error::last_os_error()),
+    let (mut old, no) = (Limit { soft: 0, hard: 0 }, std::ptr::null_mut());
+    // SAFETY: each pointer is null, or that of a value that is alive and has the layout of struct rlimit.
+    let mut done = unsafe { prlimit(0, resource, no, &mut old) };
+    let new = Limit { soft: limit.min(old.hard), ..old };
+    if done == 0 {
+        // SAFETY: as above.
+        done = unsafe { prlimit(0, resource, &new, no) };
+    }
+    if done == 0 {
+        Ok(())
+    } else {
+        Err(io::Error::last_os_error())
     }
 }

@@ -93,9 +93,7 @@ fn status_of(verdict: &Verdict) -> ExitCode {
 
 fn print_version(file: &Path) -> ExitCode {
     let name = file.file_name().unwrap_or_default().to_string_lossy();
-    let version = RELEASE
-        .rsplit_once('-')
-        .map_or(RELEASE, |(version, _)| version);
+    let version = RELEASE.rsplit_once('-').map_or(RELEASE, |(version, _)| version);
     match writeln!(io::stdout(), "{name} {version}") {
         Ok(()) => ExitCode::SUCCESS,
         Err(_) => ExitCode::from(2),

@@ -4,6 +4,7 @@ use crate::failure::{Ended, Failure, How};
 use crate::finding::{Finding, Kind};
 use crate::limits::Limits;
 use crate::quoting::{in_quotes, quoted};
+use crate::report;
 use std::io::{self, Write};
 
 /// How much of a path, and of a submodule's name, a line of a push has.
@@ -12,8 +13,6 @@ const LONGEST_NAME: usize = 40;
 /// How much of a process's own message is shown: its end.
 const LONGEST_SAID: usize = 1000;
 const SIGXCPU: i32 = 24;
-/// A longer path may be cut, and so the name at its end.
-const LONGEST_WHOLE: usize = 4096;
 
 /// The reasons about which more is said.
 const DEVICE: &[u8] = b"Windows device-names may have side-effects and are not allowed";
@@ -41,12 +40,9 @@ impl Finding {
     fn line_up_to(&self, longest_path: usize, longest_name: usize) -> String {
         let (path, reason) = (quoted(&self.path, longest_path), printable(&self.reason));
         match &self.kind {
-            Kind::Submodule {
-                name: Some(name), ..
-            } => format!(
-                "{path}: submodule {}: {reason}",
-                in_quotes(name, longest_name)
-            ),
+            Kind::Submodule { name: Some(name), .. } => {
+                format!("{path}: submodule {}: {reason}", in_quotes(name, longest_name))
+            }
             _ => format!("{path}: {reason}"),
         }
     }
@@ -76,14 +72,8 @@ impl Finding {
 
     /// Whether an administrator may well accept it: a name with a backslash is a path to Windows.
     pub fn can_be_accepted(&self) -> bool {
-        let is_windows = matches!(
-            self.kind,
-            Kind::Entry {
-                is_windows: true,
-                ..
-            }
-        );
-        is_windows && !self.name().contains(&b'\\') && self.path.len() <= LONGEST_WHOLE
+        let is_windows = matches!(self.kind, Kind::Entry { is_windows: true, .. });
+        is_windows && !self.name().contains(&b'\\') && self.path.len() <= report::LONGEST_NAME
     }
 
     pub fn is_symlink(&self) -> bool {
@@ -107,10 +97,9 @@ pub fn of_failure(failure: &Failure, limits: Option<Limits>) -> (String, Option<
         "A process may use {seconds} s, and one more for each 4000 objects of the push: an administrator can raise names.seconds."
     ));
     match failure {
-        Failure::Ended(ended) if ended.how == How::Signal(SIGXCPU) => (
-            format!("{} needs too much processor time", ended.process),
-            more_time,
-        ),
+        Failure::Ended(ended) if ended.how == How::Signal(SIGXCPU) => {
+            (format!("{} needs too much processor time", ended.process), more_time)
+        }
         Failure::Ended(ended) => {
             let said = of_process(ended);
             let help = if said.to_lowercase().contains("memory") {
@@ -125,8 +114,6 @@ pub fn of_failure(failure: &Failure, limits: Option<Limits>) -> (String, Option<
         Failure::Memory => ("too little memory".into(), more_memory),
         Failure::System(what, error) => (format!("{what}: {error}"), None),
         Failure::Unread(what) => ((*what).into(), None),
-        Failure::Malformed(process) => (format!("{process} reported in another way"), None),
-        Failure::Setting(key, what) => (format!("the setting {key} {what}"), None),
         Failure::Other(what) | Failure::Misused(what) => (what.clone(), None),
         Failure::Helped(failure, help) => (of_failure(failure, limits).0, Some((*help).into())),
     }
@@ -154,6 +141,7 @@ fn of_process(ended: &Ended) -> String {
 /// printable ASCII. Git's messages and paths can have names of an attacker's choice, which could
 /// write to a terminal what they like.
 pub fn printable(bytes: &[u8]) -> String {
+    let bytes = bytes.strip_suffix(b"\n").unwrap_or(bytes);
     let shown = bytes.iter().map(|byte| match byte {
         b'\n' | b'\t' => ' ',
         b' '..=b'~' => char::from(*byte),
@@ -177,10 +165,7 @@ mod tests {
 
     fn entry(path: &str, reason: &[u8]) -> Finding {
         Finding {
-            kind: Kind::Entry {
-                mode: 0o100_644,
-                is_windows: true,
-            },
+            kind: Kind::Entry { mode: 0o100_644, is_windows: true },
             path: path.into(),
             reason: reason.into(),
         }
@@ -190,18 +175,11 @@ mod tests {
         let process = "git rev-list";
         let said = said.into();
         let failure = Failure::Ended(Ended { process, how, said });
-        let limits = Limits {
-            seconds: 61,
-            megabytes: 1025,
-        };
+        let limits = Limits { seconds: 61, megabytes: 1025 };
         let (line, help) = of_failure(&failure, Some(limits));
         let help = help.unwrap_or_default();
         let has = |words: [&str; 2]| words.iter().all(|it| help.contains(it));
-        (
-            line,
-            has(["61 s", "names.seconds"]),
-            has(["1025 MB", "names.megabytes"]),
-        )
+        (line, has(["61 s", "names.seconds"]), has(["1025 MB", "names.megabytes"]))
     }
 
     #[test]
@@ -229,20 +207,10 @@ mod tests {
     #[test]
     fn a_failure_by_a_limit_names_the_setting_and_its_value() {
         let time = said(How::Signal(24), "");
-        assert_eq!(
-            time,
-            (
-                "git rev-list needs too much processor time".into(),
-                true,
-                false
-            )
-        );
+        assert_eq!(time, ("git rev-list needs too much processor time".into(), true, false));
         let fatal = "fatal: Out of memory, malloc failed\n";
         let (line, seconds, megabytes) = said(How::Status(128), fatal);
-        assert_eq!(
-            line,
-            format!("git rev-list failed (status 128): {}", fatal.trim_end())
-        );
+        assert_eq!(line, format!("git rev-list failed (status 128): {}", fatal.trim_end()));
         assert!(!seconds && megabytes);
     }
 }

@@ -14,7 +14,7 @@
 
 use crate::child::{join, spawn, Child};
 use crate::failure::{Failure, OrFail, Result};
-use crate::finding::{id, path_in, split_once, Finding, Id};
+use crate::finding::{id, split_once, Finding, Id};
 use crate::git::Git;
 use crate::report::Line;
 use crate::settings::{arguments, Settings};
@@ -113,11 +113,7 @@ impl Pipeline {
         command.args(words);
         command.stdin(Stdio::piped());
         command.stdout(copy.or_fail("a pipe could not be copied")?);
-        Ok(TreeList {
-            rev_list: Child::start("git rev-list", command)?,
-            cat_file,
-            end,
-        })
+        Ok(TreeList { rev_list: Child::start("git rev-list", command)?, cat_file, end })
     }
 
     /// Checks the names in the trees of a list, which gets these ids. Also returns the blobs that a
@@ -135,15 +131,8 @@ impl Pipeline {
             command.arg("--accept").arg(names);
         }
         command.stdin(list.cat_file.output()?);
-        let Ids {
-            lines,
-            replacements: mut modules,
-        } = ids;
-        let TreeList {
-            rev_list,
-            cat_file,
-            end,
-        } = list;
+        let Ids { lines, replacements: mut modules } = ids;
+        let TreeList { rev_list, cat_file, end } = list;
         thread::scope(|scope| {
             // (while that reads its ids, the other program starts)
             let lister = spawn(scope, move || finish_list(rev_list, &lines, end))?;
@@ -152,7 +141,7 @@ impl Pipeline {
                 if let Some(rest) = line.front.strip_prefix(b"modules ") {
                     return modules.add_file(rest, line);
                 }
-                let finding = Finding::of_entry(line).ok_or(Failure::Malformed(CHECK_TREES))?;
+                let finding = Finding::of_entry(line).ok_or_else(|| malformed(CHECK_TREES))?;
                 Ok(Says::Refused(found(finding)))
             });
             let given = [join(lister), cat_file.succeed()];
@@ -182,7 +171,7 @@ impl Pipeline {
             let report = Report::read(check, |line| {
                 let path_of = |blob: &[u8]| modules.get(blob).cloned();
                 let finding = Finding::of_submodule(line, path_of);
-                let finding = finding.ok_or(Failure::Malformed(CHECK_SUBMODULES))?;
+                let finding = finding.ok_or_else(|| malformed(CHECK_SUBMODULES))?;
                 Ok(Says::Refused(found(finding)))
             });
             let given = [join(lister), cat_file.succeed()];
@@ -217,8 +206,8 @@ impl Ids {
     /// blob NEW in place of another, which may be a `.gitmodules` that was accepted.
     fn add(&mut self, line: &Line) -> Result<Says> {
         let is_replacement = line.front.ends_with(b" ");
-        let text = line.front.strip_suffix(b" ").unwrap_or(&line.front);
-        let new = id(text).ok_or(Failure::Malformed(CHECK_REFERENCES))?;
+        let text = line.front.strip_suffix(b" ").unwrap_or(line.front);
+        let new = id(text).ok_or_else(|| malformed(CHECK_REFERENCES))?;
         reserve(&mut self.lines, new.len() + 1)?;
         self.lines.extend_from_slice(&new);
         self.lines.push(b'\n');
@@ -233,18 +222,22 @@ impl Modules {
     /// Adds the file of a line `modules BLOB TREE MODE "PATH"`.
     fn add_file(&mut self, rest: &[u8], line: &Line) -> Result<Says> {
         let blob = split_once(rest, b' ').and_then(|(blob, _)| id(blob));
-        self.add(blob.ok_or(Failure::Malformed(CHECK_TREES))?, line)?;
+        self.add(blob.ok_or_else(|| malformed(CHECK_TREES))?, line)?;
         Ok(Says::Else)
     }
 
     /// Adds a blob with the name in a line, unless it is there already.
     fn add(&mut self, blob: Id, line: &Line) -> Result<()> {
         self.0.try_reserve(1).map_err(|_| Failure::Memory)?;
-        let mut path = path_in(line);
+        let mut path = line.name.clone();
         path.truncate(LONGEST_PATH);
         self.0.entry(blob).or_insert(path);
         Ok(())
     }
+}
+
+fn malformed(process: &str) -> Failure {
+    Failure::Other(format!("{process} reported in another way"))
 }
 
 /// Makes room for more bytes.

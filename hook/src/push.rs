@@ -25,16 +25,11 @@ const UNREAD: &str = "check_push refs did not read all lines";
 
 /// Checks the push whose lines are on standard input. Returns nothing if that failed.
 pub fn run(program: PathBuf) -> Option<Verdict> {
-    let mut push = Push {
-        limits: Settings::default().limits,
-        answer: Answer::default(),
-    };
+    let mut push = Push { limits: Settings::default().limits, answer: Answer::default() };
     let checked = push.check(program);
     if let Err(failure) = &checked {
         let (what, help) = of_failure(failure, Some(push.limits));
-        say(&format!(
-            "push refused: the server could not check the names: {what}"
-        ));
+        say(&format!("push refused: the server could not check the names: {what}"));
         if let Some(help) = help {
             say(&help);
         }
@@ -71,11 +66,7 @@ impl Push {
             (Some(trees), modules)
         };
         let submodules = pipeline.submodules(modules, &mut |it| answer.add(it))?;
-        let verdict = Verdict::of(Checked {
-            references: Some(references),
-            trees,
-            submodules,
-        });
+        let verdict = Verdict::of(Checked { references: Some(references), trees, submodules });
         if let Verdict::Refused = verdict {
             let text = answer.text(&pipeline.git, &pushed);
             // (refused all the same, if nobody reads why)
@@ -91,11 +82,8 @@ impl Push {
     /// nothing then.)
     fn start(&mut self, program: PathBuf) -> Result<(Pipeline, TreeList)> {
         let objects = objects()?;
-        let mut pipeline = Pipeline {
-            program,
-            git: Git::in_push()?,
-            settings: Settings::default(),
-        };
+        let mut pipeline =
+            Pipeline { program, git: Git::in_push()?, settings: Settings::default() };
         set(self.limits, objects)?;
         let git = pipeline.git.with_all_settings();
         let config = git.start_with_version("git config", &settings::WORDS)?;
@@ -115,10 +103,7 @@ impl Push {
 
 /// Limits this process, and all that it starts from now on.
 fn set(limits: Limits, objects: u64) -> Result<()> {
-    let limits = Limits {
-        seconds: limits.seconds + objects / STEP,
-        ..limits
-    };
+    let limits = Limits { seconds: limits.seconds + objects / STEP, ..limits };
     limits.set().or_fail("time and memory could not be limited")
 }
 

@@ -88,10 +88,7 @@ mod tests {
 
     #[test]
     fn another_path_is_quoted_as_git_quotes_it() {
-        assert_eq!(
-            quoted(b"a\nb\"\\\x01\x7f", 99),
-            "\"a\\nb\\\"\\\\\\001\\177\""
-        );
+        assert_eq!(quoted(b"a\nb\"\\\x01\x7f", 99), "\"a\\nb\\\"\\\\\\001\\177\"");
         assert_eq!(quoted("caf\u{e9}".as_bytes(), 99), "\"caf\\303\\251\"");
     }
 

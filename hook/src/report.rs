@@ -1,27 +1,19 @@
 //! The lines of the proved program's reports. All have one form: `FRONT "NAME" REST`, or `FRONT`.
-//!
-//! A push decides how long a name is, and some kilobytes can become gigabytes of report. So no line
-//! is ever held whole: of each part only its beginning is kept.
 
 use std::io::{self, BufRead, BufReader, ErrorKind, Read};
 use std::ops::ControlFlow;
 
-/// How much of a line's front is kept: more than two ids and some words need. And how much of a name,
-/// and of what follows it: a file system allows no more.
-const LONGEST_FRONT: usize = 300;
-const LONGEST_NAME: usize = 4096;
+/// How much of a name is kept: a push decides how long it is. (A file system allows no more.)
+pub const LONGEST_NAME: usize = 4096;
 
 /// A line, without its newline.
-#[derive(Default)]
-pub struct Line {
+pub struct Line<'a> {
     /// What is before the first double quote, and so the whole line if there is none.
-    pub front: Vec<u8>,
-    /// The name between the quotes, without its escapes; if it is long, its beginning.
+    pub front: &'a [u8],
+    /// The name between the quotes, without its escapes. If it is long, its beginning and dots.
     pub name: Vec<u8>,
-    /// Whether `name` is only the beginning.
-    pub is_cut: bool,
-    /// What is after the quote that ends the name, and a space; if it is long, its beginning.
-    pub rest: Vec<u8>,
+    /// What is after the quote that ends the name, and a space.
+    pub rest: &'a [u8],
 }
 
 /// Reads all lines of a report, until one breaks off. If the last line has no newline, the report was
@@ -31,129 +23,58 @@ pub fn each_line<B>(
     mut line_is: impl FnMut(&Line) -> ControlFlow<B>,
 ) -> io::Result<ControlFlow<B>> {
     let mut input = BufReader::with_capacity(1 << 16, input);
-    let mut reader = Reader::new();
-    loop {
-        let bytes = match input.fill_buf() {
-            Ok(bytes) => bytes,
-            Err(error) if error.kind() == ErrorKind::Interrupted => continue,
-            Err(error) => return Err(error),
-        };
-        if bytes.is_empty() && reader.is_at_start {
-            return Ok(ControlFlow::Continue(()));
+    let mut line = Vec::new();
+    while input.read_until(b'\n', &mut line)? > 0 {
+        let text = line.strip_suffix(b"\n").ok_or(ErrorKind::UnexpectedEof)?;
+        if let ControlFlow::Break(broken) = line_is(&Line::of(text)) {
+            return Ok(ControlFlow::Break(broken));
         }
-        if bytes.is_empty() {
-            return Err(ErrorKind::UnexpectedEof.into());
-        }
-        for byte in bytes {
-            if *byte != b'\n' {
-                reader.read(*byte);
-                continue;
+        line.clear();
+    }
+    Ok(ControlFlow::Continue(()))
+}
+
+impl<'a> Line<'a> {
+    fn of(text: &'a [u8]) -> Self {
+        let quote = text.iter().position(|byte| *byte == b'"');
+        let (front, quoted) = text.split_at(quote.unwrap_or(text.len()));
+        let mut rest = quoted.get(1..).unwrap_or_default();
+        let mut name = Vec::new();
+        loop {
+            let (byte, after) = match rest {
+                [] | [b'"', ..] => break,
+                [b'\\', b'x', high, low, after @ ..] => (digit(*high) << 4 | digit(*low), after),
+                [b'\\', letter, after @ ..] => (named(*letter), after),
+                [byte, after @ ..] => (*byte, after),
+            };
+            if name.len() < LONGEST_NAME {
+                name.push(byte);
+            } else if name.len() == LONGEST_NAME {
+                name.extend_from_slice(b"...");
             }
-            if let ControlFlow::Break(broken) = line_is(&reader.line) {
-                return Ok(ControlFlow::Break(broken));
-            }
-            reader = reader.after_line();
+            rest = after;
         }
-        let length = bytes.len();
-        input.consume(length);
+        let rest = rest.strip_prefix(b"\" ").unwrap_or_default();
+        Self { front, name, rest }
     }
 }
 
-/// Where the next byte belongs.
-enum Part {
-    Front,
-    Name,
-    /// After a backslash.
-    Escape,
-    /// After `\x`, and perhaps a first digit.
-    Digits(Option<u8>),
-    /// After the quote, before the space.
-    Space,
-    Rest,
-}
-
-struct Reader {
-    line: Line,
-    part: Part,
-    is_at_start: bool,
-}
-
-impl Reader {
-    fn new() -> Self {
-        Self {
-            line: Line::default(),
-            part: Part::Front,
-            is_at_start: true,
-        }
+/// The byte that a backslash and this letter stand for.
+fn named(letter: u8) -> u8 {
+    match letter {
+        b'0' => 0,
+        b't' => b'\t',
+        b'n' => b'\n',
+        b'r' => b'\r',
+        _ => letter,
     }
-
-    /// Reads a byte of a line.
-    fn read(&mut self, byte: u8) {
-        self.is_at_start = false;
-        self.part = match (&self.part, byte) {
-            (Part::Front, b'"') => Part::Name,
-            (Part::Front, _) => {
-                push(&mut self.line.front, byte, LONGEST_FRONT);
-                Part::Front
-            }
-            (Part::Name, b'"') => Part::Space,
-            (Part::Name, b'\\') => Part::Escape,
-            (Part::Name, _) => self.push_name(byte),
-            (Part::Escape, b'x') => Part::Digits(None),
-            (Part::Escape, _) => self.push_name(match byte {
-                b'0' => 0,
-                b't' => b'\t',
-                b'n' => b'\n',
-                b'r' => b'\r',
-                _ => byte,
-            }),
-            (Part::Digits(None), _) => Part::Digits(Some(digit(byte))),
-            (Part::Digits(Some(first)), _) => {
-                let byte = first << 4 | digit(byte);
-                self.push_name(byte)
-            }
-            (Part::Space, b' ') => Part::Rest,
-            (Part::Space | Part::Rest, _) => {
-                push(&mut self.line.rest, byte, LONGEST_NAME);
-                Part::Rest
-            }
-        };
-    }
-
-    fn push_name(&mut self, byte: u8) -> Part {
-        self.line.is_cut |= !push(&mut self.line.name, byte, LONGEST_NAME);
-        Part::Name
-    }
-
-    /// For the next line, with the memory of this one.
-    fn after_line(mut self) -> Self {
-        self.line.front.clear();
-        self.line.name.clear();
-        self.line.rest.clear();
-        self.line.is_cut = false;
-        Self {
-            part: Part::Front,
-            is_at_start: true,
-            ..self
-        }
-    }
-}
-
-/// Appends a byte, if the text isn't so long already.
-fn push(text: &mut Vec<u8>, byte: u8, longest: usize) -> bool {
-    let has_room = text.len() < longest;
-    if has_room {
-        text.push(byte);
-    }
-    has_room
 }
 
 /// The number of a hexadecimal digit.
 fn digit(byte: u8) -> u8 {
     match byte {
-        b'0'..=b'9' => byte - b'0',
         b'a'..=b'f' => byte - b'a' + 10,
-        _ => 0,
+        _ => byte.wrapping_sub(b'0'),
     }
 }
 
@@ -168,7 +89,7 @@ mod tests {
     fn lines(report: &[u8]) -> io::Result<Vec<Parts>> {
         let mut all = Vec::new();
         let keep = |line: &Line| {
-            all.push((line.front.clone(), line.name.clone(), line.rest.clone()));
+            all.push((line.front.into(), line.name.clone(), line.rest.into()));
             ControlFlow::<()>::Continue(())
         };
         each_line(report, keep).map(|_| all)
@@ -180,9 +101,9 @@ mod tests {
 
     #[test]
     fn a_line_is_taken_apart_at_the_quotes_of_its_name() {
-        let report = b"1f 100644 \"a\\\"\\\\ \\x00\\xff\\n\" \"no\" (in \"b\")\n";
-        let expected = line("1f 100644 ", b"a\"\\ \x00\xff\n", "\"no\" (in \"b\")");
-        assert_eq!(lines(report).unwrap(), [expected]);
+        let report = b"1f 100644 \"a\\\"\\\\ \\x00\\xff\\n\" \"no\" (in \"b\")\n\"a\"\n";
+        let first = line("1f 100644 ", b"a\"\\ \x00\xff\n", "\"no\" (in \"b\")");
+        assert_eq!(lines(report).unwrap(), [first, line("", b"a", "")]);
     }
 
     #[test]
@@ -192,9 +113,10 @@ mod tests {
     }
 
     #[test]
-    fn of_a_long_line_the_beginnings_are_kept() {
+    fn of_a_long_name_the_beginning_is_kept() {
         let long = [b"a \"".as_slice(), &[b'x'; 9999], b"\" no\nb\n"].concat();
-        let expected = [line("a ", &[b'x'; LONGEST_NAME], "no"), line("b", b"", "")];
+        let name = [[b'x'; LONGEST_NAME].as_slice(), b"..."].concat();
+        let expected = [line("a ", &name, "no"), line("b", b"", "")];
         assert_eq!(lines(&long).unwrap(), expected);
     }
 

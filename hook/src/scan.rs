@@ -7,7 +7,7 @@ mod options;
 
 use crate::child::{run as output_of, Child};
 use crate::failure::{failed, Ended, Failure, How, OrFail, Result};
-use crate::finding::{id, split_once, Finding};
+use crate::finding::{id, Finding};
 use crate::git::{with_version, Git};
 use crate::messages::{of_failure, printable, say};
 use crate::pipeline::{Ids, Pipeline};
@@ -57,9 +57,7 @@ fn try_to_run(program: PathBuf) -> Result<Outcome> {
         Asked::Scan(options) => options,
         Asked::Help => {
             let printed = io::stdout().write_all(options::help().as_bytes());
-            return printed
-                .or_fail("the help could not be printed")
-                .map(|()| Outcome::Printed);
+            return printed.or_fail("the help could not be printed").map(|()| Outcome::Printed);
         }
     };
     let git = Git::find()?;
@@ -100,11 +98,7 @@ fn enter_directory(git: &Git, words: &mut Vec<OsString>) -> Result<()> {
 fn scan(program: PathBuf, git: &Git, options: &Options) -> Result<Outcome> {
     check_repository(git)?;
     let settings = settings(git, options)?;
-    let pipeline = Pipeline {
-        program,
-        git: git.with_whole_history(),
-        settings,
-    };
+    let pipeline = Pipeline { program, git: git.with_whole_history(), settings };
     let mut list = List::default();
     let mut found = |finding| {
         list.add(finding);
@@ -136,6 +130,10 @@ fn check_all(pipeline: &Pipeline, found: Found) -> Result<Verdict> {
     let format = "--format=%(objectname) %(objectname) %(refname)";
     let command = pipeline.git.command(&["for-each-ref", format]);
     let (listed, lines) = succeeded(output_of("git for-each-ref", command)?)?;
+    if !listed.said.is_empty() {
+        // (it leaves out what it calls broken, and warns)
+        return failed(format!("references are broken: {}", printable(&listed.said)));
+    }
     let (references, mut ids) = if lines.is_empty() {
         (None, Ids::default())
     } else {
@@ -143,39 +141,13 @@ fn check_all(pipeline: &Pipeline, found: Found) -> Result<Verdict> {
         let (report, ids, _) = pipeline.references(write, found)?;
         (Some(report), ids)
     };
-    if !listed.said.is_empty() {
-        return check_unbroken(pipeline, &listed.said, &lines, found);
-    }
     let words = ["--all".into(), "--".into()];
     if selects_some(&pipeline.git, &words)? {
         ids.lines.clear(); // (the words select all of them)
         return check_trees(pipeline, &words, references, ids, found);
     }
     say("the repository is empty");
-    Ok(Verdict::of(Checked {
-        references,
-        trees: None,
-        submodules: None,
-    }))
-}
-
-/// What the references lead to that Git doesn't call broken. It leaves out the others, and says so.
-fn check_unbroken(pipeline: &Pipeline, said: &[u8], lines: &[u8], found: Found) -> Result<Verdict> {
-    for line in said
-        .split(|byte| *byte == b'\n')
-        .filter(|it| !it.is_empty())
-    {
-        say(&format!("git for-each-ref: {}", printable(line)));
-    }
-    let mut ids = Ids::default();
-    for line in lines.split(|byte| *byte == b'\n') {
-        if let Some((id, _)) = split_once(line, b' ') {
-            ids.lines.extend_from_slice(id);
-            ids.lines.push(b'\n');
-        }
-    }
-    check_trees(pipeline, &["--stdin".into(), "--".into()], None, ids, found)?;
-    failed("references are broken, as said above, and were not checked")
+    Ok(Verdict::of(Checked { references, trees: None, submodules: None }))
 }
 
 /// What these revisions select.
@@ -203,7 +175,7 @@ fn check_index(pipeline: &Pipeline, found: Found) -> Result<Verdict> {
         return Err(Failure::Ended(ended));
     }
     let tree = tree.strip_suffix(b"\n").and_then(id);
-    let tree = tree.ok_or(Failure::Malformed("git write-tree"))?;
+    let tree = tree.ok_or_else(|| Failure::Other("git write-tree printed no id".into()))?;
     if EMPTY_TREES.iter().any(|it| it.as_bytes() == &*tree)
         && selects_some(git, &["--all".into(), "--".into()])?
     {
@@ -230,11 +202,7 @@ fn check_trees(
     let list = pipeline.start_list(words)?;
     let (trees, modules) = pipeline.trees(list, ids, found)?;
     let submodules = pipeline.submodules(modules, found)?;
-    Ok(Verdict::of(Checked {
-        references,
-        trees: Some(trees),
-        submodules,
-    }))
+    Ok(Verdict::of(Checked { references, trees: Some(trees), submodules }))
 }
 
 /// Whether these words of `git rev-list` select an object.
@@ -242,10 +210,7 @@ fn selects_some(git: &Git, words: &[OsString]) -> Result<bool> {
     let mut command = git.command(&["rev-list", "--objects", "--max-count=1"]);
     command.args(words).stdout(Stdio::piped());
     let mut list = Child::start("git rev-list", command)?;
-    let read = list
-        .output()?
-        .read(&mut [0])
-        .or_fail("git rev-list could not be read")?;
+    let read = list.output()?.read(&mut [0]).or_fail("git rev-list could not be read")?;
     if read > 0 {
         return Ok(true); // (this kills it)
     }
@@ -255,20 +220,14 @@ fn selects_some(git: &Git, words: &[OsString]) -> Result<bool> {
 /// Fails for a pattern that matches no reference. (Git takes it for an empty selection.)
 fn check_patterns(git: &Git, revisions: &[OsString]) -> Result<()> {
     let patterns = ["--branches", "--tags", "--remotes", "--glob", "--all"];
-    let is_pattern = |word: &&OsString| {
-        patterns
-            .iter()
-            .any(|it| word.as_bytes().starts_with(it.as_bytes()))
-    };
+    let is_pattern =
+        |word: &&OsString| patterns.iter().any(|it| word.as_bytes().starts_with(it.as_bytes()));
     for pattern in revisions.iter().filter(is_pattern) {
         let mut command = git.command(&["rev-parse"]);
         command.arg(pattern);
         let (_, matched) = succeeded(output_of("git rev-parse", command)?)?;
         if matched.is_empty() {
-            return failed(format!(
-                "{} matches no reference",
-                printable(pattern.as_bytes())
-            ));
+            return failed(format!("{} matches no reference", printable(pattern.as_bytes())));
         }
     }
     Ok(())

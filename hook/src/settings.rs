@@ -1,7 +1,7 @@
 //! The settings `names.*` of the repository and the system. Those of the account that pushes, and of its
 //! environment, are ignored.
 
-use crate::failure::{failed, wrong_setting, Result};
+use crate::failure::{failed, Result};
 use crate::limits::Limits;
 use crate::messages::printable;
 use std::ffi::{OsStr, OsString};
@@ -36,23 +36,14 @@ impl Default for Settings {
             accept: Vec::new(),
             replace: false,
             alternate_refs: false,
-            limits: Limits {
-                seconds: 60,
-                megabytes: 1024,
-            },
+            limits: Limits { seconds: 60, megabytes: 1024 },
             ignored: Vec::new(),
         }
     }
 }
 
 /// The words with which Git prints the settings and their scopes.
-pub const WORDS: [&str; 5] = [
-    "config",
-    "--null",
-    "--show-scope",
-    "--get-regexp",
-    "^names\\.",
-];
+pub const WORDS: [&str; 5] = ["config", "--null", "--show-scope", "--get-regexp", "^names\\."];
 
 impl Settings {
     /// Reads what Git printed: each setting as its scope, a NUL, its key, and perhaps a newline and a
@@ -83,22 +74,19 @@ impl Settings {
             (b"names.seconds", Some(value)) => self.limits.seconds = number(key, value)?,
             (b"names.megabytes", Some(value)) => self.limits.megabytes = number(key, value)?,
             (b"names.protect" | b"names.accept" | b"names.seconds" | b"names.megabytes", None) => {
-                return wrong_setting(key, "has no value")
+                return wrong(key, "has no value")
             }
-            _ => return wrong_setting(key, "is unknown"),
+            _ => return wrong(key, "is unknown"),
         }
         Ok(())
     }
 
     fn accept(&mut self, key: &[u8], names: &[u8]) -> Result<()> {
         if names.contains(&b'\n') {
-            return wrong_setting(key, "has a newline");
+            return wrong(key, "has a newline");
         }
-        if names
-            .split(|byte| *byte == b'/')
-            .any(|name| name.len() >= LONGEST_ARGUMENT)
-        {
-            return wrong_setting(key, "has a name that is too long");
+        if names.split(|byte| *byte == b'/').any(|name| name.len() >= LONGEST_ARGUMENT) {
+            return wrong(key, "has a name that is too long");
         }
         let names = names.split(|byte| *byte == b'/').map(OsStr::from_bytes);
         self.accept.extend(names.map(OsStr::to_owned));
@@ -124,6 +112,11 @@ pub fn arguments(accept: &[OsString]) -> Result<Vec<OsString>> {
     Ok(arguments)
 }
 
+/// A setting is wrong.
+fn wrong<T>(key: &[u8], what: &str) -> Result<T> {
+    failed(format!("the setting {} {what}", printable(key)))
+}
+
 /// A list of file systems, as `check_push trees --protect` reads it.
 pub fn is_list(list: &[u8]) -> bool {
     let mut words = list.split(|byte| *byte == b',');
@@ -136,7 +129,7 @@ fn checked_list(key: &[u8], list: &[u8]) -> Result<OsString> {
     if is_list(list) {
         return Ok(OsStr::from_bytes(list).to_owned());
     }
-    wrong_setting(key, format!("is \"{}\": {LISTS}", printable(list)))
+    wrong(key, &format!("is \"{}\": {LISTS}", printable(list)))
 }
 
 /// A value that git-config(1) has for true or false. (A key without a value is true.)
@@ -144,7 +137,7 @@ fn boolean(key: &[u8], value: Option<&[u8]>) -> Result<bool> {
     match value.map(<[u8]>::to_ascii_lowercase).as_deref() {
         None | Some(b"true" | b"yes" | b"on" | b"1") => Ok(true),
         Some(b"false" | b"no" | b"off" | b"0" | b"") => Ok(false),
-        Some(_) => wrong_setting(key, "is neither true nor false"),
+        Some(_) => wrong(key, "is neither true nor false"),
     }
 }
 
@@ -154,7 +147,7 @@ fn number(key: &[u8], value: &[u8]) -> Result<u64> {
     let is_number = digits.bytes().all(|it| it.is_ascii_digit());
     match digits.parse() {
         Ok(number @ 1..=MOST) if is_number => Ok(number),
-        _ => wrong_setting(key, format!("is no number from 1 to {MOST}")),
+        _ => wrong(key, &format!("is no number from 1 to {MOST}")),
     }
 }
 
@@ -182,18 +175,7 @@ mod tests {
         for (value, is) in [("1", 1), ("010", 10), ("1000000000", 1_000_000_000)] {
             assert_eq!(number(b"k", value.as_bytes()).unwrap(), is, "{value}");
         }
-        for value in [
-            "",
-            "0",
-            "1000000001",
-            "-1",
-            "+1",
-            "1.5",
-            "2k",
-            " 2",
-            "2 ",
-            "\u{ff12}",
-        ] {
+        for value in ["", "0", "1000000001", "-1", "+1", "1.5", "2k", " 2", "2 ", "\u{ff12}"] {
             assert!(number(b"k", value.as_bytes()).is_err(), "{value}");
         }
     }
@@ -214,10 +196,7 @@ mod tests {
         let settings = Settings::read(output).unwrap();
         assert!(settings.replace && settings.accept.is_empty());
         let ignored = [("names.accept", "global"), ("names.x", "command")];
-        assert_eq!(
-            settings.ignored,
-            ignored.map(|(key, scope)| (key.into(), scope.into()))
-        );
+        assert_eq!(settings.ignored, ignored.map(|(key, scope)| (key.into(), scope.into())));
     }
 
     #[test]

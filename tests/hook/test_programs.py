@@ -124,6 +124,7 @@ def test_no_program_gets_another_variable_of_the_caller(hook, source, room):
         "GIT_CONFIG_GLOBAL",
         "GIT_CONFIG_PARAMETERS",  # (so that git config says what is ignored)
         "GIT_DIR",
+        "GIT_INDEX_FILE",  # (none, for git diff-tree)
         "GIT_NO_LAZY_FETCH",
         "GIT_NO_REPLACE_OBJECTS",
         "GIT_TRACE2",

@@ -292,27 +292,19 @@ def test_grafts_hide_nothing(scan, server, source, room):
 
 
 # References that Git calls broken.
-def test_a_reference_with_a_broken_name_is_named_and_all_else_is_checked(
-    scan, work, source
-):
-    work.git("update-ref", "refs/heads/evil", source.device)
+def test_a_reference_with_a_broken_name_is_a_failure(scan, work, source):
+    """Git leaves it out of lists, but not of what it serves."""
     (work.folder / "refs/heads/a..b").write_text(f"{source.clean}\n")
     warning = "warning: ignoring ref with broken name refs/heads/a..b"
-    assert scan(work) == Result(
-        2,
-        f"git for-each-ref: {warning}\n{AUX}scan failed: "
-        "references are broken, as said above, and were not checked\n",
-    )
+    assert scan(work) == scan_failed(f"references are broken: {warning}")
 
 
 @pytest.mark.parametrize("content", ["garbage", "0" * 40, "^1", "--not"])
-def test_a_reference_without_an_id_is_named(scan, work, source, content):
+def test_a_reference_without_an_id_is_a_failure(scan, work, source, content):
     work.git("update-ref", "refs/heads/evil", source.device)
     (work.folder / "refs/heads/a").write_text(f"{content}\n")
-    result = scan(work)
-    assert result.status == 2
-    assert AUX in result.said
-    assert "git for-each-ref: warning: ignoring broken ref refs/heads/a\n" in result.said
+    warning = "warning: ignoring broken ref refs/heads/a"
+    assert scan(work) == scan_failed(f"references are broken: {warning}")
 
 
 def test_a_reference_to_a_missing_object_is_a_failure(scan, work, source):

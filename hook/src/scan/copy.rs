@@ -51,9 +51,7 @@ impl Copy {
         let path = Path::new(source);
         let options = if path.exists() {
             check_lazy_fetch(version)?;
-            copy.git = copy
-                .git
-                .with("GIT_CONFIG_GLOBAL", configuration(&copy.directory)?);
+            copy.git = copy.git.with("GIT_CONFIG_GLOBAL", configuration(&copy.directory)?);
             vec!["--no-local", "-u", UPLOAD]
         } else {
             Vec::new()
@@ -77,21 +75,12 @@ impl Copy {
         let made = ready.unwrap_or(Ok(()));
         let made = made.and_then(|()| DirBuilder::new().mode(0o700).create(&directory));
         made.or_fail(NOT_MADE)?;
-        Ok(Self {
-            git,
-            directory,
-            remover,
-        })
+        Ok(Self { git, directory, remover })
     }
 
     fn clone(&self, options: &[&str], source: &OsStr, to: &Path) -> Result<()> {
         let mut command = self.git.command(&["clone", "--quiet", "--mirror"]);
-        command.args([
-            "--template=",
-            "--reject-shallow",
-            "-c",
-            "fetch.fsckObjects=false",
-        ]);
+        command.args(["--template=", "--reject-shallow", "-c", "fetch.fsckObjects=false"]);
         command.args(options).arg("--").arg(source).arg(to);
         match run("git clone", command)?.0 {
             ended if ended.how == How::Status(0) => Ok(()),
@@ -117,14 +106,7 @@ fn configuration(directory: &Path) -> Result<PathBuf> {
 
 /// Fails if Git may run a command of the repository that it copies, to fetch objects that are missing there.
 fn check_lazy_fetch(version: Version) -> Result<()> {
-    let fixed = [
-        (2, 39, 4),
-        (2, 40, 2),
-        (2, 41, 1),
-        (2, 42, 2),
-        (2, 43, 4),
-        (2, 44, 1),
-    ];
+    let fixed = [(2, 39, 4), (2, 40, 2), (2, 41, 1), (2, 42, 2), (2, 43, 4), (2, 44, 1)];
     let of_series = fixed.iter().find(|it| it.1 == version.1 && version.0 == 2);
     if of_series.map_or(version >= (2, 45, 1), |first| version >= *first) {
         return Ok(());

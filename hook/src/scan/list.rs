@@ -35,10 +35,7 @@ impl List {
     /// Prints it. Returns whether there is a command for each, if they are to be commands.
     pub fn print(&self, form: &Form) -> Result<bool> {
         let (settable, others): (Vec<_>, Vec<_>) = match form {
-            Form::Commands => self
-                .all
-                .iter()
-                .partition(|(finding, _)| can_be_set(finding)),
+            Form::Commands => self.all.iter().partition(|(finding, _)| can_be_set(finding)),
             _ => (Vec::new(), self.all.iter().collect()),
         };
         let lines = others.iter().map(|(finding, count)| line(finding, *count));
@@ -74,13 +71,9 @@ fn line(finding: &Finding, count: u64) -> String {
 fn summary(all: &[&(Finding, u64)]) -> String {
     let mut counts = BTreeMap::new();
     for (finding, _) in all {
-        *counts
-            .entry(crate::messages::printable(&finding.reason))
-            .or_insert(0) += 1;
+        *counts.entry(crate::messages::printable(&finding.reason)).or_insert(0) += 1;
     }
-    let lines = counts
-        .iter()
-        .map(|(reason, count)| format!("{count} {reason}\n"));
+    let lines = counts.iter().map(|(reason, count)| format!("{count} {reason}\n"));
     lines.collect()
 }
 

@@ -48,12 +48,13 @@ pub fn name() -> &'static str {
 const SYNOPSIS: &str = "[OPTION..] [DIRECTORY | REVISION..]";
 
 pub fn help() -> String {
-    format!("{} {SYNOPSIS}\n\n{HELP}", name())
+    format!("{HELP_START}    {} {SYNOPSIS}\n\n{HELP}", name())
 }
 
+const HELP_START: &str =
+    "Checks the names in the Git repository of DIRECTORY, or of the current one:\n\n";
 const HELP: &str = "\
-Checks the names in the Git repository of DIRECTORY, or of the current one, and
-prints a line for each path with a name that is not allowed. Without REVISION it
+Prints a line for each path with a name that is not allowed. Without REVISION it
 checks the names of all refs, all names in their history, and the submodules in
 each .gitmodules file. With REVISION it checks the names and the submodules in
 the history that git rev-list selects. REVISION is a commit, a range (v1..v2,
@@ -128,10 +129,7 @@ fn given(value: Option<OsString>, fault: &str) -> Result<OsString> {
 fn list(value: Option<OsString>) -> Result<OsString> {
     match value {
         Some(list) if is_list(list.as_bytes()) => Ok(list),
-        Some(list) => misused(format!(
-            "--protect \"{}\": {LISTS}",
-            printable(list.as_bytes())
-        )),
+        Some(list) => misused(format!("--protect \"{}\": {LISTS}", printable(list.as_bytes()))),
         None => misused(format!("--protect needs a list: {LISTS}")),
     }
 }
@@ -181,7 +179,5 @@ fn check_word(word: &OsStr) -> Result<()> {
 /// A failure, since the arguments are wrong in this way.
 pub fn misused<T>(what: impl AsRef<str>) -> Result<T> {
     let (name, what) = (name(), what.as_ref());
-    Err(Failure::Misused(format!(
-        "{name}: {what}\nusage: {name} {SYNOPSIS}; {name} -h says more"
-    )))
+    Err(Failure::Misused(format!("{name}: {what}\nusage: {name} {SYNOPSIS}; {name} -h says more")))
 }

@@ -1,11 +1,9 @@
 //! What the hook answers to the author of a push that it refuses.
 
 use crate::commits;
-use crate::finding::{Finding, Kind};
+use crate::finding::{Finding, Id, Kind};
 use crate::git::Git;
 use crate::messages::printable;
-use crate::settings::Settings;
-use std::collections::hash_map::Entry;
 use std::collections::HashMap;
 use std::ops::ControlFlow::{self, Break, Continue};
 
@@ -20,12 +18,11 @@ const ABBREVIATED: usize = 12;
 /// What is refused.
 #[derive(Default)]
 pub struct Answer {
-    /// One finding for each line, in the order in which they were found.
-    shown: Vec<Finding>,
+    /// What each line stands for, in the order in which they were found: the first finding, and of all
+    /// those in `.gitmodules` files the blobs.
+    shown: Vec<(Finding, Vec<Id>)>,
     places: HashMap<String, usize>,
     read: usize,
-    /// The settings that are ignored, and their scopes.
-    ignored: Vec<(String, String)>,
 }
 
 impl Answer {
@@ -36,17 +33,18 @@ impl Answer {
     /// Adds what is refused, until it is very much.
     pub fn add(&mut self, finding: Finding) -> ControlFlow<()> {
         self.read += 1;
-        match self.places.entry(finding.line()) {
-            Entry::Vacant(place) => {
-                place.insert(self.shown.len());
-                self.shown.push(finding);
-            }
-            // A line can be accepted only if all that it stands for can.
-            Entry::Occupied(place) => {
+        let place = self.places.entry(finding.line());
+        let place = *place.or_insert(self.shown.len());
+        let blob = finding.blob().cloned();
+        match self.shown.get_mut(place) {
+            // (a line can be accepted only if all that it stands for can)
+            Some((first, blobs)) => {
                 if !finding.can_be_accepted() {
-                    self.shown[*place.get()].kind = finding.kind;
+                    first.kind = finding.kind;
                 }
+                blobs.extend(blob);
             }
+            None => self.shown.push((finding, blob.into_iter().collect())),
         }
         if self.read < MOST_READ {
             Continue(())
@@ -55,35 +53,20 @@ impl Answer {
         }
     }
 
-    pub fn ignore(&mut self, settings: &Settings) {
-        self.ignored.clone_from(&settings.ignored);
-    }
-
-    /// Lines about settings that are ignored, if a push isn't accepted that they may have been made for.
-    pub fn ignored(&self) -> Vec<String> {
-        let mut lines: Vec<String> = Vec::new();
-        for (key, scope) in &self.ignored {
-            let line = format!("The server ignores its setting {key} with the scope {scope}: it counts in the repository, or for the whole system.");
-            if !lines.contains(&line) {
-                lines.push(line);
-            }
-        }
-        lines
-    }
-
     /// The lines of what is refused, each once, how many there are, and what helps.
     pub fn text(&self, git: &Git, pushed: &[u8]) -> String {
         let shown = &self.shown[..self.shown.len().min(MOST_LINES)];
-        let first = commits::first(git, pushed, &shown.iter().collect::<Vec<_>>());
-        let lines = shown.iter().zip(&first).map(|(finding, commit)| {
+        let first = commits::first(git, pushed, shown);
+        let each = || shown.iter().map(|(finding, _)| finding).zip(&first);
+        let lines = each().map(|(finding, commit)| {
             let details = details(finding, commit.as_deref());
             format!("{}\n{details}", cut(finding.line()))
         });
+        let change = first.iter().flatten().next().map(|it| change(git, it));
         let is_old = |(finding, commit): (&Finding, &Option<String>)| {
             commit.is_none() && !matches!(finding.kind, Kind::Reference)
         };
-        let change = first.iter().flatten().next().map(|it| change(git, it));
-        let old = shown.iter().zip(&first).any(is_old).then(|| OLD.into());
+        let old = each().any(is_old).then(|| OLD.into());
         let advice = self.advice().chain(change).chain(old);
         let advice = advice.chain(self.accepting()).map(|it| it + "\n");
         lines.chain([self.count()]).chain(advice).collect()
@@ -104,14 +87,15 @@ impl Answer {
 
     /// What to do about each kind that there is.
     fn advice(&self) -> impl Iterator<Item = String> + '_ {
-        let has = |is: fn(&Finding) -> bool| self.shown.iter().any(is);
+        let has = |is: IsOfKind| self.shown.iter().any(|(finding, _)| is(finding));
         let advice = ADVICE.iter().filter(move |(is, _)| has(*is));
         advice.map(|(_, advice)| (*advice).to_owned())
     }
 
     /// How an administrator accepts the names that Windows alone forbids.
     fn accepting(&self) -> Option<String> {
-        let acceptable = self.shown.iter().filter(|it| it.can_be_accepted());
+        let shown = self.shown.iter().map(|(finding, _)| finding);
+        let acceptable = shown.filter(|it| it.can_be_accepted());
         let mut names = acceptable.map(|it| printable(it.name()));
         let first = names.next()?;
         let is_plain = |it: char| it.is_ascii_alphanumeric() || "._+-".contains(it);

@@ -2,7 +2,7 @@
 
 use crate::child::{join, run, spawn, Child};
 use crate::failure::{OrFail, Result};
-use crate::finding::{Finding, Kind};
+use crate::finding::{Finding, Id, Kind};
 use crate::git::Git;
 use crate::verdict::OLD;
 use std::ffi::OsStr;
@@ -14,12 +14,15 @@ use std::thread;
 /// How much of the differences is read.
 const MOST: u64 = 16 << 20;
 
+/// What is looked for: a finding, or one of these blobs at its path.
+type Wanted = (Finding, Vec<Id>);
+
 /// The first commit that has each of these, if the push has one: from the oldest to the newest of those
-/// that change a path, the first in which the path has this kind of entry, or this blob.
-pub fn first(git: &Git, ids: &[u8], findings: &[&Finding]) -> Vec<Option<String>> {
+/// that change a path, the first in which the path has such an entry.
+pub fn first(git: &Git, ids: &[u8], wanted: &[Wanted]) -> Vec<Option<String>> {
     // (an answer without commits is one, too)
-    let changes = changes(git, ids, findings).unwrap_or_default();
-    let mut first = vec![None; findings.len()];
+    let changes = changes(git, ids, wanted).unwrap_or_default();
+    let mut first = vec![None; wanted.len()];
     let mut commit = None;
     let mut parts = changes.split(|byte| *byte == 0);
     while let Some(part) = parts.next() {
@@ -28,8 +31,8 @@ pub fn first(git: &Git, ids: &[u8], findings: &[&Finding]) -> Vec<Option<String>
             continue;
         }
         let path = parts.next().unwrap_or_default();
-        for (found, finding) in first.iter_mut().zip(findings) {
-            if found.is_none() && path == finding.path && has(part, finding) {
+        for (found, wanted) in first.iter_mut().zip(wanted) {
+            if found.is_none() && path == wanted.0.path && has(part, wanted) {
                 *found = commit.map(|it| String::from_utf8_lossy(it).into_owned());
             }
         }
@@ -46,7 +49,7 @@ pub fn is_root(git: &Git, commit: &str) -> bool {
 
 /// Whether the entry after a change is what is refused. The change has a colon for each parent, then
 /// the modes before and after it, and the ids: `:100644 120000 ID ID T`.
-fn has(change: &[u8], finding: &Finding) -> bool {
+fn has(change: &[u8], (finding, blobs): &Wanted) -> bool {
     let words = change.split(|byte| *byte == b' ').collect::<Vec<_>>();
     let parents = change.iter().take_while(|byte| **byte == b':').count();
     let (mode, id) = match (words.get(parents), words.get(2 * parents + 1)) {
@@ -58,15 +61,15 @@ fn has(change: &[u8], finding: &Finding) -> bool {
             let mode = std::str::from_utf8(mode).unwrap_or_default();
             u32::from_str_radix(mode, 8).map_or(false, |it| it >> 12 == refused >> 12)
         }
-        Kind::Submodule { blob, .. } => id == &**blob,
+        Kind::Submodule { .. } => blobs.iter().any(|blob| id == &**blob),
         Kind::Reference => false,
     }
 }
 
 /// The changes to these paths by each new commit, the oldest first: the commit's id, and then change and path,
 /// each with a NUL.
-fn changes(git: &Git, ids: &[u8], findings: &[&Finding]) -> Result<Vec<u8>> {
-    let paths = || findings.iter().map(|it| OsStr::from_bytes(&it.path));
+fn changes(git: &Git, ids: &[u8], wanted: &[Wanted]) -> Result<Vec<u8>> {
+    let paths = || wanted.iter().map(|it| OsStr::from_bytes(&it.0.path));
     let mut command = git.command(&REV_LIST);
     command.args(OLD).arg("--").args(paths());
     command.stdin(Stdio::piped()).stdout(Stdio::piped());
@@ -113,7 +116,7 @@ const DIFF_TREE: [&str; 13] = [
 #[cfg(test)]
 mod tests {
     use super::has;
-    use crate::finding::{Finding, Kind};
+    use crate::finding::{Finding, Id, Kind};
 
     #[test]
     fn a_change_has_the_mode_and_the_id_after_it() {
@@ -121,8 +124,11 @@ mod tests {
         let one = format!(":100644 120000 {old} {new} T");
         let merge = format!("::100644 100644 120000 {old} {old} {new} MT");
         let finding = |kind| Finding { kind, path: Vec::new(), reason: Vec::new() };
-        let entry = |mode| finding(Kind::Entry { mode, is_windows: false });
-        let blob = |id: &str| finding(Kind::Submodule { blob: id.as_bytes().into(), name: None });
+        let entry = |mode| (finding(Kind::Entry { mode, is_windows: false }), Vec::new());
+        let blob = |id: &str| {
+            let blob: Id = id.as_bytes().into();
+            (finding(Kind::Submodule { blob: blob.clone(), name: None }), vec![blob])
+        };
         for change in [one.as_bytes(), merge.as_bytes()] {
             assert!(has(change, &entry(0o120_000)) && !has(change, &entry(0o100_644)));
             assert!(has(change, &blob(&new)) && !has(change, &blob(&old)));

@@ -24,6 +24,7 @@ pub enum Kind {
         is_windows: bool,
     },
     Submodule {
+        /// The `.gitmodules` file.
         blob: Id,
         /// The submodule's name, if that is what is refused.
         name: Option<Vec<u8>>,
@@ -67,6 +68,16 @@ impl Finding {
             (None, without_offset(rest))
         };
         Some(Self { kind: Kind::Submodule { blob, name }, path, reason })
+    }
+}
+
+impl Finding {
+    /// The `.gitmodules` file in which it is.
+    pub fn blob(&self) -> Option<&Id> {
+        match &self.kind {
+            Kind::Submodule { blob, .. } => Some(blob),
+            Kind::Reference | Kind::Entry { .. } => None,
+        }
     }
 }
 

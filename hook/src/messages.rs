@@ -14,9 +14,11 @@ const LONGEST_NAME: usize = 40;
 const LONGEST_SAID: usize = 1000;
 const SIGXCPU: i32 = 24;
 
-/// The reasons about which more is said.
+/// The reasons about which more is said, or how they begin.
 const DEVICE: &[u8] = b"Windows device-names may have side-effects and are not allowed";
 const ILLEGAL: &[u8] = b"Trailing spaces or dots, and the following characters anywhere, are forbidden in Windows paths";
+const PREFIX: &[u8] = b"Windows path prefixes are not allowed";
+const SEPARATOR: &[u8] = b"Path separators like / or \\ are not allowed";
 const SYMLINK: &[u8] = b"The .gitmodules file must not be a symlink";
 const REPLACEMENT: &[u8] = b"replacement references are not allowed";
 
@@ -53,21 +55,27 @@ impl Finding {
         &self.path[slash.map_or(0, |it| it + 1)..]
     }
 
-    /// What of the name offends, where that is a part of it.
+    /// What of the name offends, where that is a part of it: the device, the drive, or a character.
     pub fn offender(&self) -> Option<String> {
         let name = self.name();
-        let is_illegal = |byte: &u8| *byte < b' ' || b"<>:\"|?*".contains(byte);
+        let find = |bytes: &[u8]| name.iter().position(|byte| bytes.contains(byte));
+        let last = name.len().checked_sub(1)?;
         let part = if self.reason == DEVICE {
-            let end = name.iter().position(|byte| b".: ".contains(byte));
-            &name[..end.unwrap_or(name.len())]
-        } else if self.reason.starts_with(ILLEGAL) {
-            let at = name.iter().position(is_illegal);
-            let at = at.or_else(|| name.len().checked_sub(1))?;
-            &name[at..=at]
+            ..find(b".: ").unwrap_or(name.len())
+        } else if self.reason == PREFIX {
+            ..find(b":")? + 1
         } else {
-            return None;
+            let at = if self.reason.starts_with(ILLEGAL) {
+                let control = name.iter().position(|byte| *byte < b' ');
+                control.into_iter().chain(find(b"<>:\"|?*")).min().unwrap_or(last)
+            } else if self.reason == SEPARATOR {
+                find(b"\\")?
+            } else {
+                return None;
+            };
+            return Some(in_quotes(&name[at..=at], LONGEST_NAME));
         };
-        Some(in_quotes(part, LONGEST_NAME))
+        Some(in_quotes(&name[part], LONGEST_NAME))
     }
 
     /// Whether an administrator may well accept it: a name with a backslash is a path to Windows.
@@ -158,7 +166,7 @@ pub fn say(message: &str) {
 
 #[cfg(test)]
 mod tests {
-    use super::{of_failure, printable, DEVICE, ILLEGAL};
+    use super::{of_failure, printable, DEVICE, ILLEGAL, PREFIX, SEPARATOR};
     use crate::failure::{Ended, Failure, How};
     use crate::finding::{Finding, Kind};
     use crate::limits::Limits;
@@ -195,6 +203,8 @@ mod tests {
         assert_eq!(offender("a.b/12:30.log", ILLEGAL), "\":\"");
         assert_eq!(offender("a\nb", ILLEGAL), "\"\\n\"");
         assert_eq!(offender("a:b/done.", ILLEGAL), "\".\"");
+        assert_eq!(offender("a: note.md", PREFIX), "\"a:\"");
+        assert_eq!(offender("b/a\\c", SEPARATOR), "\"\\\\\"");
         assert_eq!(offender(".GIT", b"no"), "");
     }
 

@@ -25,7 +25,8 @@ const UNREAD: &str = "check_push refs did not read all lines";
 
 /// Checks the push whose lines are on standard input. Returns nothing if that failed.
 pub fn run(program: PathBuf) -> Option<Verdict> {
-    let mut push = Push { limits: Settings::default().limits, answer: Answer::default() };
+    let limits = Settings::default().limits;
+    let mut push = Push { limits, answer: Answer::default(), ignored: Vec::new() };
     let checked = push.check(program);
     if let Err(failure) = &checked {
         let (what, help) = of_failure(failure, Some(push.limits));
@@ -34,8 +35,8 @@ pub fn run(program: PathBuf) -> Option<Verdict> {
             say(&help);
         }
     }
-    for line in push.answer.ignored() {
-        say(&line);
+    if !matches!(checked, Ok(Verdict::Clean(_))) {
+        push.say_what_is_ignored();
     }
     checked.ok()
 }
@@ -44,9 +45,20 @@ struct Push {
     /// As the settings have them.
     limits: Limits,
     answer: Answer,
+    /// The settings that are ignored, and their scopes.
+    ignored: Vec<(String, String)>,
 }
 
 impl Push {
+    /// Each of these may have been made for a push that isn't accepted.
+    fn say_what_is_ignored(&self) {
+        for (n, (key, scope)) in self.ignored.iter().enumerate() {
+            if !self.ignored[..n].contains(&(key.clone(), scope.clone())) {
+                say(&format!("The setting {key} with the scope {scope} is ignored: set it in the repository, or with git config --system"));
+            }
+        }
+    }
+
     /// Checks all names: those of references, those in trees, and those of submodules.
     fn check(&mut self, program: PathBuf) -> Result<Verdict> {
         let (pipeline, list) = self.start(program)?;
@@ -90,7 +102,7 @@ impl Push {
         let mut list = start_list(&pipeline)?;
         let (output, _) = with_version(config)?;
         pipeline.settings = Settings::read(&output)?;
-        self.answer.ignore(&pipeline.settings);
+        self.ignored.clone_from(&pipeline.settings.ignored);
         if pipeline.settings.limits != self.limits || pipeline.settings.alternate_refs {
             drop(list);
             self.limits = pipeline.settings.limits;

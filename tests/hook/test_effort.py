@@ -360,16 +360,6 @@ def test_large_files_take_no_memory_in_directories_and_as_references(
 
 
 @pytest.mark.one_format
-def test_a_tree_that_is_too_large_to_print_refuses_the_push(
-    incoming, measured_push, limited
-):
-    """What check_push trees says of its input, which has no end then, is no help."""
-    limited(megabytes=200)
-    result, _ = measured_push(nested(incoming, 1, 110_000_000))
-    assert is_out_of_memory(result, "git cat-file", 200)
-
-
-@pytest.mark.one_format
 def test_a_tree_whose_delta_needs_much_more_than_the_tree_refuses_the_push(
     incoming, measured_push, limited
 ):

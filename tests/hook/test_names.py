@@ -97,9 +97,8 @@ def test_each_kind_of_name_is_refused_and_ten_lines_are_shown(server, source):
 def test_what_offends_is_named_and_only_what_windows_alone_forbids_can_be_accepted(
     server, source
 ):
-    commit = source.commit_of(
-        "12:30.log", "AUX.tar.gz", "a.", r"a\b", f"{NARROW}.git", on=[source.clean]
-    )
+    names = "12:30.log", "AUX.tar.gz", "a.", "c:x", r"a\b", f"{NARROW}.git"
+    commit = source.commit_of(*names, on=[source.clean])
     shown = rf'"{NARROW}.git"'.replace(NARROW, r"\342\200\214")
     separator = "Path separators like / or \\ are not allowed"
     assert server.push(commit) == Result(
@@ -107,9 +106,10 @@ def test_what_offends_is_named_and_only_what_windows_alone_forbids_can_be_accept
         bad_name("12:30.log", ILLEGAL, ":", commit)
         + bad_name("AUX.tar.gz", DEVICE, "AUX", commit)
         + bad_name("a.", ILLEGAL, ".", commit)
-        + bad_name(r'"a\\b"', separator, None, commit)
+        + bad_name("c:x", "Windows path prefixes are not allowed", "c:", commit)
+        + bad_name(r'"a\\b"', separator, r"\\", commit)
         + bad_name(shown, DOT_GIT, None, commit)
-        + "push refused: 5 names are not allowed\n"
+        + "push refused: 6 names are not allowed\n"
         + RENAME_THE_FILE
         + change(commit)
         + accept(),
@@ -145,7 +145,8 @@ def test_a_symlink_is_first_in_the_commit_that_makes_it_one(server, source):
 
 def test_a_submodule_is_first_in_the_commit_that_brings_it(server, source):
     second = source.commit(source.tree_with_bad_modules, source.clean)
-    third = source.commit_of(file(".gitmodules", source.bad_modules), on=[second])
+    other = source.blob('[submodule "../x"]\n\tpath = y\n')
+    third = source.commit_of(file(".gitmodules", other), on=[second])
     assert server.push(third) == refused(
         bad_submodule(commit=second), RENAME_THE_SUBMODULE, change(second)
     )

@@ -354,7 +354,7 @@ def test_a_name_of_many_versions_has_one_line(scan, server, source):
 
 
 def test_a_summary_has_a_line_for_each_reason(scan, server, source):
-    commit = source.commit_of("aux.c", "con", "x:y", ".GIT")
+    commit = source.commit_of("aux.c", "con", "x?y", ".GIT")
     server.already_has(f"{commit}:refs/heads/main")
     assert scan(server, "--summary") == found(
         f"1 {DOT_GIT}\n", f"1 {ILLEGAL}\n", f"2 {DEVICE}\n"

@@ -277,8 +277,8 @@ def test_what_the_settings_include_from_the_home_directory_counts(server, source
 
 # Settings of the account are ignored, which is said.
 IGNORED = (
-    "The server ignores its setting names.accept with the scope {}: "
-    "it counts in the repository, or for the whole system.\n"
+    "The setting names.accept with the scope {} is ignored: "
+    "set it in the repository, or with git config --system\n"
 )
 
 
@@ -295,6 +295,7 @@ def test_a_setting_that_is_ignored_is_said_once(hook, source, room, scope):
     env = of_account if scope == "global" else of_environment
     expected = source.device_refused.said + IGNORED.format(scope)
     assert hook.run(source.push_of(source.device), **env) == Result(1, expected)
+    assert hook.run(source.push_of(source.clean), **env) == ACCEPTED
 
 
 # The environment of the hook is that of the account that pushes, as far as sshd passes

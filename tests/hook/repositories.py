@@ -53,9 +53,7 @@ class Source(Repository):
         self.thousand_trees = self.git("mktree", "--batch", stdin=trees).split()
         self.pushes = {
             "clean": Push(self.large_push(self.clean, "last"), ACCEPTED),
-            "device": Push(
-                self.large_push(self.device, "last"), self.device_refused
-            ),
+            "device": Push(self.large_push(self.device, "last"), self.device_refused),
             "submodule": Push(
                 self.large_push(self.bad_submodule, "last"), self.submodule_refused
             ),

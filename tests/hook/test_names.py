@@ -229,7 +229,9 @@ def test_a_tag_that_calls_a_commit_a_blob_hides_no_tree(hook, source):
     assert is_broken(hook.run(source.push_of(tag)))
 
 
-def test_a_blob_in_place_of_a_directory_is_refused_and_its_name_is_made_harmless(hook, source):
+def test_a_blob_in_place_of_a_directory_is_refused_and_its_name_is_made_harmless(
+    hook, source
+):
     """Git prints the name as it is: a message with lines of the pusher's choice, or
     with control bytes."""
     tree = source.tree("a", folder("x\nall is well \u009b\u202e", source.text))

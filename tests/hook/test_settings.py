@@ -251,7 +251,9 @@ def test_a_setting_without_a_clear_meaning_refuses_every_push(server, setting, w
     assert push_of_clean_branches(server).ending == expected
 
 
-def test_settings_that_git_can_not_read_are_shown_with_what_git_says(hook, source, room):
+def test_settings_that_git_can_not_read_are_shown_with_what_git_says(
+    hook, source, room
+):
     shutil.copytree(source.path, room / "server")
     with open(room / "server/config", "a") as config:
         config.write("[names\n")

@@ -10,13 +10,7 @@ import time
 import pytest
 
 from tests.release.commands import ENVIRONMENT, differences, files_under, need, run
-from tests.release.hostile import (
-    REFUSED,
-    are_checked,
-    folder_of,
-    rounds,
-    run_slowly,
-)
+from tests.release.hostile import REFUSED, are_checked, folder_of, rounds, run_slowly
 
 
 def test_an_upgrade_from_before_3_0_0_leaves_what_a_first_install_leaves(

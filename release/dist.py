@@ -237,18 +237,13 @@ class Release:
         run("strip", "--", program)
 
     def make_hook_folder(self):
-        """Puts what the hook and the scan run into a folder whose name has its sum. The
-        program in it is a hard link, which is a file of its own in a copy of it. Returns
-        the name."""
-        this = self.hook / "this"
-        this.mkdir(parents=True)
-        (this / OF_THE_HOOK).hardlink_to(self.tree / "bin" / OF_THE_HOOK)
-        sum = output_of("cksum", OF_THE_HOOK, cwd=this)
-        (this / "cksum").write_text(f"{sum}\n")
-        files = sorted(this.iterdir())
-        lines = [f"{sum_of(it.read_bytes())}  {it.name}\n" for it in files]
-        name = f"{self.names.version}-{sum_of(''.join(lines).encode())[:8]}"
-        this.rename(self.hook / name)
+        """Puts what the hook and the scan run into a directory that is named after the
+        version and the program's sum. The program in it is a hard link, which is a file of
+        its own in a copy of it. Returns the name."""
+        program = self.tree / "bin" / OF_THE_HOOK
+        name = f"{self.names.version}-{sum_of(program.read_bytes())[:8]}"
+        (self.hook / name).mkdir(parents=True)
+        (self.hook / name / OF_THE_HOOK).hardlink_to(program)
         return name
 
     def build_hook(self, name):

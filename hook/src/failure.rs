@@ -1,91 +1,101 @@
-//! What ends a check without a verdict, and how it is said.
+//! Why a check ended without a verdict. Failures are values; `messages.rs` has their texts.
 
-use crate::system::Limits;
-use std::fmt::Display;
-use std::io::{self, Write};
+use std::io;
 
 #[derive(Debug)]
 pub enum Failure {
-    /// Something failed, so nothing is known about the names.
-    Failed(String),
-    /// Something wasn't read to the end, most likely since something else failed.
-    Unread(String),
+    /// A process ended in another way than it may.
+    Ended(Ended),
+    /// Something could not be done, for the reason that the system gives.
+    System(String, io::Error),
+    /// Something wasn't read to its end, most likely since what reads it had failed.
+    Unread(&'static str),
+    /// This process itself has used up its memory.
+    Memory,
+    /// Something else, which this says.
+    Other(String),
     /// The scan was called with wrong arguments.
     Misused(String),
+    /// A failure, with what may help.
+    Helped(Box<Failure>, &'static str),
 }
 
+/// A process that has ended, and the end of what it wrote to standard error.
+#[derive(Debug)]
+pub struct Ended {
+    pub process: &'static str,
+    pub how: How,
+    pub said: Vec<u8>,
+}
+
+#[derive(Clone, Copy, Debug, PartialEq, Eq)]
+pub enum How {
+    Status(i32),
+    Signal(i32),
+}
+
+const SIGPIPE: i32 = 13;
+
 impl Failure {
-    /// The same, with what it may come from if these limits are too low.
-    pub fn explained(self, limits: Limits) -> Self {
-        let Limits { seconds, megabytes } = limits;
+    /// Whether it most likely comes from the failure of another process.
+    fn is_secondary(&self) -> bool {
         match self {
-            Self::Failed(what) if what.starts_with("git ") && what.ends_with("(status 128)") => {
-                let why =
-                    format!("an object is missing or broken, or it needs more than {megabytes} MB");
-                Self::Failed(format!("{what}: {why}"))
-            }
-            Self::Failed(what) if what.ends_with("(status 152)") => Self::Failed(format!(
-                "{what}: it needs more than {seconds} s of processor time"
-            )),
-            other => other,
+            Self::Unread(_) => true,
+            Self::Ended(ended) => ended.how == How::Signal(SIGPIPE),
+            _ => false,
         }
     }
 }
 
-/// Of several failures, the first that wasn't just left unread.
-pub fn first_of<const N: usize>(failures: [Option<Failure>; N]) -> Failure {
-    let (unread, failed): (Vec<_>, Vec<_>) = failures
-        .into_iter()
-        .flatten()
-        .partition(|it| matches!(it, Failure::Unread(_)));
-    let first = failed.into_iter().chain(unread).next();
-    first.unwrap_or_else(|| Failure::Failed("nothing failed".into()))
+/// Of several failures, the first that doesn't come from another.
+pub fn first_of(failures: impl IntoIterator<Item = Option<Failure>>) -> Failure {
+    let failures = failures.into_iter().flatten();
+    let (secondary, first): (Vec<_>, Vec<_>) = failures.partition(Failure::is_secondary);
+    let found = first.into_iter().chain(secondary).next();
+    found.unwrap_or_else(|| Failure::Other("nothing failed".into()))
 }
 
 pub type Result<T> = std::result::Result<T, Failure>;
 
 pub fn failed<T>(what: impl Into<String>) -> Result<T> {
-    Err(Failure::Failed(what.into()))
+    Err(Failure::Other(what.into()))
 }
 
 /// Says what could not be done.
 pub trait OrFail<T> {
-    fn or_fail(self, what: impl Display) -> Result<T>;
+    fn or_fail(self, what: impl Into<String>) -> Result<T>;
+    fn or_unread(self, what: &'static str) -> Result<T>;
 }
 
 impl<T> OrFail<T> for io::Result<T> {
-    fn or_fail(self, what: impl Display) -> Result<T> {
+    fn or_fail(self, what: impl Into<String>) -> Result<T> {
+        self.map_err(|error| Failure::System(what.into(), error))
+    }
+
+    /// Of something that another process reads.
+    fn or_unread(self, what: &'static str) -> Result<T> {
         self.map_err(|error| match error.kind() {
-            io::ErrorKind::BrokenPipe => Failure::Unread(what.to_string()),
-            _ => Failure::Failed(format!("{what}: {error}")),
+            io::ErrorKind::BrokenPipe => Failure::Unread(what),
+            _ => Failure::System(what.into(), error),
         })
     }
 }
 
-/// The bytes as a message shows them: in one line, and a question mark for each byte that isn't
-/// printable ASCII. Git's messages and paths can have names of an attacker's choice, which could
-/// write to a terminal what they like.
-pub fn printable(bytes: &[u8]) -> String {
-    let shown = bytes.iter().map(|byte| match byte {
-        b'\n' | b'\t' => ' ',
-        b' '..=b'~' => char::from(*byte),
-        _ => '?',
-    });
-    shown.collect()
-}
-
-/// Prints a message. If standard error is closed, the exit status says enough.
-pub fn say(message: &str) {
-    let line = printable(message.as_bytes()) + "\n";
-    let _ = io::stderr().write_all(line.as_bytes());
-}
-
 #[cfg(test)]
 mod tests {
-    use super::printable;
+    use super::{first_of, Ended, Failure, How};
+
+    fn ended(process: &'static str, how: How) -> Failure {
+        let said = Vec::new();
+        Failure::Ended(Ended { process, how, said })
+    }
 
     #[test]
-    fn a_message_has_printable_ascii_alone() {
-        assert_eq!(printable(b"a\nb\tc\x1b\xff~"), "a b c??~");
+    fn the_first_failure_is_the_one_that_does_not_come_from_another() {
+        let by_a_pipe = || Some(ended("a", How::Signal(13)));
+        let failures = [by_a_pipe(), None, Some(ended("b", How::Status(2)))];
+        assert!(matches!(first_of(failures), Failure::Ended(it) if it.process == "b"));
+        let failures = [Some(Failure::Unread("c")), by_a_pipe()];
+        assert!(matches!(first_of(failures), Failure::Unread("c")));
     }
 }

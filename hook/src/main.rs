@@ -1,42 +1,40 @@
 //! A pre-receive hook of Git that refuses hostile names, and a scan of a repository.
 //!
-//! A proved program decides about names: `check_push`, in the folder of this program or of its
-//! release. It gives its subcommands what Git lists, reads their reports, and sees how each process
-//! ended. It fails closed: but for help, only [`Verdict::Clean`] ends with
-//! status 0. `verdict.rs` says what that hangs on; `check` in push/mod.rs and `check_all` in
-//! scan/mod.rs say what is checked.
+//! A proved program decides about names: `check_push`. This one gives its subcommands what Git lists,
+//! reads their reports, and sees how each process ended. It fails closed: but for help, only
+//! [`Verdict::Clean`] ends with status 0. `verdict.rs` says what that hangs on; `check` in push.rs and
+//! scan.rs say what is checked.
 #![deny(unsafe_code, unused)]
 #![warn(clippy::pedantic)]
 
-mod checks;
+mod answer;
 mod child;
-mod cksum;
+mod commits;
 mod failure;
-mod findings;
-mod folders;
+mod finding;
 mod git;
-mod ids;
-mod lines;
-mod program;
+mod limits;
+mod messages;
+mod pipeline;
 mod push;
 mod quoting;
+mod report;
 mod scan;
 mod settings;
-mod system;
 mod verdict;
 
-use failure::{say, Failure, Result};
-use program::Program;
+use messages::say;
+use scan::Outcome;
 use std::env;
 use std::ffi::OsStr;
+use std::io::{self, Write};
 use std::os::unix::ffi::OsStrExt;
 use std::path::Path;
 use std::process::ExitCode;
 use verdict::Verdict;
 
-/// The folder of the proved program, next to this program, of which a release sets the name when it
-/// is built: no other release has it, so no push is checked by parts of two. Without a name it is
-/// next to this program, as `hook/install` leaves them.
+/// The directory of the proved program, next to this one. A release sets its name when it is built. No
+/// other release has it, so no push is checked by parts of two.
 const RELEASE: &str = match option_env!("GIX_VALIDATE_RELEASE") {
     Some(name) => name,
     None => "",
@@ -57,23 +55,6 @@ impl Role {
             _ => None,
         }
     }
-
-    /// How the message of a failure begins.
-    fn outcome(self) -> &'static str {
-        match self {
-            Self::PreReceive => "push refused: the server could not check the names",
-            Self::Scan => "scan failed",
-        }
-    }
-
-    /// What is known about all names; none if only help was printed.
-    fn run(self, folder: &Path) -> Result<Option<Verdict>> {
-        let program = Program::in_folder(&folder.join(RELEASE));
-        match self {
-            Self::PreReceive => push::run(program).map(Some),
-            Self::Scan => scan::run(program),
-        }
-    }
 }
 
 fn main() -> ExitCode {
@@ -82,13 +63,40 @@ fn main() -> ExitCode {
         Ok(file) => file,
         Err(error) => return unusable(&format!("/proc/self/exe can't be read: {error}")),
     };
-    match (file.file_name().and_then(Role::of), file.parent()) {
-        (Some(role), Some(folder)) => match role.run(folder) {
-            Ok(Some(Verdict::Clean(_)) | None) => ExitCode::SUCCESS,
-            Ok(Some(Verdict::Refused)) => ExitCode::from(1),
-            Err(failure) => report(role, failure),
+    let (role, directory) = match (file.file_name().and_then(Role::of), file.parent()) {
+        (Some(role), Some(directory)) => (role, directory),
+        _ => return unusable(&why_not(&file)),
+    };
+    if env::args_os().skip(1).eq(["--version"]) {
+        return print_version(&file);
+    }
+    let program = directory.join(RELEASE).join("check_push");
+    match role {
+        Role::PreReceive => match push::run(program) {
+            Some(verdict) => status_of(&verdict),
+            None => ExitCode::from(2),
         },
-        _ => unusable(&why_not(&file)),
+        Role::Scan => match scan::run(program) {
+            Outcome::Checked(verdict) => status_of(&verdict),
+            Outcome::Printed => ExitCode::SUCCESS,
+            Outcome::Failed => ExitCode::from(2),
+        },
+    }
+}
+
+fn status_of(verdict: &Verdict) -> ExitCode {
+    match verdict {
+        Verdict::Clean(_) => ExitCode::SUCCESS,
+        Verdict::Refused => ExitCode::from(1),
+    }
+}
+
+fn print_version(file: &Path) -> ExitCode {
+    let name = file.file_name().unwrap_or_default().to_string_lossy();
+    let version = RELEASE.rsplit_once('-').map_or(RELEASE, |(version, _)| version);
+    match writeln!(io::stdout(), "{name} {version}") {
+        Ok(()) => ExitCode::SUCCESS,
+        Err(_) => ExitCode::from(2),
     }
 }
 
@@ -96,25 +104,16 @@ fn main() -> ExitCode {
 fn why_not(file: &Path) -> String {
     // (so Linux calls a file that is gone)
     if file.as_os_str().as_bytes().ends_with(b" (deleted)") {
-        "the hook was just replaced: push again".into()
-    } else {
-        format!("no program has the name {}", file.display())
+        return "the hook was just replaced: push again".into();
     }
+    format!(
+        "{} is a copy of the hook, and no copy works: make it a symbolic link to the file pre-receive",
+        file.display()
+    )
 }
 
 /// Says why not even the name of this program is known.
 fn unusable(why: &str) -> ExitCode {
     say(&format!("push refused: {why}"));
-    ExitCode::from(2)
-}
-
-/// Says what failed.
-fn report(role: Role, failure: Failure) -> ExitCode {
-    match failure {
-        Failure::Failed(what) | Failure::Unread(what) => {
-            say(&format!("{}: {what}", role.outcome()));
-        }
-        Failure::Misused(what) => what.lines().for_each(say),
-    }
     ExitCode::from(2)
 }

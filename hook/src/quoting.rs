@@ -1,27 +1,21 @@
 //! Names as people read them: as Git quotes them, and not longer than a line.
 
+use std::fmt::Write;
+
 /// The bytes as Git quotes a path, with at most `longest` characters and some dots: if they are
 /// more, those in the middle are missing. Also in quotes is what could be taken for the end of the
 /// line that it begins: `: `, or a space at the end.
 pub fn quoted(bytes: &[u8], longest: usize) -> String {
-    let needs_quotes = bytes.iter().any(|byte| escape(*byte).len() > 1)
+    let is_plain = |byte: &u8| matches!(byte, b' '..=b'~') && !matches!(byte, b'"' | b'\\');
+    let needs_quotes = !bytes.iter().all(is_plain)
         || bytes.windows(2).any(|it| it == b": ")
         || bytes.starts_with(b" ")
         || bytes.ends_with(b" ")
         || bytes.is_empty();
-    let text = shortened(bytes, longest);
     if needs_quotes {
-        format!("\"{text}\"")
+        in_quotes(bytes, longest)
     } else {
-        text
-    }
-}
-
-/// The bytes, or so many of them and dots.
-pub fn beginning(bytes: &[u8], longest: usize) -> Vec<u8> {
-    match bytes.get(..longest) {
-        Some(front) if front.len() < bytes.len() => [front, b"...".as_slice()].concat(),
-        _ => bytes.to_vec(),
+        shortened(bytes, longest)
     }
 }
 
@@ -32,42 +26,54 @@ pub fn in_quotes(bytes: &[u8], longest: usize) -> String {
 
 /// All characters; or as many from the beginning and from the end as there is room for.
 fn shortened(bytes: &[u8], longest: usize) -> String {
-    let all = up_to(bytes.iter(), longest);
-    if all.len() == bytes.len() {
-        return all.concat();
-    }
-    let front = up_to(bytes.iter(), longest / 2);
-    let mut back = up_to(bytes.iter().rev(), longest / 2);
-    back.reverse();
-    format!("{}...{}", front.concat(), back.concat())
-}
-
-/// The escapes of the first bytes, as many as have so many characters.
-fn up_to<'a>(bytes: impl Iterator<Item = &'a u8>, longest: usize) -> Vec<String> {
-    let mut length = 0;
-    let escapes = bytes.map(|byte| escape(*byte));
-    let fits = |it: &String| {
-        length += it.len();
-        length <= longest
+    let fitting = |bytes: &mut dyn Iterator<Item = &u8>, longest: usize| {
+        let lengths = bytes.scan(0, |length, byte| {
+            *length += escape(&mut String::new(), *byte);
+            Some(*length)
+        });
+        lengths.take_while(|it| *it <= longest).count()
     };
-    escapes.take_while(fits).collect()
+    if fitting(&mut bytes.iter(), longest) == bytes.len() {
+        return escaped(bytes);
+    }
+    let front = fitting(&mut bytes.iter(), longest / 2);
+    let back = fitting(&mut bytes.iter().rev(), longest / 2);
+    let back = &bytes[bytes.len() - back..];
+    format!("{}...{}", escaped(&bytes[..front]), escaped(back))
 }
 
-/// How Git writes a byte between quotes, with core.quotePath.
-fn escape(byte: u8) -> String {
-    match byte {
-        0x07 => "\\a".into(),
-        0x08 => "\\b".into(),
-        b'\t' => "\\t".into(),
-        b'\n' => "\\n".into(),
-        0x0B => "\\v".into(),
-        0x0C => "\\f".into(),
-        b'\r' => "\\r".into(),
-        b'"' => "\\\"".into(),
-        b'\\' => "\\\\".into(),
-        b' '..=b'~' => char::from(byte).into(),
-        _ => format!("\\{byte:03o}"),
+fn escaped(bytes: &[u8]) -> String {
+    let mut text = String::with_capacity(bytes.len());
+    for byte in bytes {
+        escape(&mut text, *byte);
     }
+    text
+}
+
+/// Writes a byte as Git does between quotes, with core.quotePath. Returns how many characters that has.
+fn escape(text: &mut String, byte: u8) -> usize {
+    let letter = match byte {
+        0x07 => 'a',
+        0x08 => 'b',
+        b'\t' => 't',
+        b'\n' => 'n',
+        0x0B => 'v',
+        0x0C => 'f',
+        b'\r' => 'r',
+        b'"' => '"',
+        b'\\' => '\\',
+        b' '..=b'~' => {
+            text.push(char::from(byte));
+            return 1;
+        }
+        _ => {
+            let _ = write!(text, "\\{byte:03o}");
+            return 4;
+        }
+    };
+    text.push('\\');
+    text.push(letter);
+    2
 }
 
 #[cfg(test)]
@@ -82,10 +88,7 @@ mod tests {
 
     #[test]
     fn another_path_is_quoted_as_git_quotes_it() {
-        assert_eq!(
-            quoted(b"a\nb\"\\\x01\x7f", 99),
-            "\"a\\nb\\\"\\\\\\001\\177\""
-        );
+        assert_eq!(quoted(b"a\nb\"\\\x01\x7f", 99), "\"a\\nb\\\"\\\\\\001\\177\"");
         assert_eq!(quoted("caf\u{e9}".as_bytes(), 99), "\"caf\\303\\251\"");
     }
 

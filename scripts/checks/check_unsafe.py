@@ -32,9 +32,7 @@ BUILT = (
 # The words that a file may have.
 ALLOWED = {
     "bindings/rust/src/block.rs": {"unsafe", "global_asm", "include_str", "include"},
-    "hook/src/system.rs": {"unsafe"},
-    # Git's setting `include.path`, and what the scan prints of it.
-    "hook/src/scan/room.rs": {"include"},
+    "hook/src/limits.rs": {"unsafe"},
     # Texts that tests compare with.
     "bindings/rust/tests/recorded.rs": {"include_str"},
     "bindings/rust/tests/rows.rs": {"include_str"},

@@ -13,24 +13,52 @@ ILLEGAL = (
 DOT_GIT = "The .git name may never be used"
 SYMLINK = "The .gitmodules file must not be a symlink"
 
-# How to go on, which the hook says last.
-RENAME_THE_REF = "Push a refused ref under another name.\n"
-RENAME_THE_FILE = """\
-If your push adds the name, rename the file in the commit that adds it (git rebase -i), not in a later one.
-If the server has it already, first push one commit on top of the server's branch that renames it. Or an
-administrator accepts the name, if only Windows forbids it: git config --add names.accept NAME
-"""
-MEND_THE_SUBMODULES = """\
-If your push changes a .gitmodules file, mend it in the commit that does (git rebase -i), not in a later one.
-If the server has it already, first push one commit on top of the server's branch that mends it.
-"""
+# What to do about it, which the hook says last.
+RENAME_THE_REF = (
+    "Push a refused reference under another name: "
+    "git push origin HEAD:refs/heads/OTHER\n"
+)
 ALLOW_REPLACEMENTS = (
     "An administrator can allow refs/replace/: git config names.replace true\n"
 )
+RENAME_THE_FILE = (
+    "Rename a refused file or directory in the commit that adds it, "
+    "not in a later one.\n"
+)
+MAKE_IT_A_FILE = (
+    "Make .gitmodules a file, not a symlink, in the commit that changes it.\n"
+)
+RENAME_THE_SUBMODULE = (
+    "Give a refused submodule another name in the commit that changes its "
+    ".gitmodules file.\n"
+)
+CORRECT_THE_FILE = "Correct a .gitmodules file in the commit that changes it.\n"
+# (after a name of which no commit of the push is known)
+IT_MAY_BE_OLD = (
+    "If no commit of your push adds a name, the server has it already: "
+    "first push one commit on top of the server's branch that changes it.\n"
+)
+
+
+def change(commit, is_root=False):
+    short = commit[:12]
+    start = "--root" if is_root else f"{short}~1"
+    return (
+        f"To change commit {short}: git rebase -i {start}, "
+        'and write "edit" in its line.\n'
+    )
+
+
+def accept(name="NAME"):
+    return (
+        "An administrator can accept a name that only Windows forbids: "
+        f"git config --add names.accept {name}\n"
+    )
+
 
 UNCHECKED = "push refused: the server could not check the names"
 FILE_SYSTEMS = "give windows, hfs or ntfs, separated by commas, or none"
-USAGE = "usage: scan [OPTION..] [REVISION.. | --index]; scan -h says more\n"
+USAGE = "usage: scan [OPTION..] [DIRECTORY | REVISION..]; scan -h says more\n"
 
 
 @dataclass(frozen=True)
@@ -49,13 +77,21 @@ class Result:
 ACCEPTED = ALL_IS_WELL = Result(0, "")
 
 
-# The lines about what is refused: where it is, and then why.
-def bad_name(path, fault):
-    return f"{path}: {fault}\n"
+# The lines about what is refused: where it is, and then why. The hook also says what
+# offends, and which commit has it first.
+def bad_name(path, fault, because=None, commit=None):
+    return f"{path}: {fault}\n" + details(because, commit)
 
 
-def bad_submodule(path=".gitmodules"):
-    return f"""{path}: submodule "../x": Submodules names must not contains '..'\n"""
+def bad_submodule(path=".gitmodules", commit=None):
+    fault = "Submodules names must not contains '..'"
+    return f'{path}: submodule "../x": {fault}\n' + details(None, commit)
+
+
+def details(because, commit):
+    said = [f'because of "{because}"'] if because else []
+    said += [f"first in commit {commit[:12]}"] if commit else []
+    return f"    {', '.join(said)}\n" if said else ""
 
 
 def bad_ref(ref):
@@ -68,9 +104,22 @@ def refused(line, *advice):
     return Result(1, line + "push refused: 1 name is not allowed\n" + "".join(advice))
 
 
-def not_checked(reason, status=2):
+def not_checked(reason, *help, status=2):
     """Refused, since a part of the check failed."""
-    return Result(status, f"{UNCHECKED}: {reason}\n")
+    return Result(status, "".join([f"{UNCHECKED}: {reason}\n", *help]))
+
+
+MORE_MEMORY = (
+    "A process may use {} MB of memory: an administrator can raise names.megabytes.\n"
+)
+MORE_TIME = (
+    "A process may use {} s, and one more for each 4000 objects of the push: "
+    "an administrator can raise names.seconds.\n"
+)
+FULL_CLONE = (
+    "A commit is missing. If your clone is shallow, complete it first: "
+    "git fetch --unshallow\n"
+)
 
 
 # How a scan ends.
@@ -80,18 +129,6 @@ def found(*lines):
 
 def scan_failed(reason):
     return Result(2, f"scan failed: {reason}\n")
-
-
-def broken(*reasons, also=""):
-    """Each of these is said of a reference or a worktree. `also` is what is found."""
-    what = "something is broken, as said above, and was not checked"
-    if len(reasons) > 1:
-        what = (
-            f"{len(reasons)} references or worktrees are broken, as said above, "
-            "and were not checked"
-        )
-    said = "".join(f"scan: {reason}\n" for reason in reasons)
-    return Result(2, f"{said}{also}scan failed: {what}\n")
 
 
 def misused(reason):

@@ -3,7 +3,6 @@
 import os
 import re
 import shutil
-import subprocess
 from pathlib import Path
 
 from tests.hook.expected import Result
@@ -31,6 +30,7 @@ class Hook:
         self.folder, self.stand_ins = room / "installed", room / "stand_ins"
         self.stand_ins.mkdir()
         shutil.copytree(installed, self.folder, copy_function=os.link)
+        [self.program] = self.folder.glob(f"*/{PROGRAM}")
 
     def environment(self, env):
         path = f"{self.stand_ins}:{os.environ['PATH']}"
@@ -40,10 +40,10 @@ class Hook:
     def command(self, file=None):
         return [file or self.folder / "pre-receive"]
 
-    def run(self, lines, through=(), file=None, cwd=None, **env):
+    def run(self, lines, through=(), file=None, cwd=None, words=(), **env):
         """Runs the hook by itself on these lines, as Git does in the repository that
         gets a push. `through` is a command that runs it, as `env` would."""
-        command = [*through, *self.command(file)]
+        command = [*through, *self.command(file), *words]
         env = self.environment({"GIT_DIR": ".", **env})
         return result(*run(command, cwd or self.source.path, env, lines))
 
@@ -54,30 +54,25 @@ class Hook:
             *run(command, getattr(place, "path", place), self.environment(env))
         )
 
-    def replace(self, name, content):
-        """Puts a program of these bytes in the place of one in the folder."""
-        (self.folder / name).unlink()  # (it is a link to the original)
-        (self.folder / name).write_bytes(content)
-        (self.folder / name).chmod(0o755)
-
-    def record(self):
-        """Records the sum of the program in the folder, as for a release."""
-        said = subprocess.run(
-            ["cksum", PROGRAM], cwd=self.folder, stdout=subprocess.PIPE, check=True
-        )
-        (self.folder / "cksum").unlink()
-        (self.folder / "cksum").write_bytes(said.stdout)
+    def replace(self, file, content):
+        """Puts a program of these bytes in the place of this one."""
+        file.unlink()  # (it is a link to the original)
+        file.write_bytes(content)
+        file.chmod(0o755)
 
     def stand_in(self, part, way):
         """Puts a script in the place of a program that the hook runs; `git config` in
-        that of git, where its words are these, and `check_push refs` likewise. In
-        `way`, "$real" "$@" is the program itself, and $grand the parent of its parent.
-        """
+        that of git, where it has these words, and `check_push refs` likewise. A star
+        stands for any. In `way`, "$real" "$@" is the program itself, and $grand the
+        parent of its parent."""
         name, _, words = part.partition(" ")
+        words = words.replace("*", "'*'")
         own = name == PROGRAM
-        real = self.original / name if own else shutil.which(name)
+        real = self.program if own else shutil.which(name)
+        if own:
+            real = self.original / self.program.relative_to(self.folder)
         write_script(
-            (self.folder if own else self.stand_ins) / name,
+            self.program if own else self.stand_ins / name,
             f"real='{real}'",
             "# Never kills a process of another session, as the parent of an orphan.",
             "of() {",
@@ -93,8 +88,6 @@ class Hook:
             f"""case " $*" in *' {words}'*) {way} ;; esac""",
             'exec "$real" "$@"',
         )
-        if own:
-            self.record()
 
 
 class TwoHooks:

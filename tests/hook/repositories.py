@@ -5,13 +5,15 @@ from typing import NamedTuple
 from tests.hook.expected import (
     ACCEPTED,
     DEVICE,
-    MEND_THE_SUBMODULES,
     RENAME_THE_FILE,
     RENAME_THE_REF,
+    RENAME_THE_SUBMODULE,
     Result,
+    accept,
     bad_name,
     bad_ref,
     bad_submodule,
+    change,
     refused,
 )
 from tests.hook.git import Repository, file
@@ -41,25 +43,35 @@ class Source(Repository):
         self.clean = self.commit_of(file(".gitmodules", self.good_modules), "a")
         self.device = self.commit(self.tree_with_device)
         self.bad_submodule = self.commit(self.tree_with_bad_modules)
-        self.device_line = bad_name("aux.c", DEVICE)
-        self.submodule_line = bad_submodule()
+        self.device_refused = self.refused_device()
+        self.submodule_refused = refused(
+            bad_submodule(commit=self.bad_submodule),
+            RENAME_THE_SUBMODULE,
+            change(self.bad_submodule, is_root=True),
+        )
         trees = "".join(f"100644 blob {self.text}\t{n}\n\n" for n in range(1000, 2000))
         self.thousand_trees = self.git("mktree", "--batch", stdin=trees).split()
         self.pushes = {
             "clean": Push(self.large_push(self.clean, "last"), ACCEPTED),
-            "device": Push(
-                self.large_push(self.device, "last"),
-                refused(self.device_line, RENAME_THE_FILE),
-            ),
+            "device": Push(self.large_push(self.device, "last"), self.device_refused),
             "submodule": Push(
-                self.large_push(self.bad_submodule, "last"),
-                refused(self.submodule_line, MEND_THE_SUBMODULES),
+                self.large_push(self.bad_submodule, "last"), self.submodule_refused
             ),
             "ref": Push(
                 self.large_push(self.clean, "HEAD"),
                 refused(bad_ref("refs/heads/HEAD"), RENAME_THE_REF),
             ),
         }
+
+    def refused_device(self, commit=None, path="aux.c", is_root=True):
+        """How a push is refused that has a device first in this commit."""
+        commit, name = commit or self.device, path.rpartition("/")[2]
+        return refused(
+            bad_name(path, DEVICE, name.partition(".")[0], commit),
+            RENAME_THE_FILE,
+            change(commit, is_root),
+            accept(name),
+        )
 
     def push_of(self, object_id, ref="refs/tags/a"):
         """The line that a hook gets for a reference that is created."""

@@ -4,8 +4,10 @@ import pytest
 from tests.hook.expected import (
     ACCEPTED,
     DEVICE,
-    MEND_THE_SUBMODULES,
+    IT_MAY_BE_OLD,
     RENAME_THE_FILE,
+    RENAME_THE_SUBMODULE,
+    accept,
     bad_name,
     bad_submodule,
     refused,
@@ -22,7 +24,12 @@ def old(request, source):
             source.device,
             "aux.c",
             "aux_.c",
-            refused(bad_name("aux.c", DEVICE), RENAME_THE_FILE),
+            refused(
+                bad_name("aux.c", DEVICE, "aux"),
+                RENAME_THE_FILE,
+                IT_MAY_BE_OLD,
+                accept("aux.c"),
+            ),
         )
     bad, good = file(".gitmodules", source.bad_modules), file(
         ".gitmodules", source.good_modules
@@ -31,7 +38,7 @@ def old(request, source):
         source.bad_submodule,
         bad,
         good,
-        refused(bad_submodule(), MEND_THE_SUBMODULES),
+        refused(bad_submodule(), RENAME_THE_SUBMODULE, IT_MAY_BE_OLD),
     )
 
 

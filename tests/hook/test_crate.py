@@ -1,5 +1,6 @@
 """The crate of the hook and the scan: its own tests, and its build."""
 
+import os
 import re
 import shutil
 import subprocess
@@ -11,9 +12,11 @@ from tests.hook.installed import ROOT
 OFFLINE = ["--quiet", "--offline", "--locked"]
 
 
-def cargo(*words, cwd=ROOT / "hook"):
+def cargo(*words, cwd=ROOT / "hook", **env):
     """Runs cargo, and returns the status and what was printed."""
-    ran = subprocess.run(["cargo", *words], cwd=cwd, capture_output=True, text=True)
+    ran = subprocess.run(
+        ["cargo", *words], cwd=cwd, capture_output=True, text=True, env=os.environ | env
+    )
     return ran.returncode, ran.stdout + ran.stderr
 
 
@@ -36,7 +39,8 @@ def test_a_build_in_another_folder_gives_the_same_bytes(installed, tmp_path):
         ROOT / "hook", crate, ignore=lambda folder, names: {"target"} & set(names)
     )
     words = ["build", "--release", "--target-dir", "target", *OFFLINE]
-    status, said = cargo(*words, cwd=crate)
+    [release] = installed.glob("*/")
+    status, said = cargo(*words, cwd=crate, GIX_VALIDATE_RELEASE=release.name)
     assert status == 0, said
     built = crate / "target/release/names-hook"
     assert built.read_bytes() == (installed / "pre-receive").read_bytes()

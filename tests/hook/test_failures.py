@@ -8,17 +8,19 @@ pytestmark = pytest.mark.one_format
 
 # The parts of the hook, with what it says if that part fails at once. (`git config` is
 # git, where its words are these, and `check_push refs` likewise.)
+TREES, FILES = "git cat-file*%(rest)", "git cat-file*size) --buffer"
 REASONS = {
-    "git config": "git config failed",
-    "git rev-list": "git rev-list failed (status 9)",
-    "git cat-file --batch=": "git cat-file failed (status 9)",
-    "git cat-file --buffer": "git cat-file failed (status 9)",
+    "git config": "git config failed (status 9)",
+    "git rev-list --objects": "git rev-list failed (status 9)",
+    TREES: "git cat-file failed (status 9)",
+    FILES: "git cat-file failed (status 9)",
     "check_push refs": "check_push refs failed (status 9)",
     "check_push trees": "check_push trees failed (status 9)",
     "check_push submodules": "check_push submodules failed (status 9)",
 }
-# The scan also runs this.
-OF_THE_SCAN = {"git version": "git version failed"} | REASONS
+# What the scan runs.
+OF_THE_SCAN = ["git version", "git rev-parse", "git for-each-ref", *REASONS]
+OF_THE_SCAN.remove("git config")
 
 # The ways in which a part fails. "$real" "$@" is the part itself, and $grand the parent
 # of its parent.
@@ -50,7 +52,7 @@ LIES = {
     "prints the first object alone": 'head -n 1 | "$real" "$@"; cat > /dev/null; exit 0',
     "loses its last line": '"$real" "$@" | sed \\$d; exit 0',
 }
-LIARS = ["git cat-file --batch=", "git cat-file --buffer"]
+LIARS = [TREES, FILES]
 
 
 def failures(parts):
@@ -90,7 +92,7 @@ def test_the_scan_finds_no_hostile_repository_clean_if_a_part(
     result = scan(server)
     assert result.status != 0
     if way.endswith("exit 9"):
-        assert result.ending.said.startswith("scan failed: ")
+        assert "scan failed: " in result.said
 
 
 @pytest.mark.parametrize("part", REASONS)

@@ -6,33 +6,36 @@ import pytest
 from tests.hook.expected import (
     ACCEPTED,
     ALLOW_REPLACEMENTS,
+    CORRECT_THE_FILE,
     DEVICE,
+    DOT_GIT,
+    FULL_CLONE,
     ILLEGAL,
-    MEND_THE_SUBMODULES,
+    IT_MAY_BE_OLD,
+    MAKE_IT_A_FILE,
     RENAME_THE_FILE,
     RENAME_THE_REF,
+    RENAME_THE_SUBMODULE,
+    SYMLINK,
     UNCHECKED,
     Result,
+    accept,
     bad_name,
     bad_ref,
     bad_submodule,
+    change,
     not_checked,
     refused,
 )
 from tests.hook.git import Repository, file, folder, program, submodule, symlink
 
 NARROW = "\u200c"  # a joiner of width zero, which HFS+ ignores
-BROKEN = (
-    rf"{UNCHECKED}: git rev-list failed \(status 128\): an object is missing or broken, "
-    r"or it needs more than \d+ MB, or the push is from a shallow clone\n"
-)
 
 
-def is_broken(result):
-    """Whether the push was refused, as of a missing object. (How much memory there is
-    depends on what other tests have brought to the source.)"""
-    said = result.ending.said
-    return result.status > 0 and re.fullmatch(BROKEN, said) is not None
+def is_broken(result, said=".*"):
+    """Whether the push was refused since Git could not list it, and said this."""
+    pattern = rf"{UNCHECKED}: git rev-list failed \(status 128\): {said}\n"
+    return result.status > 0 and re.fullmatch(pattern, result.said) is not None
 
 
 def test_a_clean_push_of_all_kinds_of_objects_is_accepted_and_so_is_a_delete(
@@ -68,24 +71,84 @@ def test_a_clean_push_of_all_kinds_of_objects_is_accepted_and_so_is_a_delete(
 
 
 def test_each_kind_of_name_is_refused_and_ten_lines_are_shown(server, source):
+    """A refused reference doesn't hide what its files are refused for."""
     devices = [f"com{n}" for n in range(1, 9)]
     tree = source.tree(
         file(".gitmodules", source.bad_modules), "a\n\tb", *devices, f"{NARROW}.git"
     )
-    commit = source.commit(tree)
-    assert server.push(
-        f"{commit}:refs/heads/HEAD", f"{commit}:refs/heads/other"
-    ) == Result(
+    commit = source.commit(tree, source.clean)
+    assert server.push(f"{commit}:refs/heads/HEAD") == Result(
         1,
         (
             bad_ref("refs/heads/HEAD")
-            + bad_name(r'"a\n\tb"', ILLEGAL)
-            + "".join(bad_name(name, DEVICE) for name in devices)
+            + bad_name(r'"a\n\tb"', ILLEGAL, r"\n", commit)
+            + "".join(bad_name(name, DEVICE, name, commit) for name in devices)
             + "push refused: 12 names are not allowed (10 of them shown)\n"
+            + "This lists all in your clone: git scan-names origin/main..HEAD\n"
             + RENAME_THE_REF
             + RENAME_THE_FILE
-            + MEND_THE_SUBMODULES
+            + RENAME_THE_SUBMODULE
+            + change(commit)
+            + accept()
         ),
+    )
+
+
+def test_what_offends_is_named_and_only_what_windows_alone_forbids_can_be_accepted(
+    server, source
+):
+    names = "12:30.log", "AUX.tar.gz", "a.", "c:x", r"a\b", f"{NARROW}.git"
+    commit = source.commit_of(*names, on=[source.clean])
+    shown = rf'"{NARROW}.git"'.replace(NARROW, r"\342\200\214")
+    separator = "Path separators like / or \\ are not allowed"
+    assert server.push(commit) == Result(
+        1,
+        bad_name("12:30.log", ILLEGAL, ":", commit)
+        + bad_name("AUX.tar.gz", DEVICE, "AUX", commit)
+        + bad_name("a.", ILLEGAL, ".", commit)
+        + bad_name("c:x", "Windows path prefixes are not allowed", "c:", commit)
+        + bad_name(r'"a\\b"', separator, r"\\", commit)
+        + bad_name(shown, DOT_GIT, None, commit)
+        + "push refused: 6 names are not allowed\n"
+        + RENAME_THE_FILE
+        + change(commit)
+        + accept(),
+    )
+    other = source.commit_of(".GIT", r"a\b", on=[source.clean])
+    assert "names.accept" not in server.push(other).said
+
+
+def test_the_first_commit_that_has_a_refused_name_is_named(server, source):
+    """Also of a merge, and of a name that goes again before the last commit."""
+    side = source.commit_of("aux.c", on=[source.clean])
+    main = source.commit_of("b", on=[source.clean])
+    merge = source.commit_of("b", "con", on=[main, side])
+    last = source.commit_of("b", "con", "c", on=[merge])
+    assert server.push(last) == Result(
+        1,
+        bad_name("con", DEVICE, "con", merge)
+        + bad_name("aux.c", DEVICE, "aux", side)
+        + "push refused: 2 names are not allowed\n"
+        + RENAME_THE_FILE
+        + change(merge)
+        + accept(),
+    )
+
+
+def test_a_symlink_is_first_in_the_commit_that_makes_it_one(server, source):
+    first = source.commit_of(file(".gitmodules", source.good_modules))
+    second = source.commit_of(symlink(".gitmodules", source.text), on=[first])
+    third = source.commit_of(symlink(".gitmodules", source.text), "a", on=[second])
+    line = bad_name(".gitmodules", SYMLINK, None, second)
+    assert server.push(third) == refused(line, MAKE_IT_A_FILE, change(second))
+
+
+def test_a_submodule_is_first_in_the_commit_that_brings_it(server, source):
+    second = source.commit(source.tree_with_bad_modules, source.clean)
+    other = source.blob('[submodule "../x"]\n\tpath = y\n')
+    third = source.commit_of(file(".gitmodules", other), on=[second])
+    assert server.push(third) == refused(
+        bad_submodule(commit=second), RENAME_THE_SUBMODULE, change(second)
     )
 
 
@@ -94,24 +157,29 @@ def test_a_name_of_2_MB_is_cut_and_takes_no_minutes(hook, source):
     commit = source.commit_of(file(".gitmodules", modules))
     name = 5 * r"\001" + "..." + 4 * r"\001" + "..."
     line = bad_name(
-        f'.gitmodules: submodule "{name}"', "Submodules names must not contains '..'"
+        f'.gitmodules: submodule "{name}"',
+        "Submodules names must not contains '..'",
+        None,
+        commit,
     )
     result = hook.run(source.push_of(commit), through=["timeout", "20"])
-    assert result == refused(line, MEND_THE_SUBMODULES)
+    assert result == refused(line, RENAME_THE_SUBMODULE, change(commit, is_root=True))
 
 
-def test_a_name_deep_in_a_middle_commit_is_refused_with_its_folder(server, source):
+def test_a_name_deep_in_a_middle_commit_is_refused_with_its_directory(server, source):
     assert server.push(source.clean) == ACCEPTED
     deep = source.tree(
         folder(b"b \xff", source.tree(folder("c", source.tree_with_device), "d"))
     )
     middle = source.commit_of(folder("a", deep), "e", on=[source.clean])
     last = source.commit_of("a", on=[middle])
-    line = bad_name(r'"a/b \377/c/aux.c"', DEVICE)
-    assert server.push(last) == refused(line, RENAME_THE_FILE)
+    line = bad_name(r'"a/b \377/c/aux.c"', DEVICE, "aux", middle)
+    assert server.push(last) == refused(
+        line, RENAME_THE_FILE, change(middle), accept("aux.c")
+    )
 
 
-def test_a_submodule_in_a_tag_of_a_tag_of_a_tree_is_refused_with_its_folder(
+def test_a_submodule_in_a_tag_of_a_tag_of_a_tree_is_refused_with_its_directory(
     server, source
 ):
     tree = source.tree(
@@ -119,7 +187,9 @@ def test_a_submodule_in_a_tag_of_a_tag_of_a_tree_is_refused_with_its_folder(
     )
     tag = source.tag("tag", source.tag("tree", tree))
     line = bad_submodule("a;/b/.gitmodules")
-    assert server.push(f"{tag}:refs/tags/one") == refused(line, MEND_THE_SUBMODULES)
+    assert server.push(f"{tag}:refs/tags/one") == refused(
+        line, RENAME_THE_SUBMODULE, IT_MAY_BE_OLD
+    )
 
 
 def test_a_branch_is_checked_beside_a_delete_and_a_clean_branch(server, source):
@@ -129,10 +199,10 @@ def test_a_branch_is_checked_beside_a_delete_and_a_clean_branch(server, source):
         f"{source.clean}:refs/heads/a",
         f"{source.device}:refs/heads/b",
     )
-    assert result == refused(source.device_line, RENAME_THE_FILE)
+    assert result == source.device_refused
 
 
-def test_a_folder_that_is_there_already_is_not_checked_again(server, source):
+def test_a_directory_that_is_there_already_is_not_checked_again(server, source):
     bad = folder("a", source.tree_with_device)
     old = source.commit_of(bad, folder("b", source.tree("b")))
     server.already_has(f"{old}:refs/heads/old")
@@ -149,7 +219,8 @@ def test_a_missing_gitmodules_file_is_not_taken_for_a_good_one(hook, source):
 
 
 def test_a_missing_object_is_not_taken_for_a_good_one(hook, source):
-    assert is_broken(hook.run(source.push_of(source.missing)))
+    said = f"fatal: bad object {source.missing}"
+    assert is_broken(hook.run(source.push_of(source.missing)), said)
 
 
 def test_a_tag_that_calls_a_commit_a_blob_hides_no_tree(hook, source):
@@ -158,14 +229,16 @@ def test_a_tag_that_calls_a_commit_a_blob_hides_no_tree(hook, source):
     assert is_broken(hook.run(source.push_of(tag)))
 
 
-def test_a_blob_in_place_of_a_folder_is_refused_and_its_name_is_not_shown(hook, source):
-    """Git would print the name as it is: a message with lines of the pusher's choice,
-    or with control bytes."""
+def test_a_blob_in_place_of_a_directory_is_refused_and_its_name_is_made_harmless(
+    hook, source
+):
+    """Git prints the name as it is: a message with lines of the pusher's choice, or
+    with control bytes."""
     tree = source.tree("a", folder("x\nall is well \u009b\u202e", source.text))
     assert is_broken(hook.run(source.push_of(tree)))
 
 
-def test_a_gitmodules_file_in_two_folders_is_shown_once(server, source):
+def test_a_gitmodules_file_in_two_directories_is_shown_once(server, source):
     tree = source.tree(
         file(".a", source.bad_modules),
         file(".gitmodules", source.good_modules),
@@ -173,18 +246,19 @@ def test_a_gitmodules_file_in_two_folders_is_shown_once(server, source):
         folder("a", source.tree_with_bad_modules),
         folder("b", source.tree(file(".gitmodules", source.blob("")))),
     )
-    assert server.push(source.commit(tree)) == refused(
-        bad_submodule(), MEND_THE_SUBMODULES
-    )
+    result = server.push(source.commit(tree, source.clean))
+    assert result.status == 1
+    assert result.said.startswith(bad_submodule())
+    assert "push refused: 1 name is not allowed\n" in result.said
 
 
 def test_a_gitmodules_file_is_found_under_its_short_name_where_NTFS_is_protected(
     server, source
 ):
     server.configure("protect = hfs,ntfs")
-    tree = source.tree(file("gitmod~1", source.bad_modules))
-    assert server.push(source.commit(tree)) == refused(
-        bad_submodule("gitmod~1"), MEND_THE_SUBMODULES
+    commit = source.commit_of(file("gitmod~1", source.bad_modules), on=[source.clean])
+    assert server.push(commit) == refused(
+        bad_submodule("gitmod~1", commit), RENAME_THE_SUBMODULE, change(commit)
     )
 
 
@@ -195,23 +269,25 @@ def test_a_text_that_is_there_under_another_name_is_checked_as_gitmodules(
     assert (
         server.push(source.commit_of(file("gitmod~1", source.bad_modules))) == ACCEPTED
     )
-    assert server.push(f"{source.bad_submodule}:refs/heads/other") == refused(
-        source.submodule_line, MEND_THE_SUBMODULES
-    )
+    result = server.push(f"{source.bad_submodule}:refs/heads/other")
+    assert result == source.submodule_refused
 
 
 def test_the_same_line_is_shown_and_counted_once(server, source):
-    """A name comes back with each commit that changes something else in its folder."""
-    commit = source.device
+    """A name comes back with each commit that changes something else in its
+    directory."""
+    commits = [source.device]
     for n in range(5):
         folder_ = source.tree("aux.h", f"f{n}")
-        commit = source.commit_of(folder("src", folder_), on=[commit])
-    assert server.push(commit) == Result(
+        commits.append(source.commit_of(folder("src", folder_), on=commits[-1:]))
+    assert server.push(commits[-1]) == Result(
         1,
-        bad_name("src/aux.h", DEVICE)
-        + bad_name("aux.c", DEVICE)
+        bad_name("src/aux.h", DEVICE, "aux", commits[1])
+        + bad_name("aux.c", DEVICE, "aux", commits[0])
         + "push refused: 2 names are not allowed\n"
-        + RENAME_THE_FILE,
+        + RENAME_THE_FILE
+        + change(commits[1])
+        + accept(),
     )
 
 
@@ -234,46 +310,60 @@ def test_a_path_is_quoted_as_git_quotes_it_if_it_has_to_be(server, source, name,
 
 
 def test_a_long_path_is_shown_with_its_beginning_and_its_end(server, source):
+    """The path of a directory that is above 128 bytes is cut before."""
     tree = source.tree("aux.c")
     for n in range(9, -1, -1):
         tree = source.tree(folder(f"{n}" * 50, tree))
     line = bad_name(
-        "0" * 50 + "/" + "1" * 9 + "..." + "8" * 3 + "/" + "9" * 50 + "/aux.c", DEVICE
+        "0" * 50 + "/" + "1" * 9 + "..." + "1" * 24 + "/" + "2" * 26 + ".../aux.c",
+        DEVICE,
+        "aux",
     )
-    assert server.push(source.commit(tree)) == refused(line, RENAME_THE_FILE)
+    assert server.push(source.commit(tree)) == refused(
+        line, RENAME_THE_FILE, IT_MAY_BE_OLD, accept("aux.c")
+    )
 
 
 def test_a_section_that_can_not_be_read_has_its_offset(server, source):
     modules = source.blob("# a\n[submodule a]\n")
-    line = bad_name(".gitmodules", "a section can't be read (at byte 4)")
-    assert server.push(source.commit_of(file(".gitmodules", modules))) == refused(
-        line, MEND_THE_SUBMODULES
-    )
+    commit = source.commit_of(file(".gitmodules", modules), on=[source.clean])
+    line = bad_name(".gitmodules", "a section can't be read (at byte 4)", None, commit)
+    assert server.push(commit) == refused(line, CORRECT_THE_FILE, change(commit))
 
 
 # References. Who clones from a namespace sees its references without it.
 def test_a_reference_in_a_namespace_is_also_checked_as_one_of_its_own(server, source):
     in_two = "refs/namespaces/a/refs/namespaces/b/refs/heads/HEAD"
     assert server.push(f"{source.clean}:{in_two}") == refused(
-        "refs/heads/HEAD (in a namespace): "
-        'Reference name is reserved and cannot be used: "refs/heads/HEAD"\n',
+        f'{in_two}: Reference name is reserved and cannot be used: "refs/heads/HEAD"\n',
         RENAME_THE_REF,
     )
 
 
 def test_a_replacement_in_a_namespace_is_refused(server, source):
-    name = f"refs/replace/{source.good_modules}"
-    assert server.push(f"{source.clean}:refs/namespaces/z/{name}") == refused(
-        f"{name} (in a namespace): replacement references are not allowed\n",
-        ALLOW_REPLACEMENTS,
+    name = f"refs/namespaces/z/refs/replace/{source.good_modules}"
+    assert server.push(f"{source.clean}:{name}") == refused(
+        f"{name}: replacement references are not allowed\n", ALLOW_REPLACEMENTS
     )
 
 
-def test_a_reference_in_thousands_of_namespaces_is_refused(hook, source):
-    """Its names in all of them would be 100 MB."""
-    ref = "refs/namespaces/a/" * 3600 + "refs/heads/x"
-    assert hook.run(source.push_of(source.clean, ref)) == not_checked(
-        "the push has too many references below refs/namespaces/ or refs/replace/"
+def test_a_reference_in_thousands_of_namespaces_is_checked(hook, source):
+    ref = "refs/namespaces/a/" * 3600 + "refs/heads/"
+    assert hook.run(source.push_of(source.clean, f"{ref}x")) == ACCEPTED
+    assert hook.run(source.push_of(source.clean, f"{ref}HEAD")).status == 1
+
+
+def test_a_refused_reference_hides_nothing_of_its_files(server, source):
+    result = server.push(f"{source.device}:refs/heads/HEAD")
+    assert result == Result(
+        1,
+        bad_ref("refs/heads/HEAD")
+        + bad_name("aux.c", DEVICE, "aux", source.device)
+        + "push refused: 2 names are not allowed\n"
+        + RENAME_THE_REF
+        + RENAME_THE_FILE
+        + change(source.device, is_root=True)
+        + accept("aux.c"),
     )
 
 
@@ -306,25 +396,19 @@ def test_a_shallow_push_to_a_server_that_has_the_history_is_accepted(
     assert server.push(new, GIT_DIR=clone.path) == ACCEPTED
 
 
-def test_a_shallow_push_is_refused_with_this_reason_if_the_server_takes_none(
-    server, shallow
-):
-    """As by default. Git doesn't tell the hook that the push is shallow."""
-    clone, last = shallow
-    assert is_broken(server.push(last, GIT_DIR=clone.path))
-
-
+@pytest.mark.parametrize("is_allowed", [False, True])
 def test_a_shallow_push_that_leaves_out_commits_is_refused_with_what_helps(
-    server, shallow
+    server, source, shallow, is_allowed
 ):
     """Nobody could check these commits, and the server would become shallow, too."""
-    server.git("config", "receive.shallowUpdate", "true")
+    server.git("config", "receive.shallowUpdate", str(is_allowed).lower())
     clone, last = shallow
-    assert server.push(last, GIT_DIR=clone.path) == not_checked(
-        "git rev-list failed (status 128): the push is shallow, and leaves out commits "
-        "that the server lacks: push from a full clone",
-        status=1,
-    )
+    missing = rf"error: Could not read {source.clean} "
+    missing += rf"fatal: Failed to traverse parents of commit {last}"
+    result = server.push(last, GIT_DIR=clone.path)
+    [reason, help] = result.said.splitlines(keepends=True)
+    assert is_broken(Result(result.status, reason), missing)
+    assert help == FULL_CLONE
 
 
 # A fork that borrows the objects of another repository.
@@ -350,7 +434,15 @@ def borrow(borrower, owner):
 
 def test_the_history_that_a_fork_borrows_is_checked(fork, source):
     new = source.commit_of("a", on=[source.device])
-    assert fork.push(new) == refused(bad_name("aux.c", DEVICE), RENAME_THE_FILE)
+    assert fork.push(new) == source.device_refused
+
+
+def test_what_a_fork_borrows_is_old_if_a_setting_says_so(fork, source):
+    fork.configure("alternateRefs = true")
+    new = source.commit_of("a", on=[source.device])
+    assert fork.push(new) == ACCEPTED
+    con = source.commit_of("con", on=[new])
+    assert fork.push(con).said.startswith(bad_name("con", DEVICE, "con", con))
 
 
 def test_the_history_that_a_fork_borrows_is_old_if_the_fork_has_references_to_it(

@@ -3,14 +3,7 @@ and may read none. Whatever fails refuses the push."""
 
 import pytest
 
-from tests.hook.expected import (
-    ACCEPTED,
-    DEVICE,
-    RENAME_THE_FILE,
-    Result,
-    bad_name,
-    refused,
-)
+from tests.hook.expected import ACCEPTED, Result
 
 pytestmark = pytest.mark.one_format
 
@@ -28,9 +21,7 @@ def keep(two_hooks):
 def test_a_push_is_accepted_if_both_hooks_accept_it(two_hooks, keep, source, room):
     keep(f"cat > '{room}/seen'", f"grep -q topic '{room}/seen' || exit 0", "exit 3")
     assert two_hooks.server.push(source.clean) == ACCEPTED
-    device = source.commit_of("aux.c")
-    line = bad_name("aux.c", DEVICE)
-    assert two_hooks.server.push(device) == refused(line, RENAME_THE_FILE)
+    assert two_hooks.server.push(source.device) == source.device_refused
 
 
 def test_the_other_hook_can_refuse_a_push_by_its_lines_and_say_why(

@@ -1,12 +1,12 @@
-"""The program of the hook: one that a full disk has cut, or that is of another release,
-accepts nothing. And nothing that isn't a program is run as a script."""
+"""The program of the hook: one that a full disk has cut accepts nothing. And nothing that
+isn't a program is run as a script."""
 
 import shutil
 
 import pytest
 
-from tests.hook.expected import not_checked
-from tests.hook.installed import PROGRAM
+from tests.hook.expected import Result, not_checked
+from tests.hook.installed import PROGRAM, ROOT
 from tests.hook.processes import write_script
 
 pytestmark = pytest.mark.one_format
@@ -14,34 +14,40 @@ pytestmark = pytest.mark.one_format
 NO_PROGRAM = "could not be started: Exec format error (os error 8)"
 
 
-NOT_OF_THIS_RELEASE = not_checked("the program check_push is not that of this release")
-
-
 @pytest.mark.parametrize("part", [0, 1, 2, 3], ids=lambda part: f"{part} quarters")
 def test_a_program_that_was_cut_refuses_every_push(hook, source, part):
-    whole = (hook.original / PROGRAM).read_bytes()
-    hook.replace(PROGRAM, whole[: len(whole) * part // 4])
-    assert hook.run(source.pushes["clean"].lines) == NOT_OF_THIS_RELEASE
+    whole = (hook.original / hook.program.relative_to(hook.folder)).read_bytes()
+    hook.replace(hook.program, whole[: len(whole) * part // 4])
+    assert hook.run(source.pushes["clean"].lines).status == 2
 
 
-def test_a_program_of_another_release_refuses_every_push(hook, source):
-    whole = bytearray((hook.original / PROGRAM).read_bytes())
-    whole[len(whole) // 2] ^= 1
-    hook.replace(PROGRAM, whole)
-    assert hook.run(source.pushes["clean"].lines) == NOT_OF_THIS_RELEASE
-
-
-def test_a_program_that_is_missing_refuses_every_push(hook, source):
-    (hook.folder / PROGRAM).unlink()
+def test_without_the_directory_of_its_release_the_hook_refuses_every_push(hook, source):
+    """It takes no program of another release."""
+    hook.program.parent.rename(hook.folder / "3.0.0-of-another")
     assert hook.run(source.pushes["clean"].lines) == not_checked(
-        "the program check_push can't be read: No such file or directory (os error 2)"
+        "check_push refs could not be started: No such file or directory (os error 2)"
     )
 
 
-@pytest.mark.parametrize("text", ["", "1 2 check_push\n"], ids=["empty", "another"])
-def test_without_the_sum_of_its_program_the_hook_refuses_every_push(hook, source, text):
-    hook.replace("cksum", text.encode())
-    assert hook.run(source.pushes["clean"].lines) == NOT_OF_THIS_RELEASE
+def test_a_copy_of_the_hook_says_to_link_it(hook, source, room):
+    """A server that runs several hooks may want another name."""
+    copy = room / "10-names"
+    shutil.copy(hook.folder / "pre-receive", copy)
+    assert hook.run(source.push_of(source.clean), file=copy) == Result(
+        2,
+        f"push refused: {copy} is a copy of the hook, and no copy works: "
+        "make it a symbolic link to the file pre-receive\n",
+    )
+    copy.unlink()
+    copy.symlink_to(hook.folder / "pre-receive")
+    assert hook.run(source.push_of(source.device), file=copy) == source.device_refused
+
+
+@pytest.mark.parametrize("name", ["pre-receive", "scan"])
+def test_the_hook_and_the_scan_print_their_version(hook, name):
+    version = (ROOT / "VERSION").read_text().strip()
+    said = hook.run("", ["env"], hook.folder / name, words=["--version"])
+    assert said == Result(0, f"{name} {version}\n")
 
 
 @pytest.mark.parametrize("size", [63, 64, 500, 4096, 100_000, "half", "most"])
@@ -50,15 +56,14 @@ def test_a_hook_that_was_cut_accepts_nothing_hostile(hook, hostile_push, size):
     is renamed when it is whole."""
     whole = (hook.original / "pre-receive").read_bytes()
     size = {"half": len(whole) // 2, "most": len(whole) - 5000}.get(size, size)
-    hook.replace("pre-receive", whole[:size])
+    hook.replace(hook.folder / "pre-receive", whole[:size])
     result = hook.run(hostile_push.lines, through=["bash", "-c", '"$@"', "-"])
     assert result.status != 0
 
 
 @pytest.mark.parametrize("text", ["", "exit 0\n"], ids=["empty", "text"])
 def test_what_is_no_program_is_not_run_as_a_script(hook, source, text):
-    hook.replace(PROGRAM, text.encode())
-    hook.record()
+    hook.replace(hook.program, text.encode())
     assert hook.run(source.pushes["clean"].lines) == not_checked(
         f"check_push refs {NO_PROGRAM}"
     )
@@ -96,7 +101,7 @@ def test_git_is_searched_in_absolute_folders_alone(hook, room, source):
     assert not (room / "ran").exists()
 
 
-def test_no_program_gets_a_variable_of_the_caller(hook, source, room):
+def test_no_program_gets_another_variable_of_the_caller(hook, source, room):
     """Such as LD_PRELOAD, or GIT_TRACE, by which Git would write into a file."""
     given = room / "given"
     hook.stand_in(PROGRAM, f"env >> '{given}'")
@@ -116,13 +121,13 @@ def test_no_program_gets_a_variable_of_the_caller(hook, source, room):
     names = {line.partition("=")[0] for line in given.read_text().splitlines()}
     # (the last three are the shell's own)
     assert names - {"PWD", "SHLVL", "_"} == {
-        "GIT_CONFIG_COUNT",
         "GIT_CONFIG_GLOBAL",
-        "GIT_CONFIG_KEY_0",
-        "GIT_CONFIG_VALUE_0",
+        "GIT_CONFIG_PARAMETERS",  # (so that git config says what is ignored)
         "GIT_DIR",
+        "GIT_INDEX_FILE",  # (none, for git diff-tree)
         "GIT_NO_LAZY_FETCH",
         "GIT_NO_REPLACE_OBJECTS",
         "GIT_TRACE2",
         "GIT_TRACE2_BRIEF",
+        "HOME",
     }

@@ -9,8 +9,6 @@ from threading import Event
 from tests.release.commands import OF_THE_HOOK, files_under, run
 
 REFUSED = "push refused: 1 name is not allowed"
-# What the hook says if its folder has the program of another release.
-PARTS_OF_TWO = "is not that of this release"
 # What changes the file that git calls.
 CALLS = "openat,linkat,symlinkat,unlink,unlinkat,rename,renameat,renameat2"
 
@@ -23,20 +21,14 @@ def folder_of(hook, name):
 
 
 def rename_the_hook(hook, name):
-    """Gives the hook's folder another name, also in the program that looks for it, and the
-    proved program other bytes, after its end. So the hook fails from now on if it gets
-    the program of another release."""
+    """Gives the hook's directory another name, also in the program that looks for it. So
+    that program finds the proved program of no other release."""
     [folder] = hook.glob("*/")
     new = name.ljust(len(folder.name), "-")
     program = (hook / "pre-receive").read_bytes()
     assert program.count(folder.name.encode()) == 1
     for file in [hook / "pre-receive", hook / "scan"]:
         replace(file, program.replace(folder.name.encode(), new.encode()))
-    proved = folder / OF_THE_HOOK
-    replace(proved, proved.read_bytes() + name.encode())
-    summed = run("cksum", OF_THE_HOOK, cwd=folder)
-    assert summed.status == 0
-    (folder / "cksum").write_text(summed.said)
     return folder.rename(hook / new)
 
 

@@ -10,7 +10,6 @@ import pytest
 
 from tests.release.commands import COMPILER, ROOT, need, run
 from tests.release.hostile import (
-    PARTS_OF_TWO,
     are_checked,
     package_of_another_name,
     rounds,
@@ -172,7 +171,7 @@ def test_no_hostile_push_is_accepted_during_10_slow_upgrades(
             command = [*own_system.dpkg, "-i", upgrades[n % 2]]
             ran = run_slowly(own_system.root, hook, *command)
             assert ran.status == 0, ran.said
-    assert [it for it in pushes if it.status == 0 or PARTS_OF_TWO in it.said] == []
+    assert [it for it in pushes if it.status == 0] == []
     assert are_checked(pushes)
 
 

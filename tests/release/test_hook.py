@@ -38,9 +38,9 @@ def test_the_hook_and_the_scan_are_one_program(prefix, hook_folder):
     assert os.readlink(command) == "../libexec/gix-validate/scan"
 
 
-def test_the_folder_of_a_release_has_the_proved_program_and_its_sum(hook_folder):
+def test_the_directory_of_a_release_has_the_proved_program(hook_folder):
     [folder] = hook_folder.glob("*/")
-    assert files_under(folder) == [OF_THE_HOOK, "cksum"]
+    assert files_under(folder) == [OF_THE_HOOK]
     assert folder.name.startswith(f"{VERSION}-")
 
 

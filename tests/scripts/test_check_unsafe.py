@@ -172,7 +172,7 @@ def test_a_word_that_a_file_may_not_have_is_found_where_it_may_have_others(plant
 
 
 def test_one_file_of_the_hook_may_have_unsafe_code(planted):
-    assert planted("hook/src/system.rs", "unsafe { f() }\n") == []
+    assert planted("hook/src/limits.rs", "unsafe { f() }\n") == []
 
 
 @pytest.mark.parametrize("name", ["file", "folder"])

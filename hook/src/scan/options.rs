@@ -1,9 +1,11 @@
 //! The arguments of the scan.
 
-use crate::failure::{printable, Failure, Result};
+use crate::failure::{Failure, Result};
+use crate::messages::printable;
+use crate::settings::{is_list, LISTS};
 use std::env;
 use std::ffi::{OsStr, OsString};
-use std::os::unix::ffi::{OsStrExt, OsStringExt};
+use std::os::unix::ffi::OsStrExt;
 use std::path::Path;
 
 /// What the arguments ask for.
@@ -13,15 +15,25 @@ pub enum Asked {
 }
 
 #[derive(Default)]
-#[allow(clippy::struct_excessive_bools)] // (each is an option)
 pub struct Options {
     pub protect: Option<OsString>,
-    pub accept: OsString,
+    pub accept: Vec<OsString>,
+    /// Whether it begins with the settings of the hook.
     pub settings: bool,
-    pub to_accept: bool,
     pub index: bool,
-    pub ids: bool,
-    pub revisions: Vec<OsString>,
+    pub copy: Option<OsString>,
+    pub form: Form,
+    /// A directory, or revisions.
+    pub words: Vec<OsString>,
+}
+
+/// What is printed of what is refused.
+#[derive(Default, PartialEq, Eq)]
+pub enum Form {
+    #[default]
+    Lines,
+    Summary,
+    Commands,
 }
 
 /// The name by which messages call the scan.
@@ -33,152 +45,139 @@ pub fn name() -> &'static str {
     }
 }
 
-pub fn synopsis() -> String {
-    format!("{} [OPTION..] [REVISION.. | --index]", name())
-}
+const SYNOPSIS: &str = "[OPTION..] [DIRECTORY | REVISION..]";
 
 pub fn help() -> String {
-    format!(
-        "\
-Checks the names in the Git repository of the current folder:
-
-    {}
-
-Prints a line for each path with a name that is not allowed, and in how many
-versions of its folder it is. Without REVISION it checks the names of all refs
-of all worktrees, all names in their history, and the submodules in each
-.gitmodules file. With REVISION it checks the names and the submodules in the
-history that git rev-list selects. REVISION is a commit, a range (v1..v2,
-^v1), --all, --branches, --tags, --remotes, --glob, --exclude or --not. If a
-reference is broken, the scan fails unless each REVISION is a whole id.
-
-    --protect LIST    the file systems to protect, separated by commas:
-                      windows, hfs and ntfs, or none. The default is all three.
-                      For Windows give windows,ntfs
-    --accept NAMES    names, separated by slashes, that are checked without
-                      windows: aux.c/con.h accepts these two
-    --settings        begins with names.protect and names.accept of the
-                      repository, as the hook does. They are ignored otherwise
-    --to-accept       prints the commands that make the hook accept the names
-                      that only Windows forbids; the others on standard error
-    --index           checks what git commit would commit, and no history
-    --ids             prints a line for each version, with the ids of trees or
-                      files, and modes
-    -h, --help        prints this text
-
-Use it on a repository that you don't trust. As a command of git, call it by
-git --no-pager scan-names: otherwise Git may start the pager that the
-repository's configuration names, whatever that is.
-
-The status is 0 if all names are allowed, 1 if one is not, and 2 if the scan
-failed, or a reference or a worktree is broken.
-",
-        synopsis()
-    )
+    format!("{HELP_START}    {} {SYNOPSIS}\n\n{HELP}", name())
 }
 
-/// The options up to the first other word, which begins the revisions.
-pub fn parse(mut words: impl Iterator<Item = OsString>) -> Asked {
+const HELP_START: &str =
+    "Checks the names in the Git repository of DIRECTORY, or of the current one:\n\n";
+const HELP: &str = "\
+Prints a line for each path with a name that is not allowed. Without REVISION it
+checks the names of all refs, all names in their history, and the submodules in
+each .gitmodules file. With REVISION it checks the names and the submodules in
+the history that git rev-list selects. REVISION is a commit, a range (v1..v2,
+^v1), --all, --branches, --tags, --remotes, --glob, --exclude or --not.
+
+    --index           checks what git commit would commit, and no history
+    --copy SOURCE     checks a copy of the repository with this path or URL,
+                      which you need not trust, and removes the copy
+    --protect LIST    the file systems to protect, separated by commas:
+                      windows, hfs and ntfs, or none. The default is all three
+    --accept NAMES    names, separated by slashes, that are checked without
+                      windows: aux.c/con.h accepts these two. It may come again
+    --settings        begins with names.protect and names.accept of the
+                      repository and the system, as the hook does
+    --to-accept       prints the commands that make the hook accept the names
+                      that only Windows forbids; the others on standard error
+    --summary         prints how many lines there are for each reason
+    --version         prints the version
+    -h, --help        prints this text
+
+Git runs here as usual, by the settings of the repository. So scan a repository
+that you don't trust by --copy.
+
+The status is 0 if all names are allowed, 1 if one is not, and 2 if the scan
+failed, nothing is selected, or a reference is broken. It says nothing about
+what files contain, or about the repository's hooks and settings.
+";
+
+/// The options up to the first other word.
+pub fn parse(words: impl Iterator<Item = OsString>) -> Result<Asked> {
     let mut options = Options::default();
+    let mut words = words.peekable();
     while let Some(word) = words.next() {
-        match word.as_bytes() {
-            b"--help" | b"-h" => return Asked::Help,
-            b"--protect" => options.protect = Some(words.next().unwrap_or_default()),
-            b"--accept" => options.accept = words.next().unwrap_or_else(|| "/".into()),
+        let (option, own_value) = split_option(&word);
+        let mut value = || own_value.clone().or_else(|| words.next());
+        match option.as_bytes() {
+            b"-h" | b"--help" => return Ok(Asked::Help),
+            b"--protect" => options.protect = Some(list(value())?),
+            b"--accept" => options.accept.extend(names(value())?),
+            b"--copy" => options.copy = Some(given(value(), "--copy needs a path or a URL")?),
             b"--settings" => options.settings = true,
-            b"--to-accept" => options.to_accept = true,
             b"--index" => options.index = true,
-            b"--ids" => options.ids = true,
-            other => {
-                if let Some(list) = other.strip_prefix(b"--protect=") {
-                    options.protect = Some(OsString::from_vec(list.to_vec()));
-                } else if let Some(names) = other.strip_prefix(b"--accept=") {
-                    options.accept = OsString::from_vec(names.to_vec());
-                } else {
-                    options.revisions = std::iter::once(word).chain(words).collect();
-                    break;
-                }
+            b"--to-accept" => options.form = Form::Commands,
+            b"--summary" => options.form = Form::Summary,
+            _ => {
+                options.words = std::iter::once(word).chain(words).collect();
+                break;
             }
         }
     }
-    Asked::Scan(options)
+    options.check().map(|()| Asked::Scan(options))
+}
+
+/// The option that a word begins with, and what is after its `=`.
+fn split_option(word: &OsStr) -> (&OsStr, Option<OsString>) {
+    let bytes = word.as_bytes();
+    let at = bytes.iter().position(|byte| *byte == b'=');
+    match at {
+        Some(at) if [b"--protect".as_slice(), b"--accept", b"--copy"].contains(&&bytes[..at]) => {
+            let value = OsStr::from_bytes(&bytes[at + 1..]);
+            (OsStr::from_bytes(&bytes[..at]), Some(value.into()))
+        }
+        _ => (word, None),
+    }
+}
+
+fn given(value: Option<OsString>, fault: &str) -> Result<OsString> {
+    let value = value.filter(|it| !it.is_empty());
+    value.map_or_else(|| misused(fault), Ok)
+}
+
+fn list(value: Option<OsString>) -> Result<OsString> {
+    match value {
+        Some(list) if is_list(list.as_bytes()) => Ok(list),
+        Some(list) => misused(format!("--protect \"{}\": {LISTS}", printable(list.as_bytes()))),
+        None => misused(format!("--protect needs a list: {LISTS}")),
+    }
+}
+
+fn names(value: Option<OsString>) -> Result<Vec<OsString>> {
+    let names = given(value, "--accept needs names")?;
+    if std::str::from_utf8(names.as_bytes()).is_err() {
+        return misused("--accept: a name that is accepted has to be UTF-8");
+    }
+    let names = names.as_bytes().split(|byte| *byte == b'/');
+    Ok(names.map(|it| OsStr::from_bytes(it).to_owned()).collect())
 }
 
 impl Options {
-    pub fn check(&self) -> Result<()> {
-        if self.accept == "/" {
-            return misused("--accept needs names");
+    fn check(&self) -> Result<()> {
+        if self.index && self.copy.is_some() {
+            return misused("--index and --copy don't go together");
         }
-        if self.index && !self.revisions.is_empty() {
-            return misused("--index accepts no revisions");
+        if self.copy.is_some() && !self.words.is_empty() {
+            return misused("--copy accepts no revisions");
         }
-        self.revisions
-            .iter()
-            .try_for_each(|word| check_revision(word))
-    }
-
-    /// Whether the revisions are whole ids, of so many digits. In place of any other, Git may take a reference.
-    pub fn has_only_ids(&self, digits: usize) -> bool {
-        self.revisions.iter().filter(|it| *it != "--not").all(|it| {
-            let id = it.as_bytes().strip_prefix(b"^").unwrap_or(it.as_bytes());
-            id.len() == digits && id.iter().all(u8::is_ascii_hexdigit)
-        })
-    }
-
-    /// What Git may take for the name of a reference.
-    pub fn names(&self) -> impl Iterator<Item = &[u8]> {
-        self.revisions.iter().flat_map(|it| names_in(it.as_bytes()))
+        self.words.iter().try_for_each(|word| check_word(word))
     }
 }
 
-/// What is before and after `..`, `^`, `~` and `:`, which no reference's name has.
-fn names_in(revision: &[u8]) -> impl Iterator<Item = &[u8]> {
-    let dots = revision.windows(2).position(|it| it == b"..");
-    let (from, to) = revision.split_at(dots.unwrap_or(revision.len()));
-    let first = to.iter().position(|byte| *byte != b'.').unwrap_or(to.len());
-    [from, &to[first..]]
-        .into_iter()
-        .flat_map(|it| it.split(|byte| b"^~:".contains(byte)))
-}
-
-/// Fails for an option of `git rev-list` that doesn't select commits: with --quiet it would list nothing, and all would be
-/// well.
-fn check_revision(word: &OsStr) -> Result<()> {
-    let (word, shown) = (word.as_bytes(), printable(word.as_bytes()));
-    let name = word.split(|byte| *byte == b'=').next().unwrap_or(word);
-    let has_value = name.len() < word.len();
+/// Fails for an option of `git rev-list` that doesn't select commits: with --quiet it would list nothing, and all
+/// would be well.
+fn check_word(word: &OsStr) -> Result<()> {
+    let (bytes, shown) = (word.as_bytes(), printable(word.as_bytes()));
+    let (name, has_value) = match bytes.iter().position(|byte| *byte == b'=') {
+        Some(at) => (&bytes[..at], true),
+        None => (bytes, false),
+    };
     match (name, has_value) {
         (b"--all" | b"--not", false)
         | (b"--branches" | b"--tags" | b"--remotes", _)
         | (b"--glob" | b"--exclude", true) => Ok(()),
-        (b"--protect" | b"--accept", _)
-        | (b"--settings" | b"--to-accept" | b"--index" | b"--ids" | b"--help", false) => {
+        (b"--protect" | b"--accept" | b"--copy", _)
+        | (b"--settings" | b"--to-accept" | b"--summary" | b"--index" | b"--help", false) => {
             misused(format!("{shown} has to come before the revisions"))
         }
-        _ if word.starts_with(b"-") => misused(format!("unknown option \"{shown}\"")),
-        _ if word.windows(2).any(|it| it == b"@{") => misused(format!(
-            "\"{shown}\": the scan reads no logs and settings; give the commit's id"
-        )),
-        _ if names_in(word).any(is_of_another_worktree) => misused(format!(
-            "\"{shown}\": run the scan in that worktree, or give the commit's id"
-        )),
+        _ if bytes.starts_with(b"-") => misused(format!("unknown option \"{shown}\"")),
         _ => Ok(()),
     }
 }
 
-fn is_of_another_worktree(name: &[u8]) -> bool {
-    name.starts_with(b"main-worktree/") || name.starts_with(b"worktrees/")
-}
-
-fn misused<T>(what: impl AsRef<str>) -> Result<T> {
-    Err(misuse(what.as_ref()))
-}
-
 /// A failure, since the arguments are wrong in this way.
-pub fn misuse(what: &str) -> Failure {
-    let name = name();
-    Failure::Misused(format!(
-        "{name}: {what}\nusage: {}; {name} -h says more",
-        synopsis()
-    ))
+pub fn misused<T>(what: impl AsRef<str>) -> Result<T> {
+    let (name, what) = (name(), what.as_ref());
+    Err(Failure::Misused(format!("{name}: {what}\nusage: {name} {SYNOPSIS}; {name} -h says more")))
 }

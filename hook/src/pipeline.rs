@@ -1,0 +1,261 @@
+//! The pipeline of a push and of a scan: Git lists and prints objects, and the proved program reads
+//! them.
+//!
+//! ```text
+//! lines ─► check_push refs
+//!            └─ids─► git rev-list ─"ID PATH"─► git cat-file ─► check_push trees
+//!                       └─blobs read as .gitmodules─► git cat-file ─► check_push submodules
+//! ```
+//!
+//! Each arrow between two processes is one pipe, so this program only reads reports. A list of objects
+//! ends with the word `..end`, for which `git cat-file` prints `..end missing`. `check_push` runs with
+//! `--end`: its status is 2 unless that is the last line, and no object is missing. So it sees whether
+//! what it reads is whole.
+
+use crate::child::{join, spawn, Child};
+use crate::failure::{Failure, OrFail, Result};
+use crate::finding::{id, split_once, Finding, Id};
+use crate::git::Git;
+use crate::report::Line;
+use crate::settings::{arguments, Settings};
+use crate::verdict::{Report, Says, LIST};
+use std::collections::HashMap;
+use std::ffi::OsStr;
+use std::io::Write;
+use std::ops::ControlFlow;
+use std::os::unix::io::AsFd;
+use std::os::unix::process::CommandExt;
+use std::path::PathBuf;
+use std::process::{ChildStdin, Command, Stdio};
+use std::thread;
+
+/// What `git cat-file` prints of an object, before its content. At the end is what follows its id: of
+/// a tree the path.
+const TREES: &str = "--batch=%(objectname) %(objecttype) %(objectsize) %(rest)";
+const FILES: &str = "--batch=%(objectname) %(objecttype) %(objectsize)";
+/// How much of the path of a `.gitmodules` file is kept.
+const LONGEST_PATH: usize = 300;
+
+const PROGRAM: &str = "check_push";
+const CHECK_REFERENCES: &str = "check_push refs";
+const CHECK_TREES: &str = "check_push trees";
+const CHECK_SUBMODULES: &str = "check_push submodules";
+const UNREAD_IDS: &str = "git cat-file did not read all ids";
+
+pub struct Pipeline {
+    /// The proved program.
+    pub program: PathBuf,
+    pub git: Git,
+    pub settings: Settings,
+}
+
+/// What is done with a finding. After `Break` no more are wanted.
+pub type OnFinding<'a> = &'a mut dyn FnMut(Finding) -> ControlFlow<()>;
+
+/// What `check_push refs` allows, and what is to be checked of that.
+#[derive(Default)]
+pub struct Ids {
+    /// The ids of the references, each on a line.
+    pub lines: Vec<u8>,
+    replacements: Modules,
+}
+
+/// The blobs that are read as `.gitmodules`, and one path of each. Only a check of references or of trees
+/// makes one, and only `submodules` uses it up.
+#[derive(Default)]
+#[must_use]
+pub struct Modules(HashMap<Id, Vec<u8>>);
+
+/// `git rev-list` and the `git cat-file` that prints the trees which it lists. Both wait for ids: so
+/// they can be started before these are known, and are ready then.
+pub struct TreeList {
+    rev_list: Child,
+    cat_file: Child,
+    /// Where the list gets its end.
+    end: ChildStdin,
+}
+
+impl Pipeline {
+    /// Checks the names of references, in lines `OLD NEW REF` that `write` writes. Also returns what
+    /// that returns, and what is to be checked of the references that are allowed.
+    pub fn references<T: Send>(
+        &self,
+        write: impl FnOnce(ChildStdin) -> Result<T> + Send,
+        found: OnFinding,
+    ) -> Result<(Report, Ids, Option<T>)> {
+        let mut command = self.check("refs");
+        command.arg("--ids");
+        command.args(self.settings.replace.then_some("--replace"));
+        command.stdin(Stdio::piped());
+        let mut check = Child::start(CHECK_REFERENCES, command)?;
+        let to = check.input()?;
+        let mut ids = Ids::default();
+        thread::scope(|scope| {
+            let writer = spawn(scope, move || write(to))?;
+            let report = Report::read(check, |line| match Finding::of_reference(line) {
+                Some(finding) => Ok(Says::Refused(found(finding))),
+                None => ids.add(line),
+            });
+            let (written, other) = match join(writer) {
+                Ok(other) => (Ok(()), Some(other)),
+                Err(failure) => (Err(failure), None),
+            };
+            Ok((Report::of_all([written], report)?, ids, other))
+        })
+    }
+
+    /// Starts to list the trees that these words of `git rev-list` select, and to print them.
+    pub fn start_list<S: AsRef<OsStr>>(&self, words: &[S]) -> Result<TreeList> {
+        let mut cat_file = self.cat_file(TREES)?;
+        let end = cat_file.input()?;
+        let copy = end.as_fd().try_clone_to_owned();
+        let mut command = self.git.command(&LIST);
+        command.args(words);
+        command.stdin(Stdio::piped());
+        command.stdout(copy.or_fail("a pipe could not be copied")?);
+        Ok(TreeList { rev_list: Child::start("git rev-list", command)?, cat_file, end })
+    }
+
+    /// Checks the names in the trees of a list, which gets these ids. Also returns the blobs that a
+    /// checkout reads as `.gitmodules`.
+    pub fn trees(
+        &self,
+        mut list: TreeList,
+        ids: Ids,
+        found: OnFinding,
+    ) -> Result<(Report, Modules)> {
+        let mut command = self.check("trees");
+        command.args(["--end", "--modules", "--protect"]);
+        command.arg(&self.settings.protect);
+        for names in arguments(&self.settings.accept)? {
+            command.arg("--accept").arg(names);
+        }
+        command.stdin(list.cat_file.output()?);
+        let Ids { lines, replacements: mut modules } = ids;
+        let TreeList { rev_list, cat_file, end } = list;
+        thread::scope(|scope| {
+            // (while that reads its ids, the other program starts)
+            let lister = spawn(scope, move || finish_list(rev_list, &lines, end))?;
+            let check = Child::start(CHECK_TREES, command)?;
+            let report = Report::read(check, |line| {
+                if let Some(rest) = line.front.strip_prefix(b"modules ") {
+                    return modules.add_file(rest, line);
+                }
+                let finding = Finding::of_entry(line).ok_or_else(|| malformed(CHECK_TREES))?;
+                Ok(Says::Refused(found(finding)))
+            });
+            let given = [join(lister), cat_file.succeed()];
+            Ok((Report::of_all(given, report)?, modules))
+        })
+    }
+
+    /// Checks the names of submodules in these blobs, if there are any.
+    pub fn submodules(&self, modules: Modules, found: OnFinding) -> Result<Option<Report>> {
+        let Modules(modules) = modules;
+        if modules.is_empty() {
+            return Ok(None);
+        }
+        let mut cat_file = self.cat_file(FILES)?;
+        let to = cat_file.input()?;
+        let mut command = self.check("submodules");
+        command.arg("--end").stdin(cat_file.output()?);
+        let check = Child::start(CHECK_SUBMODULES, command)?;
+        let mut ids = Vec::new();
+        reserve(&mut ids, modules.keys().map(|it| it.len() + 1).sum())?;
+        for blob in modules.keys() {
+            ids.extend_from_slice(blob);
+            ids.push(b'\n');
+        }
+        thread::scope(|scope| {
+            let lister = spawn(scope, move || write_end(&ids, to))?;
+            let report = Report::read(check, |line| {
+                let path_of = |blob: &[u8]| modules.get(blob).cloned();
+                let finding = Finding::of_submodule(line, path_of);
+                let finding = finding.ok_or_else(|| malformed(CHECK_SUBMODULES))?;
+                Ok(Says::Refused(found(finding)))
+            });
+            let given = [join(lister), cat_file.succeed()];
+            Report::of_all(given, report).map(Some)
+        })
+    }
+
+    /// A command that runs a subcommand of the proved program. It needs no environment, so it gets none.
+    fn check(&self, subcommand: &str) -> Command {
+        let mut command = Command::new(&self.program);
+        // (a word that isn't UTF-8, such as a path, is a wrong argument to it)
+        command.env_clear().arg0(PROGRAM).arg(subcommand);
+        command.stdout(Stdio::piped());
+        command
+    }
+
+    /// Starts to print the objects whose ids it gets.
+    fn cat_file(&self, format: &str) -> Result<Child> {
+        let mut command = self.git.command(&["cat-file", format, "--buffer"]);
+        command.stdin(Stdio::piped()).stdout(Stdio::piped());
+        Child::start("git cat-file", command)
+    }
+}
+
+impl Ids {
+    /// What is left to check if there are no ids, and so no trees.
+    pub fn replacements(self) -> Modules {
+        self.replacements
+    }
+
+    /// Adds the id of a line `NEW` or `NEW "REF"`. If it has a name, that is of a replacement, and Git shows the
+    /// blob NEW in place of another, which may be a `.gitmodules` that was accepted.
+    fn add(&mut self, line: &Line) -> Result<Says> {
+        let is_replacement = line.front.ends_with(b" ");
+        let text = line.front.strip_suffix(b" ").unwrap_or(line.front);
+        let new = id(text).ok_or_else(|| malformed(CHECK_REFERENCES))?;
+        reserve(&mut self.lines, new.len() + 1)?;
+        self.lines.extend_from_slice(&new);
+        self.lines.push(b'\n');
+        if is_replacement {
+            self.replacements.add(new, line)?;
+        }
+        Ok(Says::Else)
+    }
+}
+
+impl Modules {
+    /// Adds the file of a line `modules BLOB TREE MODE "PATH"`.
+    fn add_file(&mut self, rest: &[u8], line: &Line) -> Result<Says> {
+        let blob = split_once(rest, b' ').and_then(|(blob, _)| id(blob));
+        self.add(blob.ok_or_else(|| malformed(CHECK_TREES))?, line)?;
+        Ok(Says::Else)
+    }
+
+    /// Adds a blob with the name in a line, unless it is there already.
+    fn add(&mut self, blob: Id, line: &Line) -> Result<()> {
+        self.0.try_reserve(1).map_err(|_| Failure::Memory)?;
+        let mut path = line.name.clone();
+        path.truncate(LONGEST_PATH);
+        self.0.entry(blob).or_insert(path);
+        Ok(())
+    }
+}
+
+fn malformed(process: &str) -> Failure {
+    Failure::Other(format!("{process} reported in another way"))
+}
+
+/// Makes room for more bytes.
+pub fn reserve(bytes: &mut Vec<u8>, more: usize) -> Result<()> {
+    bytes.try_reserve(more).map_err(|_| Failure::Memory)
+}
+
+/// Gives `git rev-list` its ids. When it has ended with 0, and so has listed all, it writes the end into the
+/// same pipe.
+fn finish_list(mut rev_list: Child, ids: &[u8], end: ChildStdin) -> Result<()> {
+    let written = rev_list.input()?.write_all(ids);
+    rev_list.succeed()?;
+    written.or_unread("git rev-list did not read all ids")?;
+    write_end(b"", end)
+}
+
+/// Writes ids and the end of the list, and closes the pipe.
+fn write_end(ids: &[u8], mut to: ChildStdin) -> Result<()> {
+    let written = to.write_all(ids).and_then(|()| to.write_all(b"..end\n"));
+    written.or_unread(UNREAD_IDS)
+}

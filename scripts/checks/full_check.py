@@ -9,7 +9,8 @@ change. `rt ci` proves each crate from nothing, and builds the programs. What fo
 over what it has proved. Before the check begins it removes all that was built here.
 
 The edits of must-fail/ are tried each time, those of mutants/ by turns: scripts/dev
-try-edits --help says which. With --all-edits all are tried. If such a check passes on a tree
+try-edits --help says which. The processors for which Go's module has no machine code have
+turns, too. With --all-edits all are tried. If such a check passes on a tree
 without changes, it leaves the release that it has built and tested in out/release, and
 writes the commit into .ci/edits-tried.
 
@@ -177,10 +178,11 @@ def check_all(commit, edits):
     if commit:
         yield run("dist", "release/dist", "--built", BUILT, RELEASE)
         release = [f"--release={file}" for file in Path(RELEASE).glob("*.tar.gz")]
+    targets = {"ALL_TARGETS": "true"} if edits == ["all"] else {}
     # The edits need the processors now and then, and the tests wait now and then.
     edits = start("edits", "scripts/dev", "try-edits", "--after-gate", *edits)
     early = [f"--ignore={it}" for it in EARLY]
-    yield run("tests", *PYTEST, "tests", *early, "--built", *release)
+    yield run("tests", *PYTEST, "tests", *early, "--built", *release, **targets)
     yield finish(edits)
 
 

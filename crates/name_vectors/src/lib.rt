@@ -21,9 +21,9 @@
 
 #[cfg(test)]
 mod agree;
-pub mod laws;
 #[cfg(test)]
 mod kinds;
+pub mod laws;
 #[cfg(test)]
 mod members;
 #[cfg(test)]

@@ -47,8 +47,8 @@ text_of (fault.Reference e) = Reference.text_of e
 text_of (fault.Submodule e) = Submodule.text_of e
 text_of (fault.Component e) = Component.text_of e
 
--- where in the name the fault is: a part of a path, a NUL in it, or the first fault of a tag name, which other names of
--- references have at the same place
+-- where in the name the fault is: a part of a path, a NUL in it, or the first fault of a tag name, which
+-- other names of references have at the same place
 abbrev pub offset_of : List ℕ → Fault → Option ℕ
 offset_of name (fault.Branch e) = Tag.fault_offset_of name
 offset_of name (fault.Path e) = Some (Paths.offset_of e)

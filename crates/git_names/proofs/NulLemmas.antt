@@ -58,13 +58,15 @@ component_no_nul : (options : ComponentOptions) (mode : Option ComponentMode) (x
     → options.protect_windows ≡ true → options.protect_ntfs ≡ true → is_component options mode x ≡ true
     → list_any is_nul x ≡ false
 unfolding is_component conditions is_illegal
-component_no_nul options mode x windows ntfs valid = grind (arith, nat_tests, valid, windows, ntfs, nul_illegal x)
+component_no_nul options mode x windows ntfs valid =
+    grind (arith, nat_tests, valid, windows, ntfs, nul_illegal x)
 
 joined_no_nul : (options : ComponentOptions) (mode : Option ComponentMode) (ps : List (List ℕ))
     → options.protect_windows ≡ true → options.protect_ntfs ≡ true → are_components options mode ps ≡ true
     → list_any is_nul (joined ps) ≡ false
 joined_no_nul options mode [] windows ntfs valid = refl
-joined_no_nul options mode (p ∷ []) windows ntfs valid = component_no_nul options mode p windows ntfs (grind (arith, valid))
+joined_no_nul options mode (p ∷ []) windows ntfs valid =
+    component_no_nul options mode p windows ntfs (grind (arith, valid))
 joined_no_nul options mode (p ∷ q ∷ ps) windows ntfs valid = grind (
   arith,
   valid,
@@ -79,7 +81,8 @@ pub no_nul : (options : ComponentOptions) (mode : Option ComponentMode) (x : Lis
     → position is_nul x ≡ None
 unfolding has_valid_parts
 no_nul options mode x valid windows ntfs =
-    let parts : are_components options mode (pieces x) ≡ true = grind (arith, valid, parts_grammar_law options mode x) in
+    let parts : are_components options mode (pieces x) ≡ true =
+    grind (arith, valid, parts_grammar_law options mode x) in
     let none = joined_no_nul options mode (pieces x) windows ntfs parts in
     let same : joined (pieces x) ≡ x = join_with_byte-slice_split (byte "/") x in
     grind (arith, found x, none, same)

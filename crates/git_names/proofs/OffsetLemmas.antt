@@ -36,13 +36,13 @@ parent_found x i (suc n) none here below = grind (arith, none, here, parent_foun
 -- what a search for `..` takes
 pub ruleset parents = (parent_start, parent_more, parent_found)
 
-pub safe_start : (options : ComponentOptions) (x : List ℕ) (e : PathError) → safe_fault_of options x ≡ Some (Piece e)
-    → offset_of e ≤ length x
+pub safe_start : (options : ComponentOptions) (x : List ℕ) (e : PathError)
+    → safe_fault_of options x ≡ Some (Piece e) → offset_of e ≤ length x
 unfolding safe_fault_of
 safe_start options x e some = grind (arith, some, path_within_law options None x e)
 
-pub submodule_start : (options : ComponentOptions) (x : List ℕ) (e : PathError) → submodule_fault_of options x ≡ Some (Part e)
-    → offset_of e ≤ length x
+pub submodule_start : (options : ComponentOptions) (x : List ℕ) (e : PathError)
+    → submodule_fault_of options x ≡ Some (Part e) → offset_of e ≤ length x
 unfolding submodule_fault_of
 submodule_start options x e some = grind (arith, some, path_within_law options None x e)
 

@@ -1,5 +1,6 @@
 -- Paths and short names of branches: the definitions computed on literals.
-use Rattle.gix_validate.proofs.Common.{[], ◌∷◌, ◌++◌, ◌≡◌, ℕ, List, Option, Some, None, codes, false, map, option_map, refl, true}
+use Rattle.gix_validate.proofs.Common.{[], ◌∷◌, ◌++◌, ◌≡◌, ℕ, List, Option, Some, None, codes}
+use Rattle.gix_validate.proofs.Common.{false, map, option_map, refl, true}
 use Rattle.gix_validate.proofs.OnLiterals.{names_on_literals, components_on_literals}
 use Rattle.gix_validate.proofs.Rows.Tables.{Gives, Judges}
 use Rattle.gix_validate.specs.Component.{all_protections}
@@ -69,7 +70,8 @@ safe_refs : Judges (safe_fault_of all_protections) (is_safe_ref all_protections)
     ∷ (codes "refs/heads/a./b", Some (Piece (InvalidPart 11 WindowsIllegalCharacter)))
     ∷ (codes "main", Some (safe.Name reference.SomeLowercase))
     ∷ [])
-unfolding is_safe_ref safe_fault_of is_set_apart is_path has_valid_parts path_fault_of parts_fault_of names_on_literals components_on_literals
+unfolding is_safe_ref safe_fault_of is_set_apart is_path has_valid_parts path_fault_of parts_fault_of
+    names_on_literals components_on_literals
 safe_refs = (refl, refl)
 
 -- submodule names under every switch
@@ -82,7 +84,8 @@ submodules : Judges (submodule_fault_of all_protections) (is_submodule all_prote
     ∷ (codes "C:\\win", Some (Part (InvalidPart 0 PathSeparator)))
     ∷ (codes "a//b", Some (Part (EmptyPart 2)))
     ∷ [])
-unfolding names_on_literals is_submodule submodule_fault_of is_disguised is_path has_valid_parts path_fault_of parts_fault_of components_on_literals
+unfolding is_submodule submodule_fault_of is_disguised is_path has_valid_parts path_fault_of parts_fault_of
+    names_on_literals components_on_literals
 submodules = (refl, refl)
 
 -- on NTFS alone, what is before a colon counts, without spaces and dots at its end
@@ -166,7 +169,8 @@ offsets : map (λ (row : Kind × List ℕ). faults row.0 row.1)
     ∷ [])
     ≡ None ∷ Some 1 ∷ Some 0 ∷ Some 0 ∷ Some 5 ∷ Some 3 ∷ Some 1 ∷ Some 0 ∷ Some 12 ∷ Some 0 ∷ Some 1 ∷ Some 2
     ∷ Some 1 ∷ Some 1 ∷ Some 5 ∷ Some 4 ∷ Some 2 ∷ Some 5 ∷ []
-unfolding faults tag_fault_offset_of short_fault_of safe_fault_of is_set_apart submodule_fault_of is_disguised is_path has_valid_parts path_fault_of parts_fault_of names_on_literals components_on_literals
+unfolding faults tag_fault_offset_of short_fault_of safe_fault_of is_set_apart submodule_fault_of
+    is_disguised is_path has_valid_parts path_fault_of parts_fault_of names_on_literals components_on_literals
 offsets = refl
 
 -- what errors print: the error of the part or of the name, and two texts more

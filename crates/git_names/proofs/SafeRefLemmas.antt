@@ -12,7 +12,8 @@ unfolding is_full_name is_partial_name full_fault_of partial_fault_of
 full_grammar_law x = grind (arith, tag_grammar_law x)
 
 -- A text is a safe reference name if and only if it has no fault.
-pub safe_grammar_law : (options : ComponentOptions) (x : List ℕ) → is_safe_ref options x ≡ is_none (fault_of options x)
+pub safe_grammar_law : (options : ComponentOptions) (x : List ℕ)
+    → is_safe_ref options x ≡ is_none (fault_of options x)
 unfolding is_safe_ref fault_of
 safe_grammar_law options x = grind (arith, full_grammar_law x, path_grammar_law options None x)
 

@@ -81,7 +81,8 @@ DisguisedFrom-after options x start end from first none =
       first.within,
       length-take-le (end - start) (drop start x) (omega (arith, first.within, length-drop start x)),
     ) in
-    let skipped : disguised_from options start (part ∷ rest) ≡ disguised_from options (start + (length part + 1)) rest =
+    let skipped : disguised_from options start (part ∷ rest)
+    ≡ disguised_from options (start + (length part + 1)) rest =
     grind (arith, none) in
     record {
       within = omega (arith, first.within);

@@ -85,7 +85,8 @@ abbrev stripped_off : List ℕ → List ℕ
 stripped_off [] = []
 stripped_off (a ∷ b ∷ c ∷ d ∷ e ∷ t) =
     if is_dot_or_dash a then a ∷ stripped_off (b ∷ c ∷ d ∷ e ∷ t)
-    else (if bytes_eq (a ∷ b ∷ c ∷ d ∷ e ∷ []) (codes "kcol.") then a ∷ b ∷ c ∷ d ∷ e ∷ stripped_off t else [])
+    else (if bytes_eq (a ∷ b ∷ c ∷ d ∷ e ∷ []) (codes "kcol.")
+    then a ∷ b ∷ c ∷ d ∷ e ∷ stripped_off t else [])
 stripped_off (a ∷ t) = if is_dot_or_dash a then a ∷ stripped_off t else []
 
 stripped_split : (x : List ℕ) → stripped_off x ++ stripped x ≡ x
@@ -160,7 +161,8 @@ trimmed_some a t h =
     grind (arith, some, turned, trimmed_turned (a ∷ t))
 
 -- What is left of a piece is a good piece.
-suggested_good : (p : List ℕ) → is_empty (suggested_piece p) ≡ false → is_good_piece (suggested_piece p) ≡ true
+suggested_good : (p : List ℕ) → is_empty (suggested_piece p) ≡ false
+    → is_good_piece (suggested_piece p) ≡ true
 unfolding suggested_piece
 suggested_good p some =
     let q = thinned None (dashed false p) in
@@ -261,11 +263,21 @@ left_nothing : (ps : List (List ℕ))
     → is_empty (joined (left_of suggested_piece ps))
     ≡ list_all (λ p. list_all is_dot_or_dash (dashed false p)) ps
 left_nothing [] = refl
-left_nothing (p ∷ ps) = grind (arith, suggested_nothing p, left_nothing ps, joined_nothing (suggested_piece p) (left_of suggested_piece ps))
+left_nothing (p ∷ ps) = grind (
+  arith,
+  suggested_nothing p,
+  left_nothing ps,
+  joined_nothing (suggested_piece p) (left_of suggested_piece ps),
+)
 
 left_no_dot : (ps : List (List ℕ)) → ends (joined (left_of suggested_piece ps)) (codes ".") ≡ false
 left_no_dot [] = refl
-left_no_dot (p ∷ ps) = grind (arith, suggested_no_dot p, left_no_dot ps, joined_no_dot (suggested_piece p) (left_of suggested_piece ps))
+left_no_dot (p ∷ ps) = grind (
+  arith,
+  suggested_no_dot p,
+  left_no_dot ps,
+  joined_no_dot (suggested_piece p) (left_of suggested_piece ps),
+)
 
 left_no_dash : (ps : List (List ℕ)) → begins (joined (left_of suggested_piece ps)) (codes "-") ≡ false
 left_no_dash [] = refl
@@ -281,7 +293,8 @@ repaired_valid : (x : List ℕ) → is_no_branch (repaired x) ≡ false → is_s
 unfolding repaired is_tag_name
 repaired_valid x some =
     let qs = left_of suggested_piece (pieces x) in
-    let split = pieces-joined qs (λ none. grind (arith, none, some)) (all_apart (pieces x) (pieces_apart x)) in
+    let apart = all_apart (pieces x) (pieces_apart x) in
+    let split = pieces-joined qs (λ none. grind (arith, none, some)) apart in
     grind (
       arith,
       short_parts (joined qs),

@@ -93,7 +93,8 @@ front_own t n some within mark lock =
     ap trimmed more ∙ trimmed-own (take (n - 1) t) (get_or t (n - 1) 0) mark (rw more at lock) ∙ sym more
 
 -- what a loop that trims a text takes
-pub ruleset trimmed_fronts = (nat_tests, take_all, length-take, front_mark, front_lock, front_own, trimmed-nothing)
+pub ruleset trimmed_fronts =
+    (nat_tests, take_all, length-take, front_mark, front_lock, front_own, trimmed-nothing)
 
 -- what one byte of a piece gives
 pub thinned-drop : (kept : Option ℕ) (at : Bool) (p : List ℕ) (i : ℕ) → i < length p
@@ -220,7 +221,8 @@ appended_next old sub p end k len text some begun room within =
     ∙ append_assoc (take end old) (get_or old end 0 ∷ []) (sub ++ post_of (end + 1) k old) in
     let written : set (put_mid (end + 1) k old sub) end 47
     ≡ take end old ++ 47 ∷ (sub ++ post_of (end + 1) k old) =
-    ap (λ t. set t end 47) whole ∙ set_at (take end old) (get_or old end 0) (sub ++ post_of (end + 1) k old) 47 end long in
+    ap (λ t. set t end 47) whole
+    ∙ set_at (take end old) (get_or old end 0) (sub ++ post_of (end + 1) k old) 47 end long in
     let taken : take (end + 1 + len) (take end old ++ 47 ∷ (sub ++ post_of (end + 1) k old))
     ≡ take end old ++ 47 ∷ take len sub =
     let count : end + 1 + len ≡ length (take end old) + suc len = omega (arith, long) in
@@ -228,4 +230,5 @@ appended_next old sub p end k len text some begun room within =
     ∙ take-append-add (take end old) (47 ∷ (sub ++ post_of (end + 1) k old)) (suc len)
     ∙ ap (λ s. take end old ++ 47 ∷ s) (take-append-le len sub (post_of (end + 1) k old) within) in
     ap (take (end + 1 + len)) written ∙ taken
-    ∙ appended_both (take end old) (take len sub) p text (some_from_length (take end old) (omega (arith, long))) some
+    ∙ appended_both (take end old) (take len sub) p text
+    (some_from_length (take end old) (omega (arith, long))) some

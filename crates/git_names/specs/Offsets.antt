@@ -37,8 +37,8 @@ tag_offset_of x = at_or 0 (tag_fault_offset_of x)
 abbrev pub lock_start : List ℕ → ℕ → ℕ
 lock_start x at = if is_slash (slice_index x at) then at - 5 else at - 4
 
--- where a fault of a reference name is: the first byte that may not stand alone, the place where `.lock` begins, or
--- the byte that is the fault of the tag name. That a whole name is reserved is at its start.
+-- where a fault of a reference name is: the first byte that may not stand alone, the place where `.lock`
+-- begins, or the byte that is the fault of the tag name. That a whole name is reserved is at its start.
 abbrev pub reference_offset_of : List ℕ → NameError → ℕ
 reference_offset_of x (name.Reserved whole) = 0
 reference_offset_of x name.SomeLowercase = at_or 0 (position (λ b. not (is_standalone_byte b)) x)
@@ -65,8 +65,8 @@ is_dot_or_space b = b == byte "." || b == byte " "
 abbrev pub end_start : List ℕ → ℕ
 end_start x = length x - suffix_len is_dot_or_space x
 
--- where a fault of a component is: the separator, the colon of a prefix, the first byte that is illegal on Windows,
--- or else where the dots and spaces at its end begin. Other faults are of the whole component.
+-- where a fault of a component is: the separator, the colon of a prefix, the first byte that is illegal on
+-- Windows, or else where the dots and spaces at its end begin. Other faults are of the whole component.
 abbrev pub component_offset_of : ComponentOptions → List ℕ → ComponentError → ℕ
 component_offset_of options x component.PathSeparator = at_or 0 (position (separates options) x)
 component_offset_of options x component.WindowsPathPrefix =

@@ -3,7 +3,8 @@ use Rattle.std.specs.Prelude.{ℕ, Bool, ◌&&◌, not, List, ◌++◌, codes, O
 use Rattle.std.specs.Str.{bytes_eq}
 use Rattle.gix_validate.specs.Bytes.{begins}
 use Rattle.gix_validate.specs.Faults.{when, ◌orelse◌}
-use Rattle.gix_validate.specs.Reference.{carried, is_branch_name, is_full_name, reserved, text_of as name_text_of}
+use Rattle.gix_validate.specs.Reference.{carried, is_branch_name, is_full_name, reserved}
+use Rattle.gix_validate.specs.Reference.{text_of as name_text_of}
 use Rattle.gix_validate.specs.Tag.{fault_of as tag_fault_of}
 use Rattle.git_names.specs.declared.branches.ShortNameError.{ShortNameError}
 use Rattle.git_names.specs.declared.branches.ShortNameError.TheVariants.{Name, StartsWithDash}
@@ -21,13 +22,14 @@ is_short_name x = is_branch_name (full_name x) && not (begins x (codes "-"))
 unfoldable pub full_tag_name : List ℕ → List ℕ
 full_tag_name x = codes "refs/tags/" ++ x
 
--- The text is the short name of a tag: its full name is a valid one, it isn't `HEAD`, and it doesn't begin with
--- a dash.
-unfoldable pub is_short_tag : List ℕ → Bool
-is_short_tag x = is_full_name (full_tag_name x) && not (bytes_eq x (codes "HEAD")) && not (begins x (codes "-"))
-
--- The fault of a text as either: that of the tag name, as one of a reference name; or else that it is `HEAD`, or begins
+-- The text is the short name of a tag: its full name is a valid one, it isn't `HEAD`, and it doesn't begin
 -- with a dash.
+unfoldable pub is_short_tag : List ℕ → Bool
+is_short_tag x =
+    is_full_name (full_tag_name x) && not (bytes_eq x (codes "HEAD")) && not (begins x (codes "-"))
+
+-- The fault of a text as either: that of the tag name, as one of a reference name; or else that it is `HEAD`,
+-- or begins with a dash.
 unfoldable pub fault_of : List ℕ → Option ShortNameError
 fault_of x =
     option_map (λ e. Name (carried e)) (tag_fault_of x)

@@ -19,8 +19,8 @@ use Rattle.git_names.specs.declared.submodules.SubmoduleError.TheVariants.{Disgu
 abbrev pub is_protected : ComponentOptions → Bool
 is_protected options = options.protect_windows || options.protect_hfs || options.protect_ntfs
 
--- A part that a file system takes for `.` or `..`: its HFS form is one of these, or its NTFS form is empty, as it
--- is of dots and spaces alone.
+-- A part that a file system takes for `.` or `..`: its HFS form is one of these, or its NTFS form is empty,
+-- as it is of dots and spaces alone.
 unfoldable pub is_disguised : ComponentOptions → List ℕ → Bool
 is_disguised options part =
     (options.protect_hfs && (bytes_eq (hfs_form part) (codes ".") || bytes_eq (hfs_form part) (codes "..")))
@@ -33,8 +33,8 @@ is_submodule options x =
     && (not (is_protected options)
     || (is_path options None x && not (list_any (is_disguised options) (pieces x))))
 
--- where the first disguised one of these parts begins, if there is one, where the first of them begins at this
--- offset, and each other one after a slash
+-- where the first disguised one of these parts begins, if there is one, where the first of them begins at
+-- this offset, and each other one after a slash
 abbrev pub disguised_from : ComponentOptions → ℕ → List (List ℕ) → Option ℕ
 disguised_from options at [] = None
 disguised_from options at (part ∷ more) =
@@ -46,8 +46,8 @@ protected_fault_of options x =
     option_map (λ e. Part e) (path_fault_of options None x)
     orelse option_map (λ at. Disguised at) (disguised_from options 0 (pieces x))
 
--- The fault of a text: that of the submodule name. Under a switch it is else that of the path, or else that a part
--- is disguised.
+-- The fault of a text: that of the submodule name. Under a switch it is else that of the path, or else that a
+-- part is disguised.
 unfoldable pub fault_of : ComponentOptions → List ℕ → Option SubmoduleError
 fault_of options x =
     option_map (λ e. Name e) (name_fault_of x)

@@ -36,7 +36,8 @@ thinned before [] = []
 thinned before (b ∷ t) =
     (if goes before b then [] else b ∷ []) ++ thinned (if goes before b then before else Some b) t
 
--- A text, read from its end, without the dots, dashes and `.lock`s that it ends in, as often as they are there.
+-- A text, read from its end, without the dots, dashes and `.lock`s that it ends in, as often as they are
+-- there.
 abbrev pub stripped : List ℕ → List ℕ
 stripped [] = []
 stripped (a ∷ b ∷ c ∷ d ∷ e ∷ t) =

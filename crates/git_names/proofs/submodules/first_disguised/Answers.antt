@@ -13,7 +13,8 @@ returns-then-is_disguised-2 c =
     let found : is_disguised options (take (length x - start) (drop start x)) ≡ true =
     grind (arith, c.is_disguised-2.ensures, c.if-is_disguised-2.true) in
     sym (
-    DisguisedFrom-last options x start c.loop-end.invariant c.in_default.ensures ∙ ap (λ t. when t start) found
+    DisguisedFrom-last options x start c.loop-end.invariant c.in_default.ensures
+    ∙ ap (λ t. when t start) found
     )
 
 pub returns : goal.returns

@@ -18,7 +18,15 @@ returns-clause-text c =
         | then-end-gt0 v ↦ absurd (omega arith)
         | else-end-gt0 v ↦
             let within : len ≤ length sub =
-            grind (arith, c.write_piece-len.ensures.within, c.write_piece-len.auto.buffer, length-drop, length-take, c.requires.room, w.start-is) in
+            grind (
+              arith,
+              c.write_piece-len.ensures.within,
+              c.write_piece-len.auto.buffer,
+              length-drop,
+              length-take,
+              c.requires.room,
+              w.start-is,
+            ) in
             rw (v.buffer-is, w.start-is, w.if-end-eq0.true)
             (appended_first old sub p (length old - 0) len text within)
       ]
@@ -27,11 +35,19 @@ returns-clause-text c =
             let room : end + 1 + length c.args.piece.now ≤ length old =
             grind (arith, c.requires.room, w.if-end-eq0.false) in
             let within : len ≤ length sub =
-            grind (arith, c.write_piece-len.ensures.within, c.write_piece-len.auto.buffer, length-drop, length-take, room, w.start-is) in
+            grind (
+              arith,
+              c.write_piece-len.ensures.within,
+              c.write_piece-len.auto.buffer,
+              length-drop,
+              length-take,
+              room,
+              w.start-is,
+            ) in
             let some : 0 < len = omega (arith, c.if-len-eq0.false) in
             rw (v.buffer-is, w.start-is)
-            (appended_next old sub p end (length old - (end + 1)) len text (some_taken sub p len text some within)
-            v.if-end-gt0.true (omega (arith, room)) within)
+            (appended_next old sub p end (length old - (end + 1)) len text
+            (some_taken sub p len text some within) v.if-end-gt0.true (omega (arith, room)) within)
         | else-end-gt0 v ↦ absurd (omega arith)
       ]
     ]

@@ -1,9 +1,8 @@
 //! What the hook answers to the author of a push that it refuses.
 
-use crate::commits;
 use crate::finding::{Finding, Id, Kind};
-use crate::git::Git;
 use crate::messages::printable;
+use crate::places::Pushed;
 use std::collections::HashMap;
 use std::ops::ControlFlow::{self, Break, Continue};
 
@@ -18,35 +17,18 @@ const ABBREVIATED: usize = 12;
 /// What is refused.
 #[derive(Default)]
 pub struct Answer {
-    /// What each line stands for, in the order in which they were found: the first finding, and of all
-    /// those in `.gitmodules` files the blobs.
-    shown: Vec<(Finding, Vec<Id>)>,
-    places: HashMap<String, usize>,
-    read: usize,
+    found: Vec<Finding>,
 }
 
 impl Answer {
     pub fn has_some(&self) -> bool {
-        self.read > 0
+        !self.found.is_empty()
     }
 
     /// Adds what is refused, until it is very much.
     pub fn add(&mut self, finding: Finding) -> ControlFlow<()> {
-        self.read += 1;
-        let place = self.places.entry(finding.line());
-        let place = *place.or_insert(self.shown.len());
-        let blob = finding.blob().cloned();
-        match self.shown.get_mut(place) {
-            // (a line can be accepted only if all that it stands for can)
-            Some((first, blobs)) => {
-                if !finding.can_be_accepted() {
-                    first.kind = finding.kind;
-                }
-                blobs.extend(blob);
-            }
-            None => self.shown.push((finding, blob.into_iter().collect())),
-        }
-        if self.read < MOST_READ {
+        self.found.push(finding);
+        if self.found.len() < MOST_READ {
             Continue(())
         } else {
             Break(())
@@ -54,27 +36,58 @@ impl Answer {
     }
 
     /// The lines of what is refused, each once, how many there are, and what helps.
-    pub fn text(&self, git: &Git, pushed: &[u8]) -> String {
-        let shown = &self.shown[..self.shown.len().min(MOST_LINES)];
-        let first = commits::first(git, pushed, shown);
+    pub fn text(&self, pushed: &Pushed) -> String {
+        let lines = self.lines(pushed);
+        let shown = &lines[..lines.len().min(MOST_LINES)];
+        let first = pushed.first_commits(shown);
         let each = || shown.iter().map(|(finding, _)| finding).zip(&first);
-        let lines = each().map(|(finding, commit)| {
-            let details = details(finding, commit.as_deref());
-            format!("{}\n{details}", cut(finding.line()))
-        });
-        let change = first.iter().flatten().next().map(|it| change(git, it));
+        let mut text: String =
+            each().map(|(it, commit)| shown_line(it, commit.as_deref())).collect();
+        text += &self.count(lines.len());
+        let has = |is: &IsOfKind| lines.iter().any(|(finding, _)| is(finding));
+        let advice = ADVICE.iter().filter(|(is, _)| has(is)).map(|it| it.1.to_owned());
+        let change = first.iter().flatten().next().map(|it| change(pushed, it));
         let is_old = |(finding, commit): (&Finding, &Option<String>)| {
             commit.is_none() && !matches!(finding.kind, Kind::Reference)
         };
         let old = each().any(is_old).then(|| OLD.into());
-        let advice = self.advice().chain(change).chain(old);
-        let advice = advice.chain(self.accepting()).map(|it| it + "\n");
-        lines.chain([self.count()]).chain(advice).collect()
+        let accepting = accepting(lines.iter().map(|(finding, _)| finding));
+        let advice = advice.chain(change).chain(old).chain(accepting);
+        text.extend(advice.map(|it| it + "\n"));
+        text
     }
 
-    fn count(&self) -> String {
-        let count = self.shown.len();
-        let least = if self.read < MOST_READ { "" } else { "at least " };
+    /// What each line stands for, in the order in which they were found: a finding, and of all those in
+    /// `.gitmodules` files the blobs.
+    fn lines(&self, pushed: &Pushed) -> Vec<(Finding, Vec<Id>)> {
+        let trees = self.found.iter().filter_map(|it| it.place.tree.clone()).collect();
+        // (if it isn't found, the line has the tree's id)
+        let directories = pushed.directories(trees).unwrap_or_default();
+        let (mut lines, mut places) = (Vec::<(Finding, Vec<Id>)>::new(), HashMap::new());
+        for finding in &self.found {
+            let mut finding = finding.clone();
+            if let Some(directory) = finding.place.tree.as_ref().and_then(|it| directories.get(it))
+            {
+                finding.place = finding.place.below(directory);
+            }
+            let place = *places.entry(finding.line()).or_insert(lines.len());
+            if place == lines.len() {
+                lines.push((finding.clone(), Vec::new()));
+            }
+            let (first, blobs) = &mut lines[place];
+            if let Kind::Submodule { blob, .. } = &finding.kind {
+                blobs.push(blob.clone());
+            }
+            // (a line can be accepted only if all that it stands for can)
+            if !finding.can_be_accepted() {
+                first.kind = finding.kind;
+            }
+        }
+        lines
+    }
+
+    fn count(&self, count: usize) -> String {
+        let least = if self.found.len() < MOST_READ { "" } else { "at least " };
         let names = if count == 1 { "name is" } else { "names are" };
         if count <= MOST_LINES {
             return format!("push refused: {least}{count} {names} not allowed\n");
@@ -84,25 +97,17 @@ impl Answer {
              This lists all in your clone: git scan-names origin/main..HEAD\n"
         )
     }
+}
 
-    /// What to do about each kind that there is.
-    fn advice(&self) -> impl Iterator<Item = String> + '_ {
-        let has = |is: IsOfKind| self.shown.iter().any(|(finding, _)| is(finding));
-        let advice = ADVICE.iter().filter(move |(is, _)| has(*is));
-        advice.map(|(_, advice)| (*advice).to_owned())
-    }
-
-    /// How an administrator accepts the names that Windows alone forbids.
-    fn accepting(&self) -> Option<String> {
-        let shown = self.shown.iter().map(|(finding, _)| finding);
-        let acceptable = shown.filter(|it| it.can_be_accepted());
-        let mut names = acceptable.map(|it| printable(it.name()));
-        let first = names.next()?;
-        let is_plain = |it: char| it.is_ascii_alphanumeric() || "._+-".contains(it);
-        let is_one = names.all(|it| it == first) && first.chars().all(is_plain);
-        let name = if is_one { &first } else { "NAME" };
-        Some(format!("An administrator can accept a name that only Windows forbids: git config --add names.accept {name}"))
-    }
+/// How an administrator accepts the names that Windows alone forbids.
+fn accepting<'a>(findings: impl Iterator<Item = &'a Finding>) -> Option<String> {
+    let acceptable = findings.filter(|it| it.can_be_accepted());
+    let mut names = acceptable.map(|it| printable(it.name()));
+    let first = names.next()?;
+    let is_plain = |it: char| it.is_ascii_alphanumeric() || "._+-".contains(it);
+    let is_one = names.all(|it| it == first) && first.chars().all(is_plain);
+    let name = if is_one { &first } else { "NAME" };
+    Some(format!("An administrator can accept a name that only Windows forbids: git config --add names.accept {name}"))
 }
 
 fn is_plain_reference(finding: &Finding) -> bool {
@@ -144,9 +149,9 @@ const ADVICE: [(IsOfKind, &str); 6] = [
 const OLD: &str = "If no commit of your push adds a name, the server has it already: first push one commit on top of the server's branch that changes it.";
 
 /// How to change the first commit that has something refused.
-fn change(git: &Git, commit: &str) -> String {
+fn change(pushed: &Pushed, commit: &str) -> String {
     let short = abbreviated(commit);
-    let from = if commits::is_root(git, commit) { "--root".into() } else { format!("{short}~1") };
+    let from = if pushed.is_root(commit) { "--root".into() } else { format!("{short}~1") };
     format!("To change commit {short}: git rebase -i {from}, and write \"edit\" in its line.")
 }
 
@@ -154,19 +159,17 @@ fn abbreviated(commit: &str) -> &str {
     commit.get(..ABBREVIATED).unwrap_or(commit)
 }
 
-/// A line of what offends, and of the first commit that has it, if that is known.
-fn details(finding: &Finding, commit: Option<&str>) -> String {
+/// The line of a finding, and one of what offends, and of the first commit that has it, if that is known.
+fn shown_line(finding: &Finding, commit: Option<&str>) -> String {
+    let mut line = finding.line();
+    if line.len() > LONGEST_LINE {
+        line.truncate(LONGEST_LINE - 3);
+        line += "...";
+    }
     let offender = finding.offender().map(|it| format!("because of {it}"));
     let commit = commit.map(|it| format!("first in commit {}", abbreviated(it)));
     match [offender, commit].into_iter().flatten().collect::<Vec<_>>() {
-        details if details.is_empty() => String::new(),
-        details => format!("    {}\n", details.join(", ")),
-    }
-}
-
-fn cut(line: String) -> String {
-    match line.get(..LONGEST_LINE - 3) {
-        Some(front) if line.len() > LONGEST_LINE => format!("{front}..."),
-        _ => line,
+        details if details.is_empty() => line + "\n",
+        details => format!("{line}\n    {}\n", details.join(", ")),
     }
 }

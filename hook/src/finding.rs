@@ -9,9 +9,7 @@ pub type Id = Box<[u8]>;
 #[derive(Clone)]
 pub struct Finding {
     pub kind: Kind,
-    /// The reference, the entry's path, or the path of the `.gitmodules` file. If it is long, its
-    /// beginning.
-    pub path: Vec<u8>,
+    pub place: Place,
     pub reason: Vec<u8>,
 }
 
@@ -31,14 +29,34 @@ pub enum Kind {
     },
 }
 
+/// Where it is: the reference, the entry, or the `.gitmodules` file.
+#[derive(Clone)]
+pub struct Place {
+    /// The name of a reference or a path. If it is long, its beginning.
+    pub path: Vec<u8>,
+    /// The tree in which the path begins, if that isn't known to be the root.
+    pub tree: Option<Id>,
+}
+
+impl Place {
+    /// That of a line, whose path begins in this tree.
+    pub fn of(line: &Line, tree: Option<Id>) -> Self {
+        Self { path: line.name.clone(), tree }
+    }
+
+    /// That in a directory of the root.
+    pub fn below(&self, directory: &[u8]) -> Self {
+        let slash = if directory.is_empty() { b"".as_slice() } else { b"/" };
+        Self { path: [directory, slash, &self.path].concat(), tree: None }
+    }
+}
+
 impl Finding {
     /// A reference that a line of `check_push refs` says: `ref "REF" REASON`.
     pub fn of_reference(line: &Line) -> Option<Self> {
-        (line.front == b"ref ").then(|| Self {
-            kind: Kind::Reference,
-            path: line.name.clone(),
-            reason: line.rest.into(),
-        })
+        let place = Place::of(line, None);
+        let reason = line.rest.into();
+        (line.front == b"ref ").then_some(Self { kind: Kind::Reference, place, reason })
     }
 
     /// An entry that a line of `check_push trees` says: `TREE MODE "PATH" REASON`, perhaps after
@@ -46,38 +64,26 @@ impl Finding {
     pub fn of_entry(line: &Line) -> Option<Self> {
         let without = line.front.strip_prefix(b"windows ");
         let (tree, mode) = split_once(without.unwrap_or(line.front), b' ')?;
-        id(tree)?;
+        let place = Place::of(line, Some(id(tree)?));
         let mode = std::str::from_utf8(mode).ok()?.trim_end();
-        let kind = Kind::Entry {
-            // (a mode may have hundreds of digits, and is none of Git's then)
-            mode: u32::from_str_radix(mode, 8).unwrap_or_default(),
-            is_windows: without.is_some(),
-        };
-        Some(Self { kind, path: line.name.clone(), reason: line.rest.into() })
+        // (a mode may have hundreds of digits, and is none of Git's then)
+        let mode = u32::from_str_radix(mode, 8).unwrap_or_default();
+        let kind = Kind::Entry { mode, is_windows: without.is_some() };
+        Some(Self { kind, place, reason: line.rest.into() })
     }
 
     /// A submodule that a line of `check_push submodules` says: `BLOB OFFSET "NAME" REASON`, or without a
-    /// name `BLOB OFFSET REASON` or `BLOB REASON`. `path_of` knows where the blob is.
-    pub fn of_submodule(line: &Line, path_of: impl Fn(&[u8]) -> Option<Vec<u8>>) -> Option<Self> {
+    /// name `BLOB OFFSET REASON` or `BLOB REASON`. `place_of` knows where the blob is.
+    pub fn of_submodule(line: &Line, place_of: impl Fn(&[u8]) -> Option<Place>) -> Option<Self> {
         let (blob, rest) = split_once(line.front, b' ')?;
-        let path = path_of(blob)?;
+        let place = place_of(blob)?;
         let blob = id(blob)?;
         let (name, reason) = if rest.ends_with(b" ") {
             (Some(line.name.clone()), line.rest.into())
         } else {
             (None, without_offset(rest))
         };
-        Some(Self { kind: Kind::Submodule { blob, name }, path, reason })
-    }
-}
-
-impl Finding {
-    /// The `.gitmodules` file in which it is.
-    pub fn blob(&self) -> Option<&Id> {
-        match &self.kind {
-            Kind::Submodule { blob, .. } => Some(blob),
-            Kind::Reference | Kind::Entry { .. } => None,
-        }
+        Some(Self { kind: Kind::Submodule { blob, name }, place, reason })
     }
 }
 
@@ -105,7 +111,7 @@ pub fn split_once(text: &[u8], byte: u8) -> Option<(&[u8], &[u8])> {
 
 #[cfg(test)]
 mod tests {
-    use super::{id, split_once, Finding, Kind};
+    use super::{id, split_once, Finding, Kind, Place};
     use crate::report::Line;
 
     fn line<'a>(front: &'a str, name: &[u8], rest: &'a str) -> Line<'a> {
@@ -134,7 +140,7 @@ mod tests {
             let found = Finding::of_entry(&line(&front, b"src/aux.h", "no")).unwrap();
             let is_entry = matches!(found.kind,
                 Kind::Entry { mode: 0o100_644, is_windows } if is_windows == expected);
-            assert!(is_entry && found.path == b"src/aux.h" && found.reason == b"no");
+            assert!(is_entry && found.place.path == b"src/aux.h" && found.reason == b"no");
         }
         assert!(Finding::of_entry(&line("windows 100644 ", b"a", "no")).is_none());
         assert!(Finding::of_entry(&line("linux ", b"a", "no")).is_none());
@@ -143,12 +149,13 @@ mod tests {
     #[test]
     fn a_submodule_is_in_a_file_and_what_can_not_be_read_has_an_offset() {
         let blob = "b".repeat(40);
-        let path_of = |id: &[u8]| (id == blob.as_bytes()).then(|| b"file".to_vec());
-        let found = |line: Line| Finding::of_submodule(&line, path_of);
+        let file = Place { path: b"file".to_vec(), tree: None };
+        let place_of = |id: &[u8]| (id == blob.as_bytes()).then(|| file.clone());
+        let found = |line: Line| Finding::of_submodule(&line, place_of);
         let front = format!("{blob} 20 ");
         let named = found(line(&front, b"../x", "no")).unwrap();
         assert!(matches!(named.kind, Kind::Submodule { name: Some(name), .. } if name == b"../x"));
-        assert!(named.path == b"file" && named.reason == b"no");
+        assert!(named.place.path == b"file" && named.reason == b"no");
         let front = format!("{blob} 20 a section");
         let section = found(line(&front, b"", "")).unwrap();
         assert!(matches!(section.kind, Kind::Submodule { name: None, .. }));

@@ -9,13 +9,13 @@
 
 mod answer;
 mod child;
-mod commits;
 mod failure;
 mod finding;
 mod git;
 mod limits;
 mod messages;
 mod pipeline;
+mod places;
 mod push;
 mod quoting;
 mod report;

@@ -40,7 +40,11 @@ impl Finding {
     }
 
     fn line_up_to(&self, longest_path: usize, longest_name: usize) -> String {
-        let (path, reason) = (quoted(&self.path, longest_path), printable(&self.reason));
+        let reason = printable(&self.reason);
+        let mut path = quoted(&self.place.path, longest_path);
+        if let Some(tree) = &self.place.tree {
+            path = format!("{path} (in the tree {})", printable(tree));
+        }
         match &self.kind {
             Kind::Submodule { name: Some(name), .. } => {
                 format!("{path}: submodule {}: {reason}", in_quotes(name, longest_name))
@@ -51,8 +55,9 @@ impl Finding {
 
     /// The entry's name.
     pub fn name(&self) -> &[u8] {
-        let slash = self.path.iter().rposition(|byte| *byte == b'/');
-        &self.path[slash.map_or(0, |it| it + 1)..]
+        let path = &self.place.path;
+        let slash = path.iter().rposition(|byte| *byte == b'/');
+        &path[slash.map_or(0, |it| it + 1)..]
     }
 
     /// What of the name offends, where that is a part of it: the device, the drive, or a character.
@@ -81,7 +86,8 @@ impl Finding {
     /// Whether an administrator may well accept it: a name with a backslash is a path to Windows.
     pub fn can_be_accepted(&self) -> bool {
         let is_windows = matches!(self.kind, Kind::Entry { is_windows: true, .. });
-        is_windows && !self.name().contains(&b'\\') && self.path.len() <= report::LONGEST_NAME
+        let is_whole = self.place.path.len() <= report::LONGEST_NAME;
+        is_windows && is_whole && !self.name().contains(&b'\\')
     }
 
     pub fn is_symlink(&self) -> bool {
@@ -168,13 +174,13 @@ pub fn say(message: &str) {
 mod tests {
     use super::{of_failure, printable, DEVICE, ILLEGAL, PREFIX, SEPARATOR};
     use crate::failure::{Ended, Failure, How};
-    use crate::finding::{Finding, Kind};
+    use crate::finding::{Finding, Kind, Place};
     use crate::limits::Limits;
 
     fn entry(path: &str, reason: &[u8]) -> Finding {
         Finding {
             kind: Kind::Entry { mode: 0o100_644, is_windows: true },
-            path: path.into(),
+            place: Place { path: path.into(), tree: None },
             reason: reason.into(),
         }
     }

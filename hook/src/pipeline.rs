@@ -14,7 +14,7 @@
 
 use crate::child::{join, spawn, Child};
 use crate::failure::{Failure, OrFail, Result};
-use crate::finding::{id, split_once, Finding, Id};
+use crate::finding::{id, Finding, Id, Place};
 use crate::git::Git;
 use crate::report::Line;
 use crate::settings::{arguments, Settings};
@@ -30,7 +30,7 @@ use std::process::{ChildStdin, Command, Stdio};
 use std::thread;
 
 /// What `git cat-file` prints of an object, before its content. At the end is what follows its id: of
-/// a tree the path.
+/// a tree the path, if the list has paths.
 const TREES: &str = "--batch=%(objectname) %(objecttype) %(objectsize) %(rest)";
 const FILES: &str = "--batch=%(objectname) %(objecttype) %(objectsize)";
 /// How much of the path of a `.gitmodules` file is kept.
@@ -60,11 +60,11 @@ pub struct Ids {
     replacements: Modules,
 }
 
-/// The blobs that are read as `.gitmodules`, and one path of each. Only a check of references or of trees
+/// The blobs that are read as `.gitmodules`, and one place of each. Only a check of references or of trees
 /// makes one, and only `submodules` uses it up.
 #[derive(Default)]
 #[must_use]
-pub struct Modules(HashMap<Id, Vec<u8>>);
+pub struct Modules(HashMap<Id, Place>);
 
 /// `git rev-list` and the `git cat-file` that prints the trees which it lists. Both wait for ids: so
 /// they can be started before these are known, and are ready then.
@@ -169,8 +169,8 @@ impl Pipeline {
         thread::scope(|scope| {
             let lister = spawn(scope, move || write_end(&ids, to))?;
             let report = Report::read(check, |line| {
-                let path_of = |blob: &[u8]| modules.get(blob).cloned();
-                let finding = Finding::of_submodule(line, path_of);
+                let place_of = |blob: &[u8]| modules.get(blob).cloned();
+                let finding = Finding::of_submodule(line, place_of);
                 let finding = finding.ok_or_else(|| malformed(CHECK_SUBMODULES))?;
                 Ok(Says::Refused(found(finding)))
             });
@@ -188,9 +188,12 @@ impl Pipeline {
         command
     }
 
-    /// Starts to print the objects whose ids it gets.
+    /// Starts to print the objects whose ids it gets. (A push can be made so that Git applies chains of
+    /// deltas again and again unless it keeps what they have made.)
     fn cat_file(&self, format: &str) -> Result<Child> {
-        let mut command = self.git.command(&["cat-file", format, "--buffer"]);
+        let megabytes = self.settings.limits.megabytes / 2;
+        let cache = format!("core.deltaBaseCacheLimit={megabytes}m");
+        let mut command = self.git.command(&["-c", &cache, "cat-file", format, "--buffer"]);
         command.stdin(Stdio::piped()).stdout(Stdio::piped());
         Child::start("git cat-file", command)
     }
@@ -212,7 +215,7 @@ impl Ids {
         self.lines.extend_from_slice(&new);
         self.lines.push(b'\n');
         if is_replacement {
-            self.replacements.add(new, line)?;
+            self.replacements.add(new, Place::of(line, None))?;
         }
         Ok(Says::Else)
     }
@@ -221,17 +224,19 @@ impl Ids {
 impl Modules {
     /// Adds the file of a line `modules BLOB TREE MODE "PATH"`.
     fn add_file(&mut self, rest: &[u8], line: &Line) -> Result<Says> {
-        let blob = split_once(rest, b' ').and_then(|(blob, _)| id(blob));
-        self.add(blob.ok_or_else(|| malformed(CHECK_TREES))?, line)?;
+        let mut ids = rest.split(|byte| *byte == b' ').map(id);
+        match (ids.next().flatten(), ids.next().flatten()) {
+            (Some(blob), tree @ Some(_)) => self.add(blob, Place::of(line, tree))?,
+            _ => return Err(malformed(CHECK_TREES)),
+        }
         Ok(Says::Else)
     }
 
-    /// Adds a blob with the name in a line, unless it is there already.
-    fn add(&mut self, blob: Id, line: &Line) -> Result<()> {
+    /// Adds a blob and where it is, unless it is there already.
+    fn add(&mut self, blob: Id, mut place: Place) -> Result<()> {
         self.0.try_reserve(1).map_err(|_| Failure::Memory)?;
-        let mut path = line.name.clone();
-        path.truncate(LONGEST_PATH);
-        self.0.entry(blob).or_insert(path);
+        place.path.truncate(LONGEST_PATH);
+        self.0.entry(blob).or_insert(place);
         Ok(())
     }
 }

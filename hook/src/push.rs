@@ -8,8 +8,9 @@ use crate::git::{with_version, Git};
 use crate::limits::Limits;
 use crate::messages::{of_failure, say};
 use crate::pipeline::{reserve, Pipeline, TreeList};
+use crate::places::Pushed;
 use crate::settings::{self, Settings};
-use crate::verdict::{Checked, Verdict, LENT, OLD};
+use crate::verdict::{Checked, Verdict, WITHOUT_PATHS};
 use std::env;
 use std::ffi::OsStr;
 use std::fs::{self, File};
@@ -80,7 +81,9 @@ impl Push {
         let submodules = pipeline.submodules(modules, &mut |it| answer.add(it))?;
         let verdict = Verdict::of(Checked { references: Some(references), trees, submodules });
         if let Verdict::Refused = verdict {
-            let text = answer.text(&pipeline.git, &pushed);
+            let old = pipeline.settings.old();
+            let pushed = Pushed { git: &pipeline.git, ids: &pushed, old: &old };
+            let text = answer.text(&pushed);
             // (refused all the same, if nobody reads why)
             let _ = io::stdout().write_all(text.as_bytes());
         }
@@ -120,9 +123,8 @@ fn set(limits: Limits, objects: u64) -> Result<()> {
 }
 
 fn start_list(pipeline: &Pipeline) -> Result<TreeList> {
-    let lent = pipeline.settings.alternate_refs.then_some(LENT);
-    let words = ["--stdin"].into_iter().chain(OLD).chain(lent);
-    pipeline.start_list(&words.collect::<Vec<_>>())
+    let words = [&[WITHOUT_PATHS, "--stdin"][..], &pipeline.settings.old()].concat();
+    pipeline.start_list(&words)
 }
 
 /// Writes all lines of the push to `check_push refs`. Returns the new ids of all references that aren't

@@ -12,7 +12,7 @@ use crate::git::{with_version, Git};
 use crate::messages::{of_failure, printable, say};
 use crate::pipeline::{Ids, Pipeline};
 use crate::settings::{self, Settings};
-use crate::verdict::{Checked, Report, Verdict};
+use crate::verdict::{Checked, Report, Verdict, WITH_PATHS};
 use copy::Copy;
 use list::List;
 use options::{misused, Asked, Options};
@@ -100,7 +100,8 @@ fn scan(program: PathBuf, git: &Git, options: &Options) -> Result<Outcome> {
     let settings = settings(git, options)?;
     let pipeline = Pipeline { program, git: git.with_whole_history(), settings };
     let mut list = List::default();
-    let mut found = |finding| {
+    let mut found = |mut finding: Finding| {
+        finding.place.tree = None; // (the list has paths)
         list.add(finding);
         Continue(())
     };
@@ -199,7 +200,8 @@ fn check_trees(
     ids: Ids,
     found: Found,
 ) -> Result<Verdict> {
-    let list = pipeline.start_list(words)?;
+    let words = [&[WITH_PATHS.into()], words].concat();
+    let list = pipeline.start_list(&words)?;
     let (trees, modules) = pipeline.trees(list, ids, found)?;
     let submodules = pipeline.submodules(modules, found)?;
     Ok(Verdict::of(Checked { references, trees: Some(trees), submodules }))

@@ -4,6 +4,7 @@
 use crate::failure::{failed, Result};
 use crate::limits::Limits;
 use crate::messages::printable;
+use crate::verdict::{LENT, OLD};
 use std::ffi::{OsStr, OsString};
 use std::os::unix::ffi::OsStrExt;
 
@@ -46,6 +47,11 @@ impl Default for Settings {
 pub const WORDS: [&str; 5] = ["config", "--null", "--show-scope", "--get-regexp", "^names\\."];
 
 impl Settings {
+    /// The words of `git rev-list` for what the server has already.
+    pub fn old(&self) -> Vec<&'static str> {
+        OLD.into_iter().chain(self.alternate_refs.then_some(LENT)).collect()
+    }
+
     /// Reads what Git printed: each setting as its scope, a NUL, its key, and perhaps a newline and a
     /// value, and a NUL. A setting that is unknown may be misspelled, and so is a failure.
     pub fn read(output: &[u8]) -> Result<Self> {

@@ -8,8 +8,8 @@ use crate::report::{each_line, Line};
 use std::io::ErrorKind;
 use std::ops::ControlFlow::{self, Break, Continue};
 
-/// The words with which `git rev-list` lists the trees of the ids on its standard input, each with its path:
-/// every tree that these ids lead to and the server's references don't.
+/// The words with which `git rev-list` lists the trees of the ids on its standard input: every tree that these
+/// ids lead to and the server's references don't.
 ///
 /// - `--objects` follows a commit to its parents and its tree, a tag to what it tags, and a tree to its
 ///   trees. Git has checked that nothing of this is missing before it starts the hook.
@@ -20,19 +20,21 @@ use std::ops::ControlFlow::{self, Break, Continue};
 /// - Nothing else hides history or shows another object: no grafts, no shallow borders of the pusher,
 ///   no replacements (`git.rs` has the environment), and no other option.
 ///
-/// A tree has one line, under one of its paths: its names don't depend on where it is.
-pub const LIST: [&str; 7] = [
+/// A tree has one line, wherever it is: its names don't depend on that.
+pub const LIST: [&str; 6] = [
     "-c",
     "core.warnAmbiguousRefs=false", // (else each id is looked up as a reference)
     "rev-list",
     "--objects",
-    "--object-names",
     "--filter=object:type=tree",
     "--filter-provided-objects",
 ];
 pub const OLD: [&str; 2] = ["--not", "--all"];
 /// What the references of other repositories lead to, from which the server borrows objects.
 pub const LENT: &str = "--alternate-refs";
+/// A tree also has one of its paths in its line. (A push can be made so that these are quadratic.)
+pub const WITH_PATHS: &str = "--object-names";
+pub const WITHOUT_PATHS: &str = "--no-object-names";
 
 /// What was checked: a report for each kind of name, or none if there was no name of that kind.
 pub struct Checked {

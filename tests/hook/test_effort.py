@@ -3,6 +3,7 @@ references there are. All processes have one pair of limits, which settings rais
 import re
 import subprocess
 import sys
+import time
 
 import pytest
 
@@ -11,6 +12,7 @@ from tests.hook.expected import (
     ACCEPTED,
     CORRECT_THE_FILE,
     DEVICE,
+    IT_MAY_BE_OLD,
     MORE_MEMORY,
     MORE_TIME,
     RENAME_THE_FILE,
@@ -26,17 +28,51 @@ from tests.hook.expected import (
 )
 from tests.hook.git import Repository, file, folder
 
+SECONDS = 10  # for what takes a minute otherwise
 
-def test_trees_of_12000_references_are_listed_once(hook, source, room):
+
+@pytest.mark.parametrize("is_hostile", [False, True])
+def test_trees_of_12000_references_are_listed_once_and_if_refused_again_with_paths(
+    hook, source, room, is_hostile
+):
     lines = [source.push_of(source.clean, f"refs/heads/{n}") for n in range(1, 12_001)]
-    lines[0] = source.push_of(source.device, "refs/heads/1")
-    lines[-1] = source.push_of(source.bad_submodule, "refs/heads/12000")
-    hook.stand_in("git rev-list --objects", f'echo "$*" >> "{room}/calls"')
+    if is_hostile:
+        lines[0] = source.push_of(source.device, "refs/heads/1")
+        lines[-1] = source.push_of(source.bad_submodule, "refs/heads/12000")
+    hook.stand_in("git -c core.warn*rev-list", f'echo "$*" >> "{room}/calls"')
     result = hook.run("".join(lines))
+    assert result.status == int(is_hostile)
+    assert is_hostile == ("push refused: 2 names are not allowed\n" in result.said)
+    words = [line.split() for line in (room / "calls").read_text().splitlines()]
+    old = ["--stdin", "--not", "--all"]
+    lists = [["--no-object-names", *old], ["--object-names", *old]]
+    assert [it[-4:] for it in words] == lists[: 1 + is_hostile]
+
+
+def test_if_the_directories_can_not_be_found_the_name_is_refused_without(hook, source):
+    hook.stand_in("git -c core.warn*rev-list*--object-names", "exit 9")
+    tree = source.tree_with_device
+    commit = source.commit_of(folder("a", tree), on=[source.clean])
+    result = hook.run(source.push_of(commit))
+    line = bad_name(f"aux.c (in the tree {tree})", DEVICE, "aux")
+    assert result == refused(line, RENAME_THE_FILE, IT_MAY_BE_OLD, accept("aux.c"))
+
+
+@pytest.mark.one_format
+def test_of_quadratic_paths_of_directories_the_first_are_read(incoming, measured_push):
+    """A pack of some kilobytes whose list with paths has a gigabyte."""
+    names = "".join(f"100644 blob {incoming.text}\t{n}\n\n" for n in range(15_000))
+    trees = incoming.git("mktree", "--batch", stdin=names).split()
+    tree = incoming.tree(
+        *(folder(f"d{n:05}", it) for n, it in enumerate(trees)), "aux.c"
+    )
+    for _ in range(260):
+        tree = incoming.tree(folder("n" * 249, tree))
+    began = time.monotonic()
+    result, _ = measured_push(incoming.commit(tree))
+    assert time.monotonic() - began < SECONDS
     assert result.status == 1
-    assert "push refused: 2 names are not allowed\n" in result.said
-    [words] = [line.split() for line in (room / "calls").read_text().splitlines()]
-    assert words[-3:] == ["--stdin", "--not", "--all"]
+    assert "aux.c" in result.said
 
 
 @pytest.mark.parametrize("part", ["git rev-list --stdin", "git diff-tree"])
@@ -119,7 +155,7 @@ PARTS = [
     "check_push refs",
     "check_push trees",
     "check_push submodules",
-    "git rev-list --objects",
+    "git -c core.warn*rev-list",
     "git cat-file*%(rest)",
     "git cat-file*size) --buffer",
 ]
@@ -175,7 +211,7 @@ def test_objects_in_files_of_their_own_count_too(limits, objects):
     (objects / "incoming/ab").mkdir()
     for n in range(4_000):
         (objects / f"incoming/ab/{n}").touch()
-    assert limits("git rev-list --objects") == (61, 1024)
+    assert limits("git -c core.warn*rev-list") == (61, 1024)
 
 
 @pytest.mark.one_format
@@ -200,7 +236,8 @@ def test_a_part_that_takes_too_long_refuses_the_push_and_the_setting_is_named(
         cwd=server.path,
         GIT_OBJECT_DIRECTORY=source.path / "objects",
     )
-    name = " ".join(part.replace("*", " ").split()[:2])
+    name = part if part.startswith("check") else "git cat-file"
+    name = "git rev-list" if part.endswith("rev-list") else name
     why = f"{name} needs too much processor time"
     assert result == not_checked(why, MORE_TIME.format(1))
 

@@ -11,7 +11,7 @@ pytestmark = pytest.mark.one_format
 TREES, FILES = "git cat-file*%(rest)", "git cat-file*size) --buffer"
 REASONS = {
     "git config": "git config failed (status 9)",
-    "git rev-list --objects": "git rev-list failed (status 9)",
+    "git -c core.warn*rev-list": "git rev-list failed (status 9)",
     TREES: "git cat-file failed (status 9)",
     FILES: "git cat-file failed (status 9)",
     "check_push refs": "check_push refs failed (status 9)",

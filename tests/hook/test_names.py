@@ -310,18 +310,14 @@ def test_a_path_is_quoted_as_git_quotes_it_if_it_has_to_be(server, source, name,
 
 
 def test_a_long_path_is_shown_with_its_beginning_and_its_end(server, source):
-    """The path of a directory that is above 128 bytes is cut before."""
     tree = source.tree("aux.c")
     for n in range(9, -1, -1):
         tree = source.tree(folder(f"{n}" * 50, tree))
-    line = bad_name(
-        "0" * 50 + "/" + "1" * 9 + "..." + "1" * 24 + "/" + "2" * 26 + ".../aux.c",
-        DEVICE,
-        "aux",
-    )
-    assert server.push(source.commit(tree)) == refused(
-        line, RENAME_THE_FILE, IT_MAY_BE_OLD, accept("aux.c")
-    )
+    commit = source.commit(tree, source.clean)
+    shown = "0" * 50 + "/" + "1" * 9 + "..." + "8" * 3 + "/" + "9" * 50 + "/aux.c"
+    line = bad_name(shown, DEVICE, "aux", commit)
+    advice = RENAME_THE_FILE, change(commit), accept("aux.c")
+    assert server.push(commit) == refused(line, *advice)
 
 
 def test_a_section_that_can_not_be_read_has_its_offset(server, source):

@@ -37,5 +37,5 @@ pub use gix_validate::tag::name as tag_name;
 pub use paths::{PathError, join, path};
 pub use references::{SafeRefError, safe_ref};
 pub use submodules::{SubmoduleError, submodule};
-pub use suggestions::{suggest, suggest_into};
+pub use suggestions::suggest;
 pub use tags::tag;

@@ -77,20 +77,9 @@ fn fill_suggestion(branch: &mut Vec<u8>, name: BStr<'_>) -> Result<bool, AllocEr
 }
 
 /// Writes the suggestion to the start of the buffer, and returns its length, or `None` if there is no
-/// suggestion (docs/RULES.md, "Suggestions").
-///
-/// It is the suggestion that [`suggest`] returns. The buffer has to have room for the name. A call for
-/// which that can't be proved doesn't compile. What is in the buffer after the suggestion, or if there
-/// is none, is unspecified.
-///
-/// ```
-/// let mut buffer = [0; 10];
-/// suggest_into(BStr::from("my branch~"), &mut buffer); // Some(9), for `my-branch`
-/// ```
-///
-/// It never fails and doesn't allocate.
+/// suggestion. What is in the buffer after the suggestion, or if there is none, is unspecified.
 #[tactic(auto, using(crate::proofs::SuggestionLaws::suggestion_laws))]
-pub fn suggest_into(name: BStr<'_>, buffer: &mut [u8]) -> Option<usize>
+fn suggest_into(name: BStr<'_>, buffer: &mut [u8]) -> Option<usize>
     requires room { length (bstr_bytes name) ≤ length buffer.old }
     ensures text { MatchOption result
         (suggestion (bstr_bytes name.entry) ≡ None)

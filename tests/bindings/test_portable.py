@@ -104,6 +104,11 @@ def libraries(tmp_path_factory):
     return [OUT / "libgix_validate_c.so", *(folder / it for it in names)]
 
 
+# (One process builds the libraries for both tests.)
+of_libraries = pytest.mark.xdist_group("translated libraries")
+
+
+@of_libraries
 @pytest.mark.parametrize("library", [1, 2], ids=["translated", "by wasm2c"])
 def test_the_rows_hold_as_either_translator_has_the_functions(
     library, libraries, tmp_path
@@ -114,6 +119,7 @@ def test_the_rows_hold_as_either_translator_has_the_functions(
     assert output(program, ROWS) == ALL_HOLD
 
 
+@of_libraries
 def test_a_million_names_have_the_results_of_machine_code_and_of_another_translator(
     libraries, tmp_path
 ):

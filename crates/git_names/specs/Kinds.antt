@@ -45,6 +45,16 @@ reason_of options kind.Symlink x =
     option_map (λ e. reason.Component e) (Component.fault_of options (Some OfSymlink) x)
 reason_of options kind.Submodule x = option_map (λ e. reason.Submodule e) (Submodules.fault_of options x)
 
+-- What a reason prints.
+abbrev pub text_of : Reason → List ℕ
+text_of (reason.Short e) = ShortNames.text_of e
+text_of (reason.Reference e) = Reference.text_of e
+text_of (reason.TagName e) = Tag.text_of e
+text_of (reason.SafeRef e) = SafeRefs.text_of e
+text_of (reason.Path e) = Paths.text_of e
+text_of (reason.Component e) = Component.text_of e
+text_of (reason.Submodule e) = Submodules.text_of e
+
 -- The fault of a text as a name of this kind: the reason, and where that is.
 abbrev pub fault_of : ComponentOptions → Kind → List ℕ → Option Fault
 fault_of options kind x =

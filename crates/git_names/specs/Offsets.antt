@@ -1,6 +1,6 @@
 -- Where in a name its error is: at the byte that is wrong, or where that begins which makes the name invalid.
-use Rattle.std.specs.Prelude.{ℕ, ◌+◌, ◌-◌, Bool, ◌==◌, ◌&&◌, ◌||◌, not, if◌then◌else◌, List, length, take}
-use Rattle.std.specs.Prelude.{drop, slice_index, Option, Some, None}
+use Rattle.std.specs.Prelude.{ℕ, ◌+◌, ◌-◌, Bool, ◌==◌, ◌&&◌, ◌||◌, not, if◌then◌else◌, List, [], ◌∷◌, length}
+use Rattle.std.specs.Prelude.{take, drop, slice_index, Option, Some, None}
 use Rattle.std.specs.List.{position, suffix_len}
 use Rattle.std.specs.Str.{byte}
 use Rattle.gix_validate.specs.Faults.{at_first_offset, when}
@@ -65,12 +65,16 @@ is_dot_or_space b = b == byte "." || b == byte " "
 abbrev pub end_start : List ℕ → ℕ
 end_start x = length x - suffix_len is_dot_or_space x
 
+-- the first colon after the first byte
+abbrev pub colon_of_prefix : List ℕ → ℕ
+colon_of_prefix [] = 0
+colon_of_prefix (b ∷ x) = 1 + at_or 0 (position (λ c. c == byte ":") x)
+
 -- where a fault of a component is: the separator, the colon of a prefix, the first byte that is illegal on
 -- Windows, or else where the dots and spaces at its end begin. Other faults are of the whole component.
 abbrev pub component_offset_of : ComponentOptions → List ℕ → ComponentError → ℕ
 component_offset_of options x component.PathSeparator = at_or 0 (position (separates options) x)
-component_offset_of options x component.WindowsPathPrefix =
-    1 + at_or 0 (position (λ b. b == byte ":") (drop 1 x))
+component_offset_of options x component.WindowsPathPrefix = colon_of_prefix x
 component_offset_of options x component.WindowsIllegalCharacter =
     at_or (end_start x) (position is_illegal_byte x)
 component_offset_of options x component.Empty = 0

@@ -1,9 +1,10 @@
 //! One check for all kinds of names, whose error has an offset.
 
-ghost use Rattle.std.specs.Prelude.{◌≡◌, ◌↔◌, ◌≤◌, IsOk, IfOk, IfSome, IsTrue, None, length};
+ghost use Rattle.std.specs.Prelude.{◌≡◌, ◌↔◌, ◌≤◌, IsOk, IfOk, IfSome, IsTrue, IfErr, None, Some, length};
 ghost use Rattle.bstr.specs.BStr.{bstr_bytes};
 ghost use Rattle.gix_validate.specs.Faults.{Validates};
-ghost use Rattle.git_names.specs.Kinds.{fault_of, is_name, reason_of};
+ghost use Rattle.gix_validate.specs.Printed.{printed};
+ghost use Rattle.git_names.specs.Kinds.{fault_of, is_name, reason_of, text_of};
 ghost use Rattle.git_names.specs.Offsets.{offset_of};
 ghost use Rattle.git_names.specs.Private.Starts.{path_start};
 
@@ -18,7 +19,10 @@ use crate::submodules::{SubmoduleError, submodule};
 use crate::tags::tag;
 use bstr::BStr;
 use gix_validate::path::{ComponentError, ComponentOptions};
+use gix_validate::text::Text;
 use gix_validate::{reference, tag as tag_names};
+use std::error::Error;
+use std::fmt;
 
 /// What kind of name a name is to be.
 #[derive(Debug, Copy, Clone, PartialEq, Eq)]
@@ -55,6 +59,33 @@ pub enum Reason {
     Submodule(SubmoduleError),
 }
 
+impl Reason {
+    /// What it prints (docs/RULES.md, "Printed texts"). It doesn't allocate.
+    pub fn text(&self) -> Text<'_>
+        ensures text { printed result ≡ text_of self.now }
+    {
+        match self {
+            Self::Short(error) => error.text(),
+            Self::Reference(error) => error.text(),
+            Self::TagName(error) => error.text(),
+            Self::SafeRef(error) => error.text(),
+            Self::Path(error) => error.text(),
+            Self::Component(error) => error.text(),
+            Self::Submodule(error) => error.text(),
+        }
+    }
+}
+
+impl fmt::Display for Reason {
+    ghost output = { λ reason. Some (text_of reason) };
+
+    fn fmt<W: fmt::Write>(&self, f: &mut fmt::Formatter<W>) -> fmt::Result {
+        self.text().fmt(f)
+    }
+}
+
+impl Error for Reason {}
+
 /// What is wrong with a name, and where.
 #[derive(Debug, Drop)]
 pub struct Fault {
@@ -62,6 +93,17 @@ pub struct Fault {
     /// Where in the name the reason is, in bytes (docs/RULES.md, "Offsets").
     pub offset: usize,
 }
+
+/// It prints the text of the reason.
+impl fmt::Display for Fault {
+    ghost output = { λ fault. Some (text_of fault.reason) };
+
+    fn fmt<W: fmt::Write>(&self, f: &mut fmt::Formatter<W>) -> fmt::Result {
+        self.reason.text().fmt(f)
+    }
+}
+
+impl Error for Fault {}
 
 /// Returns `name` if it is a valid name of this kind.
 ///
@@ -82,6 +124,7 @@ pub fn check<'a>(kind: Kind, name: BStr<'a>, options: ComponentOptions) -> Resul
     ensures answer { Validates (fault_of options kind) (bstr_bytes name.entry) result }
     ensures grammar { IsOk result ↔ IsTrue (is_name options kind (bstr_bytes name.entry)) }
     ensures same { IfOk result (λ kept. kept ≡ name.entry) }
+    ensures within { IfErr result (λ fault. fault.offset ≤ length (bstr_bytes name.entry)) }
 {
     match reason_by_kind(kind, name, options) {
         None => Ok(name),
@@ -149,7 +192,8 @@ fn reason_by_kind(kind: Kind, name: BStr<'_>, options: ComponentOptions) -> Opti
 /// Where the reason is.
 fn offset(reason: &Reason, name: &[u8], options: ComponentOptions) -> usize
     requires { path_start reason.now ≤ length name.now }
-    ensures { result ≡ offset_of options name.now reason.now }
+    ensures offset { result ≡ offset_of options name.now reason.now }
+    ensures within { result ≤ length name.now }
 {
     match reason {
         Reason::Short(ShortNameError::Name(error)) => reference_offset(error, name),

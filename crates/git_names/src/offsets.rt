@@ -8,7 +8,8 @@ ghost use Rattle.gix_validate.specs.Pieces.{is_slash};
 ghost use Rattle.gix_validate.specs.Reference.{carried, is_standalone_byte};
 ghost use Rattle.gix_validate.specs.Submodule.{is_separator};
 ghost use Rattle.gix_validate.specs.Windows.{is_illegal_byte};
-ghost use Rattle.git_names.specs.Offsets.{at_or, component_offset_of, end_start, has_parent_at};
+ghost use Rattle.git_names.specs.Offsets.{at_or, colon_of_prefix, component_offset_of, end_start};
+ghost use Rattle.git_names.specs.Offsets.{has_parent_at};
 ghost use Rattle.git_names.specs.Offsets.{is_dot_or_space, lock_start, part_at, path_offset_of};
 ghost use Rattle.git_names.specs.Offsets.{reference_offset_of, separates, submodule_offset_of};
 ghost use Rattle.git_names.specs.Offsets.{parent_at, tag_offset_of};
@@ -19,8 +20,10 @@ use bstr::BStr;
 use gix_validate::path::{ComponentError, ComponentOptions};
 use gix_validate::{reference, submodule, tag};
 
+#[tactic(auto, using(crate::proofs::OffsetLemmas::reference_within))]
 pub(crate) fn reference_offset(error: &reference::NameError, name: &[u8]) -> usize
-    ensures { result ≡ reference_offset_of name.now error.now }
+    ensures offset { result ≡ reference_offset_of name.now error.now }
+    ensures within { result ≤ length name.now }
 {
     match error {
         reference::NameError::Reserved { .. } => 0,
@@ -39,8 +42,10 @@ pub(crate) fn reference_offset(error: &reference::NameError, name: &[u8]) -> usi
     }
 }
 
+#[tactic(auto, using(crate::proofs::OffsetLemmas::reference_within))]
 pub(crate) fn tag_name_offset(error: &tag::NameError, name: &[u8]) -> usize
-    ensures { result ≡ reference_offset_of name.now (carried error.now) }
+    ensures offset { result ≡ reference_offset_of name.now (carried error.now) }
+    ensures within { result ≤ length name.now }
 {
     match error {
         tag::NameError::LockFileSuffix => lock_start(name, tag_offset(name)),
@@ -58,8 +63,10 @@ pub(crate) fn tag_name_offset(error: &tag::NameError, name: &[u8]) -> usize
 }
 
 /// Where the fault of a tag name is.
+#[tactic(auto, using(crate::proofs::OffsetLemmas::tag_within))]
 fn tag_offset(name: &[u8]) -> usize
-    ensures { result ≡ tag_offset_of name.now }
+    ensures offset { result ≡ tag_offset_of name.now }
+    ensures within { result ≤ length name.now }
 {
     match tag::fault_offset(BStr::new(name)) {
         None => 0,
@@ -69,7 +76,8 @@ fn tag_offset(name: &[u8]) -> usize
 
 /// Where the `.lock` begins whose fault is at this offset.
 fn lock_start(name: &[u8], offset: usize) -> usize
-    ensures { result ≡ lock_start name.now offset }
+    ensures start { result ≡ lock_start name.now offset }
+    ensures within { result ≤ offset }
 {
     if offset < name.len() && name[offset] == b'/' {
         offset.saturating_sub(5)
@@ -95,17 +103,18 @@ fn at_or(other: usize, offset: Option<usize>) -> usize
     }
 }
 
+#[tactic(auto, using(crate::proofs::OffsetLemmas::component_within))]
 pub(crate) fn component_offset(
     error: &ComponentError,
     name: &[u8],
     options: ComponentOptions,
 ) -> usize
     ensures offset { result ≡ component_offset_of options name.now error.now }
-    ensures within { result ≤ length name.now + 1 }
+    ensures within { result ≤ length name.now }
 {
     match error {
         ComponentError::PathSeparator => at_or(0, first_separator(name, options)),
-        ComponentError::WindowsPathPrefix => 1 + at_or(0, first_colon(after_first(name))),
+        ComponentError::WindowsPathPrefix => colon_of_prefix(name),
         ComponentError::WindowsIllegalCharacter => at_or(end_start(name), first_illegal(name)),
         ComponentError::Empty => 0,
         ComponentError::WindowsReservedName => 0,
@@ -129,10 +138,14 @@ fn first_colon(name: &[u8]) -> Option<usize>
     name.iter().position(|byte| *byte == b':')
 }
 
-fn after_first(name: &[u8]) -> &[u8]
-    ensures { result.now ≡ drop 1 name.now }
+/// The first colon after the first byte.
+fn colon_of_prefix(name: &[u8]) -> usize
+    ensures { result ≡ colon_of_prefix name.now }
 {
-    if name.is_empty() { name } else { &name[1..] }
+    match name {
+        [] => 0,
+        [_, rest @ ..] => 1 + at_or(0, first_colon(rest)),
+    }
 }
 
 fn first_illegal(name: &[u8]) -> Option<usize>
@@ -159,9 +172,11 @@ fn end_start(name: &[u8]) -> usize
     end
 }
 
+#[tactic(auto, using(crate::proofs::OffsetLemmas::path_offset_within))]
 pub(crate) fn path_offset(error: &PathError, name: &[u8], options: ComponentOptions) -> usize
     requires { offset_of error.now ≤ length name.now }
-    ensures { result ≡ path_offset_of options name.now error.now }
+    ensures offset { result ≡ path_offset_of options name.now error.now }
+    ensures within { result ≤ length name.now }
 {
     match error {
         PathError::EmptyPart { offset } => *offset,
@@ -193,8 +208,10 @@ fn next_slash(name: &[u8]) -> Option<usize>
     name.iter().position(|byte| *byte == b'/')
 }
 
+#[tactic(auto, using(crate::proofs::OffsetLemmas::submodule_within))]
 pub(crate) fn submodule_offset(error: &submodule::NameError, name: &[u8]) -> usize
-    ensures { result ≡ submodule_offset_of name.now error.now }
+    ensures offset { result ≡ submodule_offset_of name.now error.now }
+    ensures within { result ≤ length name.now }
 {
     match error {
         submodule::NameError::Empty => 0,
@@ -205,7 +222,8 @@ pub(crate) fn submodule_offset(error: &submodule::NameError, name: &[u8]) -> usi
 /// The first part `..`.
 #[tactic(auto, using(crate::proofs::OffsetLemmas::parents))]
 fn first_parent(name: &[u8]) -> usize
-    ensures { result ≡ at_or 0 (at_first_offset (parent_at name.now) (length name.now)) }
+    ensures offset { result ≡ at_or 0 (at_first_offset (parent_at name.now) (length name.now)) }
+    ensures within { result ≤ length name.now }
 {
     for offset in 0..name.len() {
         if has_parent_at(name, offset) {

@@ -1,6 +1,6 @@
 # shellcheck shell=bash disable=SC2154
-# For bindings/build, and release/aarch64, release/portable and release/wasm, which set `target`. The
-# libraries below gix_validate_c have to be built.
+# For bindings/build, and release/aarch64, release/portable and release/wasm, which set `target`.
+# The libraries below gix_validate_c have to be built.
 
 cd -- "$(dirname -- "${BASH_SOURCE[0]}")/../crates/gix_validate_c" || exit 1
 kit=$(dirname -- "$(rt doc)")

@@ -318,9 +318,11 @@ class Function:
             self.push_constant(kind, int(words[0]))
         elif name in UNARY:
             UNARY[name](self, kind, self.stack.pop())
-        else:
+        elif len(self.stack) > 1:
             right, left = self.stack.pop(), self.stack.pop()
             self.compute_of_two(kind, name, left, right)
+        else:
+            raise Unknown(f"the instruction {name}")
 
     def compute_of_two(self, kind, name, left, right):
         language = self.language
@@ -339,7 +341,7 @@ class Function:
             ]
             self.push_condition(f" {COMPARISONS[compared]} ".join(texts), left, right)
         else:
-            raise Unknown(f"the instruction {name} of two numbers")
+            raise Unknown(f"the instruction {name}")
 
     def shifted(self, kind, name, value, by):
         mask = value.bits - 1

@@ -121,8 +121,8 @@ class Reader:
         (self.room / "probe/Cargo.toml").write_text(PROBE)
 
     def make_repositories(self):
-        """A repository; one with a name that Windows forbids, which gets another owner if
-        it can; and a clone of the first with a commit that isn't pushed."""
+        """A repository; one with a name that Windows forbids; and a clone of the first
+        with a commit that isn't pushed."""
         (self.room / "GLOBAL").write_text(SETTINGS)
         for name in ["project", "windows"]:
             self.run("git", "init", "-q", "--bare", f"srv/git/{name}.git")
@@ -137,8 +137,6 @@ class Reader:
         self.run("git", "fetch", "-q", "origin", cwd="clone")
         for file in (self.room / "new").iterdir():
             self.run("cp", file, "clone")
-        if os.geteuid() == 0:
-            self.run("chown", "-R", "65534", "srv/git/windows.git")
 
     def commit(self, name):
         (self.room / "clone" / name).write_text("\n")

@@ -52,7 +52,7 @@ PARTS = [
     "build",
     "dist --record",
     "dist --built",
-    "dev try-edits all",
+    "dev try-edits --after-gate all",
     "pytest -n {jobs} --dist loadgroup tests --ignore",
     "dist --keep",
 ]
@@ -183,7 +183,7 @@ def test_a_check_without_all_edits_tries_those_whose_turn_it_is_and_keeps_no_rel
     copy,
 ):
     assert copy.run(CI="true")[0] == 0
-    assert "dev try-edits --turns" in copy.calls
+    assert "dev try-edits --after-gate --turns" in copy.calls
     assert not copy.keeps_the_release
     assert not (copy.folder / ".ci/edits-tried").exists()
 

@@ -42,15 +42,16 @@ typedef size_t pass(const struct name *names, size_t count);
     }                                                                          \
     return sum;                                                                \
   }
-#define BOTH(call, ...)                                                        \
-  EACH(our_##call, gix_validate_##call(bytes, len, ##__VA_ARGS__))             \
-  EACH(crates_##call, crate_##call(bytes, len, ##__VA_ARGS__))
-BOTH(tag)
-BOTH(full)
-BOTH(submodule)
-BOTH(component, 7)
+EACH(our_tag, gix_validate_tag_name(bytes, len))
+EACH(crates_tag, crate_tag(bytes, len))
+EACH(our_full, gix_validate_ref(bytes, len))
+EACH(crates_full, crate_full(bytes, len))
+EACH(our_submodule, gix_validate_submodule(bytes, len, 0))
+EACH(crates_submodule, crate_submodule(bytes, len))
+EACH(our_component, gix_validate_component(bytes, len, 7))
+EACH(crates_component, crate_component(bytes, len, 7))
 EACH(our_length, len)
-EACH(our_short_branch, gix_validate_short_branch(bytes, len))
+EACH(our_short_branch, gix_validate_branch(bytes, len))
 EACH(our_path, gix_validate_path(bytes, len, 7))
 EACH(our_sanitize, gix_validate_sanitize(bytes, len, our_buffer, len + 1))
 EACH(crates_sanitize, crate_sanitize(bytes, len, crate_buffer))
@@ -68,7 +69,10 @@ static uint32_t components(component *of, const uint8_t *path, size_t len) {
   }
   return sum + of(path, len, 7);
 }
-EACH(our_each_component, components(gix_validate_component, bytes, len))
+static uint32_t our_part(const uint8_t *name, size_t len, uint32_t flags) {
+  return gix_validate_component(name, len, flags);
+}
+EACH(our_each_component, components(our_part, bytes, len))
 EACH(crates_each_component, components(crate_component, bytes, len))
 #ifdef CRATE
 #define OF_CRATE(pass) pass

@@ -5,7 +5,7 @@
 // and of paths by a call for each part.
 import {readFileSync} from "node:fs";
 
-import {faultNumbers, faults, isValidFullName, isValidPath, isValidPathComponent, isValidShortBranchName} from "../bindings/js/gix_validate.mjs";
+import {checkAll, checkBranch, checkComponent, checkPath, checkRef, faultNumbers} from "../bindings/js/gix_validate.mjs";
 
 // What JavaScript's Git clients do. (It refuses `a./b`, which Git accepts, and
 // accepts `main`.)
@@ -15,14 +15,14 @@ const [buffer, ...others] = process.argv.slice(2).map((it) => readFileSync(it));
 const [names, branches, paths] = [buffer, ...others].map(
     (it) => it.toString("latin1").trimEnd().split("\n"));
 const passes = [
-  () => names.every((name) => isValidFullName(name)),
-  () => faults(names, "full").every((fault) => fault === null),
-  () => faultNumbers(buffer, "full").every((number) => number === 0),
+  () => names.every((name) => checkRef(name) === null),
+  () => checkAll(names, "ref").every((found) => found === null),
+  () => faultNumbers(buffer, "ref").every((number) => number === 0),
   () => names.every((name) => !BAD.test(name)),
-  () => branches.every((name) => isValidShortBranchName(name)),
-  () => paths.every((path) => isValidPath(path)),
+  () => branches.every((name) => checkBranch(name) === null),
+  () => paths.every((path) => checkPath(path) === null),
   () => paths.every(
-      (path) => path.split("/").every((part) => isValidPathComponent(part))),
+      (path) => path.split("/").every((part) => checkComponent(part) === null)),
 ];
 const best = passes.map(() => Infinity);
 for (let round = 0; round < 300; round++) {

@@ -12,7 +12,7 @@ import (
 	"strings"
 	"syscall"
 
-	"dihareku/gitnames"
+	"dihareku.example/gitnames"
 )
 
 func must(err error) {

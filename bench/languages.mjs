@@ -2,17 +2,17 @@
 // JavaScript.
 import {readFileSync} from "node:fs";
 
-import {isValidPath, isValidPathComponent, isValidShortBranchName} from "../bindings/js/gix_validate.mjs";
+import {checkBranch, checkComponent, checkPath} from "../bindings/js/gix_validate.mjs";
 
 const [times, ...files] = process.argv.slice(2);
 const [branches, paths] =
     files.map((it) => readFileSync(it, "latin1").trimEnd().split("\n"));
 const passes = [
   () => branches.every((branch) => branch.length > 0),
-  () => branches.every((branch) => isValidShortBranchName(branch)),
-  () => paths.every((path) => isValidPath(path)),
+  () => branches.every((branch) => checkBranch(branch) === null),
+  () => paths.every((path) => checkPath(path) === null),
   () => paths.every(
-      (path) => path.split("/").every((part) => isValidPathComponent(part))),
+      (path) => path.split("/").every((part) => checkComponent(part) === null)),
 ];
 for (const mark of [() => {}, () => process.kill(process.pid, 0)]) {
   for (const pass of passes) {

@@ -1,6 +1,8 @@
-"""Packs a release for x86-64 Linux: the archive, four Debian packages, and SHA256SUMS.
+"""Packs a release for x86-64 Linux: the archive, four Debian packages, the sources, and
+SHA256SUMS.
 
     release/dist OUT                 proves and builds all from nothing, and packs it
+    release/dist --sign KEY OUT      signs SHA256SUMS of a release with this key of gpg
     release/dist --empty             removes all that was built in this clone
     release/dist --record SUMS       writes the sums of what was built
     release/dist --built SUMS OUT    packs what was built, if it has these sums
@@ -8,8 +10,8 @@
 
 The last four are the steps of the full check (.ci/run). So what is published is what the
 full check has tested, of what it has built itself: it empties, builds and records, packs,
-tests what it has packed, and keeps it only if all of its parts passed. What is packed has
-to be committed. docs/RELEASES.md says how a release is made.
+tests what it has packed, and keeps it only if all of its parts passed, with a record of what
+they printed. What is packed has to be committed. docs/RELEASES.md says how a release is made.
 """
 
 import argparse
@@ -24,11 +26,14 @@ import tempfile
 from datetime import datetime, timezone
 from pathlib import Path
 
-from release import commonjs, references
+from release import completion, javascript, manual, references
 from scripts.sources import Wrong
 
 ROOT = Path(__file__).resolve().parent.parent
 KEPT = ROOT / "out/release"
+# What the parts of the full check before --keep have printed.
+LOGS = ROOT / "out/check"
+PARTS = ["setup", "texts", "gate", "early", "build", "record", "dist", "tests", "edits"]
 # What the hook and the scan run.
 OF_THE_HOOK = "check_push"
 PROGRAMS = ["check_names", OF_THE_HOOK, "git_check_names"]
@@ -44,7 +49,7 @@ GO_BLOCKS = [
 PORTABLE = {
     "bindings/c/gix_validate.c": "c",
     "bindings/go/portable.go": "go/gitnames",
-    "bindings/rust/native/portable.rs": "rust/gix-validate/native",
+    "bindings/rust/native/portable.rs": "rust/git-names/native",
 }
 # All that is built and then packed, or tested in place of what is packed.
 BUILT = [
@@ -139,6 +144,7 @@ class Names:
         self.python = version.replace("-dev", ".dev0")
         self.major = version.partition(".")[0]
         self.release = f"gix-validate-{version}-x86_64-linux"
+        self.sources = f"dihareku-{version}-source.tar.gz"
         self.sdist = f"gix_validate-{self.python}"
         self.library = "libgix_validate_c.so"
         libraries = [f"libgix-validate-{it}" for it in (f"c{self.major}", "dev")]
@@ -162,15 +168,15 @@ class Release:
         # Python's tools and dpkg-deb read the time of all files.
         os.environ |= {"LC_ALL": "C", "TZ": "UTC", "SOURCE_DATE_EPOCH": time}
         self.compiler = os.environ.get("CC", "cc")
-        self.objects = self.tree / "share/gix-validate/objects"
+        self.objects = self.tree / "objects"
         self.hook = self.tree / "libexec/gix-validate"
 
     def make(self, out):
         self.copy_what_is_committed()
         self.link_programs()
         self.build_hook(self.make_hook_folder())
-        self.copy_completion()
-        self.write_manuals()
+        completion.write(self.tree)
+        manual.write(self.tree, self.names.version, self.day)
         self.make_libraries()
         self.copy_go()
         self.copy_portable()
@@ -273,20 +279,6 @@ class Release:
         command = self.tree / "bin/git-scan-names"
         command.symlink_to("../libexec/gix-validate/scan")
 
-    def copy_completion(self):
-        """(bash looks for a file of the command's name)"""
-        folder = self.tree / "share/bash-completion/completions"
-        folder.mkdir(parents=True)
-        shutil.copyfile(ROOT / "release/completion", folder / "git-scan-names")
-        for program in PROGRAMS:
-            (folder / command_of(program)).hardlink_to(folder / "git-scan-names")
-
-    def write_manuals(self):
-        for section in ["man1", "man3"]:
-            (self.tree / "share/man" / section).mkdir(parents=True)
-        words = [self.tree, self.names.version, str(self.day)]
-        run(sys.executable, "release/manual.py", *words)
-
     def make_libraries(self):
         """Copies WebAssembly and the static library, and makes the shared object of it,
         which needs no library: the process has memcpy, memmove and memset. (LLVM code
@@ -295,9 +287,7 @@ class Release:
         lib, names = self.tree / "lib", self.names
         self.copy_built(WASM, lib / "gix_validate.wasm")
         self.copy_built(ARCHIVE, lib / "libgix_validate_c.a")
-        header = (ROOT / "bindings/c/gix_validate.h").read_text()
-        functions = re.findall(r"(?m)^[a-z0-9_]* (gix_validate_[a-z_]*)\(", header)
-        exported = " ".join(f"{it};" for it in functions)
+        exported = " ".join(f"{it};" for it in exports_of(lib / "libgix_validate_c.a"))
         version = f"GIX_VALIDATE_{names.major} {{ global: {exported} local: *; }};\n"
         (self.room / "map").write_text(version)
         soname = f"{names.library}.{names.major}"
@@ -322,11 +312,12 @@ class Release:
 
     def pack_python(self):
         """Packs the module as a wheel, and as a source archive, which has the blocks of
-        code in place of the library. The Rust crate has these blocks, too."""
+        code in place of the library. C and the Rust crate have these blocks, too."""
         wheel, sdist = self.room / "wheel", self.room / "sdist"
         for block in BLOCKS:
             name = Path(block).name
-            self.copy_built(block, self.tree / "rust/gix-validate/native" / name)
+            for folder in ["c", "rust/git-names/native"]:
+                self.copy_built(block, self.tree / folder / name)
             self.copy_built(block, sdist / name)
         info = (wheel / "info").rename(wheel / f"{self.names.sdist}.dist-info")
         package = wheel / "gix_validate"
@@ -353,7 +344,7 @@ class Release:
         """Packs the npm package, in the layout of `npm pack`."""
         package = self.room / "package"
         self.copy_built(JAVASCRIPT, package / Path(JAVASCRIPT).name)
-        commonjs.write(package)
+        javascript.write(package)
         (self.tree / "javascript").mkdir()
         name = f"gix-validate-{self.names.version}.tgz"
         self.pack("package", self.tree / "javascript" / name)
@@ -408,13 +399,24 @@ class Release:
         release = self.tree.rename(self.room / self.names.release)
         packed = self.room / "packed"
         packed.mkdir()
-        files = [f"{release.name}.tar.gz", *self.names.packages]
+        files = [f"{release.name}.tar.gz", self.names.sources, *self.names.packages]
         self.pack(release.name, packed / files[0])
+        self.pack_sources(packed / self.names.sources)
         run("release/deb", release, self.names.debian, packed)
         lines = [f"{sum_of((packed / it).read_bytes())}  {it}\n" for it in files]
         (packed / "SHA256SUMS").write_text("".join(lines))
         move_files(packed, out)
         print("".join(lines), end="")
+
+    def pack_sources(self, archive):
+        """Packs what is committed. (`git get-tar-commit-id` finds the commit in it.)"""
+        folder = self.names.sources.removesuffix("-source.tar.gz")
+        words = ["-c", "tar.umask=022", "archive", f"--prefix={folder}/"]
+        words += ["--format=tar", "-o", self.room / "sources", "HEAD"]
+        run("git", *words, cwd=ROOT)
+        with open(archive, "wb") as packed:
+            gzip = ["gzip", "-9nc", self.room / "sources"]
+            subprocess.run(gzip, stdout=packed, check=True)
 
     def pack(self, folder, archive):
         """Packs a folder of the room: the same files always give the same archive."""
@@ -424,6 +426,12 @@ class Release:
             *["--owner=0", "--group=0", "--numeric-owner", "--format=ustar"],
             *["--use-compress-program=gzip -9n", "-cf", archive, folder],
         )
+
+
+def exports_of(library):
+    """The functions of a library, which its code names."""
+    symbols = output_of("nm", "--extern-only", "--defined-only", library)
+    return sorted({*re.findall(r"(?m) T (gix_validate_\w+)$", symbols)})
 
 
 def command_of(program):
@@ -469,18 +477,43 @@ def keep(sums, out):
             continue
         if sum_of(path.read_bytes()) != sum:
             raise Wrong(f"{file} is not what was built and packed")
-    run("sha256sum", "--quiet", "--strict", "--check", "SHA256SUMS", cwd=out)
-    [archive] = out.glob("*.tar.gz")
+    check_sums(out)
+    [archive] = out.glob("gix-validate-*.tar.gz")
     with tarfile.open(archive) as opened:
         name = archive.name.removesuffix(".tar.gz")
         manifest = opened.extractfile(f"{name}/MANIFEST").read().decode()
     commit = commit_without_changes()
     if f"\ncommit:     {commit}\n" not in manifest or IN_THE_CHECK not in manifest:
         raise Wrong(f"{archive} was not packed of {commit} by the full check")
+    add_the_record(out)
     if KEPT.exists():
         shutil.rmtree(KEPT)
     move_files(out, KEPT)
     print(f"{KEPT.relative_to(ROOT)} has the release")
+
+
+def check_sums(out):
+    run("sha256sum", "--quiet", "--strict", "--check", "SHA256SUMS", cwd=out)
+
+
+def add_the_record(out):
+    """Adds what the parts of the full check have printed. (It is in no archive: those are the
+    same whoever builds them, and the record has times.)"""
+    version = (ROOT / "VERSION").read_text().strip()
+    file = out / f"gix-validate-{version}-check.txt"
+    logs = ((LOGS / f"{it}.txt").read_text("utf-8", "replace") for it in PARTS)
+    texts = (f"== {part}\n{text}\n" for part, text in zip(PARTS, logs))
+    file.write_text("".join(texts), "utf-8")
+    with open(out / "SHA256SUMS", "a") as sums:
+        sums.write(f"{sum_of(file.read_bytes())}  {file.name}\n")
+
+
+def sign(key, out):
+    """Signs the sums of a release, if its files have them."""
+    check_sums(out)
+    words = ["--batch", "--yes", "--local-user", key, "--armor", "--detach-sign"]
+    run("gpg", *words, "SHA256SUMS", cwd=out)
+    print(f"{out / 'SHA256SUMS.asc'} has the signature")
 
 
 def main(arguments=None):
@@ -488,10 +521,12 @@ def main(arguments=None):
         prog="release/dist",
         description=__doc__,
         formatter_class=argparse.RawDescriptionHelpFormatter,
-        usage="release/dist [--empty | --record SUMS | [--built SUMS | --keep SUMS] OUT]",
+        usage="release/dist [--empty | --record SUMS | "
+        "[--built SUMS | --keep SUMS | --sign KEY] OUT]",
     )
     step = parser.add_mutually_exclusive_group()
     step.add_argument("--empty", action="store_true", help=argparse.SUPPRESS)
+    step.add_argument("--sign", metavar="KEY", help=argparse.SUPPRESS)
     for name in ["record", "built", "keep"]:
         step.add_argument(f"--{name}", type=Path, help=argparse.SUPPRESS)
     parser.add_argument("out", nargs="?", type=Path, help=argparse.SUPPRESS)
@@ -507,6 +542,8 @@ def main(arguments=None):
             pack(given.built, given.out, IN_THE_CHECK)
         elif given.keep:
             keep(given.keep, given.out)
+        elif given.sign:
+            sign(given.sign, given.out)
         else:
             pack_anew(given.out)
     except (Wrong, OSError) as error:

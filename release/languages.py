@@ -337,11 +337,13 @@ class Go(C):
         for at, (_, name, _) in enumerate(functions):
             yield f"\t{at_name(name)}{' = iota' if at == 0 else ''}"
         yield ")\n\n// call calls a function: its arguments and its result are numbers."
-        yield "func (s *state) call(at uintptr, a, b, c, d, e uint64) uint64 {\n\tm := s.m\n\tswitch at {"
+        yield "func (s *state) call(at uintptr, x [7]uint64) uint64 {\n\tm := s.m\n\tswitch at {"
         for _, name, params in functions:
             given = [
-                it if word.startswith("*") or kind == "size_t" else f"uint32({it})"
-                for (kind, word), it in zip(params, "abcde")
+                f"x[{at}]"
+                if word.startswith("*") or kind == "size_t"
+                else f"uint32(x[{at}])"
+                for at, (kind, word) in enumerate(params)
             ]
             called = f"{module.name_of(name)}({', '.join(['s', 'm', *given])})"
             yield f"\tcase {at_name(name)}:\n\t\treturn uint64({called})"

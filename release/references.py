@@ -1,8 +1,8 @@
 """The pages of the site that tools make: the manuals, and the functions of each language.
 
-mandoc makes those of the programs and of C from the manuals, cargo doc those of Rust, go
-doc that of Go, mkdocstrings that of Python from a list of the names; JavaScript's is its
-declarations. The manuals and the code of the Rust crate are built, so they are those of a
+mandoc makes those of the programs, the hook and C from the manuals, cargo doc those of Rust, go
+doc that of Go, mkdocstrings that of Python from a list of the names; those of C++ and
+JavaScript are declarations. The manuals and the code of the Rust crate are built, so they are those of a
 release, and only its site has these pages: release/dist names their folder to MkDocs in
 SITE_REFERENCES, and release/site_hook.py adds them. All tools are Debian's.
 """
@@ -23,17 +23,13 @@ PYTHON = ROOT / "bindings/python/gix_validate.py"
 # The pages of languages, as the navigation names them.
 LANGUAGES = {
     "C": "c.md",
-    "Rust": "rust/gix_validate/index.html",
+    "C++": "cpp.md",
+    "Rust": "rust/git_names/index.html",
     "Python": "python.md",
     "JavaScript": "javascript.md",
     "Go": "go.md",
 }
 # Debian's crates, of which bstr is an older one, and gix-error is none.
-CRATES = """[source.crates-io]
-replace-with = "debian"
-[source.debian]
-directory = "/usr/share/cargo/registry"
-"""
 # Fonts, which readers have, their licences, and what cargo has left.
 OF_RUSTDOC = ("*.woff2", "*LICENSE*", "COPYRIGHT.txt", ".lock", ".stamp")
 FONT = r'@font-face\{[^}]*\}|<link rel="preload" as="font"[^>]*>'
@@ -73,16 +69,10 @@ def functions_of_python():
 
 
 def write_rust(crate, to):
-    """Documents the Rust crate of a release, by the crates that Debian has."""
+    """Documents the Rust crate of a release."""
     with tempfile.TemporaryDirectory() as room:
         copy = Path(room, "crate")
         shutil.copytree(crate, copy)
-        manifest = copy / "Cargo.toml"
-        text = re.sub(r'(?m)^(bstr = .*)"1"', r'\1">=0.2"', manifest.read_text())
-        text = re.sub(r'(?m)^gix-error = .*\n|"gix-error"', "", text)
-        manifest.write_text(text)
-        (copy / ".cargo").mkdir()
-        (copy / ".cargo/config.toml").write_text(CRATES)
         run("cargo", "doc", "--quiet", "--offline", "--no-deps", cwd=copy)
         made = copy / "target/doc"
         shutil.copytree(made, to, ignore=shutil.ignore_patterns(*OF_RUSTDOC))
@@ -97,18 +87,20 @@ def write(release, folder):
     (place / PROGRAMS).mkdir(parents=True)
     manuals = release / "share/man"
     texts = {"c.md": ("Functions in C", manual(manuals / "man3/gix_validate.3"))}
-    for file in sorted(manuals.glob("man1/*.1")):
+    for file in sorted(manuals.glob("man[17]/*")):
         texts[f"{PROGRAMS}/{file.stem}.md"] = file.stem, manual(file)
     texts["python.md"] = "Functions in Python", functions_of_python()
     declared = read(ROOT / "bindings/js/gix_validate.d.ts")
     declared = re.sub("// clang-format .*\n", "", declared)
     code = f"```typescript\n{declared}```\n"
     texts["javascript.md"] = "Declarations of JavaScript", code
+    header = read(ROOT / "bindings/cpp/gix_validate.hpp")
+    texts["cpp.md"] = "Declarations of C++", f"```cpp\n{header}```\n"
     package = run("go", "doc", "-all", cwd=ROOT / "bindings/go")
     texts["go.md"] = "Functions in Go", f"```text\n{package}```\n"
     for name, (title, text) in texts.items():
         (place / name).write_text(f"# {title}\n\n{text}", "utf-8")
-    write_rust(release / "rust/gix-validate", place / "rust")
+    write_rust(release / "rust/git-names", place / "rust")
 
 
 def navigation(folder):

@@ -8,7 +8,13 @@ import argparse
 import sys
 from pathlib import Path
 
-from scripts.checks import check_quotes, check_tests, check_unsafe, try_edits
+from scripts.checks import (
+    check_quotes,
+    check_tests,
+    check_unsafe,
+    check_words,
+    try_edits,
+)
 from scripts.deriving import (
     record_comparison,
     record_headers,
@@ -82,7 +88,7 @@ def parser():
             formatter_class=argparse.RawDescriptionHelpFormatter,
         )
 
-    every = "Runs these commands but record-comparison and try-edits."
+    every = "Runs these commands but check-words, record-comparison and try-edits."
     docs = {name: it.__doc__ for name, it in {**DERIVING, **OF_BUILT}.items()}
     for name, doc in {**docs, "all": every}.items():
         command = add(name, doc)
@@ -90,6 +96,7 @@ def parser():
         command.add_argument(
             "--check", action="store_true", help="write nothing, fail if a file differs"
         )
+    add("check-words", check_words.__doc__).set_defaults(run=check_words.run)
     edits = add("try-edits", try_edits.__doc__)
     edits.set_defaults(run=try_edits.run)
     try_edits.add_arguments(edits)

@@ -20,6 +20,8 @@ def crate(request, monkeypatch):
             request.node.add_marker("may_be_skipped")
             pytest.skip(f"needs the crates of gitoxide in {CRATES}")
         subprocess.check_call(["bench/crate/build", CRATES])
+    if not Path(record_comparison.JGIT).exists():
+        pytest.skip("needs JGit (Debian: libjgit-java)")
 
 
 def test_each_program_says_of_each_name_what_the_page_says(crate):
@@ -27,6 +29,6 @@ def test_each_program_says_of_each_name_what_the_page_says(crate):
     found = {name: part for _, name, *part in record_comparison.derived()}
     # (They may say the same in another version.)
     del found["<!-- versions -->\n\n"]
-    assert len(found) == 3
+    assert len(found) == 4
     for name, (end, table) in found.items():
         assert f"{name}{table}{end}" in page

@@ -1,12 +1,17 @@
 """Only what one run has built, and has not changed since, gets into a release."""
 
+import gzip
+import inspect
 import io
+import re
+import shutil
 import subprocess
 import tarfile
 
 import pytest
 
 from release import dist
+from scripts.checks import full_check
 
 
 def git(folder, *words):
@@ -28,6 +33,10 @@ def clone(tmp_path, monkeypatch):
     git(root, "commit", "-q", "-m", "first")
     monkeypatch.setattr(dist, "ROOT", root)
     monkeypatch.setattr(dist, "KEPT", root / "out/release")
+    monkeypatch.setattr(dist, "LOGS", root / "out/check")
+    (root / "out/check").mkdir(parents=True)
+    for part in dist.PARTS:
+        (root / f"out/check/{part}.txt").write_text(f"{part} passed\n")
     return root
 
 
@@ -43,7 +52,6 @@ def test_emptying_removes_all_that_was_built_but_not_what_was_fetched(clone):
     (clone / "crates/low/out/left_over").touch()
     (clone / "bindings/out/gitoxide").mkdir()
     (clone / "out/release").mkdir(parents=True)
-    (clone / "out/check").mkdir()
     assert dist.main(["--empty"]) == 0
     assert [it for it in dist.BUILT if (clone / it).exists()] == []
     assert not (clone / "crates/low/out").exists()
@@ -150,7 +158,80 @@ def test_what_was_packed_and_tested_is_kept(clone, sums, packed):
         file.unlink()
     assert dist.main(["--keep", str(sums), str(packed.folder)]) == 0
     kept = sorted(it.name for it in (clone / "out/release").iterdir())
-    assert kept == ["SHA256SUMS", packed.archive.name]
+    assert kept == ["SHA256SUMS", "gix-validate-1.2.3-check.txt", packed.archive.name]
+
+
+def test_the_record_of_the_full_check_is_kept_and_has_a_sum(clone, sums, packed):
+    (clone / "out/check/of_another_run.txt").touch()
+    assert dist.main(["--keep", str(sums), str(packed.folder)]) == 0
+    record = clone / "out/release/gix-validate-1.2.3-check.txt"
+    parts = [f"== {part}\n{part} passed\n\n" for part in dist.PARTS]
+    assert record.read_text() == "".join(parts)
+    checked = ["sha256sum", "--check", "--quiet", "--strict", "SHA256SUMS"]
+    assert subprocess.run(checked, cwd=record.parent).returncode == 0
+    assert f"  {record.name}\n" in (record.parent / "SHA256SUMS").read_text()
+
+
+def test_the_record_has_each_part_of_the_full_check():
+    source = inspect.getsource(full_check.check_all)
+    parts = re.findall(r'\b(?:run|start)\("(\w+)"', source)
+    assert sorted(parts) == sorted(dist.PARTS)
+
+
+def test_the_sources_are_packed_with_their_commit_and_always_alike(
+    clone, sums, tmp_path
+):
+    release = dist.Release(tmp_path, sums, dist.ALONE)
+    for name in ["one.tar.gz", "other.tar.gz"]:
+        release.pack_sources(tmp_path / name)
+    one = (tmp_path / "one.tar.gz").read_bytes()
+    assert one == (tmp_path / "other.tar.gz").read_bytes()
+    words = ["git", "get-tar-commit-id"]
+    commit = subprocess.check_output(words, input=gzip.decompress(one), text=False)
+    assert commit.decode().strip() == release.commit
+    with tarfile.open(tmp_path / "one.tar.gz") as archive:
+        names = archive.getnames()
+    assert "dihareku-1.2.3/VERSION" in names
+    assert {it.split("/")[0] for it in names} == {"dihareku-1.2.3"}
+
+
+@pytest.fixture
+def key(tmp_path, monkeypatch):
+    """A key of gpg that is thrown away."""
+    if not shutil.which("gpg"):
+        pytest.skip("needs gpg")
+    home = tmp_path / "gpg"
+    home.mkdir(mode=0o700)
+    monkeypatch.setenv("GNUPGHOME", str(home))
+    made = ["--batch", "--quiet", "--passphrase", "", "--quick-gen-key", "a@example"]
+    subprocess.run(["gpg", *made], check=True)
+    yield "a@example"
+    subprocess.run(["gpgconf", "--kill", "all"], check=True)
+
+
+def is_verified(folder):
+    words = ["gpg", "--batch", "--quiet", "--verify", "SHA256SUMS.asc", "SHA256SUMS"]
+    return subprocess.run(words, cwd=folder).returncode == 0
+
+
+def test_the_sums_of_a_release_are_signed_and_no_other_sums_are_verified(packed, key):
+    assert dist.main(["--sign", key, str(packed.folder)]) == 0
+    assert is_verified(packed.folder)
+    with open(packed.folder / "SHA256SUMS", "a") as sums:
+        sums.write(f"{64 * '0'}  another\n")
+    assert not is_verified(packed.folder)
+
+
+def test_sums_that_the_files_do_not_have_are_not_signed(clone, packed, key):
+    change_the_archive(clone, packed)
+    assert dist.main(["--sign", key, str(packed.folder)]) == 1
+    assert not (packed.folder / "SHA256SUMS.asc").exists()
+
+
+def test_nothing_is_signed_without_the_key(packed, key, capsys):
+    assert dist.main(["--sign", "b@example", str(packed.folder)]) == 1
+    assert "gpg" in capsys.readouterr().err
+    assert not (packed.folder / "SHA256SUMS.asc").exists()
 
 
 def change_the_archive(clone, packed):

@@ -36,8 +36,8 @@ def test_python_has_its_functions_before_its_classes():
     names = re.findall(
         "(?m)^::: gix_validate[.](.*)$", references.functions_of_python()
     )
-    assert names[0] == "tag_name"
-    assert names[-3:] == ["Fault", "InvalidName", "Kind"]
+    assert names[0] == "check"
+    assert names[-4:] == ["Fault", "InvalidName", "Kind", "Protect"]
 
 
 def test_the_navigation_has_each_program_and_language(tmp_path):
@@ -55,7 +55,8 @@ def test_the_navigation_has_each_program_and_language(tmp_path):
         {
             "Functions by language": [
                 {"C": "reference/c.md"},
-                {"Rust": "reference/rust/gix_validate/index.html"},
+                {"C++": "reference/cpp.md"},
+                {"Rust": "reference/rust/git_names/index.html"},
                 {"Python": "reference/python.md"},
                 {"JavaScript": "reference/javascript.md"},
                 {"Go": "reference/go.md"},

@@ -1,5 +1,7 @@
 """The site that MkDocs builds from the pages (mkdocs.yml)."""
 
+import html
+import json
 import re
 import subprocess
 from pathlib import Path
@@ -78,3 +80,13 @@ def test_the_search_finds_a_page_of_each_folder(site):
     index = (site.path / "search/search_index.json").read_text("utf-8")
     for place in ("docs/RULES.html", "hook/index.html", "bench/index.html"):
         assert f'"location":"{place}"' in index
+
+
+def test_the_search_finds_each_question(site):
+    index = json.loads((site.path / "search/search_index.json").read_text("utf-8"))
+    found = {it["title"] for it in index["docs"] if "docs/FAQ.html" in it["location"]}
+    asked = re.findall("(?m)^### (.*)$", (ROOT / "docs/FAQ.md").read_text("utf-8"))
+    assert len(asked) > 15
+    for it in asked:
+        title = html.escape(it.replace("`", ""), quote=False)
+        assert any(title == re.sub("<.*?>", "", each) for each in found), it

@@ -1,28 +1,27 @@
-/* Says of each argument whether it may be the full name of a reference, and
-   repairs it where it may not. */
+/* Says of each argument whether it may name a branch. Where it may not, says
+   why and where, and suggests another name. */
 #include "gix_validate.h"
 
 #include <stdio.h>
 
 int main(int count, char **arguments) {
-  int refused = 0;
+  int invalid = 0;
   for (int i = 1; i < count; i++) {
-    char *name = arguments[i];
-    size_t length = strlen(name);
-    uint32_t fault = gix_validate_full_str(name);
-    if (fault == GIX_VALIDATE_OK) {
+    const char *name = arguments[i];
+    gix_validate_result result;
+    if (gix_validate_check(GIX_VALIDATE_KIND_BRANCH, name, strlen(name), 0,
+                           &result) == GIX_VALIDATE_OK) {
       printf("%s: ok\n", name);
       continue;
     }
-    uint8_t text[GIX_VALIDATE_TEXT_MAX];
-    size_t text_length = gix_validate_full_text((const uint8_t *)name, length,
-                                                text, sizeof text);
-    printf("%s: %s: %.*s\n", name, gix_validate_fault_name(fault),
-           (int)text_length, (const char *)text);
-    if (gix_validate_sanitize_str(name) > 0) {
-      printf("    a partial name in its place: %s\n", name);
+    printf("%s: %s (%s at byte %zu)\n", name,
+           gix_validate_fault_text(result.fault),
+           gix_validate_fault_name(result.fault), result.offset);
+    char suggested[256];
+    if (gix_validate_suggest_str(name, suggested, sizeof suggested) > 0) {
+      printf("    try %s\n", suggested);
     }
-    refused++;
+    invalid++;
   }
-  return refused == 0 ? 0 : 1;
+  return invalid == 0 ? 0 : 1;
 }

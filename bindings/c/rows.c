@@ -1,10 +1,10 @@
 /*
  * Replays the rows of tests/rows through the functions of gix_validate.h, and
- * checks what no row can say: texts, repairs and numbers into buffers that are
- * too small, large enough and larger; flags with other bits; NULL with length
- * 0; reads and writes past either end of a name, a buffer and an array; the
- * version. Each name and each buffer is a block of its exact size, so that
- * valgrind sees any byte beyond it.
+ * checks what no row can say: texts, repairs, suggestions and numbers into
+ * buffers that are too small, large enough and larger; flags with other bits;
+ * unknown kinds; NULL with length 0; reads and writes past either end of a
+ * name, a buffer and an array; the version. Each name and each buffer is a
+ * block of its exact size, so that valgrind sees any byte beyond it.
  *
  *     rows FILE
  *     rows -
@@ -61,63 +61,76 @@ static bool same(const uint8_t *left, const void *right, size_t length) {
   return memcmp(left, right, length) == 0;
 }
 
-/* The calls by their words in the rows. A component and a path are checked with
-   their flags; the others have none. */
+/* The kinds by their words in the rows. Each has its own functions, for bytes
+   and for a C string; some of them have flags. */
+struct kind {
+  const char *word;
+  uint32_t number;
+  uint32_t (*plain)(const void *, size_t);
+  uint32_t (*plain_str)(const char *);
+  uint32_t (*under)(const void *, size_t, uint32_t);
+  uint32_t (*under_str)(const char *, uint32_t);
+};
+#define PLAIN(word, KIND, function)                                            \
+  { word, GIX_VALIDATE_KIND_##KIND, function, function##_str, NULL, NULL }
+#define UNDER(word, KIND, function)                                            \
+  { word, GIX_VALIDATE_KIND_##KIND, NULL, NULL, function, function##_str }
+
+static const struct kind kinds[] = {
+    PLAIN("branch", BRANCH, gix_validate_branch),
+    PLAIN("branch-ref", BRANCH_REF, gix_validate_branch_ref),
+    PLAIN("tag", TAG, gix_validate_tag),
+    PLAIN("ref", REF, gix_validate_ref),
+    PLAIN("partial", PARTIAL, gix_validate_partial),
+    PLAIN("tag-name", TAG_NAME, gix_validate_tag_name),
+    UNDER("safe-ref", SAFE_REF, gix_validate_safe_ref),
+    UNDER("path", PATH, gix_validate_path),
+    UNDER("symlink-path", SYMLINK_PATH, gix_validate_symlink_path),
+    UNDER("component", COMPONENT, gix_validate_component),
+    UNDER("symlink", SYMLINK, gix_validate_symlink),
+    UNDER("submodule", SUBMODULE, gix_validate_submodule),
+};
+enum { KINDS = sizeof kinds / sizeof *kinds };
+
+/* A kind, and the flags under which it is checked. */
 struct question {
-  const char *call;
-  uint32_t (*code_under)(const uint8_t *, size_t, uint32_t) GIX_VALIDATE_ABI;
-  size_t (*text_under)(const uint8_t *, size_t, uint32_t, uint8_t *,
-                       size_t) GIX_VALIDATE_ABI;
-  uint32_t (*code)(const uint8_t *, size_t) GIX_VALIDATE_ABI;
-  size_t (*text)(const uint8_t *, size_t, uint8_t *, size_t) GIX_VALIDATE_ABI;
-  size_t (*many)(const uint8_t *, size_t, uint8_t, uint8_t *,
-                 size_t) GIX_VALIDATE_ABI;
+  const struct kind *kind;
+  uint32_t flags;
 };
 
-static const struct question questions[] = {
-    {"tag", NULL, NULL, gix_validate_tag, gix_validate_tag_text,
-     gix_validate_tag_many},
-    {"partial", NULL, NULL, gix_validate_partial, gix_validate_partial_text,
-     gix_validate_partial_many},
-    {"full", NULL, NULL, gix_validate_full, gix_validate_full_text,
-     gix_validate_full_many},
-    {"branch", NULL, NULL, gix_validate_branch, gix_validate_branch_text,
-     gix_validate_branch_many},
-    {"short_branch", NULL, NULL, gix_validate_short_branch,
-     gix_validate_short_branch_text, gix_validate_short_branch_many},
-    {"submodule", NULL, NULL, gix_validate_submodule,
-     gix_validate_submodule_text, gix_validate_submodule_many},
-    {"component:", gix_validate_component, gix_validate_component_text, NULL,
-     NULL, NULL},
-    {"path:", gix_validate_path, gix_validate_path_text, NULL, NULL, NULL},
-};
-
-static uint32_t code_of(const struct question *asked, uint32_t flags,
-                        struct bytes name) {
-  return asked->code != NULL
-             ? asked->code(name.start, name.length)
-             : asked->code_under(name.start, name.length, flags);
+static uint32_t code_of(struct question asked, struct bytes name) {
+  return gix_validate_fault_of(asked.kind->number, name.start, name.length,
+                               asked.flags);
 }
 
-static size_t text_of(const struct question *asked, uint32_t flags,
-                      struct bytes name, struct bytes text) {
-  return asked->text != NULL
-             ? asked->text(name.start, name.length, text.start, text.length)
-             : asked->text_under(name.start, name.length, flags, text.start,
-                                 text.length);
+static size_t offset_of(struct question asked, struct bytes name) {
+  return gix_validate_offset_of(asked.kind->number, name.start, name.length,
+                                asked.flags);
+}
+
+static size_t text_of(struct question asked, struct bytes name,
+                      struct bytes text) {
+  return gix_validate_text_of(asked.kind->number, name.start, name.length,
+                              asked.flags, text.start, text.length);
+}
+
+static size_t many_of(struct question asked, struct bytes names, uint8_t end,
+                      uint8_t *faults, size_t size) {
+  return gix_validate_faults_of(asked.kind->number, names.start, names.length,
+                                asked.flags, end, faults, size);
 }
 
 /* Whatever the buffer's size, the call returns the length of the text. It
    writes the same text into each buffer that the text fits, and changes nothing
    else. */
-static void check_texts(const struct question *asked, uint32_t flags,
-                        struct bytes name, const char *wanted) {
+static void check_texts(struct question asked, struct bytes name,
+                        const char *wanted) {
   struct bytes none = {NULL, 0};
-  size_t length = text_of(asked, flags, name, none);
+  size_t length = text_of(asked, name, none);
   EXPECT(length <= GIX_VALIDATE_TEXT_MAX);
-  EXPECT((length == 0) == (code_of(asked, flags, name) == GIX_VALIDATE_OK));
+  EXPECT((length == 0) == (code_of(asked, name) == GIX_VALIDATE_OK));
   struct bytes exact = block(length, CANARY);
-  EXPECT(text_of(asked, flags, name, exact) == length);
+  EXPECT(text_of(asked, name, exact) == length);
   EXPECT(memchr(exact.start, CANARY, length) == NULL);
   if (*wanted != '\0') {
     EXPECT(length == strlen(wanted) && same(exact.start, wanted, length));
@@ -125,7 +138,7 @@ static void check_texts(const struct question *asked, uint32_t flags,
   for (size_t size = 0; size <= GIX_VALIDATE_TEXT_MAX + MORE; size++) {
     struct bytes text = block(size, CANARY);
     size_t written = size < length ? 0 : length;
-    EXPECT(text_of(asked, flags, name, text) == length);
+    EXPECT(text_of(asked, name, text) == length);
     EXPECT(same(text.start, exact.start, written));
     EXPECT(all_are(text.start + written, size - written, CANARY));
     free(text.start);
@@ -135,13 +148,12 @@ static void check_texts(const struct question *asked, uint32_t flags,
 
 /* Whatever the array's size, the call returns how many names there are. It
    writes the numbers that fit, and changes nothing else. */
-static void check_many(const struct question *asked, struct bytes names,
-                       uint8_t end, struct bytes wanted) {
+static void check_many(struct question asked, struct bytes names, uint8_t end,
+                       struct bytes wanted) {
   for (size_t size = 0; size <= wanted.length + MORE; size++) {
     struct bytes faults = block(size, CANARY);
     size_t written = size < wanted.length ? size : wanted.length;
-    EXPECT(asked->many(names.start, names.length, end, faults.start, size) ==
-           wanted.length);
+    EXPECT(many_of(asked, names, end, faults.start, size) == wanted.length);
     EXPECT(same(faults.start, wanted.start, written));
     EXPECT(all_are(faults.start + written, size - written, CANARY));
     free(faults.start);
@@ -150,8 +162,8 @@ static void check_many(const struct question *asked, struct bytes names,
 
 /* The name three times in one buffer, each time with a byte after it that it
    doesn't hold, and the last time without: each has the number that it has
-   alone. */
-static void check_thrice(const struct question *asked, struct bytes name,
+   alone. So it has in an array, which needs no such byte. */
+static void check_thrice(struct question asked, struct bytes name,
                          uint32_t code) {
   unsigned end = '\n';
   while (name.length > 0 && memchr(name.start, (int)end, name.length) != NULL) {
@@ -168,6 +180,14 @@ static void check_thrice(const struct question *asked, struct bytes name,
   memcpy(less.start, names.start, less.length);
   numbers.length = name.length == 0 ? 2 : 3;
   check_many(asked, less, (uint8_t)end, numbers);
+  gix_validate_name one = {name.start, name.length};
+  gix_validate_name array[] = {one, {NULL, 0}, one};
+  uint8_t faults[4] = {CANARY, CANARY, CANARY, CANARY};
+  struct bytes none = {NULL, 0};
+  EXPECT(gix_validate_check_array(asked.kind->number, array, 3, asked.flags,
+                                  faults) == 3);
+  EXPECT(faults[0] == code && faults[1] == code_of(asked, none) &&
+         faults[2] == code && faults[3] == CANARY);
   free(less.start);
   free(numbers.start);
   free(names.start);
@@ -201,6 +221,32 @@ static void check_sanitized(struct bytes name, struct bytes wanted) {
   free(small.start);
 }
 
+/* A buffer that is smaller than the name stays as it is. There may be no
+   suggestion. */
+static void check_suggested(struct bytes name, struct bytes wanted) {
+  for (size_t more = 0; more <= MORE; more += MORE) {
+    struct bytes room = block(name.length + more, CANARY);
+    EXPECT(gix_validate_suggest(name.start, name.length, room.start,
+                                room.length) == wanted.length);
+    EXPECT(same(room.start, wanted.start, wanted.length));
+    EXPECT(all_are(room.start + name.length, more, CANARY));
+    free(room.start);
+  }
+  if (name.length > 0) {
+    struct bytes small = block(name.length - 1, CANARY);
+    EXPECT(gix_validate_suggest(name.start, name.length, small.start,
+                                small.length) == 0);
+    EXPECT(all_are(small.start, small.length, CANARY));
+    free(small.start);
+  }
+  struct question branch = {kinds, 0};
+  bool is_valid = code_of(branch, name) == GIX_VALIDATE_OK;
+  bool is_itself = wanted.length == name.length &&
+                   same(wanted.start, name.start, name.length);
+  EXPECT(wanted.length == 0 ? !is_valid : is_valid == is_itself);
+  EXPECT(wanted.length == 0 || code_of(branch, wanted) == GIX_VALIDATE_OK);
+}
+
 /* Takes the quoted text at *at into a block of its size, and moves *at after
    its closing quote. */
 static struct bytes quoted(const char **at) {
@@ -227,14 +273,14 @@ static struct bytes quoted(const char **at) {
 }
 
 static uint32_t flags_of(const char *letters) {
-  static const uint32_t values[] = {
-      GIX_VALIDATE_PROTECT_WINDOWS, GIX_VALIDATE_PROTECT_HFS,
-      GIX_VALIDATE_PROTECT_NTFS, GIX_VALIDATE_SYMLINK};
+  static const uint32_t values[] = {GIX_VALIDATE_PROTECT_WINDOWS,
+                                    GIX_VALIDATE_PROTECT_HFS,
+                                    GIX_VALIDATE_PROTECT_NTFS};
   uint32_t flags = 0;
   for (; *letters != ' ' && *letters != '\0'; letters++) {
-    const char *found = strchr("whns", *letters);
+    const char *found = strchr("whn", *letters);
     EXPECT(found != NULL);
-    flags |= found == NULL ? 0u : values[found - "whns"];
+    flags |= found == NULL ? 0u : values[found - "whn"];
   }
   return flags;
 }
@@ -247,49 +293,77 @@ static uint32_t number_of(const char *fault, size_t length) {
       return number;
     }
   }
-  EXPECT(!"the header has the fault");
+  expect(false, "the header has the fault");
   return UINT32_MAX;
 }
 
-/* answer is the fault's name, with a colon and the byte where that is
-   InvalidByte. */
-static void check_code(const struct question *asked, const char *call,
-                       struct bytes name, const char *answer,
-                       const char *text) {
-  uint32_t flags = flags_of(call + strlen(asked->call));
-  uint32_t code = code_of(asked, flags, name);
-  size_t word = strcspn(answer, ":");
-  EXPECT(code == number_of(answer, word));
-  if (asked->code == NULL) {
-    EXPECT(asked->code_under(name.start, name.length, flags | 0xFFFFFFF0u) ==
-           code);
-  } else if (asked->code != gix_validate_submodule) {
-    unsigned byte = GIX_VALIDATE_NO_BYTE;
-    EXPECT((answer[word] == ':') == (code == GIX_VALIDATE_INVALID_BYTE));
-    EXPECT(answer[word] != ':' || sscanf(answer + word, ":%2x", &byte) == 1);
-    EXPECT(gix_validate_invalid_byte(name.start, name.length) == byte);
+/* All ways to ask for one number. */
+static void check_same(struct question asked, struct bytes name,
+                       uint32_t code) {
+  const struct kind *kind = asked.kind;
+  gix_validate_result result = {UINT32_MAX, SIZE_MAX};
+  EXPECT(gix_validate_check(kind->number, name.start, name.length, asked.flags,
+                            &result) == code);
+  EXPECT(result.fault == code && result.offset == offset_of(asked, name));
+  EXPECT(gix_validate_check(kind->number, name.start, name.length, asked.flags,
+                            NULL) == code);
+  char *string = (char *)block(name.length + 1, '\0').start;
+  memcpy(string, name.start, name.length);
+  bool is_string = strlen(string) == name.length;
+  if (kind->plain != NULL) {
+    struct question others = {kind, UINT32_MAX};
+    EXPECT(kind->plain(name.start, name.length) == code);
+    EXPECT(!is_string || kind->plain_str(string) == code);
+    EXPECT(code_of(others, name) == code);
+  } else {
+    struct question others = {kind, asked.flags | 0xFFFFFFF8u};
+    EXPECT(kind->under(name.start, name.length, asked.flags) == code);
+    EXPECT(!is_string || kind->under_str(string, asked.flags) == code);
+    EXPECT(code_of(others, name) == code);
+    EXPECT(offset_of(others, name) == result.offset);
   }
-  if (asked->many != NULL) {
-    check_thrice(asked, name, code);
-  }
-  check_texts(asked, flags, name, text);
+  free(string);
 }
 
-static const struct question *question_of(const char *call,
-                                          const char *behind) {
-  for (size_t i = 0; i < sizeof questions / sizeof *questions; i++) {
-    size_t length = strlen(questions[i].call);
-    if (strncmp(questions[i].call, call, length) == 0 &&
-        (questions[i].code == NULL ||
-         strncmp(call + length, behind, strlen(behind)) == 0)) {
-      return &questions[i];
+/* answer is the fault's name, with a colon and the byte where that is
+   InvalidByte, and perhaps `@` and the offset. */
+static void check_code(struct question asked, struct bytes name,
+                       const char *answer, const char *text) {
+  uint32_t code = code_of(asked, name);
+  size_t offset = offset_of(asked, name);
+  size_t word = strcspn(answer, ":@");
+  const char *at = strchr(answer, '@');
+  EXPECT(code == number_of(answer, word));
+  EXPECT(code == GIX_VALIDATE_OK ? offset == name.length
+                                 : offset <= name.length);
+  EXPECT(at == NULL || offset == (size_t)strtoul(at + 1, NULL, 10));
+  EXPECT((answer[word] == ':') == (code == GIX_VALIDATE_INVALID_BYTE));
+  if (answer[word] == ':') {
+    unsigned byte = 0;
+    EXPECT(sscanf(answer + word, ":%2x", &byte) == 1);
+    EXPECT(offset < name.length && name.start[offset] == byte);
+  }
+  check_same(asked, name, code);
+  check_thrice(asked, name, code);
+  check_texts(asked, name, text);
+}
+
+/* The kind and the flags at the start of a row. */
+static struct question question_of(const char *row) {
+  struct question asked = {NULL, 0};
+  for (size_t i = 0; i < KINDS; i++) {
+    size_t length = strlen(kinds[i].word);
+    if (strncmp(kinds[i].word, row, length) == 0 &&
+        (row[length] == ' ' || row[length] == ':')) {
+      asked.kind = &kinds[i];
+      asked.flags = row[length] == ':' ? flags_of(row + length + 1) : 0;
     }
   }
-  return NULL;
+  return asked;
 }
 
 /* answer is how many names there are, and their faults. */
-static void check_row_of_many(const struct question *asked, unsigned end,
+static void check_row_of_many(struct question asked, unsigned end,
                               struct bytes names, const char *answer) {
   uint8_t decoded[256];
   size_t read = 0;
@@ -305,45 +379,47 @@ static void check_row_of_many(const struct question *asked, unsigned end,
   check_many(asked, names, (uint8_t)end, wanted);
 }
 
+/* A row that is of no kind: it has the result of another function. */
+static void check_other(const char *row, struct bytes name,
+                        const char *answer) {
+  struct bytes wanted = {NULL, 0};
+  if (strncmp(row, "sanitize ", 9) == 0) {
+    wanted = quoted(&answer);
+    check_sanitized(name, wanted);
+  } else if (strncmp(row, "suggest ", 8) == 0) {
+    wanted = strcmp(answer, "none") == 0 ? block(0, 0) : quoted(&answer);
+    check_suggested(name, wanted);
+  } else {
+    EXPECT(strncmp(row, "device ", 7) == 0);
+    bool is_device = gix_validate_is_windows_device(name.start, name.length);
+    EXPECT(strcmp(answer, is_device ? "yes" : "no") == 0);
+  }
+  free(wanted.start);
+}
+
 static void check_row(const char *row) {
-  const char *at = row + strcspn(row, " ") + 1;
-  const struct question *asked = question_of(row, " ");
-  const struct question *many = question_of(row, "_many:");
+  const char *at = strchr(row, '"');
   unsigned end = 0;
+  bool is_many = sscanf(row, "many:%2x ", &end) == 1;
+  struct question asked = question_of(is_many ? row + strlen("many:00 ") : row);
   place = row;
+  EXPECT(at != NULL && at > row);
+  if (at == NULL) {
+    return;
+  }
   struct bytes name = quoted(&at);
   const char *answer = at + 1;
-  if (asked != NULL) {
+  if (is_many && asked.kind != NULL) {
+    check_row_of_many(asked, end, name, answer);
+  } else if (asked.kind != NULL) {
     char word[64] = "";
     size_t length = strcspn(answer, " ");
     EXPECT(length < sizeof word);
     memcpy(word, answer, length < sizeof word ? length : 0);
-    check_code(asked, row, name, word,
+    check_code(asked, name, word,
                answer[length] == ' ' ? answer + length + 1 : "");
-  } else if (many != NULL &&
-             sscanf(row + strlen(many->call), "_many:%2x ", &end) == 1) {
-    check_row_of_many(many, end, name, answer);
-  } else if (strncmp(row, "sanitize ", 9) == 0) {
-    struct bytes wanted = quoted(&answer);
-    check_sanitized(name, wanted);
-    free(wanted.start);
-  } else if (strncmp(row, "offset ", 7) == 0) {
-    size_t wanted = strcmp(answer, "none") == 0
-                        ? name.length
-                        : (size_t)strtoul(answer, NULL, 10);
-    EXPECT(gix_validate_fault_offset(name.start, name.length) == wanted);
-  } else if (strncmp(row, "path_offset:", 12) == 0) {
-    size_t wanted = strcmp(answer, "none") == 0
-                        ? name.length
-                        : (size_t)strtoul(answer, NULL, 10);
-    EXPECT(gix_validate_path_offset(name.start, name.length,
-                                    flags_of(row + 12)) == wanted);
   } else {
-    EXPECT(strncmp(row, "device ", 7) == 0);
-    EXPECT(
-        strcmp(answer, gix_validate_is_windows_device(name.start, name.length)
-                           ? "yes"
-                           : "no") == 0);
+    check_other(row, name, answer);
   }
   free(name.start);
 }
@@ -352,17 +428,18 @@ static void check_row(const char *row) {
 static void ask_all(struct bytes name) {
   struct bytes none = {NULL, 0};
   uint8_t copy[512];
-  for (size_t i = 0; i < sizeof questions / sizeof *questions; i++) {
-    for (uint32_t flags = 0; flags < 16; flags++) {
-      (void)code_of(&questions[i], flags, name);
-      (void)text_of(&questions[i], flags, name, none);
+  for (size_t i = 0; i < KINDS; i++) {
+    for (uint32_t flags = 0; flags < (kinds[i].plain == NULL ? 8u : 1u);
+         flags++) {
+      struct question asked = {&kinds[i], flags};
+      (void)code_of(asked, name);
+      (void)offset_of(asked, name);
+      (void)text_of(asked, name, none);
     }
   }
-  (void)gix_validate_invalid_byte(name.start, name.length);
-  (void)gix_validate_fault_offset(name.start, name.length);
-  (void)gix_validate_path_offset(name.start, name.length, 15);
   (void)gix_validate_is_windows_device(name.start, name.length);
   (void)gix_validate_sanitize(name.start, name.length, copy, sizeof copy);
+  (void)gix_validate_suggest(name.start, name.length, copy, sizeof copy);
 }
 
 /* Three pages, of which only the one in the middle may be read and written.
@@ -382,12 +459,12 @@ static uint8_t *page_alone(size_t page) {
    ends or starts at the end of a page. */
 static void check_arrays(struct bytes names, uint8_t end, uint8_t *page_start,
                          size_t page, size_t wanted) {
-  for (size_t q = 0; q < sizeof questions / sizeof *questions; q++) {
-    for (size_t size = 0; questions[q].many != NULL && size <= wanted; size++) {
-      EXPECT(questions[q].many(names.start, names.length, end, page_start,
-                               size) == wanted);
-      EXPECT(questions[q].many(names.start, names.length, end,
-                               page_start + page - size, size) == wanted);
+  for (size_t i = 0; i < KINDS; i++) {
+    struct question asked = {&kinds[i], GIX_VALIDATE_PROTECT_ALL};
+    for (size_t size = 0; size <= wanted; size++) {
+      EXPECT(many_of(asked, names, end, page_start, size) == wanted);
+      EXPECT(many_of(asked, names, end, page_start + page - size, size) ==
+             wanted);
     }
   }
 }
@@ -447,9 +524,6 @@ static void check_ends(void) {
 /* No pointer is the empty name, and an empty buffer. */
 static void check_null(void) {
   place = "NULL with length 0";
-  EXPECT(gix_validate_invalid_byte(NULL, 0) == GIX_VALIDATE_NO_BYTE);
-  EXPECT(gix_validate_fault_offset(NULL, 0) == 0);
-  EXPECT(gix_validate_path_offset(NULL, 0, 0) == 0);
   EXPECT(!gix_validate_is_windows_device(NULL, 0));
   uint8_t buffer[4] = {CANARY, CANARY, CANARY, CANARY};
   EXPECT(gix_validate_sanitize(NULL, 0, buffer, sizeof buffer) == 1);
@@ -457,53 +531,99 @@ static void check_null(void) {
   EXPECT(gix_validate_sanitize(NULL, 0, NULL, 0) == 0);
   EXPECT(gix_validate_sanitize_in_place(NULL, 0, 0) == 0);
   EXPECT(gix_validate_sanitize_in_place(NULL, 0, 1) == 0);
-  EXPECT(gix_validate_sanitize((const uint8_t *)"a", 1, NULL, 0) == 0);
+  EXPECT(gix_validate_sanitize("a", 1, NULL, 0) == 0);
+  EXPECT(gix_validate_suggest(NULL, 0, NULL, 0) == 0);
+  EXPECT(gix_validate_suggest("a", 1, NULL, 0) == 0);
   uint8_t text[GIX_VALIDATE_TEXT_MAX];
-  EXPECT(gix_validate_submodule_text(NULL, 0, text, sizeof text) ==
+  EXPECT(gix_validate_text_of(GIX_VALIDATE_KIND_SUBMODULE, NULL, 0, 0, text,
+                              sizeof text) ==
          strlen("Submodule names cannot be empty"));
   struct bytes none = {NULL, 0};
-  for (size_t i = 0; i < sizeof questions / sizeof *questions; i++) {
-    uint32_t empty = strcmp(questions[i].call, "path:") == 0
+  struct bytes three = {(uint8_t *)(uintptr_t) "a\n\nb", 4};
+  for (size_t i = 0; i < KINDS; i++) {
+    struct question asked = {&kinds[i], GIX_VALIDATE_PROTECT_ALL};
+    uint32_t empty = strstr(kinds[i].word, "path") != NULL
                          ? (uint32_t)GIX_VALIDATE_EMPTY_PART
                          : (uint32_t)GIX_VALIDATE_EMPTY;
-    EXPECT(code_of(&questions[i], GIX_VALIDATE_PROTECT_ALL, none) == empty);
-    if (questions[i].many != NULL) {
-      EXPECT(questions[i].many(NULL, 0, '\n', NULL, 0) == 0);
-      EXPECT(questions[i].many(NULL, 0, '\n', text, sizeof text) == 0);
-      EXPECT(questions[i].many((const uint8_t *)"a\n\nb", 4, '\n', NULL, 0) ==
-             3);
-    }
+    EXPECT(code_of(asked, none) == empty);
+    EXPECT(offset_of(asked, none) == 0);
+    EXPECT(many_of(asked, none, '\n', NULL, 0) == 0);
+    EXPECT(many_of(asked, none, '\n', text, sizeof text) == 0);
+    EXPECT(many_of(asked, three, '\n', NULL, 0) == 3);
+    EXPECT(gix_validate_check_array(kinds[i].number, NULL, 0, 0, NULL) == 0);
+  }
+}
+
+/* Numbers that are no kind. */
+static void check_unknown(void) {
+  static const uint32_t numbers[] = {KINDS, KINDS + 1, 255, 256, UINT32_MAX};
+  place = "an unknown kind";
+  for (size_t i = 0; i < sizeof numbers / sizeof *numbers; i++) {
+    uint32_t kind = numbers[i];
+    gix_validate_result result = {0, SIZE_MAX};
+    uint8_t text[GIX_VALIDATE_TEXT_MAX];
+    memset(text, CANARY, sizeof text);
+    EXPECT(gix_validate_fault_of(kind, "a", 1, 7) == GIX_VALIDATE_UNKNOWN_KIND);
+    EXPECT(gix_validate_offset_of(kind, "a", 1, 7) == 0);
+    EXPECT(gix_validate_text_of(kind, "a", 1, 7, text, sizeof text) == 0);
+    EXPECT(all_are(text, sizeof text, CANARY));
+    EXPECT(gix_validate_faults_of(kind, "a\nb", 3, 7, '\n', text, 4) == 2);
+    EXPECT(all_are(text, 2, GIX_VALIDATE_UNKNOWN_KIND));
+    EXPECT(all_are(text + 2, sizeof text - 2, CANARY));
+    EXPECT(gix_validate_check(kind, "a", 1, 7, &result) ==
+           GIX_VALIDATE_UNKNOWN_KIND);
+    EXPECT(result.fault == GIX_VALIDATE_UNKNOWN_KIND && result.offset == 0);
+  }
+}
+
+/* What a name with a NUL is under each set of flags, as the header says. */
+static void check_nul(void) {
+  static const char name[] = "a\0b";
+  place = "a name with a NUL";
+  for (uint32_t flags = 0; flags < 8; flags++) {
+    bool is_refused = (flags & 5) == 5;
+    EXPECT((gix_validate_component(name, 3, flags) != 0) == is_refused);
+    EXPECT((gix_validate_symlink(name, 3, flags) != 0) == is_refused);
+    EXPECT((gix_validate_submodule(name, 3, flags) != 0) == (flags != 0));
+    EXPECT(gix_validate_path(name, 3, flags) != 0);
+    EXPECT(gix_validate_symlink_path(name, 3, flags) != 0);
+    EXPECT(gix_validate_safe_ref(name, 3, flags) != 0);
   }
 }
 
 /* The helpers of the header, and its constants. */
 static void check_helpers(void) {
   place = "the helpers for C strings";
-  EXPECT(gix_validate_tag_str("a..b") == GIX_VALIDATE_REPEATED_DOT);
-  EXPECT(gix_validate_partial_str("@") == GIX_VALIDATE_RESERVED);
-  EXPECT(gix_validate_full_str("main") == GIX_VALIDATE_SOME_LOWERCASE);
-  EXPECT(gix_validate_branch_str("refs/heads/main") == GIX_VALIDATE_OK);
-  EXPECT(gix_validate_submodule_str("a\\..") == GIX_VALIDATE_PARENT_COMPONENT);
-  EXPECT(gix_validate_component_str("CON", GIX_VALIDATE_PROTECT_ALL) ==
-         GIX_VALIDATE_WINDOWS_RESERVED_NAME);
-  EXPECT(gix_validate_component_str(".gitmodules", GIX_VALIDATE_PROTECT_ALL |
-                                                       GIX_VALIDATE_SYMLINK) ==
-         GIX_VALIDATE_SYMLINKED_GIT_MODULES);
-  EXPECT(gix_validate_short_branch_str("-d") == GIX_VALIDATE_STARTS_WITH_DASH);
-  EXPECT(gix_validate_path_str("src/a.rs", GIX_VALIDATE_PROTECT_ALL) ==
-         GIX_VALIDATE_OK);
   EXPECT(gix_validate_is_windows_device_str("nul.txt"));
   char name[] = "refs//heads/../x.lock";
   EXPECT(gix_validate_sanitize_str(name) == 14 &&
          strcmp(name, "refs/heads/-/x") == 0);
   char empty[] = "";
   EXPECT(gix_validate_sanitize_str(empty) == 0 && *empty == '\0');
-  EXPECT(gix_validate_component_text((const uint8_t *)"a.", 2,
-                                     GIX_VALIDATE_PROTECT_ALL, NULL,
-                                     0) == GIX_VALIDATE_TEXT_MAX);
-  EXPECT(number_of("Unknown", 7) > GIX_VALIDATE_EMPTY_PART);
-  EXPECT(strcmp(gix_validate_fault_name(UINT32_MAX), "Unknown") == 0);
+  char typed[] = "Fix: it's done..";
+  char suggested[sizeof typed];
+  EXPECT(gix_validate_suggest_str(typed, suggested, sizeof suggested) == 13);
+  EXPECT(strcmp(suggested, "Fix-it's-done") == 0);
+  EXPECT(gix_validate_suggest_str("...", suggested, sizeof suggested) == 0);
+  EXPECT(*suggested == '\0');
+  EXPECT(gix_validate_suggest_str(typed, suggested, sizeof typed - 1) == 0);
+  EXPECT(gix_validate_suggest_str(typed, NULL, 0) == 0);
+  EXPECT(gix_validate_text_of(GIX_VALIDATE_KIND_COMPONENT, "a.", 2,
+                              GIX_VALIDATE_PROTECT_ALL, NULL,
+                              0) == GIX_VALIDATE_TEXT_MAX);
   EXPECT(gix_validate_version() == GIX_VALIDATE_VERSION);
+  place = "the names and texts of faults";
+  EXPECT(number_of("Unknown", 7) > GIX_VALIDATE_DISGUISED);
+  EXPECT(number_of("UnknownKind", 11) == GIX_VALIDATE_UNKNOWN_KIND);
+  EXPECT(strcmp(gix_validate_fault_name(UINT32_MAX), "Unknown") == 0);
+  EXPECT(strcmp(gix_validate_fault_text(GIX_VALIDATE_REPEATED_DOT),
+                "it has two dots in a row") == 0);
+  for (uint32_t fault = 1; fault <= UINT8_MAX; fault++) {
+    bool is_unknown = strcmp(gix_validate_fault_name(fault), "Unknown") == 0;
+    EXPECT(*gix_validate_fault_text(fault) != '\0');
+    EXPECT((strstr(gix_validate_fault_text(fault), "doesn't know") != NULL) ==
+           is_unknown);
+  }
 }
 
 /* Replays the rows of a file, and prints the outcome of each if this is set.
@@ -542,6 +662,8 @@ int main(int count, char **arguments) {
   check_ends();
   check_ends_of_many();
   check_null();
+  check_unknown();
+  check_nul();
   check_helpers();
   printf("%d rows, %d wrong\n", rows, failures);
   return failures == 0 && rows > 0 ? 0 : 1;

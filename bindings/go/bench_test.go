@@ -35,11 +35,42 @@ func BenchmarkCheckRefOfBytes(b *testing.B) {
 	}
 }
 
+const invalidRef = "refs/heads/topic..00000000"
+
 func BenchmarkCheckRefOfAnInvalidName(b *testing.B) {
 	b.ReportAllocs()
 	for i := 0; i < b.N; i++ {
-		if err := CheckRef("refs/heads/topic..00000000"); err == nil {
+		if err := CheckRef(invalidRef); err == nil {
 			b.Fatal("it is valid")
+		}
+	}
+}
+
+func BenchmarkCheckRefOfInvalidBytes(b *testing.B) {
+	b.ReportAllocs()
+	name := []byte(invalidRef)
+	for i := 0; i < b.N; i++ {
+		if err := CheckRef(name); err == nil {
+			b.Fatal("it is valid")
+		}
+	}
+}
+
+func BenchmarkFaultOfAnInvalidName(b *testing.B) {
+	b.ReportAllocs()
+	for i := 0; i < b.N; i++ {
+		if FaultOf(Ref, invalidRef, 0) != RepeatedDot {
+			b.Fatal("it is valid")
+		}
+	}
+}
+
+func BenchmarkTheTextOfAnError(b *testing.B) {
+	b.ReportAllocs()
+	err := CheckRef(invalidRef)
+	for i := 0; i < b.N; i++ {
+		if err.Error() == "" {
+			b.Fatal("it has none")
 		}
 	}
 }
@@ -95,12 +126,21 @@ func BenchmarkSanitize(b *testing.B) {
 	}
 }
 
+func BenchmarkSuggestBranch(b *testing.B) {
+	b.ReportAllocs()
+	for i := 0; i < b.N; i++ {
+		if name, _ := SuggestBranch("Fix: it's done.."); name != "Fix-it's-done" {
+			b.Fatal(name)
+		}
+	}
+}
+
 func BenchmarkFaultsOfAName(b *testing.B) {
 	b.ReportAllocs()
 	names := strings.Join(refs(10_000), "\n")
 	b.ResetTimer()
 	for i := 0; i < b.N; i += 10_000 {
-		if found := Faults(Ref, names, '\n'); found[0] != Valid {
+		if found := Faults(Ref, names, '\n', 0); found[0] != Valid {
 			b.Fatal(found[0])
 		}
 	}
@@ -111,7 +151,7 @@ func BenchmarkFaultsOfANameInAList(b *testing.B) {
 	names := refs(10_000)
 	b.ResetTimer()
 	for i := 0; i < b.N; i += 10_000 {
-		if found := FaultsOf(Ref, names); found[0] != Valid {
+		if found := FaultsOf(Ref, names, 0); found[0] != Valid {
 			b.Fatal(found[0])
 		}
 	}

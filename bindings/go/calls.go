@@ -1,57 +1,53 @@
 package gitnames
 
-// The functions by the kind of name. (A name of a function here is an offset in the block,
-// or its number in pure Go.)
-var (
-	checks = [...]uintptr{
-		Tag: atTag, PartialRef: atPartial, Ref: atFull, BranchRef: atBranch,
-		Branch: atShortBranch, Submodule: atSubmodule, component: atComponent, path: atPath,
-	}
-	texts = [...]uintptr{
-		Tag: atTagText, PartialRef: atPartialText, Ref: atFullText, BranchRef: atBranchText,
-		Branch: atShortBranchText, Submodule: atSubmoduleText, component: atComponentText, path: atPathText,
-	}
-	manys = [...]uintptr{
-		Tag: atTagMany, PartialRef: atPartialMany, Ref: atFullMany, BranchRef: atBranchMany,
-		Branch: atShortBranchMany, Submodule: atSubmoduleMany,
-	}
-)
+// The functions. (A name of one here is its offset in the block, or its number in pure Go.)
 
-func code(kind Kind, flags Flags, name string) Fault {
-	return Fault(invoke(checks[kind], name, uintptr(flags)))
+func faultOf(kind Kind, name string, protect Protections) Fault {
+	return Fault(numberOf(atFaultOf, uintptr(kind), name, uintptr(protect)))
 }
 
-func why(kind Kind, flags Flags, name string) (string, int) {
-	var text [134]byte
-	var size uintptr
-	offset := -1
-	switch kind {
-	case component:
-		size = invokeInto(texts[kind], name, uintptr(flags), text[:])
-	case path:
-		size = invokeInto(texts[kind], name, uintptr(flags), text[:])
-		offset = int(invoke(atPathOffset, name, uintptr(flags)))
-	default:
-		size = invokeForText(texts[kind], name, text[:])
-		if kind != Submodule && code(Tag, 0, name) != Valid {
-			offset = int(invoke(atFaultOffset, name, 0))
-		}
-	}
-	return string(text[:size]), offset
+// offsetOf is where that fault is.
+func offsetOf(kind Kind, name string, protect Protections) int {
+	return int(numberOf(atOffsetOf, uintptr(kind), name, uintptr(protect)))
+}
+
+// textMax is how many bytes the text of a fault has at most.
+const textMax = 134
+
+// appendText appends the text of that fault.
+func appendText(to []byte, kind Kind, name string, protect Protections) []byte {
+	var text [textMax]byte
+	return append(to, text[:invokeOfKind(atTextOf, uintptr(kind), name, uintptr(protect), text[:])]...)
+}
+
+// faultsOf writes the fault of each name, and returns how many names there are.
+func faultsOf(kind Kind, names string, protect Protections, end byte, faults []Fault) int {
+	needKind(kind)
+	return int(invokeOfMany(atFaultsOf, uintptr(kind), names, uintptr(protect), end, bytesOf(faults)))
 }
 
 func isWindowsDevice(name string) bool {
-	return uint8(invoke(atIsWindowsDevice, name, 0)) != 0
+	return uint8(invokeOfName(atIsWindowsDevice, name, nil)) != 0
 }
 
-func sanitizeInPlace(buffer []byte, length int) int {
-	return int(invokeInPlace(atSanitizeInPlace, buffer, length))
+// sanitize writes the repaired name, which is never longer than one byte or the name, and
+// returns its length.
+func sanitize(name string, repaired []byte) int {
+	return int(invokeOfName(atSanitize, name, repaired))
 }
 
-func checkMany(kind Kind, names string, end byte, faults []Fault) int {
-	return int(invokeInto(manys[kind], names, uintptr(end), bytesOf(faults)))
+// suggest writes the branch name to suggest, which is never longer than the name, and returns
+// its length, or 0 if there is none.
+func suggest(name string, suggested []byte) int {
+	return int(invokeOfName(atSuggest, name, suggested))
 }
 
 func version() int {
-	return int(uint32(invoke(atVersion, "", 0)))
+	return int(uint32(invokeOfName(atVersion, "", nil)))
+}
+
+func needKind(kind Kind) {
+	if kind >= kinds {
+		panic("gitnames: there is no such Kind")
+	}
 }

@@ -3,36 +3,70 @@
 #include "textflag.h"
 
 // The functions have the calling convention of C on Unix, on each system, and keep BX.
-// They need less than 1,024 bytes of the stack, as tests/bindings computes.
+// They need more of the stack than the 800 bytes that Go promises below a frame. So they get
+// the frame itself, which is large enough, as tests/bindings computes.
 
-// func callBlock(at uintptr, name unsafe.Pointer, length, x uintptr, out unsafe.Pointer, room uintptr) uintptr
-TEXT ·callBlock(SB), 0, $4096-56
-	LEAQ ·block(SB), AX
+// ADDRESS is where the function is.
+#define ADDRESS \
+	LEAQ ·block(SB), AX; \
 	ADDQ at+0(FP), AX
-	MOVQ name+8(FP), DI
-	MOVQ length+16(FP), SI
-	MOVQ x+24(FP), DX
-	MOVQ out+32(FP), CX
-	MOVQ room+40(FP), R8
-	MOVQ SP, BX
-	ANDQ $~15, SP
-	CALL AX
-	MOVQ BX, SP
-	MOVQ AX, ret+48(FP)
+
+// CALL_ADDRESS calls it on an aligned stack. R10 is its seventh argument, if it has one.
+#define CALL_ADDRESS \
+	ADJSP $-2016; \
+	MOVQ  SP, BX; \
+	ANDQ  $~15, SP; \
+	MOVQ  R10, 0(SP); \
+	CALL  AX; \
+	MOVQ  BX, SP; \
+	ADJSP $2016
+
+// func callForNumber(at, kind uintptr, name unsafe.Pointer, length, flags uintptr) uintptr
+TEXT ·callForNumber(SB), 0, $2048-48
+	ADDRESS
+	MOVQ kind+8(FP), DI
+	MOVQ name+16(FP), SI
+	MOVQ length+24(FP), DX
+	MOVQ flags+32(FP), CX
+	CALL_ADDRESS
+	MOVQ AX, ret+40(FP)
 	RET
 
-// func callBlockForText(at uintptr, name unsafe.Pointer, length uintptr, text unsafe.Pointer, room uintptr) uintptr
-TEXT ·callBlockForText(SB), 0, $4096-48
-	LEAQ ·block(SB), AX
-	ADDQ at+0(FP), AX
+// func callOfKind(at, kind uintptr, name unsafe.Pointer, length, flags uintptr, out unsafe.Pointer, room uintptr) uintptr
+TEXT ·callOfKind(SB), 0, $2048-64
+	ADDRESS
+	MOVQ kind+8(FP), DI
+	MOVQ name+16(FP), SI
+	MOVQ length+24(FP), DX
+	MOVQ flags+32(FP), CX
+	MOVQ out+40(FP), R8
+	MOVQ room+48(FP), R9
+	CALL_ADDRESS
+	MOVQ AX, ret+56(FP)
+	RET
+
+// func callOfMany(at, kind uintptr, names unsafe.Pointer, length, flags, end uintptr, out unsafe.Pointer, room uintptr) uintptr
+TEXT ·callOfMany(SB), 0, $2048-72
+	ADDRESS
+	MOVQ kind+8(FP), DI
+	MOVQ names+16(FP), SI
+	MOVQ length+24(FP), DX
+	MOVQ flags+32(FP), CX
+	MOVQ end+40(FP), R8
+	MOVQ out+48(FP), R9
+	MOVQ room+56(FP), R10
+	CALL_ADDRESS
+	MOVQ AX, ret+64(FP)
+	RET
+
+// func callOfName(at uintptr, name unsafe.Pointer, length uintptr, out unsafe.Pointer, room uintptr) uintptr
+TEXT ·callOfName(SB), 0, $2048-48
+	ADDRESS
 	MOVQ name+8(FP), DI
 	MOVQ length+16(FP), SI
-	MOVQ text+24(FP), DX
+	MOVQ out+24(FP), DX
 	MOVQ room+32(FP), CX
-	MOVQ SP, BX
-	ANDQ $~15, SP
-	CALL AX
-	MOVQ BX, SP
+	CALL_ADDRESS
 	MOVQ AX, ret+40(FP)
 	RET
 

@@ -2,37 +2,68 @@
 
 #include "textflag.h"
 
-// The functions have the calling convention of C, and need less than 1,024 bytes of the
-// stack, as tests/bindings computes. They don't touch R18, which is the system's, and R28: a
-// handler of signals finds the goroutine there if there is no cgo.
+// The functions have the calling convention of C. They need more of the stack than the 800
+// bytes that Go promises below a frame. So they get the frame itself, which is large enough,
+// as tests/bindings computes. They don't touch R18, which is the system's, and R28: a handler
+// of signals finds the goroutine there if there is no cgo.
 
-// func callBlock(at uintptr, name unsafe.Pointer, length, x uintptr, out unsafe.Pointer, room uintptr) uintptr
-TEXT ·callBlock(SB), 0, $4096-56
-	MOVD $·block(SB), R9
-	MOVD at+0(FP), R10
+// ADDRESS is where the function is.
+#define ADDRESS \
+	MOVD $·block(SB), R9; \
+	MOVD at+0(FP), R10; \
 	ADD  R10, R9
-	MOVD name+8(FP), R0
-	MOVD length+16(FP), R1
-	MOVD x+24(FP), R2
-	MOVD out+32(FP), R3
-	MOVD room+40(FP), R4
-	SUB  $16, RSP // (Go keeps its frame pointer in the word below the stack.)
-	CALL (R9)
-	ADD  $16, RSP
-	MOVD R0, ret+48(FP)
+
+// CALL_ADDRESS calls it.
+#define CALL_ADDRESS \
+	ADD  $2032, RSP; \
+	CALL (R9); \
+	SUB  $2032, RSP
+
+// func callForNumber(at, kind uintptr, name unsafe.Pointer, length, flags uintptr) uintptr
+TEXT ·callForNumber(SB), 0, $2048-48
+	ADDRESS
+	MOVD kind+8(FP), R0
+	MOVD name+16(FP), R1
+	MOVD length+24(FP), R2
+	MOVD flags+32(FP), R3
+	CALL_ADDRESS
+	MOVD R0, ret+40(FP)
 	RET
 
-// func callBlockForText(at uintptr, name unsafe.Pointer, length uintptr, text unsafe.Pointer, room uintptr) uintptr
-TEXT ·callBlockForText(SB), 0, $4096-48
-	MOVD $·block(SB), R9
-	MOVD at+0(FP), R10
-	ADD  R10, R9
+// func callOfKind(at, kind uintptr, name unsafe.Pointer, length, flags uintptr, out unsafe.Pointer, room uintptr) uintptr
+TEXT ·callOfKind(SB), 0, $2048-64
+	ADDRESS
+	MOVD kind+8(FP), R0
+	MOVD name+16(FP), R1
+	MOVD length+24(FP), R2
+	MOVD flags+32(FP), R3
+	MOVD out+40(FP), R4
+	MOVD room+48(FP), R5
+	CALL_ADDRESS
+	MOVD R0, ret+56(FP)
+	RET
+
+// func callOfMany(at, kind uintptr, names unsafe.Pointer, length, flags, end uintptr, out unsafe.Pointer, room uintptr) uintptr
+TEXT ·callOfMany(SB), 0, $2048-72
+	ADDRESS
+	MOVD kind+8(FP), R0
+	MOVD names+16(FP), R1
+	MOVD length+24(FP), R2
+	MOVD flags+32(FP), R3
+	MOVD end+40(FP), R4
+	MOVD out+48(FP), R5
+	MOVD room+56(FP), R6
+	CALL_ADDRESS
+	MOVD R0, ret+64(FP)
+	RET
+
+// func callOfName(at uintptr, name unsafe.Pointer, length uintptr, out unsafe.Pointer, room uintptr) uintptr
+TEXT ·callOfName(SB), 0, $2048-48
+	ADDRESS
 	MOVD name+8(FP), R0
 	MOVD length+16(FP), R1
-	MOVD text+24(FP), R2
+	MOVD out+24(FP), R2
 	MOVD room+32(FP), R3
-	SUB  $16, RSP // (Go keeps its frame pointer in the word below the stack.)
-	CALL (R9)
-	ADD  $16, RSP
+	CALL_ADDRESS
 	MOVD R0, ret+40(FP)
 	RET

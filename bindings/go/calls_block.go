@@ -7,41 +7,52 @@ import "unsafe"
 // block is the machine code, which make writes, and is no function of Go's.
 func block()
 
-// callBlock calls the function of C that is at an offset of the block. The stack has room for
-// it, and nothing that it is passed outlives it. (So pointers may lead to a stack.)
-//
+// These call the function of C that is at an offset of the block. The stack has room for it,
+// and nothing that it is passed outlives it. (So pointers may lead to a stack. Each has to be
+// declared as one, since Go moves stacks.)
+
 //go:noescape
-func callBlock(at uintptr, name unsafe.Pointer, length, x uintptr, out unsafe.Pointer, room uintptr) uintptr
+func callForNumber(at, kind uintptr, name unsafe.Pointer, length, flags uintptr) uintptr
 
-// callBlockForText does the same for a function whose third argument is a pointer.
-//
 //go:noescape
-func callBlockForText(at uintptr, name unsafe.Pointer, length uintptr, text unsafe.Pointer, room uintptr) uintptr
+func callOfKind(at, kind uintptr, name unsafe.Pointer, length, flags uintptr, out unsafe.Pointer, room uintptr) uintptr
 
-// invoke calls a function with a name and, if it has a third argument, a number.
-func invoke(at uintptr, name string, x uintptr) uintptr {
+//go:noescape
+func callOfMany(at, kind uintptr, names unsafe.Pointer, length, flags, end uintptr, out unsafe.Pointer, room uintptr) uintptr
+
+//go:noescape
+func callOfName(at uintptr, name unsafe.Pointer, length uintptr, out unsafe.Pointer, room uintptr) uintptr
+
+// numberOf calls a function that is about a name of a kind.
+func numberOf(at, kind uintptr, name string, flags uintptr) uintptr {
 	needProcessor()
-	return callBlock(at, start(name), uintptr(len(name)), x, nil, 0)
+	return callForNumber(at, kind, start(name), uintptr(len(name)), flags)
 }
 
-// invokeInto calls a function with a name, a number and what it writes to.
-func invokeInto(at uintptr, name string, x uintptr, out []byte) uintptr {
+// invokeOfKind calls a function that is about a name of a kind, and may write.
+func invokeOfKind(at, kind uintptr, name string, flags uintptr, out []byte) uintptr {
 	needProcessor()
-	return callBlock(at, start(name), uintptr(len(name)), x, unsafe.Pointer(&out[0]), uintptr(len(out)))
+	return callOfKind(at, kind, start(name), uintptr(len(name)), flags, startOf(out), uintptr(len(out)))
 }
 
-// invokeForText calls a function with a name and what it writes to.
-func invokeForText(at uintptr, name string, text []byte) uintptr {
-	return callBlockForText(at, start(name), uintptr(len(name)), unsafe.Pointer(&text[0]), uintptr(len(text)))
+// invokeOfMany calls a function that is about many names of a kind, and writes.
+func invokeOfMany(at, kind uintptr, names string, flags uintptr, end byte, out []byte) uintptr {
+	needProcessor()
+	return callOfMany(at, kind, start(names), uintptr(len(names)), flags, uintptr(end), startOf(out), uintptr(len(out)))
 }
 
-// invokeInPlace calls a function with what it reads and writes, and the length of what it reads.
-func invokeInPlace(at uintptr, buffer []byte, length int) uintptr {
-	return callBlock(at, unsafe.Pointer(&buffer[0]), uintptr(len(buffer)), uintptr(length), nil, 0)
+// invokeOfName calls a function that is about a name, and may write.
+func invokeOfName(at uintptr, name string, out []byte) uintptr {
+	needProcessor()
+	return callOfName(at, start(name), uintptr(len(name)), startOf(out), uintptr(len(out)))
 }
 
 func start(name string) unsafe.Pointer {
 	return *(*unsafe.Pointer)(unsafe.Pointer(&name))
+}
+
+func startOf(out []byte) unsafe.Pointer {
+	return *(*unsafe.Pointer)(unsafe.Pointer(&out))
 }
 
 // needProcessor panics on a processor that lacks what the functions need, before that

@@ -21,61 +21,56 @@ var states = sync.Pool{New: func() any {
 	return s
 }}
 
-// stateWith returns a state whose memory has the name, and room for more bytes.
-func stateWith(name string, room int) *state {
+// stateWith returns a state whose memory has the name, and then what a function writes to, which
+// begins there.
+func stateWith(name string, out []byte) (*state, uint64) {
 	s := states.Get().(*state)
-	if size := nameAt + len(name) + room; size > len(s.m) {
+	to := nameAt + len(name)
+	if size := to + len(out); size > len(s.m) {
 		s.m = make([]byte, size+size/2)
 		copy(s.m, constants)
 	}
 	copy(s.m[nameAt:], name)
+	copy(s.m[to:], out)
 	s.top = uint64(nameAt)
-	return s
+	return s, uint64(to)
 }
 
-// done gives the state back, if it isn't large.
-func (s *state) done() {
-	if len(s.m) <= 1<<16 {
+// invoke calls a function with these arguments, and copies what it has written.
+func (s *state) invoke(at uintptr, x [7]uint64, from uint64, out []byte) uintptr {
+	result := s.call(at, x)
+	copy(out, s.m[from:])
+	if len(s.m) <= 1<<16 { // (A large one is left to the garbage collector.)
 		states.Put(s)
 	}
-}
-
-// invoke calls a function with a name and, if it has a third argument, a number.
-func invoke(at uintptr, name string, x uintptr) uintptr {
-	s := stateWith(name, 0)
-	result := s.call(at, uint64(nameAt), uint64(len(name)), uint64(x), 0, 0)
-	s.done()
 	return uintptr(result)
 }
 
-// invokeInto calls a function with a name, a number and what it writes to.
-func invokeInto(at uintptr, name string, x uintptr, out []byte) uintptr {
-	s := stateWith(name, len(out))
-	to := uint64(nameAt + len(name))
-	result := s.call(at, uint64(nameAt), uint64(len(name)), uint64(x), to, uint64(len(out)))
-	copy(out, s.m[to:])
-	s.done()
-	return uintptr(result)
+// numberOf calls a function that is about a name of a kind.
+func numberOf(at, kind uintptr, name string, flags uintptr) uintptr {
+	return invokeOfKind(at, kind, name, flags, nil)
 }
 
-// invokeForText calls a function with a name and what it writes to.
-func invokeForText(at uintptr, name string, text []byte) uintptr {
-	s := stateWith(name, len(text))
-	to := uint64(nameAt + len(name))
-	result := s.call(at, uint64(nameAt), uint64(len(name)), to, uint64(len(text)), 0)
-	copy(text, s.m[to:])
-	s.done()
-	return uintptr(result)
+// invokeOfKind calls a function that is about a name of a kind, and may write.
+func invokeOfKind(at, kind uintptr, name string, flags uintptr, out []byte) uintptr {
+	s, to := stateWith(name, out)
+	x := [7]uint64{uint64(kind), uint64(nameAt), uint64(len(name)), uint64(flags), to, uint64(len(out))}
+	return s.invoke(at, x, to, out)
 }
 
-// invokeInPlace calls a function with what it reads and writes, and the length of what it reads.
-func invokeInPlace(at uintptr, buffer []byte, length int) uintptr {
-	s := stateWith("", len(buffer))
-	copy(s.m[nameAt:], buffer)
-	result := s.call(at, uint64(nameAt), uint64(len(buffer)), uint64(length), 0, 0)
-	copy(buffer, s.m[nameAt:])
-	s.done()
-	return uintptr(result)
+// invokeOfMany calls a function that is about many names of a kind, and writes.
+func invokeOfMany(at, kind uintptr, names string, flags uintptr, end byte, out []byte) uintptr {
+	s, to := stateWith(names, out)
+	x := [7]uint64{
+		uint64(kind), uint64(nameAt), uint64(len(names)), uint64(flags), uint64(end), to, uint64(len(out)),
+	}
+	return s.invoke(at, x, to, out)
+}
+
+// invokeOfName calls a function that is about a name, and may write.
+func invokeOfName(at uintptr, name string, out []byte) uintptr {
+	s, to := stateWith(name, out)
+	return s.invoke(at, [7]uint64{uint64(nameAt), uint64(len(name)), to, uint64(len(out))}, to, out)
 }
 
 func bit(condition bool) uint32 {

@@ -4,39 +4,28 @@ import (
 	"errors"
 	"fmt"
 
-	"dihareku/gitnames"
+	"dihareku.example/gitnames"
 )
 
 func Example() {
-	for _, name := range []string{"v1.2.3", "v1..2"} {
-		if err := gitnames.CheckTag(name); err != nil {
-			fmt.Printf("%s: %v\n", name, err)
+	for _, name := range []string{"main", "feature/.hidden"} {
+		if err := gitnames.CheckBranch(name); err != nil {
+			fmt.Println(err)
 		}
 	}
-	// Output: v1..2: A ref must not contain '..' as it may be mistaken for a range
+	// Output: gitnames: Reference name cannot start with a dot ('.' at byte 8, in ".hidden")
 }
 
 func ExampleError() {
-	name := "refs/heads/a b"
-	err := gitnames.CheckRef(name)
-	fmt.Println(errors.Is(err, gitnames.InvalidByte))
+	err := gitnames.CheckRef("refs/heads/a b")
+	fmt.Println(errors.Is(err, gitnames.ErrInvalidByte))
 	var invalid *gitnames.Error
 	if errors.As(err, &invalid) {
-		fmt.Printf("%v at %d, which is %q: %v\n", invalid.Fault, invalid.Offset, name[invalid.Offset], invalid)
+		fmt.Println(invalid.Kind, invalid.Fault, invalid.Offset())
 	}
 	// Output:
 	// true
-	// InvalidByte at 12, which is ' ': Reference name contains invalid byte: " "
-}
-
-func ExampleCheckComponent() {
-	fmt.Println(gitnames.CheckComponent("aux.c", gitnames.ProtectAll))
-	fmt.Println(gitnames.CheckComponent("aux.c", gitnames.ProtectHFS))
-	fmt.Println(gitnames.CheckComponent([]byte(".gitmodules"), gitnames.ProtectAll|gitnames.Symlink))
-	// Output:
-	// Windows device-names may have side-effects and are not allowed
-	// <nil>
-	// The .gitmodules file must not be a symlink
+	// Ref InvalidByte 12
 }
 
 func ExampleCheckBranch() {
@@ -44,20 +33,42 @@ func ExampleCheckBranch() {
 	fmt.Println(gitnames.CheckBranch("-d"))
 	// Output:
 	// <nil>
-	// Branch name cannot start with a dash, as it may be mistaken for an option
+	// gitnames: Branch or tag name cannot start with a dash, as it may be mistaken for an option ('-' at byte 0)
+}
+
+func ExampleCheckComponent() {
+	fmt.Println(gitnames.CheckComponent("aux.c", gitnames.ProtectAll))
+	fmt.Println(gitnames.CheckComponent("aux.c", gitnames.ProtectHFS))
+	// Output:
+	// gitnames: Windows device-names may have side-effects and are not allowed ('a' at byte 0)
+	// <nil>
 }
 
 func ExampleCheckPath() {
-	err := gitnames.CheckPath("src/.git/config", gitnames.ProtectAll)
-	var invalid *gitnames.Error
-	if errors.As(err, &invalid) {
-		fmt.Printf("at %d: %v\n", invalid.Offset, invalid)
-	}
-	// Output: at 4: The .git name may never be used
+	fmt.Println(gitnames.CheckPath("src/.GIT /config", gitnames.ProtectAll))
+	// Output: gitnames: The .git name may never be used ('.' at byte 4, in ".GIT ")
+}
+
+func ExampleCheckSafeRef() {
+	err := gitnames.CheckSafeRef("hooks/post-update", gitnames.ProtectAll)
+	fmt.Println(errors.Is(err, gitnames.ErrOutsideRefs))
+	// Output: true
+}
+
+func ExampleCheckSymlink() {
+	err := gitnames.CheckSymlink([]byte(".gitmodules"), gitnames.ProtectAll)
+	fmt.Println(errors.Is(err, gitnames.ErrSymlinkedGitModules))
+	// Output: true
+}
+
+func ExampleFaultOf() {
+	kind := gitnames.Tag // which may depend on a setting
+	fmt.Println(kind, gitnames.FaultOf(kind, "v1..2", 0))
+	// Output: Tag RepeatedDot
 }
 
 func ExampleFaults() {
-	for i, fault := range gitnames.Faults(gitnames.Ref, "HEAD\nmain\n", '\n') {
+	for i, fault := range gitnames.Faults(gitnames.Ref, "HEAD\nmain\n", '\n', 0) {
 		fmt.Println(i, fault)
 	}
 	// Output:
@@ -66,13 +77,21 @@ func ExampleFaults() {
 }
 
 func ExampleFaultsOf() {
-	names := []string{"v1.2.3", "v1..2"}
-	for i, fault := range gitnames.FaultsOf(gitnames.Tag, names) {
+	names := []string{"src/main.rs", "src/aux.c"}
+	for i, fault := range gitnames.FaultsOf(gitnames.Path, names, gitnames.ProtectAll) {
 		if fault != gitnames.Valid {
 			fmt.Println(names[i], fault)
 		}
 	}
-	// Output: v1..2 RepeatedDot
+	// Output: src/aux.c WindowsReservedName
+}
+
+func ExampleSuggestBranch() {
+	fmt.Println(gitnames.SuggestBranch("Fix: it's done.."))
+	fmt.Println(gitnames.SuggestBranch("..."))
+	// Output:
+	// Fix-it's-done true
+	//  false
 }
 
 func ExampleSanitize() {

@@ -1,10 +1,9 @@
 package gitnames
 
-import "fmt"
+import "strconv"
 
-// A Fault is why a name is invalid, or [Valid]. The numbers are stable.
-//
-// It is an error, so that [errors.Is] finds it: errors.Is(err, gitnames.RepeatedDot).
+// A Fault is why a name is invalid, or [Valid]. The numbers are stable. It is no error: see
+// [Error], and variables such as [ErrRepeatedDot].
 type Fault uint8
 
 // Valid is not a fault: the name is valid.
@@ -36,6 +35,8 @@ const (
 	StartsWithDash          Fault = 22 // it starts with a dash, as an option of a command does
 	EmptyPart               Fault = 23 // a part is empty: a slash is first or last, or follows another one, or the path is empty
 	Nul                     Fault = 24 // it has a NUL byte, although each part is a component
+	OutsideRefs             Fault = 25 // it is not below refs/, and has a byte other than A to Z and _
+	Disguised               Fault = 26 // a part may be taken for . or ..
 )
 
 var faultNames = [...]string{
@@ -43,7 +44,7 @@ var faultNames = [...]string{
 	"InvalidByte", "StartsWithSlash", "RepeatedSlash", "RepeatedDot", "LockFileSuffix", "ReflogPortion", "Asterisk",
 	"StartsWithDot", "EndsWithDot", "EndsWithSlash", "Empty", "SomeLowercase", "Reserved", "ParentComponent",
 	"PathSeparator", "WindowsPathPrefix", "WindowsReservedName", "WindowsIllegalCharacter", "DotGitDir",
-	"SymlinkedGitModules", "Relative", "StartsWithDash", "EmptyPart", "Nul",
+	"SymlinkedGitModules", "Relative", "StartsWithDash", "EmptyPart", "Nul", "OutsideRefs", "Disguised",
 }
 
 // String is the fault's name, such as RepeatedDot, and Valid for 0.
@@ -51,34 +52,43 @@ func (f Fault) String() string {
 	if int(f) < len(faultNames) {
 		return faultNames[f]
 	}
-	return fmt.Sprintf("Fault(%d)", uint8(f))
+	return "Fault(" + strconv.Itoa(int(f)) + ")"
 }
 
-// Error is the fault's name. The *[Error] of a name says more.
-func (f Fault) Error() string {
-	return f.String()
-}
+// The errors that [errors.Is] finds, one for each fault.
+var (
+	ErrInvalidByte             error = faultError(InvalidByte)
+	ErrStartsWithSlash         error = faultError(StartsWithSlash)
+	ErrRepeatedSlash           error = faultError(RepeatedSlash)
+	ErrRepeatedDot             error = faultError(RepeatedDot)
+	ErrLockFileSuffix          error = faultError(LockFileSuffix)
+	ErrReflogPortion           error = faultError(ReflogPortion)
+	ErrAsterisk                error = faultError(Asterisk)
+	ErrStartsWithDot           error = faultError(StartsWithDot)
+	ErrEndsWithDot             error = faultError(EndsWithDot)
+	ErrEndsWithSlash           error = faultError(EndsWithSlash)
+	ErrEmpty                   error = faultError(Empty)
+	ErrSomeLowercase           error = faultError(SomeLowercase)
+	ErrReserved                error = faultError(Reserved)
+	ErrParentComponent         error = faultError(ParentComponent)
+	ErrPathSeparator           error = faultError(PathSeparator)
+	ErrWindowsPathPrefix       error = faultError(WindowsPathPrefix)
+	ErrWindowsReservedName     error = faultError(WindowsReservedName)
+	ErrWindowsIllegalCharacter error = faultError(WindowsIllegalCharacter)
+	ErrDotGitDir               error = faultError(DotGitDir)
+	ErrSymlinkedGitModules     error = faultError(SymlinkedGitModules)
+	ErrRelative                error = faultError(Relative)
+	ErrStartsWithDash          error = faultError(StartsWithDash)
+	ErrEmptyPart               error = faultError(EmptyPart)
+	ErrNul                     error = faultError(Nul)
+	ErrOutsideRefs             error = faultError(OutsideRefs)
+	ErrDisguised               error = faultError(Disguised)
+)
 
-// An Error says why a name is invalid. Its text doesn't have the name.
-type Error struct {
-	// Fault is the first one, in the order of docs/RULES.md.
-	Fault Fault
-	// Offset is where in the name of a tag, reference or branch the fault is, in bytes: in
-	// a..b that of the second dot, and of an [InvalidByte] that of the byte. A fault of
-	// the end is at the last byte, that of an empty name at 0. In a path it is where the
-	// first invalid part begins. It is -1 where a tag of that name would be valid, and
-	// for submodules and components.
-	Offset int
+// A faultError is what errors.Is compares with. (A Fault is no error, since Valid would be one.)
+type faultError Fault
 
-	text string
-}
-
-// Error is the fault's text: one line of ASCII, in which a byte or a name is quoted.
-func (e *Error) Error() string {
-	return e.text
-}
-
-// Unwrap returns the fault, for [errors.Is].
-func (e *Error) Unwrap() error {
-	return e.Fault
+// Error has the fault's name.
+func (f faultError) Error() string {
+	return "gitnames: " + Fault(f).String()
 }

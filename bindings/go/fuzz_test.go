@@ -5,9 +5,10 @@ package gitnames
 import (
 	"bytes"
 	"errors"
+	"strings"
 	"testing"
 
-	"dihareku/gitnames/internal/clibrary"
+	"dihareku.example/gitnames/internal/clibrary"
 )
 
 // FuzzNextToC compares each call with the library for C, which bindings/build builds.
@@ -16,36 +17,18 @@ func FuzzNextToC(f *testing.F) {
 	if err != nil {
 		f.Fatal(err)
 	}
-	for _, name := range []string{"", "HEAD", "refs/heads/a..b", "a\n\n.b/c.lock", "NUL .txt", ".git\u200c", "@{\x00"} {
+	for _, name := range []string{
+		"", "HEAD", "refs/heads/a..b", "a\n\n.b/c.lock", "NUL .txt", ".git\u200c", "@{\x00", "a/.. /b", "hooks/x", "-x",
+	} {
 		f.Add([]byte(name), uint8(ProtectAll), byte('\n'))
 	}
 	f.Fuzz(func(t *testing.T, name []byte, flags uint8, end byte) {
-		text := string(name)
-		for kind, call := range calls {
-			for _, err := range []error{call.ofBytes(name), call.ofString(text)} {
-				compare(t, err, library.Code(kind, text, 0), library.Text(kind, text, 0))
+		text, protect := string(name), Protections(flags) // (other bits say nothing)
+		for _, call := range calls {
+			for _, err := range []error{call.ofBytes(name, protect), call.ofString(text, protect)} {
+				compare(t, library, call.kind, text, protect, err)
 			}
-			if found := Faults(call.kind, name, end); !bytes.Equal(numbers(found), library.Many(kind, text, end)) {
-				t.Errorf("%s: %v", kind, found)
-			}
-			list := bytes.Split(name, []byte{end})
-			for i, fault := range FaultsOf(call.kind, list) {
-				if uint32(fault) != library.Code(kind, string(list[i]), 0) {
-					t.Errorf("%s %q: %v", kind, list[i], fault)
-				}
-			}
-		}
-		all := Flags(flags) | 0xFFFFFF00 // (other flags say nothing)
-		compare(t, CheckComponent(name, all), library.Code("component", text, uint32(flags)),
-			library.Text("component", text, uint32(flags)))
-		compare(t, CheckPath(name, all), library.Code("path", text, uint32(flags)),
-			library.Text("path", text, uint32(flags)))
-		var invalid *Error
-		if errors.As(CheckPath(name, all), &invalid) && invalid.Offset != library.PathOffset(text, uint32(flags)) {
-			t.Errorf("the offset %d of the path", invalid.Offset)
-		}
-		if errors.As(CheckTag(name), &invalid) && invalid.Offset != library.Offset(text) {
-			t.Errorf("the offset %d", invalid.Offset)
+			compareMany(t, library, call.kind, name, protect, end)
 		}
 		if IsWindowsDevice(name) != library.IsWindowsDevice(text) {
 			t.Error("the device")
@@ -54,23 +37,41 @@ func FuzzNextToC(f *testing.F) {
 		if repaired != library.Sanitize(text) || repaired != Sanitize(text) || CheckPartialRef(repaired) != nil {
 			t.Errorf("it is repaired to %q", repaired)
 		}
+		suggested, ok := SuggestBranch(name)
+		if string(suggested) != library.Suggest(text) || ok != (CheckBranch(suggested) == nil) {
+			t.Errorf("%q is suggested", suggested)
+		}
 		if string(name) != text {
 			t.Errorf("it has changed to %q", name)
 		}
 	})
 }
 
-func compare(t *testing.T, err error, code uint32, text string) {
+func compare(t *testing.T, library clibrary.Library, kind Kind, name string, protect Protections, err error) {
+	number, flags := uint32(kind), uint32(protect)
+	fault := library.Fault(number, name, flags)
 	var invalid *Error
-	if errors.As(err, &invalid) != (code != 0) || invalid != nil && (uint32(invalid.Fault) != code || invalid.Error() != text) {
-		t.Errorf("%v, not %d, %s", err, code, text)
+	if errors.As(err, &invalid) != (fault != 0) {
+		t.Errorf("%v: %v, not %d", kind, err, fault)
+	}
+	if invalid == nil {
+		return
+	}
+	text, offset := library.Text(number, name, flags), library.Offset(number, name, flags)
+	if uint32(invalid.Fault) != fault || invalid.Offset() != offset || !strings.HasPrefix(err.Error(), "gitnames: "+text) {
+		t.Errorf("%v: %#v, not %d at %d: %s", kind, invalid, fault, offset, text)
 	}
 }
 
-func numbers(faults []Fault) []byte {
-	numbers := make([]byte, len(faults))
-	for i, fault := range faults {
-		numbers[i] = byte(fault)
+func compareMany(t *testing.T, library clibrary.Library, kind Kind, names []byte, protect Protections, end byte) {
+	wanted := library.Faults(uint32(kind), string(names), uint32(protect), end)
+	if found := Faults(kind, names, end, protect); !bytes.Equal(bytesOf(found), wanted) {
+		t.Errorf("%v: %v", kind, found)
 	}
-	return numbers
+	list := bytes.Split(names, []byte{end})
+	for i, fault := range FaultsOf(kind, list, protect) {
+		if uint32(fault) != library.Fault(uint32(kind), string(list[i]), uint32(protect)) {
+			t.Errorf("%v %q: %v", kind, list[i], fault)
+		}
+	}
 }

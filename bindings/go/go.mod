@@ -1,3 +1,3 @@
-module dihareku/gitnames
+module dihareku.example/gitnames
 
 go 1.19

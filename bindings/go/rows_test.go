@@ -1,7 +1,6 @@
 package gitnames
 
 import (
-	"bytes"
 	"errors"
 	"fmt"
 	"os"
@@ -12,24 +11,44 @@ import (
 
 // A call for one name, as tests/rows has it, with a string and with a []byte.
 type call struct {
-	ofString func(string) error
-	ofBytes  func([]byte) error
 	kind     Kind
+	ofString func(string, Protections) error
+	ofBytes  func([]byte, Protections) error
 }
 
 var calls = map[string]call{
-	"tag":          {CheckTag[string], CheckTag[[]byte], Tag},
-	"partial":      {CheckPartialRef[string], CheckPartialRef[[]byte], PartialRef},
-	"full":         {CheckRef[string], CheckRef[[]byte], Ref},
-	"branch":       {CheckBranchRef[string], CheckBranchRef[[]byte], BranchRef},
-	"short_branch": {CheckBranch[string], CheckBranch[[]byte], Branch},
-	"submodule":    {CheckSubmodule[string], CheckSubmodule[[]byte], Submodule},
+	"branch":       unprotected(Branch, CheckBranch[string], CheckBranch[[]byte]),
+	"branch-ref":   unprotected(BranchRef, CheckBranchRef[string], CheckBranchRef[[]byte]),
+	"tag":          unprotected(Tag, CheckTag[string], CheckTag[[]byte]),
+	"ref":          unprotected(Ref, CheckRef[string], CheckRef[[]byte]),
+	"partial":      unprotected(PartialRef, CheckPartialRef[string], CheckPartialRef[[]byte]),
+	"tag-name":     unprotected(TagName, CheckTagName[string], CheckTagName[[]byte]),
+	"safe-ref":     {SafeRef, CheckSafeRef[string], CheckSafeRef[[]byte]},
+	"path":         {Path, CheckPath[string], CheckPath[[]byte]},
+	"symlink-path": {SymlinkPath, CheckSymlinkPath[string], CheckSymlinkPath[[]byte]},
+	"component":    {Component, CheckComponent[string], CheckComponent[[]byte]},
+	"symlink":      {Symlink, CheckSymlink[string], CheckSymlink[[]byte]},
+	"submodule":    {Submodule, CheckSubmodule[string], CheckSubmodule[[]byte]},
 }
 
-var letters = map[rune]Flags{'w': ProtectWindows, 'h': ProtectHFS, 'n': ProtectNTFS, 's': Symlink}
+func unprotected(kind Kind, ofString func(string) error, ofBytes func([]byte) error) call {
+	return call{
+		kind,
+		func(name string, _ Protections) error { return ofString(name) },
+		func(name []byte, _ Protections) error { return ofBytes(name) },
+	}
+}
 
-// A row of tests/rows: its call with what follows a colon, its name, and the rest.
-type row struct{ call, setting, name, answer string }
+// The calls that are about no kind.
+var others = map[string]func(*testing.T, row){
+	"device": testDevice, "many": testMany, "sanitize": testSanitize, "suggest": testSuggest,
+}
+
+var letters = map[rune]Protections{'w': ProtectWindows, 'h': ProtectHFS, 'n': ProtectNTFS}
+
+// A row of tests/rows: its call with what follows a colon, the kind of many names, its name,
+// and the rest.
+type row struct{ call, setting, kind, name, answer string }
 
 // quoted splits a text that begins with a quoted one into its bytes and the rest.
 func quoted(t *testing.T, text string) (string, string) {
@@ -54,10 +73,11 @@ func rowsOf(t *testing.T) []row {
 		if line == "" || line[0] == '#' {
 			continue
 		}
-		call, rest, _ := strings.Cut(line, " ")
-		name, answer := quoted(t, rest)
-		call, setting, _ := strings.Cut(call, ":")
-		rows = append(rows, row{call, setting, name, answer})
+		words, _, _ := strings.Cut(line, ` "`)
+		name, answer := quoted(t, line[len(words)+1:])
+		words, kind, _ := strings.Cut(words, " ")
+		call, setting, _ := strings.Cut(words, ":")
+		rows = append(rows, row{call, setting, kind, name, answer})
 	}
 	return rows
 }
@@ -73,89 +93,128 @@ func faultNamed(t *testing.T, name string) Fault {
 	return Valid
 }
 
-// wants fails unless the error is that of a row, which has a fault, perhaps its byte, and
-// perhaps its text.
-func wants(t *testing.T, it row, err error) {
-	word, text, _ := strings.Cut(it.answer, " ")
-	word, digits, hasByte := strings.Cut(word, ":")
-	if word == "Ok" {
-		if err != nil {
-			t.Errorf("%q: %v", it, err)
+// protectionsOf are those of the row's letters.
+func protectionsOf(t *testing.T, it row) Protections {
+	var protect Protections
+	for _, letter := range it.setting {
+		if letters[letter] == 0 {
+			t.Fatalf("%q: this setting is unknown", it)
 		}
-		return
+		protect |= letters[letter]
 	}
-	var invalid *Error
-	if !errors.As(err, &invalid) || invalid.Fault != faultNamed(t, word) || !errors.Is(err, invalid.Fault) {
-		t.Fatalf("%q: %v", it, err)
-	}
-	if text != "" && invalid.Error() != text {
-		t.Errorf("%q: it prints %s", it, invalid)
-	}
-	if found := it.name[max(0, invalid.Offset):]; hasByte && fmt.Sprintf("%02x", found[0]) != digits {
-		t.Errorf("%q: the byte at %d is %x", it, invalid.Offset, found[0])
-	}
-}
-
-func max(a, b int) int {
-	if a > b {
-		return a
-	}
-	return b
+	return protect
 }
 
 func TestEachCallReturnsWhatItsRowsSay(t *testing.T) {
 	seen := map[string]int{}
 	for _, it := range rowsOf(t) {
-		kind, isMany := it.call, strings.HasSuffix(it.call, "_many")
-		switch call, isKnown := calls[strings.TrimSuffix(it.call, "_many")]; {
-		case isKnown && isMany:
-			testMany(t, it, call.kind)
-		case isKnown:
-			wants(t, it, call.ofString(it.name))
-			wants(t, it, call.ofBytes([]byte(it.name)))
-			testInLists(t, it, call.kind)
-		case kind == "component":
-			flags := flagsOf(t, it)
-			wants(t, it, CheckComponent(it.name, flags))
-			wants(t, it, CheckComponent([]byte(it.name), flags))
-		case kind == "path":
-			flags := flagsOf(t, it)
-			wants(t, it, CheckPath(it.name, flags))
-			wants(t, it, CheckPath([]byte(it.name), flags))
-		case kind == "path_offset":
-			testOffset(t, it, CheckPath(it.name, flagsOf(t, it)))
-		case kind == "device":
-			if answer := map[bool]string{true: "yes", false: "no"}[IsWindowsDevice(it.name)]; answer != it.answer {
-				t.Errorf("%q: %s", it, answer)
-			}
-		case kind == "offset":
-			testOffset(t, it, CheckTag(it.name))
-		case kind == "sanitize":
-			testSanitize(t, it)
-		default:
+		if call, isKind := calls[it.call]; isKind {
+			testCall(t, it, call)
+		} else if test := others[it.call]; test != nil {
+			test(t, it)
+		} else {
 			t.Fatalf("%q: this call is unknown", it)
 		}
-		seen[kind]++
+		seen[it.call]++
 	}
-	for name := range calls {
-		if seen[name] == 0 || seen[name+"_many"] == 0 {
-			t.Errorf("there are no rows of %s", name)
+	if len(seen) != len(calls)+len(others) {
+		t.Errorf("there are only rows of %v", seen)
+	}
+}
+
+// testCall fails unless each call for a kind returns what the row says: a fault, perhaps with
+// its byte and its offset, and perhaps its text.
+func testCall(t *testing.T, it row, call call) {
+	protect := protectionsOf(t, it)
+	word, text, _ := strings.Cut(it.answer, " ")
+	word, offset, _ := strings.Cut(word, "@")
+	word, digits, _ := strings.Cut(word, ":")
+	fault := faultNamed(t, word)
+	for _, err := range []error{call.ofString(it.name, protect), call.ofBytes([]byte(it.name), protect)} {
+		if fault == Valid {
+			if err != nil {
+				t.Errorf("%q: %v", it, err)
+			}
+			continue
+		}
+		invalid := errorOf(t, it, err)
+		at := invalid.Offset()
+		if *invalid != (Error{Kind: call.kind, Fault: fault, Name: it.name, protect: protect}) {
+			t.Errorf("%q: %#v", it, invalid)
+		}
+		if !errors.Is(err, faultError(fault)) || errors.Is(err, faultError(fault+1)) {
+			t.Errorf("%q: it is another error", it)
+		}
+		if offset != "" && fmt.Sprint(at) != offset {
+			t.Errorf("%q: the offset is %d", it, at)
+		}
+		if digits != "" && fmt.Sprintf("%02x", it.name[at]) != digits {
+			t.Errorf("%q: the byte at %d is %x", it, at, it.name[at])
+		}
+		if said := strings.TrimPrefix(err.Error(), "gitnames: "+text); said == err.Error() || (text != "" && said != place(it.name, at)) {
+			t.Errorf("%q: it prints %s", it, err)
 		}
 	}
-	for _, name := range []string{"component", "device", "offset", "path", "path_offset", "sanitize"} {
-		if seen[name] == 0 {
-			t.Errorf("there are no rows of %s", name)
+	testManyOf(t, it, call.kind, protect, fault)
+}
+
+// errorOf is the error, whose offset is in the name or at its end.
+func errorOf(t *testing.T, it row, err error) *Error {
+	var invalid *Error
+	if !errors.As(err, &invalid) || invalid.Offset() < 0 || invalid.Offset() > len(it.name) {
+		t.Fatalf("%q: %#v", it, err)
+	}
+	return invalid
+}
+
+// place is what an error says of the offset, after the text.
+func place(name string, offset int) string {
+	if name == "" {
+		return ""
+	}
+	if offset == len(name) {
+		return " (at the end)"
+	}
+	char := fmt.Sprintf("%+q", name[offset:offset+1])
+	char = strings.NewReplacer(`\"`, `"`, `'`, `\'`).Replace(char[1 : len(char)-1])
+	start := strings.LastIndex("/"+name[:offset], "/")
+	piece := strings.Split(name[start:], "/")[0]
+	if piece == "" || piece == name {
+		return fmt.Sprintf(" ('%s' at byte %d)", char, offset)
+	}
+	return fmt.Sprintf(" ('%s' at byte %d, in %q)", char, offset, piece)
+}
+
+// testManyOf fails unless many names which are the row's have the fault.
+func testManyOf(t *testing.T, it row, kind Kind, protect Protections, fault Fault) {
+	end := byte(0)
+	for strings.IndexByte(it.name, end) >= 0 {
+		end++
+	}
+	last := string([]byte{end})
+	joined, bytes := it.name+last+it.name+last, []byte(it.name)
+	for _, found := range [][]Fault{
+		{FaultOf(kind, it.name, protect), FaultOf(kind, bytes, protect)},
+		Faults(kind, joined, end, protect),
+		FaultsOf(kind, []string{it.name, it.name}, protect),
+		FaultsOf(kind, [][]byte{bytes, bytes}, protect),
+	} {
+		if len(found) != 2 || found[0] != fault || found[1] != fault {
+			t.Errorf("%q: %v", it, found)
 		}
 	}
 }
 
-func testMany(t *testing.T, it row, kind Kind) {
+func testMany(t *testing.T, it row) {
 	end, err := strconv.ParseUint(it.setting, 16, 8)
-	if err != nil {
+	call, isKind := calls[it.kind]
+	if err != nil || !isKind {
 		t.Fatalf("%q: %v", it, err)
 	}
 	words := strings.Fields(it.answer)
-	for _, found := range [][]Fault{Faults(kind, it.name, byte(end)), Faults(kind, []byte(it.name), byte(end))} {
+	for _, found := range [][]Fault{
+		Faults(call.kind, it.name, byte(end), 0), Faults(call.kind, []byte(it.name), byte(end), 0),
+	} {
 		if fmt.Sprint(len(found)) != words[0] || len(found) != len(words)-1 {
 			t.Fatalf("%q: %v", it, found)
 		}
@@ -167,40 +226,10 @@ func testMany(t *testing.T, it row, kind Kind) {
 	}
 }
 
-// testInLists fails unless a list of the row's name, before and after a valid and an
-// invalid one, has the faults of each.
-func testInLists(t *testing.T, it row, kind Kind) {
-	word, _, _ := strings.Cut(it.answer, " ")
-	word, _, _ = strings.Cut(word, ":")
-	fault := faultNamed(t, word)
-	ofStrings := FaultsOf(kind, []string{it.name, "A/B", "", it.name})
-	ofBytes := FaultsOf(kind, [][]byte{[]byte(it.name), []byte("A/B"), nil, []byte(it.name)})
-	wanted := fmt.Sprint([]Fault{fault, Valid, Empty, fault})
-	if fmt.Sprint(ofStrings) != wanted || fmt.Sprint(ofBytes) != wanted {
-		t.Errorf("%q: %v, %v", it, ofStrings, ofBytes)
-	}
-}
-
-// flagsOf are those of the row's letters.
-func flagsOf(t *testing.T, it row) Flags {
-	var flags Flags
-	for _, letter := range it.setting {
-		if letters[letter] == 0 {
-			t.Fatalf("%q: this setting is unknown", it)
-		}
-		flags |= letters[letter]
-	}
-	return flags
-}
-
-func testOffset(t *testing.T, it row, err error) {
-	answer := "none"
-	var invalid *Error
-	if errors.As(err, &invalid) {
-		answer = fmt.Sprint(invalid.Offset)
-	}
-	if answer != it.answer {
-		t.Errorf("%q: %s", it, answer)
+func testDevice(t *testing.T, it row) {
+	answer := map[bool]string{true: "yes", false: "no"}
+	if answer[IsWindowsDevice(it.name)] != it.answer || answer[IsWindowsDevice([]byte(it.name))] != it.answer {
+		t.Errorf("%q", it)
 	}
 }
 
@@ -215,110 +244,16 @@ func testSanitize(t *testing.T, it row) {
 	}
 }
 
-func TestAnEmptyNameIsEmptyWhateverItsPointer(t *testing.T) {
-	for _, name := range [][]byte{nil, {}, make([]byte, 0, 8), []byte("a")[1:]} {
-		for called, call := range calls {
-			if err := call.ofBytes(name); !errors.Is(err, Empty) {
-				t.Errorf("%s: %v", called, err)
-			}
-			if found := Faults(call.kind, name, '\n'); len(found) != 0 {
-				t.Errorf("%s: %v", called, found)
-			}
-		}
-		if repaired := Sanitize(name); string(repaired) != "-" {
-			t.Errorf("it is repaired to %q", repaired)
-		}
+func testSuggest(t *testing.T, it row) {
+	wanted, isWanted := "", it.answer != "none"
+	if isWanted {
+		wanted, _ = quoted(t, it.answer)
 	}
-}
-
-func TestAListWithoutNamesHasNoFaults(t *testing.T) {
-	if found := FaultsOf(Tag, []string(nil)); len(found) != 0 {
-		t.Errorf("%v", found)
+	given := []byte(it.name)
+	if suggested, ok := SuggestBranch(it.name); suggested != wanted || ok != isWanted {
+		t.Errorf("%q: %q, %v", it, suggested, ok)
 	}
-}
-
-func TestAListMayHaveNamesWithNULs(t *testing.T) {
-	found := FaultsOf(Submodule, []string{"a\x00..", "", "..", "a\x00/.."})
-	if wanted := "[Valid Empty ParentComponent ParentComponent]"; fmt.Sprint(found) != wanted {
-		t.Errorf("%v", found)
-	}
-}
-
-func TestAnOffsetIsMinusOneWhereItIsNotKnown(t *testing.T) {
-	for _, err := range []error{
-		CheckRef("main"), CheckPartialRef("@"), CheckBranchRef("refs/heads/HEAD"), // valid tags
-		CheckBranch("-d"), CheckSubmodule("a/.."), CheckComponent(".git", ProtectAll),
-	} {
-		var invalid *Error
-		if !errors.As(err, &invalid) || invalid.Offset != -1 {
-			t.Errorf("%#v", err)
-		}
-	}
-}
-
-func TestAValidNameIsNotCopiedByARepair(t *testing.T) {
-	name := []byte("main")
-	if repaired := Sanitize(name); &repaired[0] != &name[0] {
-		t.Error("it is")
-	}
-}
-
-func TestARepairedNameIsOfTheTypeOfTheName(t *testing.T) {
-	type refName string
-	if repaired := Sanitize(refName("a..b")); repaired != refName("a.b") {
-		t.Errorf("%q", repaired)
-	}
-}
-
-func TestNamesOfAMebibyteAreChecked(t *testing.T) {
-	name := bytes.Repeat([]byte("a"), 1<<20)
-	if err := CheckTag(name); err != nil {
-		t.Error(err)
-	}
-	name[1<<20-1] = '*'
-	var invalid *Error
-	if !errors.As(CheckTag(name), &invalid) || invalid.Offset != 1<<20-1 {
-		t.Errorf("%#v", invalid)
-	}
-}
-
-func TestTheVersionIsThatOfTheRepository(t *testing.T) {
-	file, err := os.ReadFile("../../VERSION")
-	if err != nil {
-		t.Fatal(err)
-	}
-	major, minor, patch := Version()
-	version := strings.TrimSuffix(strings.TrimSpace(string(file)), "-dev")
-	if found := fmt.Sprintf("%d.%d.%d", major, minor, patch); found != version {
-		t.Errorf("%s, not %s", found, version)
-	}
-}
-
-func TestAFaultWithoutANameHasItsNumber(t *testing.T) {
-	if text := Fault(99).Error(); text != "Fault(99)" {
-		t.Error(text)
-	}
-}
-
-func TestCallsFromManyGoroutinesDoNotDisturbEachOther(t *testing.T) {
-	const goroutines, rounds = 8, 1000
-	wrong := make(chan string, goroutines)
-	for g := 0; g < goroutines; g++ {
-		go func() {
-			said := ""
-			for i := 0; i < rounds; i++ {
-				name := fmt.Sprintf("refs/heads/%d..x", i)
-				var invalid *Error
-				if !errors.As(CheckRef(name), &invalid) || invalid.Offset != len(name)-2 {
-					said = name
-				}
-			}
-			wrong <- said
-		}()
-	}
-	for g := 0; g < goroutines; g++ {
-		if said := <-wrong; said != "" {
-			t.Error(said)
-		}
+	if suggested, ok := SuggestBranch(given); string(suggested) != wanted || ok != isWanted || string(given) != it.name {
+		t.Errorf("%q: %q, %v, %q", it, suggested, ok, given)
 	}
 }

@@ -3,6 +3,7 @@ package gitnames
 import (
 	"bytes"
 	"errors"
+	"fmt"
 	"runtime"
 	"runtime/pprof"
 	"sync"
@@ -51,8 +52,18 @@ func checkOnStack(t *testing.T, length int) {
 	var invalid *Error
 	for round := 0; round < 10; round++ {
 		err := CheckTag(name[:length+1])
-		if !errors.As(err, &invalid) || invalid.Fault != Asterisk || invalid.Offset != length {
+		if !errors.As(err, &invalid) || invalid.Fault != Asterisk || invalid.Offset() != length {
 			t.Errorf("%d: %v", length, err)
+		}
+		said := fmt.Sprintf("gitnames: Reference name cannot contain '*' ('*' at byte %d)", length)
+		if err.Error() != said {
+			t.Errorf("%d: %v", length, err)
+		}
+		if found := Faults(Tag, name[:length+1], 'a', 0); len(found) != length+1 || found[length] != Asterisk {
+			t.Errorf("%d: %v", length, found)
+		}
+		if suggested, ok := SuggestBranch(name[:length+1]); ok != (length > 0) || len(suggested) != length {
+			t.Errorf("%d: %q", length, suggested)
 		}
 		if repaired := Sanitize(name[:length+1]); repaired[length] != '-' {
 			t.Errorf("%d: %q", length, repaired)

@@ -1,18 +1,19 @@
 /**
- * Validation of the names that Git uses, and the repair of a bad reference
- * name.
+ * Checks of the names that Git uses, and repairs of bad names.
  *
- *     import { tagName, sanitize } from "gix-validate";
- *     tagName("v1.2.3");                   // "v1.2.3"
- *     sanitize("refs//heads/../x.lock");   // "refs/heads/-/x"
- *     tagName("v1..2");                    // throws InvalidName
- *     // (whose .fault is "RepeatedDot")
+ *     import { checkBranch, suggestBranch } from "gix-validate";
+ *     checkBranch("main");                 // null: it is valid
+ *     checkBranch("my branch");
+ *     // { fault: "InvalidByte", index: 2, message:
+ *     //   'Reference name contains invalid byte: " " (" " at index 2)' }
+ *     suggestBranch("Fix: it's done..");   // "Fix-it's-done"
  *
- * A name is a string, which is checked in UTF-8 and has to be well-formed, or
- * bytes of any values, which are copied. Anything else is a TypeError, as is a
- * string with half of a surrogate pair, or an array whose buffer was
- * transferred. Memory for long names is kept; if there is none, the error is a
- * RangeError.
+ * The first call compiles 44 kB of WebAssembly. Where that isn't allowed, each
+ * call throws an Error: see `ready`.
+ *
+ * A name is a string, which is checked as UTF-8, or bytes of any values.
+ * Anything else is a TypeError, as is an array whose buffer was transferred.
+ * Memory for long names is kept. If there is none, the error is a RangeError.
  */
 
 /** A string, or bytes (a Buffer, too). */
@@ -20,11 +21,11 @@ export type Name = string|Uint8Array;
 
 /** Why a name is invalid, in the spelling of the Rust crate. */
 // clang-format off
-export type Fault =
+export type NumberedFault =
     | "InvalidByte" | "StartsWithSlash" | "RepeatedSlash" | "RepeatedDot" | "LockFileSuffix" | "ReflogPortion" | "Asterisk"
     | "StartsWithDot" | "EndsWithDot" | "EndsWithSlash" | "Empty" | "SomeLowercase" | "Reserved" | "ParentComponent"
     | "PathSeparator" | "WindowsPathPrefix" | "WindowsReservedName" | "WindowsIllegalCharacter" | "DotGitDir"
-    | "SymlinkedGitModules" | "Relative" | "StartsWithDash" | "EmptyPart" | "Nul";
+    | "SymlinkedGitModules" | "Relative" | "StartsWithDash" | "EmptyPart" | "Nul" | "OutsideRefs" | "Disguised";
 
 // clang-format on
 
@@ -32,174 +33,340 @@ export type Fault =
  * The faults by their numbers, which are stable, and those of gix_validate.h.
  * That of a valid name, 0, is null.
  */
-export const FAULTS: readonly(Fault | null)[];
-
-/** A kind of name whose names can be checked in one buffer. */
-export type BufferKind =
-    "tag"|"partial"|"full"|"branch"|"short_branch"|"submodule";
-
-/** A kind of name. */
-export type Kind = BufferKind|"component"|"path";
+export const FAULTS: readonly(NumberedFault | null)[];
 
 /**
- * What a path component is protected against, and whether it is to be a
- * symbolic link, which .gitmodules may not be.
+ * Why a name is invalid. A string may also have a lone surrogate, for which
+ * there is no UTF-8.
  */
-export interface ComponentOptions {
-  /**
-   * By default true, as is right for a server, and wherever it isn't known
-   * where a name will be checked out.
-   */
-  readonly windows?: boolean|undefined;
-  /** By default true. */
-  readonly hfs?: boolean|undefined;
-  /**
-   * By default true. Devices, as "NUL", and what Windows forbids, as a dot at
-   * the end, need `windows` and `ntfs`.
-   */
-  readonly ntfs?: boolean|undefined;
-  /** By default false. */
-  readonly symlink?: boolean|undefined;
-}
+export type Fault = NumberedFault|"LoneSurrogate";
 
-/**
- * A name that is invalid. Its message is the name, of which it shows 200 bytes
- * at most, and the text of the fault.
- */
-export class InvalidName extends Error {
-  private constructor();
-  readonly name: "InvalidName";
-  /** The name, as it was passed. */
-  readonly input: Name;
+/** What is wrong with a name. */
+export interface InvalidName {
   /** The first fault, in the order of docs/RULES.md. */
   readonly fault: Fault;
-  /** Its text, in English. */
-  readonly text: string;
-  /** The byte, if the fault is InvalidByte, otherwise null. */
-  readonly byte: number|null;
+  /**
+   * A line in English for people: what is wrong, and where. It shows the
+   * character at the index, and, if the name has a slash, what is between the
+   * slashes around it, in quotes and with escapes.
+   */
+  readonly message: string;
+  /**
+   * Where the fault is, from 0 on: the index into the string, in UTF-16 code
+   * units, or into the array of bytes. It is the length of the name if
+   * something is missing at the end, as in the path "a/".
+   */
+  readonly index: number;
 }
 
 /**
- * Returns a valid name of a tag, such as "v1.2.3"; otherwise throws
- * InvalidName.
+ * The systems against whose special names a path is protected. By default all
+ * are true, as is right for a server, and wherever it isn't known where a name
+ * will be checked out.
  */
-export function tagName<N extends Name>(name: N): N;
-/**
- * Returns a valid partial name of a reference, such as "main"; otherwise
- * throws InvalidName.
- */
-export function partialName<N extends Name>(name: N): N;
-/**
- * Returns a valid full name of a reference; otherwise throws InvalidName. It
- * has a slash, as "refs/heads/main", or no byte but A to Z and _, as "HEAD".
- */
-export function fullName<N extends Name>(name: N): N;
-/**
- * Returns a full name other than "refs/heads/HEAD"; otherwise throws
- * InvalidName. "HEAD" and "refs/tags/v1" pass too, and "main" doesn't:
- * `shortBranchName` is for what people write.
- */
-export function branchName<N extends Name>(name: N): N;
-/**
- * Returns the short name of a branch, such as "main"; otherwise throws
- * InvalidName. With "refs/heads/" before it, it is the full name of a branch,
- * and it doesn't start with a dash.
- */
-export function shortBranchName<N extends Name>(name: N): N;
-/**
- * Returns a valid name of a submodule, such as "vendor/package"; otherwise
- * throws InvalidName.
- */
-export function submoduleName<N extends Name>(name: N): N;
-/**
- * Returns what may be one component of a path, such as "src"; otherwise throws
- * InvalidName.
- */
-export function pathComponent<N extends Name>(
-    name: N, options?: ComponentOptions): N;
+export interface Protections {
+  /** What Windows reads otherwise than Git, as "a\b" and "c:". */
+  readonly windows?: boolean|undefined;
+  /** What HFS+ of macOS takes for ".git", as ".g\u200cit". */
+  readonly hfs?: boolean|undefined;
+  /**
+   * What NTFS takes for ".git", as "git~1". Devices, as "NUL", and what Windows
+   * forbids, as a dot at the end, need `windows` and `ntfs`.
+   */
+  readonly ntfs?: boolean|undefined;
+}
+
+/** A kind of name whose check has protections. */
+export type ProtectedKind =
+    "safeRef"|"path"|"symlinkPath"|"component"|"symlink"|"submodule";
+
+/** A kind of name: that of `checkBranch` is "branch", and so on. */
+export type Kind =
+    "branch"|"branchRef"|"tag"|"ref"|"partialRef"|"tagName"|ProtectedKind;
 
 /**
- * Returns a path, such as "src/main.rs", of which each part between slashes is
- * a component; otherwise throws InvalidName. `symlink` is for the last part
- * alone. The fault is that of the first part that has one, which begins at
- * `pathOffset`. It is EmptyPart for a slash at the end, too: cut off that of a
- * folder in an archive, such as "dir/".
+ * Checks a branch name as people write it, such as "main".
+ *
+ * With "refs/heads/" before it, a valid name is the full name of a branch. It
+ * doesn't start with a dash, and isn't "HEAD".
+ *
+ * @param name A string, or bytes of UTF-8.
+ * @returns null if the name is valid, and otherwise what is wrong with it.
+ * @throws {TypeError} It isn't a string or a Uint8Array.
+ * @example
+ * checkBranch("feature/login");          // null
+ * checkBranch("feature//login")?.index;  // 8
  */
-export function path<N extends Name>(name: N, options?: ComponentOptions): N;
-
-/** Whether `tagName` returns the name. */
-export function isValidTagName(name: Name): boolean;
-/** Whether `partialName` returns the name. */
-export function isValidPartialName(name: Name): boolean;
-/** Whether `fullName` returns the name. */
-export function isValidFullName(name: Name): boolean;
-/** Whether `branchName` returns the name. */
-export function isValidBranchName(name: Name): boolean;
-/** Whether `shortBranchName` returns the name. */
-export function isValidShortBranchName(name: Name): boolean;
-/** Whether `submoduleName` returns the name. */
-export function isValidSubmoduleName(name: Name): boolean;
-/** Whether `pathComponent` returns the name. */
-export function isValidPathComponent(
-    name: Name, options?: ComponentOptions): boolean;
-
-/** Whether `path` returns the name. */
-export function isValidPath(name: Name, options?: ComponentOptions): boolean;
+export function checkBranch(name: Name): InvalidName|null;
 
 /**
- * The offset in bytes of the part for which `path` refuses the name: in
- * "src/.git/a" it is 4. It is -1 if `path` returns the name.
+ * Checks the full name of a branch, such as "refs/heads/main".
+ *
+ * It is `checkRef`, but that "refs/heads/HEAD" is invalid. "HEAD" and
+ * "refs/tags/v1" are valid, since a branch may stand there, and "main" isn't.
+ *
+ * @param name A string, or bytes of UTF-8.
+ * @returns null if the name is valid, and otherwise what is wrong with it.
+ * @throws {TypeError} It isn't a string or a Uint8Array.
+ * @example
+ * checkBranchRef("refs/heads/main");  // null
+ * checkBranchRef("main")?.fault;      // "SomeLowercase"
  */
-export function pathOffset(name: Name, options?: ComponentOptions): number;
+export function checkBranchRef(name: Name): InvalidName|null;
 
 /**
- * Whether Windows takes the name for a device, such as "NUL" and "com1.txt".
+ * Checks a tag name as people write it, such as "v1.2.3".
+ *
+ * With "refs/tags/" before it, a valid name is the full name of a tag. It
+ * doesn't start with a dash, and isn't "HEAD".
+ *
+ * @param name A string, or bytes of UTF-8.
+ * @returns null if the name is valid, and otherwise what is wrong with it.
+ * @throws {TypeError} It isn't a string or a Uint8Array.
+ * @example
+ * checkTag("v1.2.3");         // null
+ * checkTag("v1..2")?.index;   // 3, the second dot
  */
-export function isWindowsDevice(name: Name): boolean;
+export function checkTag(name: Name): InvalidName|null;
 
 /**
- * The offset in bytes of the fault for which `tagName`, and with it the
- * functions for references, refuses the name: in "a..b" that of the second dot.
- * It is -1 if `tagName` returns the name. A fault of the end is at the last
- * byte, that of "" at 0.
+ * Checks the full name of a reference, such as "refs/remotes/origin/main".
+ *
+ * Without a slash, a valid name has no character but A to Z and _, as "HEAD".
+ *
+ * @param name A string, or bytes of UTF-8.
+ * @returns null if the name is valid, and otherwise what is wrong with it.
+ * @throws {TypeError} It isn't a string or a Uint8Array.
+ * @example
+ * checkRef("refs/heads/main");  // null
+ * checkRef("HEAD");             // null
+ * checkRef("main")?.index;      // 0
  */
-export function faultOffset(name: Name): number;
+export function checkRef(name: Name): InvalidName|null;
 
 /**
- * Repairs any name to a valid partial name of a reference. A valid one is
- * returned as it is.
+ * Checks a part of a reference name, such as "main" or "origin/main".
+ *
+ * The rules are those of `checkRef`, but that a name without a slash may have
+ * any letters.
+ *
+ * @param name A string, or bytes of UTF-8.
+ * @returns null if the name is valid, and otherwise what is wrong with it.
+ * @throws {TypeError} It isn't a string or a Uint8Array.
+ * @example
+ * checkPartialRef("origin/main");  // null
+ */
+export function checkPartialRef(name: Name): InvalidName|null;
+
+/**
+ * Checks a tag name by the rule of the Rust crate gix-validate.
+ *
+ * It is `checkPartialRef`, but that "@" is valid. Unlike `checkTag` it accepts
+ * "-d" and "HEAD", which Git doesn't accept for a tag.
+ *
+ * @param name A string, or bytes of UTF-8.
+ * @returns null if the name is valid, and otherwise what is wrong with it.
+ * @throws {TypeError} It isn't a string or a Uint8Array.
+ * @example
+ * checkTagName("v1.2.3");  // null
+ */
+export function checkTagName(name: Name): InvalidName|null;
+
+/**
+ * Checks the full name of a reference that a program uses as the path of a
+ * file in a repository.
+ *
+ * A valid name is below "refs/", or has no character but A to Z and _. Each
+ * piece of it is a valid component under the protections.
+ *
+ * @param name A string, or bytes of UTF-8.
+ * @param protections The systems to protect against, by default all.
+ * @returns null if the name is valid, and otherwise what is wrong with it.
+ * @throws {TypeError} It isn't a string or a Uint8Array.
+ * @example
+ * checkSafeRef("refs/heads/main");          // null
+ * checkSafeRef("hooks/post-update")?.fault; // "OutsideRefs"
+ * checkSafeRef("refs/heads/aux")?.fault;    // "WindowsReservedName"
+ */
+export function checkSafeRef(
+    name: Name, protections?: Protections): InvalidName|null;
+
+/**
+ * Checks a path in a tree, such as "src/main.rs".
+ *
+ * Each part of it between slashes has to be a valid component. A slash at the
+ * end is a fault, so cut off that of a directory in an archive, such as "dir/".
+ * A path with a NUL is invalid under all protections.
+ *
+ * @param path A string, or bytes of UTF-8.
+ * @param protections The systems to protect against, by default all.
+ * @returns null if the path is valid, and otherwise what is wrong with it.
+ * @throws {TypeError} It isn't a string or a Uint8Array.
+ * @example
+ * checkPath("src/main.rs");                     // null
+ * checkPath("src/.GIT ")?.index;                // 4
+ * checkPath("src/aux.c", { windows: false });   // null
+ */
+export function checkPath(path: Name, protections?: Protections): InvalidName|
+    null;
+
+/**
+ * Checks the path of a symbolic link: as `checkPath`, but the last part may not
+ * be ".gitmodules", or what a system takes for it.
+ *
+ * @param path A string, or bytes of UTF-8.
+ * @param protections The systems to protect against, by default all.
+ * @returns null if the path is valid, and otherwise what is wrong with it.
+ * @throws {TypeError} It isn't a string or a Uint8Array.
+ * @example
+ * checkSymlinkPath("src/.gitmodules")?.fault;  // "SymlinkedGitModules"
+ */
+export function checkSymlinkPath(
+    path: Name, protections?: Protections): InvalidName|null;
+
+/**
+ * Checks one component of a path: the name of a file or directory.
+ *
+ * @param name A string, or bytes of UTF-8.
+ * @param protections The systems to protect against, by default all.
+ * @returns null if the name is valid, and otherwise what is wrong with it.
+ * @throws {TypeError} It isn't a string or a Uint8Array.
+ * @example
+ * checkComponent("main.rs");         // null
+ * checkComponent("git~1")?.fault;    // "DotGitDir"
+ */
+export function checkComponent(
+    name: Name, protections?: Protections): InvalidName|null;
+
+/**
+ * Checks the name of a symbolic link: as `checkComponent`, but it may not be
+ * ".gitmodules", or what a system takes for it.
+ *
+ * @param name A string, or bytes of UTF-8.
+ * @param protections The systems to protect against, by default all.
+ * @returns null if the name is valid, and otherwise what is wrong with it.
+ * @throws {TypeError} It isn't a string or a Uint8Array.
+ * @example
+ * checkSymlink(".gitmodules")?.fault;  // "SymlinkedGitModules"
+ */
+export function checkSymlink(
+    name: Name, protections?: Protections): InvalidName|null;
+
+/**
+ * Checks a submodule name, such as "vendor/package".
+ *
+ * No part of a valid name is "..", or is taken for it by a system to protect
+ * against. Under protections each part is also a valid component.
+ *
+ * @param name A string, or bytes of UTF-8.
+ * @param protections The systems to protect against, by default all.
+ * @returns null if the name is valid, and otherwise what is wrong with it.
+ * @throws {TypeError} It isn't a string or a Uint8Array.
+ * @example
+ * checkSubmodule("vendor/package");    // null
+ * checkSubmodule("vendor/..")?.index;  // 7
+ */
+export function checkSubmodule(
+    name: Name, protections?: Protections): InvalidName|null;
+
+/**
+ * Checks many names in less time than a call for each takes.
+ *
+ * @param names Any iterable of names, but not one string.
+ * @param kind The kind of all names.
+ * @param protections The systems to protect against, by default all.
+ * @returns For each name, in order, what its own check returns.
+ * @throws {TypeError} The names aren't an iterable, one of them isn't a name,
+ *     or there is no such kind.
+ * @example
+ * checkAll(["main", "a b"], "branch");  // [null, { fault: "InvalidByte", .. }]
+ */
+export function checkAll(
+    names: Iterable<Name>, kind: Kind): (InvalidName|null)[];
+export function checkAll(
+    names: Iterable<Name>, kind: ProtectedKind,
+    protections?: Protections): (InvalidName|null)[];
+
+/**
+ * Checks the names in a buffer, such as the output of a command.
+ *
+ * @param buffer Bytes, in which `end` ends each name. What follows the last
+ *     such byte is a name too, unless it is empty.
+ * @param kind The kind of all names.
+ * @param end The byte that ends a name, by default 10, a newline.
+ * @param protections The systems to protect against, by default all.
+ * @returns A byte for each name, in order: 0, or the number of its fault in
+ *     `FAULTS`.
+ * @throws {TypeError} The buffer isn't a Uint8Array, there is no such kind, or
+ *     the end isn't an integer.
+ * @throws {RangeError} The end isn't from 0 to 255.
+ * @example
+ * const buffer = new TextEncoder().encode("main\na b\n");
+ * faultNumbers(buffer, "branch");  // Uint8Array [ 0, 1 ]
+ */
+export function faultNumbers(
+    buffer: Uint8Array, kind: Kind, end?: number): Uint8Array;
+export function faultNumbers(
+    buffer: Uint8Array, kind: ProtectedKind, end?: number,
+    protections?: Protections): Uint8Array;
+
+/**
+ * Suggests a branch name for one that a person typed.
+ *
+ * A valid name is returned as it is. Of any other name, what a branch name may
+ * not have becomes a dash or goes.
+ *
+ * @param name A string, or bytes of UTF-8.
+ * @returns A name that `checkBranch` accepts, not longer than the name, or null
+ *     if too little is left, as of "..." and "HEAD".
+ * @throws {TypeError} It isn't a string or a Uint8Array.
+ * @example
+ * suggestBranch("Fix: it's done..");  // "Fix-it's-done"
+ * suggestBranch("...");               // null
+ */
+export function suggestBranch(name: string): string|null;
+export function suggestBranch(name: Uint8Array): Uint8Array|null;
+export function suggestBranch(name: Name): Name|null;
+
+/**
+ * Repairs a part of a reference name, by the rule of the Rust crate
+ * gix-validate. For a branch, use `suggestBranch`.
+ *
+ * A valid name is returned as it is.
+ *
+ * @param name A string, or bytes of UTF-8.
+ * @returns A name that `checkPartialRef` accepts.
+ * @throws {TypeError} It isn't a string or a Uint8Array.
+ * @example
+ * sanitize("refs//heads/../x.lock");  // "refs/heads/-/x"
  */
 export function sanitize(name: string): string;
 export function sanitize(name: Uint8Array): Uint8Array;
 export function sanitize(name: Name): Name;
 
 /**
- * Checks the names in a buffer: returns a byte for each, in order, which is 0
- * or the number of its fault.
+ * Whether Windows takes the name for a device, such as "NUL" and "com1.txt".
  *
- * The byte `end`, by default 10, a newline, ends each name. What follows the
- * last such byte is a name too, unless it is empty.
+ * @param name A string, or bytes of UTF-8.
+ * @throws {TypeError} It isn't a string or a Uint8Array.
  */
-export function faultNumbers(
-    buffer: Name, kind: BufferKind, end?: number): Uint8Array;
+export function isWindowsDevice(name: Name): boolean;
 
 /**
- * Checks many names: returns null for each that is valid, and the fault of
- * each that isn't, in order.
+ * Makes the WebAssembly module, unless it is there already. No call needs it
+ * where WebAssembly may be compiled at once, as in Node and in workers.
+ *
+ * @param module A WebAssembly.Module of gix_validate.wasm, for platforms that
+ *     don't compile bytes at run time. By default the package's own bytes are
+ *     compiled without blocking.
+ * @returns A promise. When it is fulfilled, all functions can be called.
+ * @throws {Error} (rejects) The module can't be made here. Its `cause` says
+ *     why.
+ * @example
+ * import module from "gix-validate/gix_validate.wasm";  // Cloudflare Workers
+ * await ready(module);
  */
-export function faults(names: Iterable<Name>, kind: Kind): (Fault|null)[];
-export function faults(
-    names: Iterable<Name>, kind: "component"|"path",
-    options?: ComponentOptions): (Fault|null)[];
-
-/**
- * Checks many names: returns the index of the first that is invalid, and -1 if
- * all are valid.
- */
-export function firstInvalid(names: Iterable<Name>, kind: Kind): number;
-export function firstInvalid(
-    names: Iterable<Name>, kind: "component"|"path",
-    options?: ComponentOptions): number;
+export function ready(module?: object): Promise<void>;
 
 /** The version of the functions, such as "3.0.0". */
 export function version(): string;

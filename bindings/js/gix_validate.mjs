@@ -1,9 +1,13 @@
-// Validation of the names that Git uses, and the repair of a bad reference
-// name, for Node, browsers, workers and bundlers.
+// Checks of the names that Git uses, and repairs of bad names, for Node,
+// browsers, workers and bundlers.
 //
 // Each function calls a proved function of the Rattle crate gix_validate_c,
 // compiled to WebAssembly. gix_validate.d.ts says what each does, docs/RULES.md
 // the rules, docs/ASSURANCE.md what is proved and what is not.
+//
+// Nothing happens when this file is imported, since the first call makes the
+// WebAssembly module. So a program starts even where none may be compiled, and
+// a bundler keeps only what the program calls.
 import wasm from "./gix_validate_wasm.mjs";
 
 /**
@@ -12,52 +16,108 @@ import wasm from "./gix_validate_wasm.mjs";
  * them.
  */
 // clang-format off
-export const FAULTS = Object.freeze([null,
+export const FAULTS = /* @__PURE__ */ Object.freeze([null,
     "InvalidByte", "StartsWithSlash", "RepeatedSlash", "RepeatedDot", "LockFileSuffix", "ReflogPortion", "Asterisk",
     "StartsWithDot", "EndsWithDot", "EndsWithSlash", "Empty", "SomeLowercase", "Reserved", "ParentComponent",
     "PathSeparator", "WindowsPathPrefix", "WindowsReservedName", "WindowsIllegalCharacter", "DotGitDir",
-    "SymlinkedGitModules", "Relative", "StartsWithDash", "EmptyPart", "Nul"
+    "SymlinkedGitModules", "Relative", "StartsWithDash", "EmptyPart", "Nul", "OutsideRefs", "Disguised"
 ]);
-// clang-format on
-const INVALID_BYTE = 1;
 const TEXT_MAX = 134;
-const SHOWN_MAX = 200;
-const PAGE = 65536;
+
+// The kinds by their numbers. Those from safeRef on have protections.
+const KINDS = [
+    "branch", "branchRef", "tag", "ref", "partialRef", "tagName",
+    "safeRef", "path", "symlinkPath", "component", "symlink", "submodule",
+];
+const BRANCH = 0, BRANCH_REF = 1, TAG = 2, REF = 3, PARTIAL_REF = 4, TAG_NAME = 5;
+const SAFE_REF = 6, PATH = 7, SYMLINK_PATH = 8, COMPONENT = 9, SYMLINK = 10, SUBMODULE = 11;
+// clang-format on
+
+// The flags of the protections.
+const FLAGS = {
+  windows: 1,
+  hfs: 2,
+  ntfs: 4
+};
 const PROTECT_ALL = 7;
+const INVALID_BYTE = 1, RESERVED = 13;
+const PAGE = 65536;
 const PART = 256;
+// A text that JSON.stringify only puts in quotes.
+const PLAIN = /^[ !#-[\]-~]*$/;
+// A lone surrogate, for which there is no UTF-8.
+const LONE = /\p{Surrogate}/u;
+const LONE_TEXT =
+    "A name must be a well-formed string, without lone surrogates";
 
-const binary =
-    Uint8Array.from(atob(wasm), (character) => character.charCodeAt(0));
-const {exports: proved} =
-    new WebAssembly.Instance(new WebAssembly.Module(binary));
+// What the first call makes: the module's functions, which have no allocator,
+// and whose stack and constants end at __heap_base. From there on the memory is
+// this file's: the text of a fault is at TEXT, the name at NAME, and a name
+// that is longer than what is left lets the memory grow.
+let proved, memory, room, start, TEXT, NAME;
+let encoder, decoder, texts, typeOf, lengthOf;
 
-// The module has no allocator, and its stack and constants end at __heap_base.
-// From there on the memory is this file's: the text of a fault is at TEXT, the
-// name at NAME, and a name that is longer than what is left lets the memory
-// grow.
-const TEXT = proved.__heap_base.value;
-const NAME = TEXT + BigInt(TEXT_MAX);
-const start = Number(NAME);
-let memory = new Uint8Array(proved.memory.buffer);
-let room = memory.subarray(start);
+/** Takes an instance of the module, unless there is one. */
+function use({exports}) {
+  if (proved !== undefined) {
+    return;
+  }
+  TEXT = exports.__heap_base.value;
+  NAME = TEXT + BigInt(TEXT_MAX);
+  start = Number(NAME);
+  encoder = new TextEncoder();
+  decoder = new TextDecoder("utf-8", {ignoreBOM: true});
+  texts = new Map();
+  // (what an array of another window is, too, and whatever a subclass says)
+  const typed = Object.getPrototypeOf(Uint8Array.prototype);
+  typeOf = Object.getOwnPropertyDescriptor(typed, Symbol.toStringTag).get;
+  lengthOf = Object.getOwnPropertyDescriptor(typed, "length").get;
+  proved = exports;
+  viewMemory();
+}
 
-const encoder = new TextEncoder();
-const decoder = new TextDecoder("utf-8", {ignoreBOM: true});
-// (what an array of another window is, too, and whatever a subclass says)
-const typed = Object.getPrototypeOf(Uint8Array.prototype);
-const typeOf = Object.getOwnPropertyDescriptor(typed, Symbol.toStringTag).get;
-const lengthOf = Object.getOwnPropertyDescriptor(typed, "length").get;
+/** Makes views of the memory, which has another buffer after it grew. */
+function viewMemory() {
+  memory = new Uint8Array(proved.memory.buffer);
+  room = memory.subarray(start);
+}
 
-/** A name that is invalid. */
-export class InvalidName extends Error {
-  constructor(message, input, fault, text, byte) {
-    super(message);
-    Object.assign(this, {input, fault, text, byte});
+/** The bytes of the module. */
+function binary() {
+  if (wasm === null) {
+    throw new Error("gix-validate/slim has no WebAssembly of its own");
+  }
+  // (Uint8Array.from takes three times as long, since it makes each character.)
+  const text = atob(wasm);
+  return new Uint8Array(text.length).map((_, at) => text.charCodeAt(at));
+}
+
+/** The error where the module can't be made. */
+const unmade = (cause) => new Error(
+    `gix-validate can't make its WebAssembly module here: ${
+        cause}. First await ready(), or ready(module) where bytes may not be compiled. A Content-Security-Policy needs 'wasm-unsafe-eval'.`,
+    {cause});
+
+/** Makes the module, if no call before has made it. */
+function make() {
+  try {
+    use(new WebAssembly.Instance(new WebAssembly.Module(binary())));
+  } catch (cause) {
+    throw unmade(cause);
   }
 }
-Object.defineProperty(
-    InvalidName.prototype, "name",
-    {value: "InvalidName", configurable: true, writable: true});
+
+export async function ready(module) {
+  if (proved !== undefined) {
+    return;
+  }
+  try {
+    const made = await WebAssembly.instantiate(module ?? binary());
+    use(made.instance ?? made);
+  } catch (cause) {
+    throw unmade(cause);
+  }
+}
 
 /** Makes room for so many bytes from NAME on. */
 function reserve(length) {
@@ -65,23 +125,21 @@ function reserve(length) {
   if (missing > 0) {
     proved.memory.grow(
         Math.ceil(missing / PAGE));  // a RangeError, if there is no such memory
-    memory = new Uint8Array(proved.memory.buffer);
-    room = memory.subarray(start);
+    viewMemory();
   }
 }
 
 /**
  * Copies a name into the module's memory, and returns how many bytes it has.
+ * A lone surrogate becomes U+FFFD.
  */
 function put(name, what = "a name") {
+  if (proved === undefined) {
+    make();
+  }
   if (typeof name === "string") {
     reserve(3 * name.length);
-    const {written} = encoder.encodeInto(name, room);
-    if (written !== name.length && /\p{Surrogate}/u.test(name)) {
-      throw new TypeError(`${
-          what} that is a string has to be well-formed: this has half of a surrogate pair`);
-    }
-    return written;
+    return encoder.encodeInto(name, room).written;
   }
   if (typeOf.call(name) !== "Uint8Array") {
     throw new TypeError(`${what} has to be a string or a Uint8Array, not ${
@@ -93,227 +151,276 @@ function put(name, what = "a name") {
   return length;
 }
 
-/** What is at NAME, in quotes and ASCII. */
-function quoted(length) {
-  const shown = JSON.stringify(
-      decoder.decode(room.slice(0, Math.min(length, SHOWN_MAX))));
-  const printable = shown.replace(
-      /[^ -~]/g,
-      (it) => `\\u${it.charCodeAt(0).toString(16).padStart(4, "0")}`);
-  return length > SHOWN_MAX ? `${printable}..` : printable;
+/** What is from one offset to another, as a string. */
+const decoded = (from, to) => decoder.decode(room.subarray(from, to));
+
+/** A text in quotes, on one line, with nothing that hides or reorders it. */
+const quoted = (text) => PLAIN.test(text) ?
+    `"${text}"` :
+    JSON.stringify(text).replace(
+        /(?! )[\p{C}\p{Z}]/gu,
+        (found) => found.replace(
+            /[^]/g,
+            (unit) =>
+                `\\u${unit.charCodeAt(0).toString(16).padStart(4, "0")}`));
+
+/**
+ * What a message says of the place in a name: the character there, its index,
+ * and what is between the slashes around it.
+ */
+function placeIn(name, at, index) {
+  if (at === name.length) {
+    return at === 0 ? "" : " (at the end)";
+  }
+  // (lastIndexOf reads -1 as 0. Around a slash there the piece is empty, too.)
+  const from = name.lastIndexOf("/", at - 1) + 1;
+  const slash = name.indexOf("/", at), to = slash < 0 ? name.length : slash;
+  const isPiece = from < to && to - from < name.length;
+  const piece = isPiece ? `, in ${quoted(name.slice(from, to))}` : "";
+  const character = String.fromCodePoint(name.codePointAt(at));
+  return ` (${quoted(character)} at ${index}${piece})`;
 }
 
-/** What the settings of a path component turn on. */
-function flagsOf(options) {
-  if (options === undefined) {
+/** Where a string has its first lone surrogate, or -1. */
+const loneIn = (name, length) =>
+    typeof name !== "string" || length === name.length ? -1 : name.search(LONE);
+
+/**
+ * The text of a fault of the name at NAME. It is the same for all names of the
+ * kind, but that it may quote the byte of the fault, or the whole name.
+ */
+function textOf(number, kind, size, flags, offset) {
+  const key = (kind * FAULTS.length + number) * 256 +
+      (number === INVALID_BYTE ? room[offset] : 0);
+  if (texts.has(key)) {
+    return texts.get(key);
+  }
+  const written = proved.gix_validate_text_of(
+      kind, NAME, size, flags, TEXT, BigInt(TEXT_MAX));
+  const text =
+      decoder.decode(memory.subarray(Number(TEXT), Number(TEXT + written)));
+  return number === RESERVED ? text : texts.set(key, text).get(key);
+}
+
+/** What is wrong with a name, which is at NAME. */
+function explained(number, kind, name, length, flags) {
+  const size = BigInt(length);
+  const offset = Number(proved.gix_validate_offset_of(kind, NAME, size, flags));
+  const text = textOf(number, kind, size, flags, offset),
+        fault = FAULTS[number];
+  if (typeof name !== "string") {
+    const before = decoded(0, offset), shown = before + decoded(offset, length);
+    const place = placeIn(shown, before.length, `byte ${offset}`);
+    return {fault, message: text + place, index: offset};
+  }
+  const index = length === name.length ? offset : decoded(0, offset).length;
+  return {fault, message: text + placeIn(name, index, `index ${index}`), index};
+}
+
+/** Checks a name of a kind. */
+function check(kind, name, flags) {
+  const length = put(name), index = loneIn(name, length);
+  if (index >= 0) {
+    const place = placeIn(name, index, `index ${index}`);
+    return {fault: "LoneSurrogate", message: LONE_TEXT + place, index};
+  }
+  const number =
+      proved.gix_validate_fault_of(kind, NAME, BigInt(length), flags);
+  return number === 0 ? null : explained(number, kind, name, length, flags);
+}
+
+/** The flags of protections, of which all that aren't given are on. */
+function flagsOf(protections) {
+  if (protections === undefined) {
     return PROTECT_ALL;
   }
-  if (typeof options !== "object" || options === null) {
-    throw new TypeError("the options of a path component have to be an object");
+  if (typeof protections !== "object" || protections === null) {
+    throw new TypeError("the protections have to be an object");
   }
-  const {windows = true, hfs = true, ntfs = true, symlink = false, ...others} =
-      options;
-  for (const [name, value] of Object.entries(
-           {windows, hfs, ntfs, symlink, ...others})) {
-    if (typeof value !== "boolean" || Object.hasOwn(others, name)) {
+  let flags = PROTECT_ALL;
+  for (const [name, value] of Object.entries(protections)) {
+    if (!Object.hasOwn(FLAGS, name) ||
+        ![true, false, undefined].includes(value)) {
       throw new TypeError(
-          `the options of a path component are windows, hfs, ntfs and symlink, true or false: ${
-              name}`);
+          `the protections are windows, hfs and ntfs, true or false: ${name}`);
     }
+    flags &= value === false ? ~FLAGS[name] : PROTECT_ALL;
   }
-  return (windows ? 1 : 0) | (hfs ? 2 : 0) | (ntfs ? 4 : 0) | (symlink ? 8 : 0);
+  return flags;
 }
 
-/**
- * The proved functions of each kind of name, and the settings that they take.
- */
-const kinds = new Map([
-  "tag", "partial", "full", "branch", "short_branch", "submodule", "component",
-  "path"
-].map((kind) => {
-  const hasFlags = kind === "component" || kind === "path";
-  return [
-    kind, {
-      codeOf: proved[`gix_validate_${kind}`],
-      textOf: proved[`gix_validate_${kind}_text`],
-      manyOf: proved[`gix_validate_${kind}_many`],
-      flagsOf: hasFlags ? flagsOf : () => 0,
-      settings: hasFlags ? (flags) => [flags] : () => [],
-    }
-  ];
-}));
-
-function kindOf(kind) {
-  const found = kinds.get(kind);
-  if (found === undefined) {
-    throw new TypeError(
-        `a kind has to be one of ${[...kinds.keys()].join(", ")}`);
-  }
-  return found;
+export function checkBranch(name) {
+  return check(BRANCH, name, 0);
 }
 
-// (BigInt() takes a sixth of a call.)
-const LENGTHS = Array.from({length: 256}, (_, length) => BigInt(length));
-const bigOf = (length) => LENGTHS[length] ?? BigInt(length);
-
-/**
- * The function that returns a name of this kind, and the one that says whether
- * it is one.
- */
-function calls(kind) {
-  const {codeOf, textOf, flagsOf, settings} = kindOf(kind);
-  const accepted = (name, options) => {
-    const flags = flagsOf(options);
-    const length = put(name);
-    const code = codeOf(NAME, bigOf(length), flags);
-    if (code === 0) {
-      return name;
-    }
-    const written = textOf(
-        NAME, BigInt(length), ...settings(flags), TEXT, BigInt(TEXT_MAX));
-    const text =
-        decoder.decode(memory.slice(Number(TEXT), Number(TEXT + written)));
-    const byte = code === INVALID_BYTE ?
-        proved.gix_validate_invalid_byte(NAME, BigInt(length)) :
-        null;
-    throw new InvalidName(
-        `${quoted(length)}: ${text}`, name, FAULTS[code], text, byte);
-  };
-  const whether = (name, options) => {
-    const flags = flagsOf(options);
-    return codeOf(NAME, bigOf(put(name)), flags) === 0;
-  };
-  return [accepted, whether];
+export function checkBranchRef(name) {
+  return check(BRANCH_REF, name, 0);
 }
 
-export const [tagName, isValidTagName] = calls("tag");
-export const [partialName, isValidPartialName] = calls("partial");
-export const [fullName, isValidFullName] = calls("full");
-export const [branchName, isValidBranchName] = calls("branch");
-export const [shortBranchName, isValidShortBranchName] = calls("short_branch");
-export const [submoduleName, isValidSubmoduleName] = calls("submodule");
-export const [pathComponent, isValidPathComponent] = calls("component");
-export const [path, isValidPath] = calls("path");
+export function checkTag(name) {
+  return check(TAG, name, 0);
+}
 
-export function pathOffset(name, options) {
-  const flags = flagsOf(options);
-  const length = bigOf(put(name));
-  return proved.gix_validate_path(NAME, length, flags) === 0 ?
-      -1 :
-      Number(proved.gix_validate_path_offset(NAME, length, flags));
+export function checkRef(name) {
+  return check(REF, name, 0);
+}
+
+export function checkPartialRef(name) {
+  return check(PARTIAL_REF, name, 0);
+}
+
+export function checkTagName(name) {
+  return check(TAG_NAME, name, 0);
+}
+
+export function checkSafeRef(name, protections) {
+  return check(SAFE_REF, name, flagsOf(protections));
+}
+
+export function checkPath(path, protections) {
+  return check(PATH, path, flagsOf(protections));
+}
+
+export function checkSymlinkPath(path, protections) {
+  return check(SYMLINK_PATH, path, flagsOf(protections));
+}
+
+export function checkComponent(name, protections) {
+  return check(COMPONENT, name, flagsOf(protections));
+}
+
+export function checkSymlink(name, protections) {
+  return check(SYMLINK, name, flagsOf(protections));
+}
+
+export function checkSubmodule(name, protections) {
+  return check(SUBMODULE, name, flagsOf(protections));
 }
 
 export function isWindowsDevice(name) {
-  return proved.gix_validate_is_windows_device(NAME, bigOf(put(name))) !== 0;
+  const length = put(name);
+  return proved.gix_validate_is_windows_device(NAME, BigInt(length)) !== 0;
 }
 
-export function faultOffset(name) {
-  const length = put(name);
-  const offset = Number(proved.gix_validate_fault_offset(NAME, BigInt(length)));
-  return offset < length || length === 0 ? offset : -1;
+/**
+ * What a function makes of a name that isn't valid, or null if it makes
+ * nothing. A lone surrogate counts as a space, which no name may have.
+ */
+function repaired(kind, name, call) {
+  const isString = typeof name === "string";
+  const length = put(isString ? name.replace(/\p{Surrogate}/gu, " ") : name);
+  const size = BigInt(length);
+  if (proved.gix_validate_fault_of(kind, NAME, size, 0) === 0) {
+    return name;
+  }
+  const free = Math.max(1, length);
+  reserve(length + free);
+  const written = Number(proved[call](NAME, size, NAME + size, BigInt(free)));
+  if (written === 0) {
+    return null;
+  }
+  return isString ? decoded(length, length + written) :
+                    room.slice(length, length + written);
+}
+
+export function suggestBranch(name) {
+  return repaired(BRANCH, name, "gix_validate_suggest");
 }
 
 export function sanitize(name) {
-  const length = put(name);
-  if (proved.gix_validate_partial(NAME, bigOf(length)) === 0) {
-    return name;
+  return repaired(PARTIAL_REF, name, "gix_validate_sanitize");
+}
+
+/** The number of a kind. */
+function numberOf(kind) {
+  const number = KINDS.indexOf(kind);
+  if (number < 0) {
+    throw new TypeError(`a kind has to be one of ${KINDS.join(", ")}`);
   }
-  const size = Math.max(1, length);
-  reserve(size);
-  const repaired = room.slice(
-      0,
-      Number(proved.gix_validate_sanitize_in_place(
-          NAME, BigInt(size), BigInt(length))));
-  return typeof name === "string" ? decoder.decode(repaired) : repaired;
+  return number;
 }
 
 /**
  * The number of each name in a buffer, which has at most as many as bytes. They
  * are in the module's memory, until the next call.
  */
-function numbersOf({manyOf}, buffer, end, what) {
-  const length = put(buffer, what);
+function numbersOf(kind, flags, length, end) {
   reserve(2 * length);
-  const count = Number(
-      manyOf(NAME, BigInt(length), end, NAME + BigInt(length), BigInt(length)));
-  return room.subarray(length, length + count);
+  const count = Number(proved.gix_validate_faults_of(
+      kind, NAME, BigInt(length), flags, end, NAME + BigInt(length),
+      BigInt(length)));
+  return room.slice(length, length + count);
 }
 
-export function faultNumbers(buffer, kind, end = 10) {
-  const checked = kindOf(kind);
-  if (checked.manyOf === undefined) {
-    throw new TypeError(
-        `names of the kind ${kind} can't be checked in a buffer`);
-  }
+export function faultNumbers(buffer, kind, end = 10, protections) {
+  const number = numberOf(kind);
+  const flags = number < SAFE_REF ? 0 : flagsOf(protections);
   if (!Number.isInteger(end)) {
     throw new TypeError("the end of a name has to be the number of a byte");
   }
   if (end < 0 || end > 255) {
     throw new RangeError("the end of a name has to be from 0 to 255");
   }
-  return numbersOf(checked, buffer, end, "a buffer of names").slice();
+  if (typeof buffer === "string") {
+    throw new TypeError("a buffer of names has to be a Uint8Array, not string");
+  }
+  return numbersOf(number, flags, put(buffer, "a buffer of names"), end);
 }
 
 /**
  * Names of a list as one text in which NUL ends each, or null if one isn't a
  * string.
  */
-function joined(names, from, end) {
+function joined(names) {
   let text = "";
-  for (let at = from; at < end; at++) {
-    if (typeof names[at] !== "string") {
+  for (const name of names) {
+    if (typeof name !== "string") {
       return null;
     }
-    text += `${names[at]}\0`;
+    text += `${name}\0`;
   }
   return text;
 }
 
 /**
- * The number of each name. Strings are checked in parts of a list, which stay
- * in the processor's cache. A name that holds a NUL can't be in such a part.
+ * The number of each name in a part of a list, which stays in the processor's
+ * cache, or null if one isn't a string, or has NUL or a lone surrogate.
  */
-function numbersOfEach(names, kind, options) {
-  const checked = kindOf(kind);
-  const flags = checked.flagsOf(options);
+function numbersOfPart(names, kind, flags) {
+  const text = joined(names);
+  if (text === null) {
+    return null;
+  }
+  const length = put(text);
+  const numbers =
+      loneIn(text, length) < 0 ? numbersOf(kind, flags, length, 0) : null;
+  return numbers?.length === names.length ? numbers : null;
+}
+
+export function checkAll(names, kind, protections) {
+  const number = numberOf(kind);
+  const flags = number < SAFE_REF ? 0 : flagsOf(protections);
   if (typeof names === "string") {
     throw new TypeError(
         "the names have to be an iterable of names, not one string");
   }
-  const listed = [...names], found = new Uint8Array(listed.length);
+  const listed = [...names], found = new Array(listed.length).fill(null);
   for (let from = 0; from < listed.length; from += PART) {
-    const end = Math.min(from + PART, listed.length);
-    const text =
-        checked.manyOf === undefined ? null : joined(listed, from, end);
-    const numbers = text === null ? null : numbersOf(checked, text, 0);
-    if (numbers?.length === end - from) {
-      found.set(numbers, from);
-      continue;
-    }
-    for (let at = from; at < end; at++) {
-      found[at] = checked.codeOf(NAME, bigOf(put(listed[at])), flags);
+    const part = listed.slice(from, from + PART);
+    const numbers = numbersOfPart(part, number, flags);
+    for (const [at, name] of part.entries()) {
+      if (numbers?.[at] !== 0) {
+        found[from + at] = check(number, name, flags);
+      }
     }
   }
   return found;
-}
-
-export function faults(names, kind, options) {
-  const numbers = numbersOfEach(names, kind, options);
-  const found = new Array(numbers.length).fill(null);
-  for (let at = 0; at < found.length; at++) {
-    if (numbers[at] !== 0) {
-      found[at] = FAULTS[numbers[at]];
-    }
-  }
-  return found;
-}
-
-export function firstInvalid(names, kind, options) {
-  return numbersOfEach(names, kind, options)
-      .findIndex((number) => number !== 0);
 }
 
 export function version() {
+  if (proved === undefined) {
+    make();
+  }
   const number = proved.gix_validate_version();
   return [
     Math.floor(number / 1000000), Math.floor(number / 1000) % 1000,

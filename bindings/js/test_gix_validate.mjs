@@ -5,23 +5,35 @@
 //     node test_gix_validate.mjs -     replays rows from standard input
 import * as gix from "./gix_validate.mjs";
 
-const CALLS = {
-  tag: [gix.tagName, gix.isValidTagName],
-  partial: [gix.partialName, gix.isValidPartialName],
-  full: [gix.fullName, gix.isValidFullName],
-  branch: [gix.branchName, gix.isValidBranchName],
-  short_branch: [gix.shortBranchName, gix.isValidShortBranchName],
-  submodule: [gix.submoduleName, gix.isValidSubmoduleName],
-  component: [gix.pathComponent, gix.isValidPathComponent],
-  path: [gix.path, gix.isValidPath],
+// The check of each kind of name, by what rows and lists call the kind.
+const KINDS = {
+  "branch": ["branch", gix.checkBranch],
+  "branch-ref": ["branchRef", gix.checkBranchRef],
+  "tag": ["tag", gix.checkTag],
+  "ref": ["ref", gix.checkRef],
+  "partial": ["partialRef", gix.checkPartialRef],
+  "tag-name": ["tagName", gix.checkTagName],
+  "safe-ref": ["safeRef", gix.checkSafeRef],
+  "path": ["path", gix.checkPath],
+  "symlink-path": ["symlinkPath", gix.checkSymlinkPath],
+  "component": ["component", gix.checkComponent],
+  "symlink": ["symlink", gix.checkSymlink],
+  "submodule": ["submodule", gix.checkSubmodule],
 };
-const SETTINGS = {
-  w: "windows",
-  h: "hfs",
-  n: "ntfs",
-  s: "symlink"
+const CHECKS = Object.values(KINDS).map(([, check]) => check);
+const PROTECTED = CHECKS.slice(6);
+const NONE = {
+  windows: false,
+  hfs: false,
+  ntfs: false
 };
 const utf8 = new TextDecoder("utf-8", {fatal: true, ignoreBOM: true});
+const bytesIn = (text) => new TextEncoder().encode(text);
+// What a message may not have, since it hides or reorders text, or ends a line.
+const UNSEEN = /(?! )[\p{C}\p{Z}]/u;
+const SURROGATE =
+    "A name must be a well-formed string, without lone surrogates";
+const BAD = "Reference name contains invalid byte:";
 /**
  * A value as text, which tells null from undefined, and bytes from what only
  * has their numbers.
@@ -40,25 +52,19 @@ function equal(found, wanted, where) {
   }
 }
 
-function thrown(call, ...given) {
+/** A call throws an error of this type. */
+function refused(type, call, ...given) {
   try {
     call(...given);
   } catch (error) {
-    return error;
+    equal(error instanceof type, true, `${error} instead of a ${type.name}`);
+    return;
   }
   throw new Error(`${call.name} threw nothing for ${given.map(String)}`);
 }
 
-/** A call throws an error of this type, which says nothing of a name. */
-function refused(type, call, ...given) {
-  const error = thrown(call, ...given);
-  equal(
-      error instanceof type && !(error instanceof gix.InvalidName), true,
-      `${error} in place of a ${type.name}`);
-}
-
 /** The bytes that a row quotes. */
-function bytesOf(text) {
+function unquoted(text) {
   const characters = text.replace(
       /\\x(..)/g, (_, digits) => String.fromCharCode(parseInt(digits, 16)));
   return Uint8Array.from(characters, (character) => character.charCodeAt(0));
@@ -73,66 +79,127 @@ function forms(bytes) {
   }
 }
 
-function validated(kind, options, name, answer, row) {
-  const [, word, byte, text] = /^(\w+):?(\w*) ?(.*)$/.exec(answer);
-  const [call, whether] = CALLS[kind], fault = word === "Ok" ? null : word;
-  equal(whether(name, options), fault === null, row);
-  equal(gix.faults([name], kind, options), [fault], row);
-  equal(gix.firstInvalid([name], kind, options), fault === null ? -1 : 0, row);
-  if (fault === null) {
-    equal(call(name, options) === name, true, row);
+/** The settings of a row. */
+const protectionsOf = (letters) => ({
+  windows: letters.includes("w"),
+  hfs: letters.includes("h"),
+  ntfs: letters.includes("n")
+});
+
+/** A byte that a name doesn't have. */
+const endOf = (name) => {
+  const bytes = typeof name === "string" ? bytesIn(name) : name;
+  return Array.from({length: 256}, (_, at) => at)
+      .find((byte) => !bytes.includes(byte));
+};
+
+/** What is checked by itself, in a list, and in a buffer has one result. */
+function checkedIn(kind, name, protections, row) {
+  const [listed, check] = KINDS[kind];
+  const found = check(name, protections), end = endOf(name);
+  equal(
+      gix.checkAll([name, name, "a"], listed, protections).slice(0, 2),
+      [found, found], row);
+  if (end !== undefined) {
+    const bytes = typeof name === "string" ? bytesIn(name) : name;
+    equal(
+        gix.faultNumbers(
+            Uint8Array.of(...bytes, end, 65), listed, end, protections)[0],
+        gix.FAULTS.indexOf(found?.fault ?? null), row);
+  }
+  return found;
+}
+
+/**
+ * What a message says of the place: the character at the index, and the part
+ * that has it, which is found here by going through all parts.
+ */
+function placeOf(name, index) {
+  const text = typeof name === "string" ? name : String.fromCharCode(...name);
+  if (index === text.length) {
+    return text === "" ? "" : " (at the end)";
+  }
+  const parts = text.split("/");
+  let from = 0;
+  const [part] = parts.filter((it) => {
+    const isIt = from <= index && index <= from + it.length;
+    from += it.length + 1;
+    return isIt;
+  });
+  const unit = typeof name === "string" ? "index" : "byte";
+  const within =
+      parts.length > 1 && part !== "" ? `, in ${JSON.stringify(part)}` : "";
+  const [character] = text.slice(index);
+  return ` (${JSON.stringify(character)} at ${unit} ${index}${within})`;
+}
+
+function validated(kind, protections, name, answer, row) {
+  const [, word, , offset, text] =
+      /^(\w+):?(\w\w)?@?(\d+)? ?(.*)$/.exec(answer);
+  const found = checkedIn(kind, name, protections, row);
+  equal(found?.fault ?? "Ok", word, row);
+  if (found === null) {
     return;
   }
-  const error = thrown(call, name, options);
+  const {message, index} = found;
+  equal(Object.keys(found), ["fault", "message", "index"], row);
+  equal(UNSEEN.test(message), false, row);
+  equal(message.startsWith(text), true, row);
+  if (offset !== undefined) {
+    const before = name.slice(0, index);
+    equal(
+        typeof name === "string" ? bytesIn(before).length : index,
+        Number(offset), row);
+  }
+  const isPlain = (typeof name === "string" ? bytesIn(name) : name)
+                      .every((byte) => 0x20 <= byte && byte < 0x7f);
+  if (isPlain) {
+    const place = placeOf(name, index);
+    equal(message.endsWith(place), true, row);
+    equal(text === "" || message === text + place, true, row);
+  }
+}
+
+function manyValidated(kind, end, name, answer, row) {
+  if (typeof name === "string") {
+    return;
+  }
+  const numbers = Array.from(
+      gix.faultNumbers(name, KINDS[kind][0], parseInt(end, 16), NONE));
   equal(
-      error instanceof gix.InvalidName && error instanceof Error &&
-          error.input === name,
-      true, row);
-  equal(
-      [error.name, error.fault, error.byte],
-      ["InvalidName", fault, byte ? parseInt(byte, 16) : null], row);
-  equal(error.text !== "" && (text === "" || error.text === text), true, row);
-  equal(
-      /^"[ -~]*": [ -~]+$/.test(error.message) &&
-          error.message.endsWith(`: ${error.text}`),
-      true, row);
+      [
+        numbers.length, ...numbers.map((number) => gix.FAULTS[number] ?? "Ok")
+      ].join(" "),
+      answer, row);
+}
+
+/** What a call makes of a name, which it returns only if a check accepts it. */
+function madeOf(call, check, name, answer, row) {
+  const made = call(name);
+  if (answer === "none") {
+    equal(made, null, row);
+    return;
+  }
+  const wanted = forms(unquoted(answer.slice(1, -1)));
+  equal(made, wanted[typeof name === "string" ? 1 : 0], row);
+  equal(made === name, check(name) === null, row);
+  equal(check(made), null, row);
 }
 
 function replayed(row) {
-  const [, call, more, quoted, answer] =
-      /^(\w+)(?::(\w*))? "([^"]*)" (.*)$/.exec(row);
-  for (const name of forms(bytesOf(quoted))) {
+  const [, call, more, kind, quoted, answer] =
+      /^([\w-]+)(?::(\w*))? (?:([\w-]+) )?"([^"]*)" (.*)$/.exec(row);
+  for (const name of forms(unquoted(quoted))) {
     if (call === "device") {
       equal(gix.isWindowsDevice(name), answer === "yes", row);
     } else if (call === "sanitize") {
-      const [bytes, string] = forms(bytesOf(answer.slice(1, -1))),
-                    result = gix.sanitize(name);
-      equal(result, typeof name === "string" ? string : bytes, row);
-      equal(result === name, gix.isValidPartialName(name), row);
-    } else if (call === "offset") {
-      equal(
-          gix.faultOffset(name), answer === "none" ? -1 : Number(answer), row);
-    } else if (call.endsWith("_many")) {
-      const numbers = Array.from(
-          gix.faultNumbers(name, call.slice(0, -5), parseInt(more, 16)));
-      equal(
-          [
-            numbers.length,
-            ...numbers.map((number) => number ? gix.FAULTS[number] : "Ok")
-          ].join(" "),
-          answer, row);
+      madeOf(gix.sanitize, gix.checkPartialRef, name, answer, row);
+    } else if (call === "suggest") {
+      madeOf(gix.suggestBranch, gix.checkBranch, name, answer, row);
+    } else if (call === "many") {
+      manyValidated(kind, more, name, answer, row);
     } else {
-      const set = Object.entries(SETTINGS).map(
-          ([letter, setting]) => [setting, more?.includes(letter)]);
-      const options = Object.fromEntries(set);
-      if (call === "path_offset") {
-        equal(
-            gix.pathOffset(name, options),
-            answer === "none" ? -1 : Number(answer), row);
-      } else {
-        const hasOptions = call === "component" || call === "path";
-        validated(call, hasOptions ? options : undefined, name, answer, row);
-      }
+      validated(call, protectionsOf(more ?? ""), name, answer, row);
     }
   }
 }
@@ -155,20 +222,11 @@ class Lying extends Uint8Array {
   }
 }
 
-/**
- * What isn't a name, a kind, a list of names, an end of names or an object of
- * settings.
- */
-function wrong() {
-  const calls = [
-    ...Object.values(CALLS).flat(), gix.sanitize, gix.isWindowsDevice,
-    gix.faultOffset, (name) => gix.faultNumbers(name, "tag"),
-    (name) => gix.faults([name], "tag"),
-    (name) => gix.firstInvalid(["a", name], "tag")
-  ];
+/** What isn't a name. */
+function wrongNames() {
   const gone = new Uint8Array(4).fill(97);
   structuredClone(gone.buffer, {transfer: [gone.buffer]});
-  const names = [
+  return [
     undefined,
     null,
     1,
@@ -190,11 +248,19 @@ function wrong() {
     Object.create(Uint8Array.prototype),
     new Proxy(new Uint8Array(1), {}),
     gone,
-    "\ud800",
-    "a\udc00",
-    "\udc00\ud800",
-    "é\ud83d",
-    `${"a".repeat(70000)}\udfff`
+  ];
+}
+
+/**
+ * What isn't a name, a kind, a list of names, a buffer, an end of names or an
+ * object of settings.
+ */
+function wrong() {
+  const a = Uint8Array.of(97);
+  const calls = [
+    ...CHECKS, gix.suggestBranch, gix.sanitize, gix.isWindowsDevice,
+    (name) => gix.faultNumbers(name, "tag"),
+    (name) => gix.checkAll(["a", name], "tag")
   ];
   const kinds = [undefined, null, "", "Tag", "constructor", "__proto__", 1];
   const settings = [
@@ -203,25 +269,25 @@ function wrong() {
   ];
   const ends = [null, "\n", 1.5, NaN, 10n, [10]];
   for (const [call, ...given] of
-           [...calls.flatMap((call) => names.map((name) => [call, name])),
+           [...calls.flatMap(
+                (call) => wrongNames().map((name) => [call, name])),
             ...kinds.flatMap(
                 (kind) => [
-                    [gix.faultNumbers, "a", kind], [gix.faults, ["a"], kind]]),
-            [gix.faultNumbers, "a", "component"],
-            ...[undefined, null, 1, "ab", {}].flatMap(
-                (listed) => [
-                    [gix.faults, listed, "tag"],
-                    [gix.firstInvalid, listed, "tag"]]),
-            ...ends.map((end) => [gix.faultNumbers, "a", "tag", end]),
+                    [gix.faultNumbers, a, kind], [gix.checkAll, ["a"], kind]]),
+            [gix.faultNumbers, "a", "tag"],
+            ...[undefined, null, 1, "ab", {}].map(
+                (listed) => [gix.checkAll, listed, "tag"]),
+            ...ends.map((end) => [gix.faultNumbers, a, "tag", end]),
             ...settings.flatMap(
                 (it) => [
-                    [gix.faults, ["a"], "component", it],
-                    ...CALLS.component.map((call) => [call, "a", it])]),
+                    [gix.checkAll, ["a"], "component", it],
+                    [gix.faultNumbers, a, "path", 10, it],
+                    ...PROTECTED.map((check) => [check, "a", it])]),
   ]) {
     refused(TypeError, call, ...given);
   }
-  refused(RangeError, gix.faultNumbers, "a", "tag", -1);
-  refused(RangeError, gix.faultNumbers, "a", "tag", 256);
+  refused(RangeError, gix.faultNumbers, a, "tag", -1);
+  refused(RangeError, gix.faultNumbers, a, "tag", 256);
 }
 
 /**
@@ -231,121 +297,193 @@ function wrong() {
 function buffers() {
   const lying = new Lying([72, 69, 65, 68]),
         shared = new Uint8Array(new SharedArrayBuffer(3)).fill(97);
-  equal(gix.fullName(lying) === lying, true, "a lying array");
+  equal(gix.checkRef(lying), null, "a lying array");
   equal(
-      thrown(gix.tagName, new Lying([97, 32])).message.startsWith('"a ": '),
-      true, "a lying array");
+      gix.checkTag(new Lying([97, 32]))?.message, `${BAD} " " (" " at byte 1)`,
+      "a lying array");
   const results = [
     gix.sanitize(new Lying([97, 32])),
-    gix.faultNumbers(new Lying([97, 10, 32]), "tag"), gix.tagName("later")
+    gix.suggestBranch(new Lying([97, 32, 98])),
+    gix.faultNumbers(new Lying([97, 10, 32]), "tag"), gix.sanitize("later")
   ];
   equal(
-      results, [new Uint8Array([97, 45]), new Uint8Array([0, 1]), "later"],
+      results,
+      [
+        new Uint8Array([97, 45]), new Uint8Array([97, 45, 98]),
+        new Uint8Array([0, 1]), "later"
+      ],
       "a lying array, and calls after it");
   equal(
-      gix.isValidTagName(Object.setPrototypeOf(
+      gix.checkTag(Object.setPrototypeOf(
           new Uint8Array([32, 97, 98, 0]).subarray(1, 3), null)),
-      true, "a part");
-  equal(gix.tagName(shared) === shared, true, "a shared buffer");
+      null, "a part");
+  equal(gix.checkTag(shared), null, "a shared buffer");
   shared[1] = 32;
-  equal(thrown(gix.tagName, shared).byte, 32, "a shared buffer");
+  equal(gix.checkTag(shared)?.index, 1, "a shared buffer");
 }
 
-/** By default a component isn't a symbolic link, and all else is on. */
-function settings() {
-  for (const options of [undefined, {}, {ntfs: undefined}]) {
-    validated("component", options, ".gitmodules", "Ok", "by default");
-    validated("component", options, "nul", "WindowsReservedName", "by default");
-    validated("component", options, ".g\u200cit", "DotGitDir", "by default");
-    equal(
-        gix.faults(["src", "aux.c", ".git"], "component", options),
-        [null, "WindowsReservedName", "DotGitDir"], "by default");
+/** By default all protections are on. */
+function protections() {
+  const refusals = [
+    [gix.checkPath, "src/nul", "WindowsReservedName"],
+    [gix.checkSymlinkPath, "src/.gitmodules", "SymlinkedGitModules"],
+    [gix.checkComponent, ".g\u200cit", "DotGitDir"],
+    [gix.checkSymlink, "gitmod~1", "SymlinkedGitModules"],
+    [gix.checkSubmodule, "a/..\u200c/b", "Disguised"],
+    [gix.checkSafeRef, "refs/heads/aux", "WindowsReservedName"],
+  ];
+  for (const [check, name, fault] of refusals) {
+    for (const none of [undefined, {}, {ntfs: undefined}]) {
+      equal(check(name, none)?.fault, fault, `${name} by default`);
+    }
   }
-  validated(
-      "component", {symlink: true}, ".gitmodules", "SymlinkedGitModules",
-      "a symbolic link");
   equal(
-      gix.faults(["aux.c", ".git"], "component", {windows: false}),
-      [null, "DotGitDir"], "without Windows");
+      gix.checkAll(["src", "aux.c", ".git"], "component")
+          .map((it) => it?.fault),
+      [undefined, "WindowsReservedName", "DotGitDir"], "a list by default");
+  equal(
+      gix.checkAll(["aux.c", ".git"], "path", {windows: false})
+          .map((it) => it?.index),
+      [undefined, 0], "a list without Windows");
+  equal(
+      Array.from(gix.faultNumbers(bytesIn("aux.c\n"), "path", 10, NONE)), [0],
+      "a buffer without Windows");
 }
 
 function lists() {
   const names = [
     "refs/heads/main", "main", "a b", "a\0b", new Uint8Array([72, 69, 65, 68]),
-    ""
+    "", "a\ud800"
   ];
-  const wanted =
-      [null, "SomeLowercase", "InvalidByte", "InvalidByte", null, "Empty"];
+  const wanted = [
+    null, "SomeLowercase", "InvalidByte", "InvalidByte", null, "Empty",
+    "LoneSurrogate"
+  ];
+  const faultsOf = (found) => found.map((it) => it?.fault ?? null);
   for (let from = 0; from < names.length; from++) {
-    equal(gix.faults(names.slice(from), "full"), wanted.slice(from), "a list");
-    equal(
-        gix.firstInvalid(names.slice(from), "full"),
-        wanted.slice(from).findIndex((fault) => fault !== null), "a list");
+    const found = gix.checkAll(names.slice(from), "ref");
+    equal(faultsOf(found), wanted.slice(from), "a list");
+    equal(found, names.slice(from).map((it) => gix.checkRef(it)), "a list");
   }
   const long = Array.from({length: 1000}, (_, at) => `a${at}`);
-  const places =
-      [[0, " "], [255, "a\0b"], [256, ""], [511, "a.lock"], [999, "a"]];
+  const places = [
+    [0, " "], [255, "a\0b"], [256, ""], [511, "a.lock"], [700, "é ü"],
+    [800, "\udfff"], [999, "@{"]
+  ];
   places.forEach(([at, name]) => long[at] = name);
   long[600] = new Uint8Array([32]);
   const faults = Array(1000).fill(null);
-  [0, 255, 600].forEach((at) => faults[at] = "InvalidByte");
-  [faults[256], faults[511]] = ["Empty", "LockFileSuffix"];
-  equal(gix.faults(long, "tag"), faults, "a list that is checked in parts");
-  equal(gix.firstInvalid(long.slice(1), "tag"), 254, "a list in parts");
+  [0, 255, 600, 700].forEach((at) => faults[at] = "InvalidByte");
+  [faults[256], faults[511], faults[800], faults[999]] =
+      ["Empty", "LockFileSuffix", "LoneSurrogate", "ReflogPortion"];
+  equal(faultsOf(gix.checkAll(long, "tag")), faults, "a list in parts");
   equal(
-      gix.faults(new Set(["a", "a", "b.lock"]).values(), "tag"),
+      faultsOf(gix.checkAll(new Set(["a", "a", "b.lock"]).values(), "tag")),
       [null, "LockFileSuffix"], "any iterable");
-  equal(
-      [gix.faults([], "tag"), gix.firstInvalid([], "tag")], [[], -1],
-      "no name");
-  for (const last of ["b ", new Uint8Array([32])]) {  // (in one buffer, and
-                                                      // each by itself)
-    equal(
-        gix.firstInvalid([...Array(100000).fill("a"), last], "tag"), 100000,
-        "a long list");
-  }
-  equal(["a", "b"].map(gix.tagName), ["a", "b"], "what map passes besides");
+  equal(gix.checkAll([], "tag"), [], "no name");
+  equal(["a", "b"].map(gix.checkTag), [null, null], "what map passes besides");
   equal(Object.isFrozen(gix.FAULTS), true, "FAULTS");
+}
+
+/** Messages and indices, as a person would write them. */
+function places() {
+  const slashes = "Reference name cannot contain repeated slashes";
+  const dots = "Reference name cannot contain repeated dots";
+  const part =
+      "A path must not be empty, start or end with a slash, or have two in a row";
+  const cases = [
+    [gix.checkBranch, "", 0, "Reference name cannot be empty"],
+    [gix.checkBranch, "a b", 1, `${BAD} " " (" " at index 1)`],
+    [gix.checkBranch, "x/a b/y", 3, `${BAD} " " (" " at index 3, in "a b")`],
+    [gix.checkBranch, "a//b", 2, `${slashes} ("/" at index 2)`],
+    [gix.checkBranch, "a..b", 2, `${dots} ("." at index 2)`],
+    [gix.checkPath, "a/", 2, `${part} (at the end)`],
+    [gix.checkPath, "a//b", 2, `${part} ("/" at index 2)`],
+    [gix.checkBranch, "ü..x", 2, `${dots} ("." at index 2)`],
+    [gix.checkBranch, "🎉/漢..x", 5, `${dots} ("." at index 5, in "漢..x")`],
+    [gix.checkBranch, "é\n", 1, `${BAD} "\\n" ("\\n" at index 1)`],
+    [gix.checkBranch, bytesIn("é\n"), 2, `${BAD} "\\n" ("\\n" at byte 2)`],
+    [
+      gix.checkBranch, "\u202ea\u009b/\u2028\u{e0001}\\\"", 7,
+      `${BAD} "\\\\" ("\\\\" at index 7, in "\\u2028\\udb40\\udc01\\\\\\"")`
+    ],
+    [
+      gix.checkRef, "É", 0,
+      "Standalone references must be all uppercased, like 'HEAD' (\"É\" at index 0)"
+    ],
+    [
+      gix.checkRef, "A😀", 1,
+      "Standalone references must be all uppercased, like 'HEAD' (\"😀\" at index 1)"
+    ],
+    [
+      gix.checkRef, Uint8Array.of(65, 0xff), 1,
+      "Standalone references must be all uppercased, like 'HEAD' (\"\ufffd\" at byte 1)"
+    ],
+  ];
+  for (const [check, name, index, message] of cases) {
+    const found = check(name);
+    equal([found?.message, found?.index], [message, index], message);
+  }
+}
+
+/** A lone surrogate is a fault of any name, and comes before all others. */
+function surrogates() {
+  const halves = [
+    ["\ud800", 0, '"\\ud800" at index 0'],
+    ["a\udc00 ", 1, '"\\udc00" at index 1'],
+    ["\udc00\ud800", 0, '"\\udc00" at index 0'],
+    ["é/b\ud83d", 3, '"\\ud83d" at index 3, in "b\\ud83d"'],
+    [
+      `${"a".repeat(70000)}/\udfff`, 70001,
+      '"\\udfff" at index 70001, in "\\udfff"'
+    ],
+  ];
+  for (const [name, index, place] of halves) {
+    for (const check of CHECKS) {
+      equal(
+          check(name),
+          {fault: "LoneSurrogate", message: `${SURROGATE} (${place})`, index},
+          place);
+    }
+  }
+  equal(gix.suggestBranch("a\ud800b"), "a-b", "a suggestion");
+  equal(gix.sanitize("a\ud800"), "a-", "a repair");
+  equal(gix.suggestBranch("\udfff"), null, "no suggestion");
+  equal(gix.isWindowsDevice("nul\ud800"), false, "no device");
 }
 
 function strings() {
   ["Grüße", "🎉", "\ufeffa", "a\u2028b", "\u0085"].forEach(
-      (name) => validated("tag", undefined, name, "Ok", name));
-  ["é ", `${"a".repeat(199)} `].forEach(
-      (name) => validated("tag", undefined, name, "InvalidByte:20", name));
+      (name) => equal(gix.checkTag(name), null, name));
   equal(gix.sanitize("é..🎉.lock"), "é.🎉", "a repair");
-  equal(
-      gix.sanitize("\ufeff.. "), "\ufeff.-",
-      "a repair keeps a mark of byte order");
-  equal(
-      thrown(gix.tagName, "a\x1b[1m\x9b ")
-          .message.includes("\\u001b[1m\\u009b "),
-      true, "a message is ASCII");
-  equal(
-      thrown(gix.tagName, `${"a".repeat(300)} `)
-          .message.startsWith(`"${"a".repeat(200)}"..: `),
-      true, "a message is short");
+  equal(gix.suggestBranch("é: 🎉!.lock"), "é-🎉!", "a suggestion");
+  for (const call of [gix.sanitize, gix.suggestBranch]) {
+    equal(call("\ufeffa b"), "\ufeffa-b", "a mark of byte order stays");
+  }
 }
 
 function long() {
   for (const length of [63000, 65400, 65536, 1 << 20, (1 << 20) + 1, 5000001]) {
     const name = "a".repeat(length), bytes = new Uint8Array(length).fill(10);
+    // (first, when the memory hasn't grown for names of this length)
+    equal(
+        gix.sanitize(bytes).every((byte) => byte === 45), true,
+        `${length} bytes`);
     equal(
         gix.faultNumbers(bytes, "tag")
             .every((number) => gix.FAULTS[number] === "Empty"),
         true, `${length} names`);
-    equal(
-        gix.tagName(name) === name && gix.submoduleName(bytes) === bytes, true,
-        `${length} bytes`);
+    equal(gix.checkTag(name), null, `${length} bytes`);
     equal(
         [`${name} `, `${"漢".repeat(length)} `].map(
-            (it) => thrown(gix.tagName, it).byte),
-        [32, 32], `${length} bytes`);
+            (it) => gix.checkTag(it)?.index),
+        [length, length], `${length} bytes`);
     equal(
-        gix.sanitize(`${name}..b//`) === `${name}.b`, true, `${length} bytes`);
+        [gix.sanitize(`${name}..b//`), gix.suggestBranch(`${name}..b//`)],
+        [`${name}.b`, `${name}.b`], `${length} bytes`);
     equal(
-        gix.faults([name, `${name} `], "tag"), [null, "InvalidByte"],
-        `${length} bytes`);
+        gix.checkAll([name, `${name} `], "tag").map((it) => it?.index),
+        [undefined, length], `${length} bytes`);
   }
 }
 
@@ -360,8 +498,10 @@ function testsOf(text, version) {
     "names of any length are checked": long,
     "what isn't a name, a kind, a list or a setting is refused": wrong,
     "parts of buffers, shared ones and ones that lie are names": buffers,
-    "by default a component is no link, and all protections are on": settings,
-    "each name of a list has its fault, or none": lists,
+    "by default all protections are on": protections,
+    "each name of a list has the result of its own check": lists,
+    "a message shows the character at the index, and its piece": places,
+    "a lone surrogate is a fault, and throws nothing": surrogates,
     "strings are checked and repaired as UTF-8": strings,
     "the version is that of the functions": () =>
         equal(gix.version(), version, "the version"),

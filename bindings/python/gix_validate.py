@@ -1,110 +1,165 @@
-r"""Validation of the names that Git uses, and the repair of a bad reference name.
+r"""Validation of the names that Git uses, and a branch name to suggest for an invalid one.
 
 Each function calls a proved function of the Rattle crate gix_validate_c, in its shared
 object. The rules are those of docs/RULES.md; docs/ASSURANCE.md says what is proved and
 what is not.
 
 >>> import gix_validate
->>> from gix_validate import Kind
->>> gix_validate.tag_name(b"v1.2.3")
-b'v1.2.3'
->>> gix_validate.sanitize(b"refs//heads/../x.lock")
-b'refs/heads/-/x'
+>>> gix_validate.is_valid("main", "branch")
+True
+>>> gix_validate.check("v1..2", "tag")
+<Fault.REPEATED_DOT: 4>
+>>> gix_validate.validate_path("src/main.rs")
+'src/main.rs'
 >>> try:
-...     gix_validate.path_component(b".GIT ")
+...     gix_validate.validate_branch("feature/my branch")
 ... except gix_validate.InvalidName as error:
-...     print(error.fault, "-", error)
-DotGitDir - b'.GIT ': The .git name may never be used
->>> gix_validate.is_valid_tag_name(b"v1..2")
-False
+...     print(error)
+...     print(error.fault, "at", error.offset)
+Reference name contains invalid byte: " " (' ' at index 10, in 'my branch')
+InvalidByte at 10
+>>> gix_validate.suggest_branch("feature/my branch")
+'feature/my-branch'
 
-Many names are checked by one call, which is much faster than a call for each:
+A name is a str or bytes. A str is encoded as by os.fsencode on Linux: as UTF-8, where a
+surrogate of the error handler "surrogateescape" is a byte. If it has another surrogate,
+there are no bytes for it, and the function raises UnicodeEncodeError.
 
->>> gix_validate.faults([b"refs/heads/main", b"main"], Kind.FULL)
-[None, <Fault.SOME_LOWERCASE: 12>]
->>> gix_validate.first_invalid([b"refs/heads/main", b"main"], Kind.FULL)
-1
->>> gix_validate.fault_numbers(b"refs/heads/main\nmain\n", Kind.FULL)
-b'\x00\x0c'
->>> gix_validate.fault_numbers_at(b"HEADmain", [0, 4, 8], Kind.FULL)
-b'\x00\x0c'
+One call for many names is much faster than a call for each:
 
-A name is bytes of any values, or what else has the buffer protocol, as a bytearray,
-memoryview, mmap or NumPy array, whose bytes are copied; a str or None is a TypeError,
-and os.fsencode makes bytes of the str that Python has for a file's name. A buffer of
-names is not copied, if its bytes are contiguous: nobody may change it during the call.
-The functions have no state and may be called from any thread.
+>>> gix_validate.faults(["main", "my branch"], "branch")
+[None, <Fault.INVALID_BYTE: 1>]
+>>> gix_validate.fault_numbers("main\nmy branch\n", "branch")
+b'\x00\x01'
 
-The shared object is the one beside this module, as the wheel has it, or that of
+The functions have no state, and may be called from any thread.
+
+The shared object is the one next to this module, as in the wheel, or that of
 bindings/out. The environment variable GIX_VALIDATE_LIBRARY may name another path. Its
 major version has to be that of this module, and it may not be older; otherwise the
-import is an ImportError, as it is for a library that isn't this one.
+import raises ImportError, as it does for a library that isn't this one.
 """
 
 import ctypes
 import enum
 import os
+import re
 from contextlib import contextmanager
+from itertools import islice
 from pathlib import Path
 from typing import (
     TYPE_CHECKING,
     Any,
+    AnyStr,
     Iterable,
     Iterator,
     List,
     Optional,
     Tuple,
+    TypeVar,
     Union,
-    cast,
 )
 
 if TYPE_CHECKING:
-    from _typeshed import ReadableBuffer as Bytes
+    from _typeshed import ReadableBuffer as Buffer
+    from typing_extensions import Literal  # (typing has it from 3.8 on)
+
+    # fmt: off
+    KindName = Union["Kind", Literal[
+        "branch", "branch-ref", "tag", "ref", "partial", "tag-name", "safe-ref",
+        "path", "symlink-path", "component", "symlink", "submodule",
+    ]]
+    # fmt: on
 else:
-    Bytes = Any
+    Buffer = KindName = Any
 
 __all__ = [
+    "check",
+    "is_valid",
+    "validate_branch",
+    "validate_branch_ref",
+    "validate_tag",
+    "validate_ref",
+    "validate_partial",
+    "validate_tag_name",
+    "validate_safe_ref",
+    "validate_path",
+    "validate_symlink_path",
+    "validate_component",
+    "validate_symlink",
+    "validate_submodule",
+    "suggest_branch",
+    "sanitize",
+    "is_windows_device",
+    "faults",
+    "fault_numbers",
+    "fault_numbers_at",
+    "version",
     "Fault",
     "InvalidName",
     "Kind",
-    "tag_name",
-    "partial_name",
-    "full_name",
-    "branch_name",
-    "short_branch_name",
-    "submodule_name",
-    "path_component",
-    "path",
-    "is_valid_tag_name",
-    "is_valid_partial_name",
-    "is_valid_full_name",
-    "is_valid_branch_name",
-    "is_valid_short_branch_name",
-    "is_valid_submodule_name",
-    "is_valid_path_component",
-    "is_valid_path",
-    "is_windows_device",
-    "fault_offset",
-    "path_offset",
-    "sanitize",
-    "fault_numbers",
-    "fault_numbers_at",
-    "faults",
-    "first_invalid",
-    "version",
+    "Protect",
 ]
 
 _VERSION = (3, 0, 0)
 __version__ = "3.0.0.dev0"
 _TEXT_MAX = 134
 
+Name = TypeVar("Name", bound=Union[str, bytes])
+
+
+class Kind(str, enum.Enum):
+    """A kind of name. Each member equals a str, which may be passed instead: Kind.BRANCH
+    equals "branch".
+
+    Each kind has a function of the same name, which says what is valid: for BRANCH_REF
+    this is `validate_branch_ref`.
+    """
+
+    BRANCH = "branch"
+    BRANCH_REF = "branch-ref"
+    TAG = "tag"
+    REF = "ref"
+    PARTIAL = "partial"
+    TAG_NAME = "tag-name"
+    SAFE_REF = "safe-ref"
+    PATH = "path"
+    SYMLINK_PATH = "symlink-path"
+    COMPONENT = "component"
+    SYMLINK = "symlink"
+    SUBMODULE = "submodule"
+
+    def __str__(self) -> str:
+        return str(self.value)
+
+
+class Protect(enum.IntFlag):
+    """The systems that may not read a name as another one, or as a device.
+
+    It counts for safe references, paths, components, symbolic links and submodules, and
+    makes no difference for other kinds. The default of all functions is ALL, because a
+    name that a server accepts may be checked out anywhere. Combine others by `|`.
+
+    Devices, such as "NUL" and "aux.c", and what Windows forbids in a name, such as a dot
+    at its end, are invalid only under WINDOWS and NTFS together. NTFS without WINDOWS
+    accepts "a\\.git", which Windows reads as a path and `git fsck` refuses.
+    """
+
+    NONE = 0
+    WINDOWS = 1
+    HFS = 2
+    NTFS = 4
+    ALL = 7
+
+
+_DEFAULT = Protect.ALL
+
 
 class Fault(enum.Enum):
     """Why a name is invalid. The values are stable, and those of gix_validate.h.
 
-    str() and format() give the spelling of the Rust crate and of
-    gix_validate_fault_name in C, as "RepeatedDot", and `text` what is wrong with such a
-    name. The exception has the text that the Rust crate prints for its name.
+    str() and format() return the name that other languages have for it, as "RepeatedDot".
+    `text` says in English what is wrong with such a name, but not where.
     """
 
     # fmt: off
@@ -133,6 +188,8 @@ class Fault(enum.Enum):
     STARTS_WITH_DASH = 22, "it starts with a dash, as an option of a command does"
     EMPTY_PART = 23, "a part is empty: a slash is first or last, or follows another one, or the path is empty"
     NUL = 24, "it has a NUL byte, although each part is a component"
+    OUTSIDE_REFS = 25, "it is not below refs/, and has a byte other than A to Z and _"
+    DISGUISED = 26, "a part may be taken for . or .."
 
     text: str
     # fmt: on
@@ -149,41 +206,41 @@ class Fault(enum.Enum):
         return "".join(word.capitalize() for word in self.name.split("_"))
 
 
-class Kind(enum.Enum):
-    """A kind of name, for the functions that check many names. COMPONENT and PATH are
-    checked as `path_component` and `path` do, by a call for each name. The settings of
-    these functions are theirs, and for another kind have to be the default.
-    """
-
-    TAG = "tag"
-    PARTIAL = "partial"
-    FULL = "full"
-    BRANCH = "branch"
-    SHORT_BRANCH = "short_branch"
-    SUBMODULE = "submodule"
-    COMPONENT = "component"
-    PATH = "path"
-
-
 class InvalidName(ValueError):
-    """A name that is invalid: the name, its first fault, the text of the fault, in
-    English, and if the fault is INVALID_BYTE the invalid byte, otherwise None.
+    """Raised for an invalid name. It has the `name` as it was passed, its first `fault`,
+    and the `kind` and the protections (`protect`) by which it was checked.
 
-    str() of it is the name, of which it shows 200 bytes at most, and the text of the
-    fault.
+    str() returns one line of English: what is wrong, the character or byte at the offset,
+    and the part between slashes that it is in. It shows at most 200 characters of that
+    part.
     """
 
     def __init__(
-        self, name: bytes, fault: Fault, text: str, byte: Optional[int] = None
+        self,
+        name: Union[str, bytes],
+        kind: Kind,
+        fault: Fault,
+        protect: Protect = _DEFAULT,
     ) -> None:
-        super().__init__(name, fault, text, byte)
+        super().__init__(name, kind, fault, protect)
         self.name = name
+        self.kind = kind
         self.fault = fault
-        self.text = text
-        self.byte = byte
+        self.protect = protect
+
+    @property
+    def offset(self) -> int:
+        """Where in the name the fault is, from 0. It counts code points if the name is a
+        str, and bytes if it is bytes. If a part is missing at the end, it is the length of
+        the name."""
+        given = _encoded(self.name)
+        kind, flags = _number_of(self.kind), _flags_of(self.protect)
+        at: int = _offset_of(kind, given, len(given), flags)
+        return _index(self.name, at) if isinstance(self.name, str) else at
 
     def __str__(self) -> str:
-        return f"{self.name[:200]!r}{'..' if len(self.name) > 200 else ''}: {self.text}"
+        text = _text(self.name, self.kind, self.protect)
+        return text + _place(self.name, self.offset)
 
 
 def _library() -> ctypes.CDLL:
@@ -213,329 +270,286 @@ def _version_of(library: ctypes.CDLL) -> Tuple[int, int, int]:
     return number // 1_000_000, number // 1000 % 1000, number % 1000
 
 
-def _function(name: str, result: Any, *more: Any) -> Any:
-    """A function of the library that takes the bytes of a name, their number, and
-    `more`."""
-    function = _loaded[f"gix_validate_{name}"]
-    function.argtypes, function.restype = [*_BYTES, *more], result
+def _function(library: ctypes.CDLL, name: str, result: Any, *types: Any) -> Any:
+    function = library[f"gix_validate_{name}"]
+    function.argtypes, function.restype = types, result
     return function
 
 
 _loaded = _library()
-_SIZE, _NUMBER = ctypes.c_size_t, ctypes.c_uint32
+# (a call that keeps the interpreter's lock is faster)
+_short = ctypes.PyDLL(_loaded._name, handle=_loaded._handle)
+_SIZE, _NUMBER, _BYTE = ctypes.c_size_t, ctypes.c_uint32, ctypes.c_uint8
 _BYTES = ctypes.c_void_p, _SIZE  # (takes bytes, and an address)
-_PROTECT_ALL = 7
+_GIVEN = _NUMBER, *_BYTES, _NUMBER  # a kind, a name or a buffer, and flags
+_fault_of = _function(_short, "fault_of", _NUMBER, *_GIVEN)
+_offset_of = _function(_short, "offset_of", _SIZE, *_GIVEN)
+_text_of = _function(_short, "text_of", _SIZE, *_GIVEN, *_BYTES)
+_faults_of = _function(_loaded, "faults_of", _SIZE, *_GIVEN, _BYTE, *_BYTES)
+_is_windows_device = _function(_short, "is_windows_device", ctypes.c_bool, *_BYTES)
+_suggest = _function(_short, "suggest", _SIZE, *_BYTES, *_BYTES)
+_sanitize = _function(_short, "sanitize", _SIZE, *_BYTES, *_BYTES)
+# (an object of ctypes is passed faster than an int)
+_NUMBERS = {kind.value: _NUMBER(number) for number, kind in enumerate(Kind)}
+_DEFAULT_FLAGS = _NUMBER(_DEFAULT)
+_KINDS = {kind.value: kind for kind in Kind}
+_FAULTS: List[Optional[Fault]] = [None, *Fault]
+_Text = ctypes.c_char * _TEXT_MAX
 _PART = 4096
-# For each kind of name: the number of a fault, its text, and the numbers of many names.
-_WITH_FLAGS = Kind.COMPONENT, Kind.PATH
-_KINDS = {kind.value: [_NUMBER] if kind in _WITH_FLAGS else [] for kind in Kind}
-_code = {kind: _function(kind, _NUMBER, *flags) for kind, flags in _KINDS.items()}
-_text = {
-    kind: _function(f"{kind}_text", _SIZE, *flags, *_BYTES)
-    for kind, flags in _KINDS.items()
-}
-_many = {
-    kind: _function(f"{kind}_many", _SIZE, ctypes.c_uint8, *_BYTES)
-    for kind, flags in _KINDS.items()
-    if not flags
-}
-_invalid_byte = _function("invalid_byte", _NUMBER)
-_fault_offset = _function("fault_offset", _SIZE)
-_path_offset = _function("path_offset", _SIZE, _NUMBER)
-_is_windows_device = _function("is_windows_device", ctypes.c_bool)
-_sanitize = _function("sanitize", _SIZE, *_BYTES)
-_fault_of: List[Optional[Fault]] = [None, *Fault]
 
 
-def tag_name(name: Bytes) -> bytes:
-    """Returns `name` if it is a valid name of a tag, such as b"v1.2.3"; otherwise
-    raises InvalidName."""
-    return _accepted(name, "tag")
+def check(
+    name: Union[str, bytes], kind: KindName, *, protect: Protect = _DEFAULT
+) -> Optional[Fault]:
+    """Returns None if `name` is a valid name of this kind, otherwise its first fault.
+
+    >>> check("main", "branch") is None
+    True
+    >>> check("aux.c", "path")
+    <Fault.WINDOWS_RESERVED_NAME: 17>
+    >>> check("aux.c", "path", protect=Protect.HFS) is None
+    True
+    """
+    return _FAULTS[_number(name, kind, protect)]
 
 
-def partial_name(name: Bytes) -> bytes:
-    """Returns `name` if it is a valid partial name of a reference, such as b"main";
-    otherwise raises InvalidName."""
-    return _accepted(name, "partial")
+def is_valid(
+    name: Union[str, bytes], kind: KindName, *, protect: Protect = _DEFAULT
+) -> bool:
+    """Whether `name` is a valid name of this kind: whether `check` returns None.
+
+    >>> is_valid("refs/heads/main", "ref"), is_valid("main", "ref")
+    (True, False)
+    """
+    return not _number(name, kind, protect)
 
 
-def full_name(name: Bytes) -> bytes:
+def validate_branch(name: Name) -> Name:
+    """Returns `name` if it is a valid branch name, such as "main"; otherwise raises
+    InvalidName.
+
+    "refs/heads/" with it is a valid full name. It isn't "HEAD", and doesn't start with a
+    dash, as an option of a command does.
+    """
+    return _validated(name, "branch")
+
+
+def validate_branch_ref(name: Name) -> Name:
+    """Returns `name` if it is a full name other than "refs/heads/HEAD"; otherwise raises
+    InvalidName.
+
+    This is for the full names of branches, such as "refs/heads/main", but "HEAD" and
+    "refs/tags/v1" pass too.
+    """
+    return _validated(name, "branch-ref")
+
+
+def validate_tag(name: Name) -> Name:
+    """Returns `name` if it is a valid tag, such as "v1.2.3"; otherwise raises
+    InvalidName.
+
+    "refs/tags/" with it is a valid full name. It isn't "HEAD", and doesn't start with a
+    dash, as an option of a command does.
+    """
+    return _validated(name, "tag")
+
+
+def validate_ref(name: Name) -> Name:
     """Returns `name` if it is a valid full name of a reference; otherwise raises
     InvalidName.
 
-    A full name has a slash, like b"refs/heads/main", or has no byte but A to Z and _,
-    like b"HEAD".
+    A full name has a slash, like "refs/heads/main", or consists of A to Z and _, like
+    "HEAD".
     """
-    return _accepted(name, "full")
+    return _validated(name, "ref")
 
 
-def branch_name(name: Bytes) -> bytes:
-    """Returns `name` if it is a full name other than b"refs/heads/HEAD"; otherwise
+def validate_partial(name: Name) -> Name:
+    """Returns `name` if it is a valid partial reference name, such as "heads/main";
+    otherwise raises InvalidName. Each full name is a partial name, too."""
+    return _validated(name, "partial")
+
+
+def validate_tag_name(name: Name) -> Name:
+    """Returns `name` if gix-validate accepts it as a tag name; otherwise raises
+    InvalidName.
+
+    It may be "HEAD" or "@", and start with a dash: `validate_tag` is for what people
+    write.
+    """
+    return _validated(name, "tag-name")
+
+
+def validate_safe_ref(name: Name, *, protect: Protect = _DEFAULT) -> Name:
+    """Returns `name` if a store may use it as the path of a reference; otherwise raises
+    InvalidName.
+
+    It is a full name, and is below "refs/" or consists of A to Z and _. Under any
+    protection each piece between slashes is also a component.
+    """
+    return _validated(name, "safe-ref", protect)
+
+
+def validate_path(name: Name, *, protect: Protect = _DEFAULT) -> Name:
+    """Returns `name` if it is a valid path of a file, such as "src/main.rs"; otherwise
     raises InvalidName.
 
-    b"HEAD" and b"refs/tags/v1" pass too, and b"main" doesn't: `short_branch_name` is
-    for what people write.
+    Each part between slashes is a component, and no byte is NUL. A slash at the end makes
+    an empty part: cut off that of a directory in an archive, such as "dir/".
     """
-    return _accepted(name, "branch")
+    return _validated(name, "path", protect)
 
 
-def short_branch_name(name: Bytes) -> bytes:
-    """Returns `name` if it is the short name of a branch, such as b"main"; otherwise
+def validate_symlink_path(name: Name, *, protect: Protect = _DEFAULT) -> Name:
+    """Returns `name` if it is a valid path of a symbolic link; otherwise raises
+    InvalidName. It is a path, and its last part isn't ".gitmodules"."""
+    return _validated(name, "symlink-path", protect)
+
+
+def validate_component(name: Name, *, protect: Protect = _DEFAULT) -> Name:
+    """Returns `name` if it may be one component of a path, such as "src"; otherwise
     raises InvalidName.
 
-    With b"refs/heads/" before it, it is the full name of a branch, and it doesn't start
-    with a dash.
+    It may have a NUL, unless it is protected by WINDOWS and NTFS together. C's open()
+    ends a name there.
     """
-    return _accepted(name, "short_branch")
+    return _validated(name, "component", protect)
 
 
-def submodule_name(name: Bytes) -> bytes:
-    """Returns `name` if it is a valid name of a submodule, such as b"vendor/package";
-    otherwise raises InvalidName."""
-    return _accepted(name, "submodule")
+def validate_symlink(name: Name, *, protect: Protect = _DEFAULT) -> Name:
+    """Returns `name` if it may be the component of a path that is a symbolic link;
+    otherwise raises InvalidName. It is a component, and isn't ".gitmodules"."""
+    return _validated(name, "symlink", protect)
 
 
-def path_component(
-    name: Bytes,
-    *,
-    windows: bool = True,
-    hfs: bool = True,
-    ntfs: bool = True,
-    symlink: bool = False,
-) -> bytes:
-    """Returns `name` if it may be one component of a path, such as b"src"; otherwise
+def validate_submodule(name: Name, *, protect: Protect = _DEFAULT) -> Name:
+    """Returns `name` if it is a valid submodule name, such as "vendor/package"; otherwise
     raises InvalidName.
 
-    `windows`, `hfs` and `ntfs` protect against what these systems read differently.
-    `symlink` says that the component is to be a symbolic link, which .gitmodules may
-    not be.
-
-    The default, all three, is right for a server, and wherever it isn't known where a
-    name will be checked out. Devices, such as b"NUL" and b"aux.c", and what Windows
-    forbids in a name, such as a dot at its end, are refused only if `windows` and
-    `ntfs` are both set. `ntfs` without `windows` accepts b"a\\.git", which Windows
-    reads as a path and `git fsck` refuses.
+    No part between slashes or backslashes is "..". Under any protection it is also a
+    path, no part of which may be read as "." or "..".
     """
-    return _accepted(name, "component", _flags(windows, hfs, ntfs, symlink))
+    return _validated(name, "submodule", protect)
 
 
-def path(
-    name: Bytes,
-    *,
-    windows: bool = True,
-    hfs: bool = True,
-    ntfs: bool = True,
-    symlink: bool = False,
-) -> bytes:
-    """Returns `name` if it is a path, such as b"src/main.rs", of which each part
-    between slashes is a component under these settings; otherwise raises InvalidName.
+def suggest_branch(name: AnyStr) -> Optional[AnyStr]:
+    """Returns a valid branch name that is like `name`, or None if there is none. A valid
+    name is returned as it is.
 
-    `symlink` is for the last part alone. The fault is that of the first part that has
-    one, which begins at `path_offset`. It is EMPTY_PART for a slash at the end, too: cut
-    off that of a folder in an archive, such as b"dir/".
+    >>> suggest_branch("Fix: it's done..")
+    "Fix-it's-done"
+    >>> suggest_branch("...") is None
+    True
     """
-    return _accepted(name, "path", _flags(windows, hfs, ntfs, symlink))
+    given = _encoded(name)
+    length = len(given)
+    buffer = ctypes.create_string_buffer(length)
+    written = _suggest(given, length, buffer, length)
+    return _as_given(name, given, buffer.raw[:written]) if written else None
 
 
-def is_valid_tag_name(name: Bytes) -> bool:
-    """Whether `tag_name` accepts the name."""
-    return not _code["tag"](*_given(name))
+def sanitize(name: AnyStr) -> AnyStr:
+    """Repairs any name to a valid partial reference name. A valid one is returned as it
+    is.
 
+    The result may be no valid branch name: use `suggest_branch` for branches.
 
-def is_valid_partial_name(name: Bytes) -> bool:
-    """Whether `partial_name` accepts the name."""
-    return not _code["partial"](*_given(name))
-
-
-def is_valid_full_name(name: Bytes) -> bool:
-    """Whether `full_name` accepts the name."""
-    return not _code["full"](*_given(name))
-
-
-def is_valid_branch_name(name: Bytes) -> bool:
-    """Whether `branch_name` accepts the name."""
-    return not _code["branch"](*_given(name))
-
-
-def is_valid_short_branch_name(name: Bytes) -> bool:
-    """Whether `short_branch_name` accepts the name."""
-    return not _code["short_branch"](*_given(name))
-
-
-def is_valid_submodule_name(name: Bytes) -> bool:
-    """Whether `submodule_name` accepts the name."""
-    return not _code["submodule"](*_given(name))
-
-
-def is_valid_path_component(
-    name: Bytes,
-    *,
-    windows: bool = True,
-    hfs: bool = True,
-    ntfs: bool = True,
-    symlink: bool = False,
-) -> bool:
-    """Whether `path_component` accepts the name."""
-    return not _code["component"](*_given(name), _flags(windows, hfs, ntfs, symlink))
-
-
-def is_valid_path(
-    name: Bytes,
-    *,
-    windows: bool = True,
-    hfs: bool = True,
-    ntfs: bool = True,
-    symlink: bool = False,
-) -> bool:
-    """Whether `path` accepts the name."""
-    return not _code["path"](*_given(name), _flags(windows, hfs, ntfs, symlink))
-
-
-def path_offset(
-    name: Bytes,
-    *,
-    windows: bool = True,
-    hfs: bool = True,
-    ntfs: bool = True,
-    symlink: bool = False,
-) -> Optional[int]:
-    """The offset of the part for which `path` refuses the name: in b"src/.git/a" it is
-    4. None if `path` accepts it."""
-    name, length = _given(name)
-    flags = _flags(windows, hfs, ntfs, symlink)
-    if not _code["path"](name, length, flags):
-        return None
-    offset: int = _path_offset(name, length, flags)
-    return offset
-
-
-def is_windows_device(name: Bytes) -> bool:
-    """Whether Windows takes `name` for a device, such as b"NUL" or b"com1.txt"."""
-    return bool(_is_windows_device(*_given(name)))
-
-
-def fault_offset(name: Bytes) -> Optional[int]:
-    """The offset of the fault for which `tag_name`, and with it the functions for
-    references, refuses the name: in b"a..b" that of the second dot. None if `tag_name`
-    accepts it. A fault of the end is at the last byte, that of an empty name at 0.
+    >>> sanitize("refs//heads/../x.lock")
+    'refs/heads/-/x'
     """
-    name, length = _given(name)
-    offset: int = _fault_offset(name, length)
-    return offset if offset < length or length == 0 else None
-
-
-def sanitize(name: Bytes) -> bytes:
-    """Repairs any bytes to a valid partial name of a reference. A valid one is returned
-    as it is."""
-    name, length = _given(name)
-    if not _code["partial"](name, length):
-        return name
+    given = _encoded(name)
+    length = len(given)
     buffer = ctypes.create_string_buffer(max(1, length))
-    return ctypes.string_at(buffer, _sanitize(name, length, buffer, len(buffer)))
+    written = _sanitize(given, length, buffer, len(buffer))
+    return _as_given(name, given, buffer.raw[:written])
 
 
-def fault_numbers(
-    buffer: Bytes,
-    kind: Kind,
-    end: Bytes = b"\n",
-    *,
-    windows: bool = True,
-    hfs: bool = True,
-    ntfs: bool = True,
-    symlink: bool = False,
-) -> bytes:
-    """Checks the names in a buffer: returns a byte for each, in order, which is 0 or
-    the number of its Fault.
-
-    The byte `end` ends each name. What follows the last such byte is a name too, unless
-    it is empty.
-    """
-    flags = _flags_of(kind, windows, hfs, ntfs, symlink)
-    end, ends = _given(end, "the end of a name")
-    if ends != 1:
-        raise ValueError(f"the end of a name has to be one byte, not {ends}")
-    number = bytes.__getitem__(end, 0)
-    if kind in _WITH_FLAGS:
-        names = bytes.split(_given(buffer, "a buffer of names")[0], bytes([number]))
-        return _numbers_alone(kind, names if names[-1] else names[:-1], flags)
-    if isinstance(buffer, bytes):
-        return _numbers(kind, buffer, bytes.__len__(buffer), number)
-    with _held(buffer, "a buffer of names") as (address, length):
-        return _numbers(kind, address, length, number)
-
-
-def fault_numbers_at(
-    buffer: Bytes,
-    offsets: Iterable[int],
-    kind: Kind,
-    *,
-    windows: bool = True,
-    hfs: bool = True,
-    ntfs: bool = True,
-    symlink: bool = False,
-) -> bytes:
-    """Checks names in a buffer that has nothing between them, as Arrow's and pandas'
-    columns of strings: returns a byte for each, which is 0 or the number of its Fault.
-
-    A name begins at each offset but the last, and ends at the next. A column of Arrow
-    has `_, offsets, buffer = column.buffers()`, where `memoryview(offsets).cast("i")`
-    are the offsets, and those of a large column are cast to "q". Only a part of the
-    buffer is copied at a time.
-    """
-    flags = _flags_of(kind, windows, hfs, ntfs, symlink)
-    places = [*offsets]
-    view = _contiguous(buffer, "a buffer of names")
-    if (
-        places != sorted(places)
-        or places
-        and not 0 <= places[0] <= places[-1] <= len(view)
-    ):
-        raise ValueError("offsets have to ascend, and to be within the buffer")
-    numbers = []
-    for part in range(0, len(places) - 1, _PART):
-        first, *ends = places[part : part + _PART + 1]
-        copied = bytes(view[first : ends[-1]])
-        starts = [0, *(end - first for end in ends)]
-        names = [copied[at:end] for at, end in zip(starts, starts[1:])]
-        numbers.append(_numbers_of_each(names, kind, flags))
-    return b"".join(numbers)
+def is_windows_device(name: Union[str, bytes]) -> bool:
+    """Whether Windows takes `name` for a device, such as "NUL" or "com1.txt"."""
+    given = _encoded(name)
+    return bool(_is_windows_device(given, len(given)))
 
 
 def faults(
-    names: Iterable[Bytes],
-    kind: Kind,
+    names: Iterable[Union[str, bytes]],
+    kind: KindName,
     *,
-    windows: bool = True,
-    hfs: bool = True,
-    ntfs: bool = True,
-    symlink: bool = False,
+    protect: Protect = _DEFAULT,
 ) -> List[Optional[Fault]]:
-    """Checks many names: returns None for each that is valid, and the fault of each
-    that isn't, in order."""
-    flags = _flags_of(kind, windows, hfs, ntfs, symlink)
-    numbers = _numbers_of_each(names, kind, flags)
-    return (
-        [_fault_of[number] for number in numbers]
-        if numbers.lstrip(b"\0")
-        else [None] * len(numbers)
-    )
+    """Checks many names: returns None for each that is valid, and the fault of each that
+    isn't, in order.
+
+    >>> names = ["main", "-d"]
+    >>> [name for name, fault in zip(names, faults(names, "branch")) if fault]
+    ['-d']
+    """
+    if isinstance(names, (str, bytes)):
+        raise TypeError(f"names have to be in a list, not in a {type(names).__name__}")
+    numbers = _numbers_of_each([*names], kind, protect)
+    if not numbers.strip(b"\0"):
+        return [None] * len(numbers)
+    return [_FAULTS[number] for number in numbers]
 
 
-def first_invalid(
-    names: Iterable[Bytes],
-    kind: Kind,
+def fault_numbers(
+    names: Union[str, Buffer],
+    kind: KindName,
+    end: Union[str, bytes] = b"\n",
     *,
-    windows: bool = True,
-    hfs: bool = True,
-    ntfs: bool = True,
-    symlink: bool = False,
-) -> Optional[int]:
-    """Checks many names: returns the index of the first that is invalid, and None if
-    all are valid."""
-    flags = _flags_of(kind, windows, hfs, ntfs, symlink)
-    numbers = _numbers_of_each(names, kind, flags)
-    index = len(numbers) - len(numbers.lstrip(b"\0"))
-    return index if index < len(numbers) else None
+    protect: Protect = _DEFAULT,
+) -> bytes:
+    """Checks the names in one str or one buffer, such as bytes, a memoryview, an mmap or
+    a NumPy array: returns a byte for each, in order, which is 0 or the value of its
+    Fault.
+
+    The byte `end` ends each name. What follows the last such byte is a name too, unless
+    it is empty. A buffer isn't copied, if its bytes are contiguous: nobody may change it
+    during the call.
+    """
+    ended = _encoded(end)
+    if len(ended) != 1:
+        raise ValueError(f"one byte has to end a name, not {end!r}")
+    if isinstance(names, (str, bytes)):
+        given = _encoded(names)
+        return _numbers(given, len(given), kind, protect, ended[0])
+    with _held(names) as (address, length):
+        return _numbers(address, length, kind, protect, ended[0])
+
+
+def fault_numbers_at(
+    names: Optional[Buffer],
+    offsets: Iterable[int],
+    kind: KindName,
+    *,
+    start: int = 0,
+    count: Optional[int] = None,
+    protect: Protect = _DEFAULT,
+) -> bytes:
+    """Checks names in a buffer that has nothing between them, as Arrow and pandas store
+    a column of strings: returns a byte for each, which is 0 or the value of its Fault.
+
+    A name begins at each offset but the last, and ends at the next. `start` is the index
+    of the first name, and `count` the number of names, by default all. A column of Arrow
+    may be a slice of another, and its offsets may be padded, so pass both:
+
+        _, offsets, names = column.buffers()
+        fault_numbers_at(names, memoryview(offsets).cast("i"), "branch",
+                         start=column.offset, count=len(column))
+
+    The offsets of a large column are cast to "q". A null is a name, too, most often an
+    empty one. None instead of a buffer is one without a byte. Only a part of the buffer
+    is copied at a time.
+    """
+    end = None if count is None else start + count + 1
+    places = [*islice(offsets, start, end)]
+    if count and len(places) <= count:
+        raise ValueError(f"{count} names have {count + 1} offsets, not {len(places)}")
+    view = _contiguous(b"" if names is None else names)
+    within = not places or 0 <= places[0] <= places[-1] <= len(view)
+    if not within or places != sorted(places):
+        raise ValueError("offsets have to ascend, and to be within the buffer")
+    parts = _names_between(view, places)
+    return b"".join(_numbers_of_each(it, kind, protect) for it in parts)
 
 
 def version() -> Tuple[int, int, int]:
@@ -543,36 +557,114 @@ def version() -> Tuple[int, int, int]:
     return _version_of(_loaded)
 
 
-def _given(name: Bytes, what: str = "a name") -> Tuple[bytes, int]:
-    """The name, and how many bytes it has, whatever the `__len__` of a subclass
-    says."""
-    if not isinstance(name, bytes):
-        name = bytes(_view(name, what))
-    return name, bytes.__len__(name)
+def _encoded(name: Union[str, bytes]) -> bytes:
+    """The bytes of a name, which are no subclass of bytes: that may have another length."""
+    if type(name) is bytes:
+        return name
+    if isinstance(name, str):
+        return str.encode(name, "utf-8", "surrogateescape")
+    if isinstance(name, bytes):
+        return bytes(memoryview(name))
+    raise TypeError(f"a name has to be str or bytes, not {type(name).__name__}")
 
 
-def _view(name: Bytes, what: str) -> memoryview:
-    """What has the buffer protocol, as that gives it."""
+def _as_given(name: AnyStr, given: bytes, result: bytes) -> AnyStr:
+    """A result in the type of the name, and the name itself if it has the same bytes."""
+    if result == given:
+        return name
+    if isinstance(name, str):
+        return result.decode("utf-8", "surrogateescape")
+    return result
+
+
+def _number_of(kind: KindName) -> ctypes.c_uint32:
+    """The number of a kind."""
     try:
-        return memoryview(name)
-    except TypeError:
-        hint = (
-            " (os.fsencode makes bytes of a file's name)"
-            if isinstance(name, str)
-            else ""
-        )
-        raise TypeError(
-            f"{what} has to be bytes, not {type(name).__name__}{hint}"
-        ) from None
+        return _NUMBERS[kind]
+    except KeyError:
+        kinds = ", ".join(_NUMBERS)
+        raise ValueError(f"{kind!r} is no kind of name: {kinds}") from None
 
 
-def _contiguous(buffer: Bytes, what: str) -> memoryview:
+def _flags_of(protect: Protect) -> ctypes.c_uint32:
+    """The flags of protections."""
+    if protect is _DEFAULT:
+        return _DEFAULT_FLAGS
+    if isinstance(protect, Protect):
+        return _NUMBER(protect)
+    raise TypeError(f"protect has to be a Protect, not {type(protect).__name__}")
+
+
+def _number(name: Union[str, bytes], kind: KindName, protect: Protect) -> int:
+    """The number of a name's fault, or 0. (A call of one's own here takes a tenth of the
+    time of it all.)"""
+    if type(name) is str:
+        given = name.encode("utf-8", "surrogateescape")
+    else:
+        given = name if type(name) is bytes else _encoded(name)
+    flags = _DEFAULT_FLAGS if protect is _DEFAULT else _flags_of(protect)
+    number: int = _fault_of(_number_of(kind), given, len(given), flags)
+    return number
+
+
+def _validated(name: Name, kind: KindName, protect: Protect = _DEFAULT) -> Name:
+    fault = _FAULTS[_number(name, kind, protect)]
+    if fault is None:
+        return name
+    raise InvalidName(name, _KINDS[kind], fault, protect)
+
+
+def _text(name: Union[str, bytes], kind: KindName, protect: Protect) -> str:
+    """The printed text of a name's fault."""
+    given, text = _encoded(name), _Text()
+    flags = _flags_of(protect)
+    _text_of(_number_of(kind), given, len(given), flags, text, _TEXT_MAX)
+    return text.value.decode("ascii")
+
+
+def _index(name: str, at: int) -> int:
+    """The index of the character at an offset of the encoded name."""
+    if name.isascii():
+        return at
+    # Each surrogate is a byte, and several may together be the bytes of a character.
+    encoded = re.sub("[\udc80-\udcff]", "?", name).encode()
+    return len(encoded[:at].decode("utf-8", "ignore"))
+
+
+def _place(name: Any, at: int) -> str:
+    """Where in a name an offset is, for people."""
+    unit, slash = ("index", "/") if isinstance(name, str) else ("byte", b"/")
+    found = name[at : at + 1]
+    if not found:
+        return " (at the end)" if name else ""
+    piece = name[name.rfind(slash, 0, at) + 1 :].partition(slash)[0]
+    within = ""
+    if piece and slash in name:
+        within = f", in {piece[:200]!r}{'..' if len(piece) > 200 else ''}"
+    return f" ({found!r} at {unit} {at}{within})"
+
+
+def _contiguous(buffer: Buffer) -> memoryview:
     """The bytes of a buffer, or those of a copy if they have gaps, or odd items."""
-    view = _view(buffer, what)
+    try:
+        view = memoryview(buffer)
+    except TypeError:
+        message = f"names have to be in a buffer, not {type(buffer).__name__}"
+        raise TypeError(message) from None
     try:
         return view.cast("B")
     except TypeError:
         return memoryview(bytes(view))
+
+
+def _names_between(view: memoryview, places: List[int]) -> Iterator[List[bytes]]:
+    """The names between offsets, some thousand at a time."""
+    yield []  # (so that the kind is checked if there is no name)
+    for part in range(0, len(places) - 1, _PART):
+        first, *ends = places[part : part + _PART + 1]
+        copied = bytes(view[first : ends[-1]])
+        starts = [0, *(end - first for end in ends)]
+        yield [copied[at:end] for at, end in zip(starts, starts[1:])]
 
 
 class _Buffer(ctypes.Structure):
@@ -594,9 +686,9 @@ class _Buffer(ctypes.Structure):
 
 
 @contextmanager
-def _held(buffer: Bytes, what: str) -> Iterator[Tuple[int, int]]:
+def _held(buffer: Buffer) -> Iterator[Tuple[int, int]]:
     """The address of a buffer's bytes, and their number, while nobody can free them."""
-    view, held = _contiguous(buffer, what), _Buffer()
+    view, held = _contiguous(buffer), _Buffer()
     ctypes.pythonapi.PyObject_GetBuffer(ctypes.py_object(view), ctypes.byref(held), 0)
     try:
         yield held.buf or 0, held.len
@@ -604,58 +696,26 @@ def _held(buffer: Bytes, what: str) -> Iterator[Tuple[int, int]]:
         ctypes.pythonapi.PyBuffer_Release(ctypes.byref(held))
 
 
-def _flags(windows: bool, hfs: bool, ntfs: bool, symlink: bool) -> int:
-    return bool(windows) | bool(hfs) << 1 | bool(ntfs) << 2 | bool(symlink) << 3
-
-
-def _flags_of(kind: Kind, *settings: bool) -> List[int]:
-    """What the call for this kind takes besides a name."""
-    if not isinstance(kind, Kind):
-        raise TypeError(f"a kind has to be a Kind, not {type(kind).__name__}")
-    flags = _flags(*settings)
-    if kind in _WITH_FLAGS:
-        return [flags]
-    if flags != _PROTECT_ALL:
-        raise TypeError(f"{kind} has no settings: they are those of a path")
-    return []
-
-
-def _numbers(kind: Kind, buffer: Union[bytes, int], length: int, end: int) -> bytes:
-    """The number of each name of the buffer, which has at most as many as bytes."""
+def _numbers(
+    names: Union[bytes, int], length: int, kind: KindName, protect: Protect, end: int
+) -> bytes:
+    """The number of each name of a buffer, which has at most as many as bytes."""
     numbers = ctypes.create_string_buffer(length)
-    return ctypes.string_at(
-        numbers, _many[kind.value](buffer, length, end, numbers, length)
-    )
+    given = _number_of(kind), names, length, _flags_of(protect)
+    return ctypes.string_at(numbers, _faults_of(*given, end, numbers, length))
 
 
-def _numbers_alone(kind: Kind, names: List[bytes], flags: List[int]) -> bytes:
-    """The number of each name, by a call for each."""
-    return bytes([_code[kind.value](*_given(name), *flags) for name in names])
-
-
-def _numbers_of_each(names: Iterable[Bytes], kind: Kind, flags: List[int]) -> bytes:
+def _numbers_of_each(names: List[Any], kind: KindName, protect: Protect) -> bytes:
     """The number of each name. A name that holds a NUL can't be in a buffer in which
     NUL ends each name."""
-    given = [*names]
-    if list(map(type, given)).count(bytes) < len(given):
-        parts = [_given(name)[0] for name in given]
+    types = {*map(type, names)}
+    if types == {str}:
+        joined = _encoded("\0".join([*names, ""]))
     else:
-        parts = cast(List[bytes], given)
-    if kind not in _WITH_FLAGS:
-        buffer = b"\0".join(parts) + b"\0"
-        numbers = _numbers(kind, buffer, len(buffer), 0)
-        if len(numbers) == len(parts):
-            return numbers
-    return _numbers_alone(kind, parts, flags)
-
-
-def _accepted(name: Bytes, kind: str, *flags: int) -> bytes:
-    name, length = _given(name)
-    code = _code[kind](name, length, *flags)
-    if not code:
-        return name
-    text = ctypes.create_string_buffer(_TEXT_MAX)
-    written = _text[kind](name, length, *flags, text, len(text))
-    fault = Fault(code)
-    byte = _invalid_byte(name, length) if fault is Fault.INVALID_BYTE else None
-    raise InvalidName(name, fault, text.raw[:written].decode("ascii"), byte)
+        joined = b"\0".join(
+            [*(names if types == {bytes} else map(_encoded, names)), b""]
+        )
+    numbers = _numbers(joined, len(joined), kind, protect, 0)
+    if len(numbers) == len(names):
+        return numbers
+    return bytes(_number(name, kind, protect) for name in names)

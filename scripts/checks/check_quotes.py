@@ -2,8 +2,10 @@
 
 The code on the pages that teach is code of the sources: the line before a block of Rattle
 or antt ends with 'From `FILE`:', and the lines between two lines `...` are together in
-that file, in any order of the parts. (Code below 'Write `FILE`:' is the reader's.) The names in the table of docs/BINDINGS.md are names
-of each language. A link between pages leads to a file and to a heading of it.
+that file, in any order of the parts. (Code below 'Write `FILE`:' is the reader's.)
+docs/CONTRACTS.md has each word of the kit that the definitions of the libraries import.
+The names in the table of docs/BINDINGS.md are names of each language. A link between pages
+leads to a file and to a heading of it.
 """
 
 import re
@@ -12,16 +14,24 @@ from pathlib import Path
 
 from scripts.sources import read
 
-PAGES = ("docs/TUTORIAL.md", "docs/CONTRACTS.md")
+CONTRACTS = "docs/CONTRACTS.md"
+PAGES = ("docs/TUTORIAL.md", CONTRACTS)
+# The libraries whose definitions an auditor reads, and their imports from the kit.
+LIBRARIES = ("gix_validate", "typed_names", "git_names", "gitmodules")
+OF_THE_KIT = re.compile(
+    r"(?m)^(?:pub )?use Rattle\.(?:std|bstr)\.specs\.(?!declared)[\w.]+\.\{(.*)\}"
+)
 BLOCK = re.compile(r"(?ms)^([^\n]*)\n+```(?:rust|antt)\n(.*?)^```$")
 BINDINGS = "docs/BINDINGS.md"
 # Of each column of its table: the files, and what is in one of them.
 LANGUAGES = (
+    ("crates/git_check_names/src/*.rt", r"\"{}\""),
     ("bindings/c/gix_validate.h", r"\bgix_validate_{}\("),
-    ("bindings/rust/src/{}.rs", r"\b{}\b"),
+    ("bindings/cpp/gix_validate.hpp", r"\b{}\b"),
+    ("bindings/rust/src/*.rs", r"\b{}\b"),
     ("bindings/python/gix_validate.py", r"\b{}\b"),
     ("bindings/js/gix_validate.d.ts", r"\b{}\b"),
-    ("bindings/go/*.go", r"(?m)^(?:func |type |\t){}\b"),
+    ("bindings/go/*.go", r"(?m)^(?:func (?:\([^)]*\) )?|type |\t){}\b"),
 )
 TRIED = re.compile(r"\bWrite `[\w./]+`:$")  # (tests/pages tries it)
 
@@ -55,8 +65,23 @@ def anchors(page):
     return {*map(slug, headings), *re.findall('<a id="(.*?)"', read(page))}
 
 
+def unexplained_words():
+    """The words of the kit that the definitions of the libraries import, and that the page
+    about contracts doesn't have in code. (Those of private definitions need no reader.)
+    """
+    code = re.findall(r"(?ms)^```.*?^```$|`[^`\n]+`", read(CONTRACTS))
+    explained = {*re.findall(r"\w+", " ".join(code))}
+    for crate in LIBRARIES:
+        for file in Path("crates", crate, "specs").glob("**/*.antt"):
+            imports = [] if "Private" in file.parts else OF_THE_KIT.findall(read(file))
+            words = {it.strip() for names in imports for it in names.split(",")}
+            for word in sorted(filter(str.isidentifier, words - explained)):
+                yield f"{CONTRACTS} doesn't explain a word of the kit: {word} ({file})"
+
+
 def derived():
     """What is wrong on the pages."""
+    yield from unexplained_words()
     for page in pages(Path()):
         for target in re.findall(r"\]\((?!https?:)([^)\s]*)\)", without_code(page)):
             path, _, anchor = target.partition("#")
@@ -72,11 +97,10 @@ def derived():
         r"(?m)^\| (?!---).*`.*$", read(BINDINGS).partition("\n## With")[0]
     ):
         for (file, form), cell in zip(LANGUAGES, row.split("|")[2:]):
-            for module, name in re.findall(r"`(?:(\w+)::)?(\w+)`", cell):
-                path = file.format(module or "fault")
-                texts = map(read, glob(path))
+            texts = [*map(read, glob(file))]
+            for name in re.findall(r"`(\w[\w-]*)`", cell):
                 if not any(re.search(form.format(name), text) for text in texts):
-                    yield f"{BINDINGS} has a name that isn't in {path}: {name}"
+                    yield f"{BINDINGS} has a name that isn't in {file}: {name}"
     for page, (before, code) in (
         (page, block) for page in PAGES for block in BLOCK.findall(read(page))
     ):

@@ -20,7 +20,8 @@ BUILT = (
     "crates/*/out",
     "bindings/rust/native",
     "bindings/rust/target",
-    "bindings/rust/drop_in/target",
+    "bindings/rust/gix-validate/target",
+    "bindings/rust/gix-validate/drop_in/target",
     "bindings/go/block_amd64.go",
     "bindings/go/block_amd64.s",
     "bindings/go/block_arm64.go",
@@ -34,14 +35,16 @@ ALLOWED = {
     "bindings/rust/src/block.rs": {"unsafe", "global_asm", "include_str", "include"},
     "hook/src/limits.rs": {"unsafe"},
     # Texts that tests compare with.
-    "bindings/rust/tests/recorded.rs": {"include_str"},
+    "bindings/rust/gix-validate/tests/recorded.rs": {"include_str"},
     "bindings/rust/tests/rows.rs": {"include_str"},
     # The code that replays rows, which the tests share.
     "bindings/rust/examples/replay_rows.rs": {"path"},
     # Prose, the list of files of a package, and a folder for Cargo.
     "bindings/rust/README.md": {"unsafe", "path"},
     "bindings/rust/Cargo.toml": {"include"},
-    "bindings/rust/drop_in/Cargo.toml": {"path"},
+    "bindings/rust/gix-validate/README.md": {"path"},
+    "bindings/rust/gix-validate/Cargo.toml": {"include", "path"},
+    "bindings/rust/gix-validate/drop_in/Cargo.toml": {"path"},
     # The calls of the block, by Go's assembler. Strings and slices of bytes are read as one
     # type, and so are faults and bytes.
     "bindings/go/calls_block.go": {"unsafe"},

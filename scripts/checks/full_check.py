@@ -177,7 +177,8 @@ def check_all(commit, edits):
     release = []
     if commit:
         yield run("dist", "release/dist", "--built", BUILT, RELEASE)
-        release = [f"--release={file}" for file in Path(RELEASE).glob("*.tar.gz")]
+        archives = Path(RELEASE).glob("gix-validate-*.tar.gz")
+        release = [f"--release={file}" for file in archives]
     targets = {"ALL_TARGETS": "true"} if edits == ["all"] else {}
     # The edits need the processors now and then, and the tests wait now and then.
     edits = start("edits", "scripts/dev", "try-edits", "--after-gate", *edits)

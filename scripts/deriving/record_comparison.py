@@ -1,8 +1,9 @@
 """Records in docs/COMPARISON.md what other programs and libraries say of some names.
 
-They are Git, Debian's libgit2 (python3-pygit2) and dulwich (python3-dulwich), and the Rust
-crate gix-validate, which bench/crate/build builds. It also needs check_names, built. Run
-it by /usr/bin/python3. With --check it fails if one of them says something else now.
+They are Git, Debian's libgit2 (python3-pygit2), dulwich (python3-dulwich) and JGit
+(libjgit-java), and the Rust crate gix-validate, which bench/crate/build builds. It also
+needs check_names and git_check_names, built. Run it by /usr/bin/python3. With --check it
+fails if one of them says something else now.
 """
 
 import ctypes
@@ -10,6 +11,7 @@ import os
 import re
 import subprocess
 import tempfile
+import zipfile
 from html import escape
 from pathlib import Path
 from typing import NamedTuple
@@ -18,7 +20,10 @@ from scripts.sources import Wrong
 
 PAGE = "docs/COMPARISON.md"
 CHECK_NAMES = "crates/check_names/out/check_names"
+GIT_CHECK_NAMES = "crates/git_check_names/out/git_check_names"
 CRATE = "bench/crate/out/crate.a"
+JAVA = "/usr/share/java"
+JGIT = f"{JAVA}/org.eclipse.jgit.jar"
 ACCEPTED = "accepted"
 # Windows, HFS and NTFS, as by default; and a symbolic link.
 FLAGS, SYMLINK = 7, 8
@@ -38,7 +43,7 @@ COMPONENTS = [
     Row(b"git~1", "the short name of `.git` on NTFS"),
     Row(b".git::$INDEX_ALLOCATION", "`.git` by a stream of NTFS"),
     Row(b".git ", "`.git` for NTFS", "`.git` and a space"),
-    Row(b"..", "the folder above"),
+    Row(b"..", "the directory above"),
     Row(b"a\\b", "a path on Windows"),
     Row(b"C:x", "a path on Windows"),
     Row(b"aux.c", "a device of Windows"),
@@ -50,7 +55,7 @@ COMPONENTS = [
 REFERENCES = [
     Row(b"refs/heads/v1..v2", "reads as a range"),
     Row(b"refs/heads/a*", "reads as a pattern"),
-    Row(b"refs/heads/a/../b", "leaves its folder"),
+    Row(b"refs/heads/a/../b", "leaves its directory"),
     Row(b"refs/heads/a.lock/b", "Git's own lock file"),
     Row(b"refs/heads/a@{1", "reads as an entry of a log"),
     Row(b"refs/heads/a\x1b[2J", "changes a terminal", "`refs/heads/a` ESC `[2J`"),
@@ -66,6 +71,29 @@ SUBMODULES = [
     Row(b"..\\\\x", "the same on Windows", "`..\\x`"),
     Row(b"-x", "reads as an option"),
 ]
+
+# What people type for a branch.
+TITLES = [
+    "Fix: it's done..",
+    "feature/ABC: [x] done?",
+    "  leading and trailing  ",
+    ".hidden",
+    "x.lock.",
+    "a.lock/b",
+    "a..b",
+    "a@{b",
+    "a//b/",
+    "-x",
+    "HEAD",
+    "~",
+]
+NORMALIZE = """public class Normalize {
+  public static void main(String[] names) {
+    for (String name : names)
+      System.out.println(org.eclipse.jgit.lib.Repository.normalizeBranchName(name));
+  }
+}
+"""
 
 
 def run(*words, given=b"", cwd=None):
@@ -127,7 +155,9 @@ class Others:
         except ImportError as error:
             raise Wrong(f"{PAGE} needs Debian's packages: {error}") from error
         self.dulwich, self.pygit2, self.room = dulwich, pygit2, room
-        for path, how in {CHECK_NAMES: "rt build", CRATE: "bench/crate/build"}.items():
+        needs = {it: "scripts/build" for it in (CHECK_NAMES, GIT_CHECK_NAMES)}
+        needs |= {CRATE: "bench/crate/build", JGIT: "Debian's libjgit-java"}
+        for path, how in needs.items():
             if not Path(path).exists():
                 raise Wrong(f"{PAGE} needs {path}: {how} makes it")
         shared = room / "crate.so"
@@ -142,6 +172,12 @@ class Others:
         numbers = [ctypes.c_int() for _ in range(3)]
         library.git_libgit2_version(*map(ctypes.byref, numbers))
         return ".".join(str(it.value) for it in numbers)
+
+    def jgit_version(self):
+        """The version that its file has."""
+        with zipfile.ZipFile(JGIT) as jar:
+            text = jar.read("META-INF/MANIFEST.MF").decode()
+        return re.search(r"Bundle-Version: (\d+\.\d+\.\d+)", text)[1]
 
     def repository(self):
         path = Path(tempfile.mkdtemp(dir=self.room))
@@ -236,15 +272,37 @@ class Others:
             self.by_crate("crate_submodule", name),
         ]
 
+    def suggestions(self):
+        """What this library and JGit suggest for each title, by lines of a table."""
+        program = self.room / "Normalize.java"
+        program.write_text(NORMALIZE)
+        jars = f"{JGIT}:{JAVA}/slf4j-api.jar:{JAVA}/slf4j-nop.jar"
+        words = ["java", "-XX:-UsePerfData", "-cp", jars, program, *TITLES]
+        java = subprocess.check_output(words)
+        for title, jgit in zip(TITLES, java.decode().split("\n")):
+            words = [GIT_CHECK_NAMES, "branch", "--repair", "--", title]
+            how = {"stdout": subprocess.PIPE, "stderr": subprocess.DEVNULL}
+            ours = subprocess.run(words, **how).stdout.decode().removesuffix("\n")
+            yield [f"`{title}`", self.suggested(ours), self.suggested(jgit)]
+
+    def suggested(self, name):
+        """A suggestion, and whether Git refuses it."""
+        if not name:
+            return "none"
+        refused, _ = run("git", "check-ref-format", "--branch", name, cwd=self.room)
+        return f"`{name}`{', refused' if refused else ''}"
+
 
 def table(head, rows, say):
     """A table of what each says."""
-    lines = [" | ".join(["Name", "Why it is dangerous", *head])]
-    lines.append("|".join(["---"] * (len(head) + 2)))
-    for row in rows:
-        shown = row.shown or f"`{row.name.decode()}`"
-        lines.append(" | ".join([shown, row.why, *say(row)]))
-    return "\n".join(lines)
+    cells = [[it.shown or f"`{it.name.decode()}`", it.why, *say(it)] for it in rows]
+    return of_lines(["Name", "Why it is dangerous", *head], cells)
+
+
+def of_lines(head, cells):
+    """The text of a table."""
+    lines = map(" | ".join, cells)
+    return "\n".join([" | ".join(head), "|".join(["---"] * len(head)), *lines])
 
 
 def derived():
@@ -258,11 +316,13 @@ def derived():
             "components": table(tree, COMPONENTS, others.component),
             "references": table([*ref, crate], REFERENCES, others.reference),
             "submodules": table(modules, SUBMODULES, others.submodule),
+            "suggestions": of_lines(["Typed", ours, "JGit"], others.suggestions()),
         }
         versions = (
             f"Git {made('git', '--version').split()[2]}, "
             f"libgit2 {others.libgit2_version()}, "
             f"dulwich {'.'.join(map(str, others.dulwich.__version__))}, "
+            f"JGit {others.jgit_version()}, "
             "gix-validate 0.13.0."
         )
     for name, text in {**tables, "versions": versions}.items():

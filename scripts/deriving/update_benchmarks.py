@@ -55,6 +55,8 @@ PUSH_COLUMNS = ["What is pushed", "Without a hook", "With the hook"]
 ATTACK_COLUMNS = ["What is pushed", "Bytes", "`receive.fsckObjects`", "The hook"]
 # The pages of marks that aren't on bench/README.md.
 PAGES = {"go": "bindings/go/README.md", "python": "bindings/python/README.md"}
+# The row of README's table that has times.
+SPEEDS = "| Time for a reference name | "
 # The colours of this library, of what it is compared with most, and of others.
 OURS, OTHER, THIRD = "#0072b2", "#d55e00", "#767676"
 # In the dark the pictures have these in place of those above, and of those of the axes.
@@ -249,6 +251,12 @@ def draw_bars(axes, rows, bars):
     axes.invert_yaxis()
 
 
+def speeds(times):
+    """What a full reference name takes, in the order of README's table."""
+    ours, crate, libgit2 = (f"{shown(it)} ns" for it in times["full refs"])
+    return f"{ours} | | starts a process | {libgit2} | {crate}"
+
+
 def bars(times):
     """The time of a call of this library next to that of others, as SVG."""
     figure = figure_of((8, 4))
@@ -325,6 +333,7 @@ def derived():
     parts = head.split(read("bench/figures.txt"))
     figures = {name: text.splitlines() for name, text in zip(parts[1::3], parts[3::3])}
     texts = {"processors": processors(zip(parts[1::3], parts[2::3])), **made(figures)}
+    yield "README.md", SPEEDS, " |\n", speeds(rows(figures["times"]))
     for name, text in texts.items():
         page = PAGES.get(name, "bench/README.md")
         yield page, f"<!-- {name} -->\n\n", "\n\n<!-- end -->", text

@@ -1,8 +1,8 @@
-"""Writes the faults of docs/RULES.md, and those of C, Rust, Python, JavaScript and Go.
+"""Writes the faults of docs/RULES.md, and those of C, C++, Rust, Python, JavaScript and Go.
 
 Their numbers and texts are those of the definitions. What each means is the
-documentation of its variant in gix_validate or git_names, of which C, Python and Go
-have the first sentence. It fails if a fault is in no rule of that page, or in no row of
+documentation of its variant in gix_validate or git_names, of which C, C++, Python and
+Go have the first sentence. It fails if a fault is in no rule of that page, or in no row of
 tests/rows.
 """
 
@@ -26,8 +26,10 @@ TYPES = {
 WRAPPERS = {
     "git_names::ShortNameError": ("branches", "ShortNames", "short_name"),
     "git_names::PathError": ("paths", "Paths", "path"),
+    "git_names::SafeRefError": ("references", "SafeRefs", "safe_ref"),
+    "git_names::SubmoduleError": ("submodules", "Submodules", "protected_submodule"),
 }
-# What the documentation of each error of the Rust crate says.
+# What the documentation of each error of gix-validate for Rust says.
 RUST_ERRORS = {
     "tag": "is not the name of a tag",
     "reference": "is not the name of a reference",
@@ -142,7 +144,7 @@ def rust_faults(faults, whys):
         if it.field:
             text = f"{text[:-1]}{{{it.field}:?}}"
             field = f" {{ {it.field} }}"
-        yield f"        {it.number} {it.name}{field}: {json.dumps(text)},"
+        yield f"        {it.name}{field}: {json.dumps(text)},"
 
 
 def names_of(faults, whys):
@@ -189,9 +191,23 @@ def parts_of_c(names, whys, longest):
         for number, name in names.items()
     )
     listed = filled([f'"{name}"' for name in names.values()], ", ", 116, 8)
-    yield header, "/* not a fault: the name is valid */\n", "\n};", constants
+    texts = (json.dumps(brief(whys[name])) for name in names.values())
+    texts = ",\n".join(f"        {text}" for text in texts)
+    unknown = "\n    GIX_VALIDATE_UNKNOWN_KIND"
+    yield header, "/* not a fault: the name is valid */\n", unknown, constants
     yield header, 'names[] = {\n        "Ok",\n', "\n    };", listed
+    yield header, 'texts[] = {\n        "it is valid",\n', "\n    };", texts
     yield header, "#define GIX_VALIDATE_TEXT_MAX ", "u\n", longest
+
+
+def part_of_cpp(names, whys):
+    header = "bindings/cpp/gix_validate.hpp"
+    constants = "\n".join(
+        f"  {f'{constant(name).lower()} = {number},':31} // {brief(whys[name])}"
+        for number, name in names.items()
+    )
+    before = "// not a fault: the name is valid\n"
+    return header, before, "\n  unknown_kind", constants
 
 
 def parts_of_python(names, whys, longest):
@@ -215,16 +231,33 @@ def parts_of_go(names, whys):
     listed = filled([f'"{name}"' for name in names.values()], ", ", 116, 0)
     listed = "\n".join(f"\t{line}" for line in listed.splitlines())
     yield file, "// The faults.\nconst (\n", "\n)", constants
+    errors = "\n".join(
+        f"\t{f'Err{name}':{width + 3}} error = faultError({name})"
+        for name in names.values()
+    )
     yield file, '\t"Valid",\n', ",\n}", listed
+    yield file, "one for each fault.\nvar (\n", "\n)", errors
 
 
 def parts_of_javascript(names, longest):
     module, types = "bindings/js/gix_validate.mjs", "bindings/js/gix_validate.d.ts"
     listed = filled([f'"{name}"' for name in names.values()], ", ", 116, 4)
     union = filled([f'| "{name}"' for name in names.values()], " ", 120, 4)
-    yield module, "FAULTS = Object.freeze([null,\n", "\n]);", listed
+    yield module, "FAULTS = /* @__PURE__ */ Object.freeze([null,\n", "\n]);", listed
     yield module, "const TEXT_MAX = ", ";\n", longest
-    yield types, "export type Fault =\n", ";\n\n", union
+    yield types, "export type NumberedFault =\n", ";\n\n", union
+
+
+def parts_of_rust(names, whys):
+    file = "bindings/rust/src/fault.rs"
+    variants, numbers = [], []
+    for number, name in names.items():
+        why = whys[name].replace(" The first is `byte`.", "")
+        variants += (f"    /// {line}" for line in wrap(why, 110))
+        variants.append(f"    {name} = {number},")
+        numbers.append(f"            {number} => Fault::{name},")
+    yield file, "pub enum Fault {\n", "\n}\n\nimpl", "\n".join(variants)
+    yield file, "match number {\n", "\n            _ =>", "\n".join(numbers)
 
 
 def derived():
@@ -238,8 +271,10 @@ def derived():
     yield from lacking(names)
     yield "docs/RULES.md", head, "\n```\n", "\n".join(table(faults))[1:]
     yield from parts_of_c(names, whys, longest)
+    yield part_of_cpp(names, whys)
     yield from parts_of_python(names, whys, longest)
     yield from parts_of_javascript(names, longest)
     yield from parts_of_go(names, whys)
+    yield from parts_of_rust(names, whys)
     errors = "\n".join(rust_errors(faults, whys))
-    yield "bindings/rust/src/errors.rs", f"{errors}\n"
+    yield "bindings/rust/gix-validate/src/errors.rs", f"{errors}\n"

@@ -1,4 +1,5 @@
-"""Draws docs/pictures/*.svg from the .dot files beside them, by Debian's graphviz.
+"""Draws docs/pictures/*.svg: most from the .dot files beside them, by Debian's graphviz, and
+the grid of what refuses which name from the tables of docs/COMPARISON.md.
 
 The first line of a .dot, a comment, is the title of the picture, and the comment after an
 empty one says in words what it shows, for those who can't see it. Each .svg names the
@@ -76,7 +77,82 @@ def drawn(dot, path):
     )
 
 
+# The grid of what refuses which name, by the tables of this page.
+COMPARISON = "docs/COMPARISON.md"
+COVERAGE = "docs/pictures/coverage.svg"
+LEFT, TOP, WIDTH, HEIGHT = 190, 46, 120, 20
+GRID_STYLE = """
+    text { fill: #1f2328; font: 12px Helvetica, Arial, sans-serif }
+    .refused { fill: #12692f } .accepted { fill: none; stroke: #a4161a }
+    @media (prefers-color-scheme: dark) {
+        text { fill: #e6e9ed }
+        .refused { fill: #6fd08c } .accepted { stroke: #ff9a94 }
+    }
+"""
+
+
+def compared():
+    """The columns of the tables of names, and the rows, each a name and whether a column
+    refuses it. (A table without a column has no result there.)"""
+    columns, rows = [], []
+    for part in re.findall(
+        r"<!-- (?:components|references|submodules) -->\n(?s:.*?)<!-- end -->",
+        read(COMPARISON),
+    ):
+        head, _, *body = [
+            [cell.strip().strip("`") for cell in line.split(" | ")]
+            for line in part.splitlines()
+            if " | " in line or line.startswith("---")
+        ]
+        columns += [it for it in head[2:] if it not in columns]
+        rows += [
+            (
+                row[0].replace("`", ""),
+                {it: cell != "accepted" for it, cell in zip(head[2:], row[2:])},
+            )
+            for row in body
+        ]
+    return columns, rows
+
+
+def coverage():
+    """The grid as SVG: a full square for a name that is refused, an empty one for one that
+    gets through, and nothing where a column wasn't asked."""
+    columns, rows = compared()
+    width, height = LEFT + WIDTH * len(columns), TOP + HEIGHT * len(rows) + 8
+    lines = []
+    for x, column in enumerate(columns):
+        middle = LEFT + WIDTH * x + WIDTH // 2
+        lines.append(
+            f'<text x="{middle}" y="30" text-anchor="middle">{escape(column)}</text>'
+        )
+    for y, (name, results) in enumerate(rows):
+        top = TOP + HEIGHT * y
+        lines.append(
+            f'<text x="{LEFT - 12}" y="{top + 12}" text-anchor="end">{escape(name)}</text>'
+        )
+        for x, column in enumerate(columns):
+            if column in results:
+                kind = "refused" if results[column] else "accepted"
+                left = LEFT + WIDTH * x + WIDTH // 2 - 6
+                lines.append(
+                    f'<rect class="{kind}" x="{left}" y="{top + 2}" width="12" height="12"/>'
+                )
+    counts = ", ".join(
+        f"{it} {sum(results.get(it, False) for _, results in rows)} of {sum(it in results for _, results in rows)}"
+        for it in columns
+    )
+    return (
+        '<svg xmlns="http://www.w3.org/2000/svg" role="img" aria-labelledby="title desc" '
+        f'viewBox="0 0 {width} {height}" width="{width}" height="{height}">\n'
+        '<title id="title">Which names each tool refuses</title>\n'
+        f'<desc id="desc">Dangerous names that are refused: {escape(counts)}.</desc>\n'
+        f"<style>{GRID_STYLE}</style>\n" + "\n".join(lines) + "\n</svg>\n"
+    )
+
+
 def derived():
+    yield COVERAGE, coverage()
     for path in sorted(Path("docs/pictures").glob("*.dot")):
         dot, picture = read(path), path.with_suffix(".svg")
         is_drawn = picture.exists() and digest(dot) in read(picture)

@@ -31,7 +31,13 @@ def derived():
         ("crates/check_names/src/main.rt", 'const VERSION: &str = "', '";', version),
         ("bindings/c/gix_validate.h", "#define GIX_VALIDATE_VERSION ", "u", number),
         ("bindings/c/gix_validate.pc", "\nVersion: ", "\n", version.replace("-", "~")),
-        ("bindings/rust/Cargo.toml", 'version = "0.13.1+dihareku.', '"', version),
+        ("bindings/rust/Cargo.toml", '\nversion = "', '"', version),
+        (
+            "bindings/rust/gix-validate/Cargo.toml",
+            'version = "0.13.1+dihareku.',
+            '"',
+            version,
+        ),
         ("bindings/python/gix_validate.py", "\n_VERSION = (", ")", ", ".join(parts)),
         (
             "bindings/python/gix_validate.py",

@@ -64,7 +64,7 @@ def program(name, default_features=True, by_debian=False, features=(), **setting
         check=True,
     )
     (copy / ".cargo/config.toml").write_text(cargo_settings(crates))
-    folder = copy / "bindings/rust/drop_in"
+    folder = copy / "bindings/rust/gix-validate/drop_in"
     if not any(crates.glob("bstr-1.*")):
         # Debian 12 has bstr 0.2, which does, too.
         replace(folder / "Cargo.toml", '(?m)^(bstr = .*)"1"', r'\1"0.2"')

@@ -1,11 +1,12 @@
-"""A program in C that passes random names to all functions of the header, in several shared objects, and compares what they
-return and write: `compare COUNT SEED LIBRARY..`. At last it says how many differ, and how many faults there were."""
-import re
-
+"""A program in C that passes random names to all functions of the header, for each kind of name, in several shared objects,
+and compares what they return and write: `compare COUNT SEED LIBRARY..`. At last it says how many differ, and how many faults
+there were."""
 from release.languages import exports
 
 from .tools import HEADER
 
+# How many kinds there are.
+KINDS = 12
 # What the rules speak of, as C has it.
 PARTS = r"""
 / . .. @{ @ * .lock lock refs/ heads/ HEAD a B _ - ~1 git GIT~1 .git .gitmodules gitmod gi7eba \\ : con NUL aux com1
@@ -20,7 +21,7 @@ PROGRAM = r"""
 #include <stdio.h>
 #include <stdlib.h>
 
-enum {{ SIZE = 256, MOST = 8, FUNCTIONS = {count} }};
+enum {{ SIZE = 256, MOST = 8, KINDS = {kinds}, CALLS = {count} }};
 static const char *const names[] = {{{names}}};
 static const bool returns_fault[] = {{{returns_fault}}};
 static const char *const parts[] = {{{parts}}};
@@ -38,16 +39,16 @@ static bool one_of(uint32_t count) {{ return random_number() % count == 0; }}
 struct given {{
   uint8_t name[SIZE];
   size_t length, room;
-  uint32_t number;
+  uint32_t number, kind;
 }};
 struct outcome {{
   uint64_t result;
   uint8_t buffer[SIZE];
 }};
 
-static void call(unsigned function, void *at, const struct given *it, struct outcome *out) {{
+static void call(unsigned number, void *at, const struct given *it, struct outcome *out) {{
   memcpy(out->buffer, it->name, SIZE);
-  switch (function) {{
+  switch (number) {{
 {cases}
   }}
 }}
@@ -71,16 +72,17 @@ static void make_up(struct given *it) {{
       it->name[i] -= 32;
   it->room = one_of(4) ? random_number() % SIZE : SIZE;
   it->number = one_of(2) ? it->name[0] : random_number();
+  it->kind = random_number() % (KINDS + 1);
 }}
 
 int main(int count, char **arguments) {{
-  void *functions[MOST][FUNCTIONS];
+  void *functions[MOST][CALLS];
   int libraries = count - 3;
   if (libraries < 2 || libraries > MOST)
     return 2;
   for (int l = 0; l < libraries; l++) {{
     void *library = dlopen(arguments[l + 3], RTLD_NOW | RTLD_LOCAL);
-    for (unsigned f = 0; f < FUNCTIONS; f++)
+    for (unsigned f = 0; f < CALLS; f++)
       if (library == NULL || (functions[l][f] = dlsym(library, names[f])) == NULL) {{
         puts(dlerror());
         return 2;
@@ -91,16 +93,17 @@ int main(int count, char **arguments) {{
   struct given it;
   for (long left = atol(arguments[1]); left > 0; left--) {{
     make_up(&it);
-    for (unsigned f = 0; f < FUNCTIONS; f++) {{
+    for (unsigned f = 0; f < CALLS; f++) {{
       struct outcome first, other;
       call(f, functions[0][f], &it, &first);
-      if (returns_fault[f])
+      if (returns_fault[f] && first.result < 64)
         faults |= 1ull << first.result;
       for (int l = 1; l < libraries; l++) {{
         call(f, functions[l][f], &it, &other);
         if (first.result != other.result || memcmp(first.buffer, other.buffer, SIZE) != 0)
           if (differ++ < 5) {{
-            printf("%s, %s, number %" PRIu32 ", room %zu:", arguments[l + 3], names[f], it.number, it.room);
+            printf("%s, call %u of %s, kind %" PRIu32 ", number %" PRIu32 ", room %zu:", arguments[l + 3], f, names[f],
+                   it.kind, it.number, it.room);
             for (size_t i = 0; i < it.length; i++)
               printf(" %02x", it.name[i]);
             puts("");
@@ -114,7 +117,7 @@ int main(int count, char **arguments) {{
 """
 
 
-def given_to(params):
+def given_to(params, of):
     """What a function gets for its parameters: a length is that of the pointer before it."""
     pointer = ""
     for kind, word in params:
@@ -125,23 +128,32 @@ def given_to(params):
             yield "it->room" if pointer == "out->buffer" else "it->length"
             pointer = ""
         else:
-            yield f"({kind})it->number"
+            yield of if word == "kind" else f"({kind})it->number"
+
+
+def calls():
+    """The functions and what they get. The fault is compared for each kind, and for a number that is none. What else
+    has a kind gets one of these."""
+    for _, name, params in exports(HEADER.read_text()):
+        is_each = name == "gix_validate_fault_of"
+        for of in range(KINDS + 1) if is_each else ["it->kind"]:
+            yield name, ", ".join(given_to(params, str(of)))
 
 
 def program():
     """The text of the program."""
-    functions = [*exports(HEADER.read_text())]
+    every = [*calls()]
     cases = [
-        f"  case {at}:\n    out->result = ((__typeof__({name}) *)at)({', '.join(given_to(params))});\n    break;"
-        for at, (_, name, params) in enumerate(functions)
+        f"  case {at}:\n    out->result = ((__typeof__({name}) *)at)({given});\n    break;"
+        for at, (name, given) in enumerate(every)
     ]
     return PROGRAM.format(
-        count=len(functions),
-        names=", ".join(f'"{name}"' for _, name, _ in functions),
+        kinds=KINDS,
+        count=len(every),
+        names=", ".join(f'"{name}"' for name, _ in every),
         parts=", ".join(f'"{it}"' for it in PARTS),
         cases="\n".join(cases),
         returns_fault=", ".join(
-            f"{result == 'uint32_t' and not re.search('byte|version', name)}".lower()
-            for result, name, _ in functions
+            str(name == "gix_validate_fault_of").lower() for name, _ in every
         ),
     )

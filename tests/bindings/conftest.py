@@ -6,7 +6,7 @@ from contextlib import contextmanager
 import pytest
 
 from .cargo import program
-from .tools import ARCHIVE, BINDINGS, CC, OUT, ROOT, STRICT, need, run
+from .tools import ARCHIVE, BINDINGS, CC, CXX, OUT, ROOT, STRICT, need, run
 
 SOURCES = OUT / "sources"
 
@@ -29,6 +29,16 @@ def rows_program(tmp_path_factory):
     program = tmp_path_factory.mktemp("c") / "rows"
     source = BINDINGS / "c/rows.c"
     run(CC, "-std=c11", *STRICT, "-O2", "-o", program, source, ARCHIVE)
+    return program
+
+
+@pytest.fixture(scope="session")
+def rows_program_of_cpp(tmp_path_factory):
+    """The same in C++."""
+    need(CXX)
+    program = tmp_path_factory.mktemp("cpp") / "rows"
+    words = ["-std=c++17", *STRICT, f"-I{BINDINGS}/cpp", "-O1", "-o", program]
+    run(CXX, *words, BINDINGS / "cpp/rows.cpp", ARCHIVE)
     return program
 
 

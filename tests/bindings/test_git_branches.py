@@ -13,6 +13,8 @@ import pytest
 from .tools import OUT, need
 
 LIBRARY = OUT / "libgix_validate_c.so"
+# The number of the kind.
+BRANCH = 0
 # What the rules speak of, and what is like it.
 MARKS = [b"a", b"-", b".", b"/", b"@", b"{", b"HEAD", b".lock", b"refs/heads/", b"\xff"]
 ALONE = [bytes([byte]) for byte in range(1, 256)]
@@ -49,9 +51,10 @@ def git_accepts(folder, name):
 def accepts():
     """Whether the library accepts a short name."""
     need("git", LIBRARY)
-    function = ctypes.CDLL(str(LIBRARY)).gix_validate_short_branch
-    function.argtypes = [ctypes.c_char_p, ctypes.c_size_t]
-    return lambda name: function(name, len(name)) == 0
+    function = ctypes.CDLL(str(LIBRARY)).gix_validate_fault_of
+    number = ctypes.c_uint32
+    function.argtypes = [number, ctypes.c_char_p, ctypes.c_size_t, number]
+    return lambda name: function(BRANCH, name, len(name), 0) == 0
 
 
 def test_git_accepts_the_same_short_names(accepts, tmp_path):

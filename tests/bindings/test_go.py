@@ -21,6 +21,7 @@ from .tools import (
 )
 
 MODULE = BINDINGS / "go"
+PATH = "dihareku.example/gitnames"
 # The blocks by the processor, as Go calls it.
 BLOCKS = {"amd64": BLOCK, "arm64": AARCH64_BLOCK}
 # What a user needs to build for a processor: nothing that is C's.
@@ -46,14 +47,14 @@ FIRST_CHECK = """package main
 import (
 	"fmt"
 
-	"dihareku/gitnames"
+	"dihareku.example/gitnames"
 )
 
 func main() {
 	fmt.Println(gitnames.CheckTag("v1..2"))
 }
 """
-SAYS = "A ref must not contain '..' as it may be mistaken for a range\n"
+SAYS = "gitnames: Reference name cannot contain repeated dots ('.' at byte 3)\n"
 
 
 @pytest.fixture(autouse=True)
@@ -108,7 +109,7 @@ def program(folder):
     """Makes a user's program, which takes the module from where it is."""
     (folder / "main.go").write_text(FIRST_CHECK)
     go("mod", "init", "example", cwd=folder)
-    go("mod", "edit", f"-replace=dihareku/gitnames={MODULE}", cwd=folder)
+    go("mod", "edit", f"-replace={PATH}={MODULE}", cwd=folder)
     go("mod", "tidy", cwd=folder)
     return folder
 
@@ -227,11 +228,15 @@ def test_the_functions_take_less_of_the_stack_than_go_gives_them(
 ):
     need(objdump, archive)
     stacks = stack_of_functions(processor, objdump, archive)
-    assert stacks["gix_validate_partial_text"] > 300
+    assert stacks["gix_validate_text_of"] > 300
     calls = (MODULE / f"calls_{processor}.s").read_text()
-    given = re.findall(r"(?m)^TEXT ·call.*\$(\d+)-\d+$", calls)
-    assert given == ["4096", "4096"]
-    assert max(stacks.values()) < 1024
+    frames = re.findall(r"(?m)^TEXT ·call.*\$(\d+)-\d+$", calls)
+    assert frames == ["2048"] * 4
+    # The stack pointer is moved up, since below a frame Go promises only 800 bytes. (A function
+    # may also use 128 bytes below its stack, and 16 are lost to what is aligned.)
+    up, down = re.findall(r"\tADJSP +\$-?(\d+)|\t(?:ADD|SUB) +\$(\d+), RSP", calls)
+    assert up == down
+    assert max(stacks.values()) + 128 + 16 < int("".join(up)) < 2048
 
 
 @pytest.mark.parametrize("processor", BLOCKS)
@@ -260,7 +265,7 @@ def test_a_program_that_replaces_the_module_runs(tmp_path):
 def test_a_vendored_copy_is_whole(tmp_path):
     folder = program(tmp_path)
     go("mod", "vendor", cwd=folder)
-    vendored = folder / "vendor/dihareku/gitnames/block_amd64.s"
+    vendored = folder / "vendor" / PATH / "block_amd64.s"
     assert vendored.read_bytes() == (MODULE / "block_amd64.s").read_bytes()
     printed, _ = go("run", "-mod=vendor", ".", cwd=folder)
     assert printed == SAYS

@@ -1,12 +1,11 @@
 """The functions in WebAssembly, and JavaScript's module, in Node and in a browser."""
-import base64
 import json
 import re
 import shutil
 
 import pytest
 
-from release import commonjs
+from release import javascript
 
 from .tools import BINDINGS, ROWS, VERSION, WASM, declared, need, output, rows, run
 
@@ -27,6 +26,72 @@ BUNDLED = {
     "import": 'import { sanitize } from "gix-validate"; console.log(sanitize("a..b"))',
     "require": 'console.log(require("gix-validate").sanitize("a..b"))',
 }
+# What begins the functions in WebAssembly, as text.
+FUNCTIONS = "AGFzbQEAAAA"
+# A program, and what its bundle has and doesn't have.
+SHAKEN = {
+    'import { FAULTS } from "gix-validate"; console.log(FAULTS)': (
+        ["RepeatedDot"],
+        ["function", FUNCTIONS],
+    ),
+    'import { checkBranch } from "gix-validate"; console.log(checkBranch("a"))': (
+        ["gix_validate_fault_of", FUNCTIONS],
+        ["gix_validate_s", "gix_validate_faults_of", "symlinkPath", "windows"],
+    ),
+    'import { checkBranch } from "gix-validate/slim"; console.log(checkBranch("a"))': (
+        ["gix_validate_fault_of"],
+        ["gix_validate_suggest", FUNCTIONS],
+    ),
+}
+# Runs what `require` loads where no bytes may be compiled to WebAssembly, as on Cloudflare's
+# Workers, and prints what calls throw there. Then it uses a module that is compiled already.
+FORBIDDEN = """
+    const { readFileSync } = require("fs");
+    const module_ = { exports: {} };
+    const given = { module: module_, TextEncoder, TextDecoder, atob };
+    const forbidden = { contextCodeGeneration: { wasm: false } };
+    require("vm").runInNewContext(readFileSync(process.argv[1]), given, forbidden);
+    const { checkBranch, ready, version } = module_.exports;
+    const say = (error) => console.log(error.name, error.message, error.cause.name);
+    for (const call of [() => checkBranch("main"), version]) {
+        try { call(); } catch (error) { say(error); }
+    }
+    ready().catch(say)
+        .then(() => ready(new WebAssembly.Module(readFileSync(process.argv[2]))))
+        .then(() => console.log(checkBranch("a b").index));
+"""
+UNMADE = re.compile(
+    r"Error gix-validate can't make its WebAssembly module here: CompileError: .* First "
+    r"await ready\(\), or ready\(module\) .* CompileError"
+)
+# A program without functions of its own.
+SLIM = """
+    import { readFileSync } from "node:fs";
+    import { createRequire } from "node:module";
+    import { checkBranch, ready } from "gix-validate/slim";
+    try { checkBranch("main"); } catch (error) { console.log(error.message); }
+    const file = createRequire(import.meta.url).resolve("gix-validate/gix_validate.wasm");
+    await ready(new WebAssembly.Module(readFileSync(file)));
+    console.log(checkBranch("a b").index);
+"""
+# A program that may compile only without blocking, as on the main thread of an old Chrome.
+WITHOUT_BLOCKING = """
+    import { checkBranch, ready } from "gix-validate";
+    WebAssembly.Module = class { constructor() { throw new RangeError("4 kB at most"); } };
+    try { checkBranch("main"); } catch (error) { console.log(error.cause.name); }
+    await Promise.all([ready(), ready()]);
+    console.log(checkBranch("a b").index);
+"""
+# A page with a policy, which shows what a program in it says.
+PAGE = """
+    <!doctype html>
+    <meta http-equiv="Content-Security-Policy" content="script-src 'unsafe-inline' {policy}">
+    <script>
+    const gix = (() => {{ {statements} return {{ {names} }}; }})();
+    document.title = "loaded";
+    try {{ document.title += gix.checkBranch("a b").index; }} catch (error) {{ document.title += error; }}
+    </script>
+"""
 TSC = (
     "--strict --noEmit --noUncheckedIndexedAccess --exactOptionalPropertyTypes".split()
 )
@@ -41,15 +106,25 @@ RESOLUTIONS = [
 
 @pytest.fixture
 def project(tmp_path):
-    """A folder that has the package, as npm would install it."""
+    """A directory that has the package, as npm would install it."""
     need(WASM)
     package = tmp_path / "node_modules/gix-validate"
     package.mkdir(parents=True)
     for name in "package.json", "gix_validate.d.ts", "gix_validate.mjs":
         shutil.copy(JS / name, package)
     shutil.copy(JS / "gix_validate_wasm.mjs", package)
-    commonjs.write(package)
+    javascript.write(package)
     return tmp_path
+
+
+def bundled(project, program, *options):
+    """The bundle that esbuild makes of a program, without a warning."""
+    need("esbuild")
+    (project / "main.js").write_text(program)
+    words = ["--bundle", "--target=es2020", "--log-level=warning", *options]
+    built = run("esbuild", "main.js", *words, cwd=project)
+    assert built.stderr == ""
+    return built.stdout
 
 
 def test_webassembly_imports_nothing_and_exports_what_the_header_declares():
@@ -59,18 +134,17 @@ def test_webassembly_imports_nothing_and_exports_what_the_header_declares():
     assert sorted(exports) == sorted(["__heap_base", "memory", *declared()])
 
 
-def test_the_module_has_the_functions_that_are_built():
-    need(WASM)
-    _, _, *lines, _ = (JS / "gix_validate_wasm.mjs").read_text().splitlines()
-    assert base64.b64decode("".join(lines)) == WASM.read_bytes()
+def test_the_module_has_the_functions_that_are_built(project):
+    packed = project / "node_modules/gix-validate/gix_validate.wasm"
+    assert packed.read_bytes() == WASM.read_bytes()
 
 
 def test_the_module_passes_its_own_tests_in_node():
     need("node", WASM)
     said = output("node", TESTS, ROWS, VERSION)
     assert re.findall(r"(?m)^# (?:tests|pass|fail|skipped) .*", said) == [
-        "# tests 8",
-        "# pass 8",
+        "# tests 10",
+        "# pass 10",
         "# fail 0",
         "# skipped 0",
     ]
@@ -83,32 +157,61 @@ def test_what_is_required_passes_the_tests_of_the_module(project):
     assert text.count(line) == 1
     required = 'import gix from "./node_modules/gix-validate/gix_validate.cjs";'
     (project / "test.mjs").write_text(text.replace(line, required), "utf-8")
-    assert "\n# pass 8\n" in output("node", project / "test.mjs", ROWS, VERSION)
+    assert "\n# pass 10\n" in output("node", project / "test.mjs", ROWS, VERSION)
 
 
 def test_require_returns_what_import_does(project):
     need("node")
-    (project / "main.cjs").write_text(
-        'const required = Object.keys(require("gix-validate")).sort();'
-        'import("gix-validate").then((it) =>'
-        "console.log(Object.keys(it).sort().join() === required.join()))"
+    (project / "main.mjs").write_text(
+        'import { createRequire } from "node:module";'
+        'import * as imported from "gix-validate"; import * as slim from "gix-validate/slim";'
+        'const required = createRequire(import.meta.url)("gix-validate");'
+        "const names = [imported, slim, required].map((it) => Object.keys(it).sort().join());"
+        "console.log(new Set(names).size, names[0].length > 200);"
     )
-    assert output("node", "main.cjs", cwd=project) == "true\n"
+    assert output("node", "main.mjs", cwd=project) == "1 true\n"
+
+
+def test_a_program_runs_where_nothing_may_be_compiled_and_calls_say_why_they_fail(
+    project,
+):
+    need("node")
+    package = project / "node_modules/gix-validate"
+    files = package / "gix_validate.cjs", package / "gix_validate.wasm"
+    *unmade, found = output("node", "-e", FORBIDDEN, *files).splitlines()
+    assert [bool(UNMADE.fullmatch(it)) for it in unmade] == [True] * 3
+    assert found == "1"
+
+
+def test_the_slim_module_uses_the_webassembly_that_it_is_given(project):
+    need("node")
+    (project / "main.mjs").write_text(SLIM)
+    unmade, found = output("node", "main.mjs", cwd=project).splitlines()
+    assert "gix-validate/slim has no WebAssembly of its own" in unmade
+    assert found == "1"
+
+
+def test_a_program_that_waits_for_the_module_needs_no_compiling_that_blocks(project):
+    need("node")
+    (project / "main.mjs").write_text(WITHOUT_BLOCKING)
+    assert output("node", "main.mjs", cwd=project) == "RangeError\n1\n"
 
 
 @pytest.mark.parametrize("form", ["iife", "cjs", "esm"])
 @pytest.mark.parametrize("way", BUNDLED)
 def test_a_bundle_of_esbuild_runs(project, way, form):
-    need("node", "esbuild")
-    (project / "main.js").write_text(BUNDLED[way])
+    need("node")
     bundle = "bundle.mjs" if form == "esm" else "bundle.cjs"
-    options = ["--bundle", "--target=es2020", "--log-level=warning"]
-    built = run(
-        *["esbuild", "main.js", *options, f"--format={form}", f"--outfile={bundle}"],
-        cwd=project,
-    )
-    assert built.stderr == ""
+    bundled(project, BUNDLED[way], f"--format={form}", f"--outfile={bundle}")
     assert output("node", bundle, cwd=project) == "a.b\n"
+
+
+@pytest.mark.parametrize("program", SHAKEN)
+def test_a_bundle_has_only_what_the_program_calls(project, program):
+    bundle = bundled(project, program, "--format=esm")
+    there, gone = SHAKEN[program]
+    assert [it for it in there if it not in bundle] == []
+    assert [it for it in gone if it in bundle] == []
 
 
 @pytest.mark.parametrize("resolution, module, source", RESOLUTIONS)
@@ -117,6 +220,15 @@ def test_the_types_are_those_that_callers_need(project, resolution, module, sour
     shutil.copy(JS / "types.ts", project / source)
     options = f"--target es2022 --module {module} --moduleResolution {resolution}"
     assert output("tsc", *TSC, *options.split(), source, cwd=project) == ""
+
+
+def test_the_types_of_the_slim_module_need_no_types_of_a_browser(project):
+    need("tsc")
+    (project / "types.mts").write_text(
+        'import { ready } from "gix-validate/slim"; export const made: Promise<void> = ready({});'
+    )
+    options = "--target es2022 --lib es2022 --module node16 --moduleResolution node16"
+    assert output("tsc", *TSC, *options.split(), "types.mts", cwd=project) == ""
 
 
 def test_the_module_passes_its_own_tests_in_chromium(chromium):
@@ -129,3 +241,22 @@ def test_the_module_passes_its_own_tests_in_chromium(chromium):
         given = TESTS.as_uri(), ROWS.read_text("ascii"), VERSION
         said = browser.execute_script(RUN, *given)
     assert re.fullmatch(rf"{len(rows())} rows, \d{{4,}} comparisons", said)
+
+
+def test_a_page_whose_policy_forbids_webassembly_loads_and_a_call_says_so(
+    chromium, tmp_path
+):
+    need(WASM)
+    statements, names = javascript.script(JS)
+    said = []
+    with chromium() as browser:
+        for policy in "", "'wasm-unsafe-eval'":
+            page = PAGE.format(
+                policy=policy, statements=statements, names=", ".join(names)
+            )
+            (tmp_path / "page.html").write_text(page, "utf-8")
+            browser.get((tmp_path / "page.html").as_uri())
+            said.append(browser.title)
+    assert said[0].startswith("loadedError: gix-validate can't make its WebAssembly")
+    assert said[0].endswith("A Content-Security-Policy needs 'wasm-unsafe-eval'.")
+    assert said[1] == "loaded1"

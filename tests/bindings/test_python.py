@@ -22,16 +22,25 @@ def test_the_module_passes_its_own_tests():
 
 CALLERS = """
 import array, mmap
-from typing import List, Optional
-from gix_validate import Fault, Kind, fault_numbers, fault_numbers_at, faults, tag_name
+from typing import List, Optional, Union
+from gix_validate import Fault, InvalidName, Kind, Protect
+from gix_validate import check, fault_numbers, fault_numbers_at, faults, sanitize
+from gix_validate import suggest_branch, validate_branch, validate_path
 
-def check(pages: mmap.mmap, view: memoryview, offsets: "array.array[int]") -> None:
-    name: bytes = tag_name(bytearray(b"v1"))
-    numbers: bytes = fault_numbers(pages, Kind.TAG) + fault_numbers(view, Kind.TAG, view)
-    numbers += fault_numbers_at(pages, offsets, Kind.TAG)
-    found: List[Optional[Fault]] = faults([b"a"], Kind.COMPONENT, windows=False)
-    tag_name("v1")
-    fault_numbers_at(pages, "ab", Kind.TAG)
+def call(given: Union[str, bytes], pages: mmap.mmap, offsets: "array.array[int]") -> None:
+    name: str = validate_path("v1", protect=Protect.HFS | Protect.NTFS)
+    data: bytes = validate_branch(b"v1") + sanitize(b"")
+    given = validate_branch(given)
+    fault: Optional[Fault] = check(given, "branch-ref") or check(data, Kind.PATH)
+    suggested: Optional[str] = suggest_branch(name)
+    numbers: bytes = fault_numbers(pages, "tag") + fault_numbers(name, Kind.TAG, "\\0")
+    numbers += fault_numbers_at(pages, offsets, "tag", start=1, count=2)
+    found: List[Optional[Fault]] = faults([b"a", "b"], "component")
+    place: int = InvalidName(data, Kind.PATH, Fault.EMPTY).offset
+    check("v1", "brunch")
+    validate_path("v1", protect=True)
+    fault_numbers_at(pages, "ab", "tag")
+    validate_branch(None)
 """
 
 
@@ -44,7 +53,8 @@ def test_the_type_hints_are_those_that_callers_need(tmp_path):
         status=1,
     )
     refused = re.findall(r"(?m):(\d+): error: .*\[(.*)\]$", said.stdout)
-    assert refused == [("11", "arg-type"), ("12", "arg-type")]
+    wrong = ["arg-type", "arg-type", "arg-type", "type-var"]
+    assert refused == [(str(line), kind) for line, kind in enumerate(wrong, 18)]
 
 
 def test_the_type_hints_are_right():

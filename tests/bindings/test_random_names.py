@@ -1,4 +1,4 @@
-"""Python, C, JavaScript and Rust on the same random names."""
+"""Python, C, C++, JavaScript and Rust on the same random names."""
 import importlib
 import re
 import subprocess
@@ -49,7 +49,8 @@ PARTS = [
 PIECES = st.sampled_from(PARTS) | st.binary(min_size=1, max_size=1)
 NAMES = st.lists(PIECES, max_size=20).map(b"".join)
 LETTERS = ["", "w", "h", "n", "wh", "wn", "hn", "whn"]
-LETTERS += [f"{it}s" for it in LETTERS]
+KINDS = "branch branch-ref tag ref partial tag-name".split()
+PROTECTED = "safe-ref path symlink-path component symlink submodule".split()
 
 
 class Replayer:
@@ -93,17 +94,18 @@ class Replayer:
 
 
 @pytest.fixture(scope="module")
-def replayers(rows_program, rust_program):
+def replayers(rows_program, rows_program_of_cpp, rust_program):
     """A program in each language but Python, by the language."""
     need("node", WASM)
-    rust_program.cargo("build", "--quiet", "--package", "gix-validate", "--examples")
+    rust_program.cargo("build", "--quiet", "--package", "git-names", "--examples")
     found = {
         "C": Replayer(rows_program, "-"),
+        "C++": Replayer(rows_program_of_cpp, "-"),
         "JavaScript": Replayer("node", BINDINGS / "js/test_gix_validate.mjs", "-"),
         "Rust": Replayer(rust_program.target / "debug/examples/replay_rows"),
     }
     yield found
-    assert [it.end() for it in found.values()] == ["status 0: "] * 3
+    assert {it.end() for it in found.values()} == {"status 0: "}
 
 
 @pytest.fixture(scope="module")
@@ -122,34 +124,33 @@ def quoted(name):
 def answers(gix, name):
     """What Python's module says of a name: the call, the exception or None, and if it
     isn't that of the exception the result, as rows have them."""
-    for kind in "tag", "partial", "full", "branch", "short_branch", "submodule":
-        yield kind, refusal(gix, getattr(gix, f"{kind}_name"), name), "Ok"
+    for kind in KINDS:
+        yield kind, refusal(gix, kind, name), "Ok"
     for letters in LETTERS:
-        words = {"windows": "w", "hfs": "h", "ntfs": "n", "symlink": "s"}
-        options = {word: letter in letters for word, letter in words.items()}
-        error = refusal(gix, gix.path_component, name, **options)
-        yield f"component:{letters}", error, "Ok"
-        yield f"path:{letters}", refusal(gix, gix.path, name, **options), "Ok"
-        offset = gix.path_offset(name, **options)
-        yield f"path_offset:{letters}", None, "none" if offset is None else str(offset)
-    offset = gix.fault_offset(name)
+        words = {"w": gix.Protect.WINDOWS, "h": gix.Protect.HFS, "n": gix.Protect.NTFS}
+        protect = gix.Protect(sum(words[letter] for letter in letters))
+        for kind in PROTECTED:
+            yield f"{kind}:{letters}", refusal(gix, kind, name, protect=protect), "Ok"
+    suggested = gix.suggest_branch(name)
     yield "device", None, "yes" if gix.is_windows_device(name) else "no"
-    yield "offset", None, "none" if offset is None else str(offset)
     yield "sanitize", None, quoted(gix.sanitize(name))
+    yield "suggest", None, "none" if suggested is None else quoted(suggested)
 
 
-def refusal(gix, call, *given, **options):
-    """The exception of a call, or None."""
+def refusal(gix, kind, name, **options):
+    """The exception with which Python's module refuses a name, or None."""
     try:
-        call(*given, **options)
+        getattr(gix, f"validate_{kind.replace('-', '_')}")(name, **options)
     except gix.InvalidName as error:
         return error
 
 
-def row(call, name, error, result):
+def row(gix, call, name, error, result):
     if error is not None:
-        byte = "" if error.byte is None else f":{error.byte:02x}"
-        result = f"{error.fault}{byte} {error.text}"
+        is_byte = str(error.fault) == "InvalidByte"
+        byte = f":{name[error.offset]:02x}" if is_byte else ""
+        text = gix._text(name, error.kind, error.protect)
+        result = f"{error.fault}{byte}@{error.offset} {text}"
     return f"{call} {quoted(name)} {result}"
 
 
@@ -173,6 +174,31 @@ def test_all_languages_return_the_same_for_random_names(gix, replayers, seen, na
     for name in names:
         for call, error, result in answers(gix, name):
             seen.add(error and error.fault)
-            rows.append(row(call, name, error, result))
+            rows.append(row(gix, call, name, error, result))
     wrong = {language: it.wrong(rows) for language, it in replayers.items()}
-    assert wrong == {"C": None, "JavaScript": None, "Rust": None}
+    assert wrong == dict.fromkeys(replayers)
+
+
+@settings(
+    max_examples=1500,
+    deadline=None,
+    database=None,
+    suppress_health_check=HealthCheck.all(),
+)
+@given(NAMES)
+def test_python_returns_the_same_for_a_str_as_for_its_bytes(gix, name):
+    text = as_str(name)
+    for kind in gix.Kind:
+        of_bytes, of_str = refusal(gix, kind, name), refusal(gix, kind, text)
+        assert (of_bytes is None) is (of_str is None)
+        if of_bytes:
+            assert of_str.fault is of_bytes.fault
+            assert of_str.offset == len(as_str(name[: of_bytes.offset]))
+    suggested = gix.suggest_branch(name)
+    assert gix.suggest_branch(text) == (suggested and as_str(suggested))
+    assert gix.sanitize(text) == as_str(gix.sanitize(name))
+
+
+def as_str(name):
+    """The str that Python has for these bytes."""
+    return name.decode("utf-8", "surrogateescape")

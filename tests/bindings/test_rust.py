@@ -1,4 +1,5 @@
-"""The Rust crate, under a program that was written for gix-validate 0.13.1."""
+"""The Rust crates: git-names, and gix-validate over it, under a program that was written for
+gix-validate 0.13.1."""
 import re
 from pathlib import Path
 
@@ -9,7 +10,7 @@ from .tools import BINDINGS, PORTABLE_RUST, need, run
 
 # (`--dist loadgroup` has one process run them all, which builds once.)
 pytestmark = pytest.mark.xdist_group("rust")
-EXPECTED = (BINDINGS / "rust/drop_in/expected").read_text()
+EXPECTED = (BINDINGS / "rust/gix-validate/drop_in/expected").read_text()
 STANDARD_LIBRARY = "/usr/lib/rustlib"
 WASI = Path(__file__).parent / "wasi.mjs"
 
@@ -21,10 +22,17 @@ def portable_program():
     return program("portable", default_features=False, features=["portable"])
 
 
+# The test programs that have a test, in Cargo's order.
+TESTS = [True, True, True, False, True, True]
+# What passes the tests of both crates.
+BOTH = ["test", "--quiet", "--package", "git-names", "--package", "gix-validate"]
+
+
 def passed(said):
-    """How many tests passed in each of the crate's test programs, if none failed or was
-    left out: those of the sources, the front page, the record, the rows, and at last
-    the examples in comments."""
+    """How many tests passed in each of the test programs, if none failed or was left out.
+    Those of git-names: the sources, the errors, the rows. Of gix-validate: the sources,
+    which have none, the front page, the record. At last, unless they were left out, the
+    examples in the comments of each."""
     found = re.findall(
         r"(?m)^test result: ok\. (\d+) passed; 0 failed; 0 ignored", said
     )
@@ -33,8 +41,8 @@ def passed(said):
 
 
 def test_the_crate_passes_its_own_tests_without_gix_error(rust_program):
-    said = rust_program.cargo("test", "--quiet", "--package", "gix-validate").stdout
-    assert [it > 0 for it in passed(said)] == [True] * 5
+    said = rust_program.cargo(*BOTH).stdout
+    assert [it > 0 for it in passed(said)] == TESTS + [True, True]
 
 
 def test_a_program_for_gix_validate_runs_without_gix_error(rust_program):
@@ -45,8 +53,8 @@ def test_a_program_for_gix_validate_runs_without_gix_error(rust_program):
 def test_the_crate_and_a_program_work_with_gix_error():
     need(*list(registry().glob("gix-error-*")) or [SID / "gix-error"])
     with_gix_error = program("with")
-    said = with_gix_error.cargo("test", "--quiet", "--package", "gix-validate").stdout
-    assert [it > 0 for it in passed(said)] == [True] * 5
+    said = with_gix_error.cargo(*BOTH).stdout
+    assert [it > 0 for it in passed(said)] == TESTS + [True, True]
     assert with_gix_error.cargo("run", "--quiet").stdout == EXPECTED
 
 
@@ -59,9 +67,8 @@ def test_an_older_processor_is_told_what_is_needed(rust_program):
 
 
 def test_the_crate_passes_its_own_tests_with_the_functions_in_rust(portable_program):
-    words = ["--quiet", "--package", "gix-validate", "--tests"]
-    said = portable_program.cargo("test", *words).stdout
-    assert [it > 0 for it in passed(said)] == [True] * 4
+    said = portable_program.cargo(*BOTH, "--tests").stdout
+    assert [it > 0 for it in passed(said)] == TESTS
 
 
 def test_with_the_functions_in_rust_a_program_runs_on_an_older_processor(
@@ -78,8 +85,8 @@ def test_the_crate_and_a_program_work_on_windows(wine):
     wine["CARGO_TARGET_X86_64_PC_WINDOWS_GNU_RUNNER"] = "wine"
     windows = program("windows", default_features=False, by_debian=True, **wine)
     target = ["--quiet", "--target", "x86_64-pc-windows-gnu"]
-    said = windows.cargo("test", *target, "--package", "gix-validate", "--tests").stdout
-    assert [it > 0 for it in passed(said)] == [True] * 4
+    said = windows.cargo(*BOTH, *target[1:], "--tests").stdout
+    assert [it > 0 for it in passed(said)] == TESTS
     assert windows.cargo("run", *target).stdout == EXPECTED
 
 
@@ -88,6 +95,5 @@ def test_the_crate_passes_its_own_tests_on_a_target_without_machine_code():
     need("node", "rust-lld", standard_library, PORTABLE_RUST, *DEBIAN.glob("bstr-*"))
     runner = {"CARGO_TARGET_WASM32_WASI_RUNNER": f"node --no-warnings {WASI}"}
     other = program("wasm32", default_features=False, by_debian=True, **runner)
-    words = ["--quiet", "--target", "wasm32-wasi", "--package", "gix-validate"]
-    said = other.cargo("test", *words, "--tests").stdout
-    assert [it > 0 for it in passed(said)] == [True] * 4
+    said = other.cargo(*BOTH, "--target", "wasm32-wasi", "--tests").stdout
+    assert [it > 0 for it in passed(said)] == TESTS

@@ -196,10 +196,10 @@ def test_in_go(folder, expected):
         *arrays(
             lambda kind, numbers: f"var {kind} = []uint64{{{', '.join(map(str, numbers))}}}\n"
         ),
-        'func TestAll(t *testing.T) {\n\ts := stateWith("", 0)\n',
+        'func TestAll(t *testing.T) {\n\ts, _ := stateWith("", nil)\n',
         *calls(
-            "\tfor _, a := range {kind} {{ say(s.call({number}, a, 0, 0, 0, 0)) }}\n",
-            "\tfor _, a := range {kind} {{ for _, b := range {kind} {{ say(s.call({number}, a, b, 0, 0, 0)) }} }}\n",
+            "\tfor _, a := range {kind} {{ say(s.call({number}, [7]uint64{{a}})) }}\n",
+            "\tfor _, a := range {kind} {{ for _, b := range {kind} {{ say(s.call({number}, [7]uint64{{a, b}})) }} }}\n",
         ),
         "}\n",
     ]

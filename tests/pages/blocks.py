@@ -20,6 +20,10 @@ CMAKE = """for kind in static shared; do
 done"""
 C = """cc -I/usr/local/include example.c /usr/local/lib/libgix_validate_c.a -o example
 ./example"""
+CPP = """c++ -std=c++17 -I/usr/local/include example.cpp /usr/local/lib/libgix_validate_c.a -o example
+./example"""
+
+CPP = C.replace("cc ", "c++ -std=c++17 ").replace("example.c ", "example.cpp ")
 
 
 class Language(NamedTuple):
@@ -36,6 +40,7 @@ LANGUAGES = {
     "cmake": Language("CMakeLists.txt", "cmake", CMAKE),
     "toml": Language("Cargo.toml", "cargo", ""),
     "c": Language("example.c", "cc", C),
+    "cpp": Language("example.cpp", "c++", CPP),
     "python": Language("example.py", "python3", "python3 example.py"),
     "js": Language("example.mjs", "node", "node example.mjs"),
     "rust": Language("src/main.rs", "cargo", "cargo run --quiet"),
@@ -57,14 +62,9 @@ class Need(NamedTuple):
 
 
 CRATES = Need(
-    "cargo ",
+    "bstr::ByteSlice",
     "the crates bstr and gix-error, from crates.io or by tests/gitoxide/fetch",
     "timeout 60 cargo fetch --manifest-path probe/Cargo.toml",
-)
-DASK = Need(
-    "from distributed ",
-    "Dask (Debian: python3-distributed)",
-    "PATH=/usr/bin:$PATH python3 -c 'import distributed'",
 )
 
 GO = Need("go mod ", "Go (Debian: golang-go)", "type go")
@@ -75,8 +75,11 @@ JAVA = Need(
     "type java && test -e /usr/share/java/jna.jar",
 )
 MONO = Need("mono ", "Mono (Debian: mono-mcs, mono-runtime)", "type mcs mono")
+FILTER_REPO = Need(
+    "git filter-repo ", "git-filter-repo (Debian)", "type git-filter-repo"
+)
 PRE_COMMIT = Need("pre-commit run", "pre-commit (Debian)", "type pre-commit")
-NEEDS = [CRATES, DASK, GO, RUBY, JAVA, MONO, PRE_COMMIT]
+NEEDS = [CRATES, FILTER_REPO, GO, RUBY, JAVA, MONO, PRE_COMMIT]
 
 
 class Block(NamedTuple):
@@ -111,15 +114,12 @@ class Block(NamedTuple):
     def script(self, room):
         """The commands of a block that is run, in a shell."""
         language = LANGUAGES[self.language]
-        code = self.code
+        code = self.code.replace("path/to/", f"{room}/unpacked/")
         if language.file:
-            crate = f'path = "{room}/unpacked/rust/gix-validate"'
-            code = re.sub('path = "path/.*"', crate, code)
             file = self.name or language.file
             command = "" if self.name else language.command
             code = f"mkdir -p $(dirname {file})\n{saved(code, file)}{command}\n"
         code = re.sub("(?=/usr/local|/srv/git)", str(room), code)
-        code = code.replace("path/to/go/", f"{room}/unpacked/go/")
         return f"(\ncd '{ROOT}'\n{code})\n" if self.note == "in a clone" else code
 
     def comparison(self, room):

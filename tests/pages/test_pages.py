@@ -12,12 +12,14 @@ from tests.pages.reader import Reader, only_crates_are_missing
 # The pages that are followed with a release, and the folder in which a reader begins.
 PAGES = {
     "README.md": "new",
-    "docs/RELEASES.md": "clone",
+    "docs/CI.md": "clone",
     "docs/RECIPES.md": "clone",
     "docs/RULES.md": "new",
     "hook/README.md": "srv/git/project.git",
     "bindings/c/README.md": "new",
+    "bindings/cpp/README.md": "new",
     "bindings/rust/README.md": "new",
+    "bindings/rust/gix-validate/README.md": "new",
     "bindings/python/README.md": "new",
     "bindings/go/README.md": "new",
     "bindings/js/README.md": "new",

@@ -56,7 +56,7 @@ PARTS = {
         "src/main.rs\n",
         "a//b\n",
         "a//b: A path must not be empty, "
-        "start or end with a slash, or have two in a row\n",
+        "start or end with a slash, or have two in a row ('/' at byte 2)\n",
     ),
 }
 # The arguments without which a program reads nothing.

@@ -20,8 +20,9 @@ OPTIONS = {
     "check_push submodules": ["--end"],
     "check_push refs": ["--ids", "--replace"],
     "git_check_names": [
-        *("branch", "path", "tag", "ref", "submodule", "component"),
-        *("--stdin", "-z", "--protect LIST", "--repair", "-v, --verbose", "--"),
+        *("branch", "branch-ref", "tag", "ref", "safe-ref", "path", "component"),
+        *("submodule", "--stdin", "-z", "--protect LIST", "--accept NAMES"),
+        *("--repair", "-v, --verbose", "--"),
     ],
 }
 

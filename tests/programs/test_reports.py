@@ -289,7 +289,8 @@ def limits():
             f"a//b\n{(size - 1) * 'a'}\n",
             1 + over,
             PARTS["git_check_names"].line,
-            "malformed input: name 2 is longer than 65535 bytes" * over,
+            "malformed input: name 2 is longer than 65535 bytes, and isn't checked"
+            * over,
         )
         yield Row(
             "check_push trees", f"a header {where}", [], header, 2 * over, "", in_object

@@ -77,7 +77,33 @@ def files_under(folder):
     return sorted(str(it.relative_to(folder)) for it in files)
 
 
+# A manual page that names the prefix.
+WITH_PREFIX = "git-names-hook.7"
+
+
 def differences(one, other, *but):
-    """What `diff` prints of two folders, but for files with these names."""
-    ignored = [word for name in but for word in ("-x", name)]
+    """What `diff` prints of two folders, but for files with these names, and for the page that
+    names the prefix."""
+    ignored = [word for name in (WITH_PREFIX, *but) for word in ("-x", name)]
     return run("diff", "-r", "--no-dereference", *ignored, "--", one, other)
+
+
+PROJECT = f"""cmake_minimum_required(VERSION 3.10)
+project(example C)
+find_package(gix_validate {NUMBERS} REQUIRED)
+add_executable(example "{ROOT}/bindings/c/example.c")
+target_link_libraries(example gix_validate::{{}})
+"""
+
+
+def built_by_cmake(room, prefix, target, *options):
+    """The example for C, linked with a target of the package that CMake finds."""
+    (room / "CMakeLists.txt").write_text(PROJECT.format(target))
+    found = f"-DCMAKE_PREFIX_PATH={prefix}"
+    for words in [
+        ["-S", room, "-B", room / "built", found, *options],
+        ["--build", room / "built"],
+    ]:
+        made = run("cmake", *words)
+        assert made.status == 0, made.said
+    return room / "built/example"

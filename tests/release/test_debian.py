@@ -2,13 +2,14 @@
 
 dpkg installs them into a folder of the test."""
 
+import gzip
 import io
 import subprocess
 import tarfile
 
 import pytest
 
-from tests.release.commands import COMPILER, ROOT, need, run
+from tests.release.commands import COMPILER, DEBIAN, MAJOR, built_by_cmake, need, run
 from tests.release.hostile import (
     are_checked,
     package_of_another_name,
@@ -18,8 +19,7 @@ from tests.release.hostile import (
 
 pytestmark = need("dpkg")
 
-VERSION = (ROOT / "VERSION").read_text()
-SHARED = f"libgix-validate-c{VERSION.partition('.')[0]}"
+SHARED = f"libgix-validate-c{MAJOR}"
 NAMES = ["gix-validate", "gix-validate-doc", SHARED, "libgix-validate-dev"]
 
 
@@ -95,7 +95,8 @@ def test_the_files_have_the_sums_of_the_packages(system, room):
 
 
 @pytest.mark.parametrize(
-    "folder", ["bin", "include", "libexec", "share/bash-completion", "share/doc"]
+    "folder",
+    ["bin", "include", "libexec", "share/bash-completion", "share/doc", "share/fish"],
 )
 def test_the_files_are_those_of_the_archive(system, tree, folder):
     of_debian = ["copyright", "changelog.gz", *NAMES[1:]]
@@ -119,6 +120,24 @@ def test_the_shared_object_is_in_a_package_of_its_own(system):
     assert f"/{file.relative_to(system.root)}\n" in listed
 
 
+def test_the_manual_page_of_the_hook_says_where_the_package_has_it(system):
+    file = system.usr / "share/man/man7/git-names-hook.7.gz"
+    page = gzip.decompress(file.read_bytes()).decode().replace("\\", "")
+    assert "\nln -s /usr/libexec/gix-validate/pre-receive hooks/pre-receive\n" in page
+    assert "/usr/local" not in page
+
+
+def test_the_package_of_the_shared_object_lists_its_symbols(system):
+    listed = (system.root / f"var/lib/dpkg/info/{SHARED}.symbols").read_text()
+    first, *lines = listed.splitlines()
+    assert first == f"libgix_validate_c.so.{MAJOR} {SHARED} #MINVER#"
+    [library] = system.usr.glob("lib/*/libgix_validate_c.so")
+    symbols = run("nm", "-D", "--defined-only", library).said.split("\n")
+    defined = {it.split()[2].partition("@")[0] for it in symbols if it}
+    assert {line.split("@")[0].strip() for line in lines} == defined
+    assert {line.split()[1] for line in lines} == {DEBIAN}
+
+
 @need("pkg-config")
 def test_the_example_for_c_is_built_as_pkg_config_says(system, room):
     [folder] = system.usr.glob("lib/*/pkgconfig")
@@ -133,31 +152,16 @@ def test_the_example_for_c_is_built_as_pkg_config_says(system, room):
     assert_is_the_example(example, LD_LIBRARY_PATH=folder.parent)
 
 
-PROJECT = f"""cmake_minimum_required(VERSION 3.10)
-project(example C)
-find_package(gix_validate REQUIRED)
-add_executable(example "{ROOT}/bindings/c/example.c")
-target_link_libraries(example gix_validate::{{}})
-"""
-
-
 @need("cmake")
-@pytest.mark.parametrize("kind", ["static", "shared"])
+@pytest.mark.parametrize("kind", ["static", "shared", "gix_validate"])
 def test_the_example_for_c_is_built_by_cmake(system, room, kind):
-    (room / "CMakeLists.txt").write_text(PROJECT.format(kind))
-    built = room / "built"
-    path = f"-DCMAKE_PREFIX_PATH={system.usr}"
-    for words in [["-S", room, "-B", built, path], ["--build", built]]:
-        made = run("cmake", *words)
-        assert made.status == 0, made.said
-    assert_is_the_example(built / "example")
+    assert_is_the_example(built_by_cmake(room, system.usr, kind))
 
 
 def assert_is_the_example(program, **environment):
-    status, said = run(program, "refs/heads/main", "a..b", **environment)
+    status, said = run(program, "main", "a..b", **environment)
     assert status == 1
-    fault = "a..b: RepeatedDot: Reference name cannot contain repeated dots\n"
-    assert fault in said
+    assert "a..b: it has two dots in a row (RepeatedDot at byte 2)\n" in said
 
 
 @need("strace")

@@ -5,7 +5,16 @@ import shutil
 
 import pytest
 
-from tests.release.commands import COMPILER, DEBIAN, MAJOR, ROOT, differences, need, run
+from tests.release.commands import (
+    COMPILER,
+    MAJOR,
+    NUMBERS,
+    ROOT,
+    built_by_cmake,
+    differences,
+    need,
+    run,
+)
 from tests.release.elf import faults_of
 
 LIBRARY = f"libgix_validate_c.so.{MAJOR}"
@@ -24,7 +33,7 @@ def declared(prefix):
 @pytest.fixture(scope="module")
 def native(tree):
     """The folder with the blocks of code of the Rust crate."""
-    return tree / "rust/gix-validate/native"
+    return tree / "rust/git-names/native"
 
 
 def test_the_shared_object_is_hardened_and_needs_no_library(prefix):
@@ -42,14 +51,16 @@ def test_the_shared_object_exports_what_the_header_declares(prefix, declared):
     assert sorted(exported) == declared
 
 
-@pytest.mark.parametrize("linked", ["block", "C99", "libgix_validate_c.a", LIBRARY])
-def test_the_rows_pass_with_each_form_of_the_library(
-    tree, prefix, native, room, linked
-):
-    files = {"block": native / "x86_64.s", "C99": tree / "c/gix_validate.c"}
+# The forms that a program is compiled with, and the ends of their names.
+FORMS = {"machine code": "S", "C99": "c"}
+
+
+@pytest.mark.parametrize("linked", [*FORMS, "libgix_validate_c.a", LIBRARY])
+def test_the_rows_pass_with_each_form_of_the_library(tree, prefix, room, linked):
+    files = {name: tree / f"c/gix_validate.{end}" for name, end in FORMS.items()}
     library = files.get(linked, prefix / "lib" / linked)
     source, path = "bindings/c/rows.c", f"-Wl,-rpath,{prefix}/lib"
-    flags = ["-Wa,--noexecstack", f"-I{prefix}/include"]
+    flags = [f"-I{prefix}/include"]
     built = run(COMPILER, *flags, "-o", room / "rows", source, library, path)
     assert built == (0, "")
     status, said = run(room / "rows", ROWS)
@@ -61,11 +72,11 @@ def test_each_function_has_a_manual(prefix, declared):
     assert [it for it in declared if not (manuals / f"{it}.3").exists()] == []
 
 
-def test_the_sources_of_the_crate_are_those_of_the_repository(native):
-    crate = native.parent
-    assert differences(ROOT / "bindings/rust/src", crate / "src") == (0, "")
-    manifest = (ROOT / "bindings/rust/Cargo.toml").read_text()
-    assert (crate / "Cargo.toml").read_text() == manifest
+@pytest.mark.parametrize("crate", [".", "gix-validate"])
+def test_the_sources_of_the_crates_are_those_of_the_repository(native, crate):
+    ours, theirs = ROOT / "bindings/rust" / crate, native.parent / crate
+    assert differences(ours / "src", theirs / "src") == (0, "")
+    assert (theirs / "Cargo.toml").read_text() == (ours / "Cargo.toml").read_text()
 
 
 @need("cargo")
@@ -84,23 +95,69 @@ def test_cargo_packs_the_licences_the_page_the_blocks_and_the_sources(native, ro
 @need("pkg-config")
 def test_the_example_for_c_is_built_as_pkg_config_says(prefix, tree, room):
     # (in a folder without a space: pkg-config escapes it, and the shell doesn't undo that)
-    words = ["--cflags", "--libs", f"gix_validate = {DEBIAN}"]
+    words = ["--cflags", "--libs", f"gix_validate = {NUMBERS}"]
     path = tree / "lib/pkgconfig"
     status, flags = run("pkg-config", *words, PKG_CONFIG_PATH=path)
     assert status == 0, flags
     example, library = room / "example", f"-Wl,-rpath,{prefix}/lib"
     words = ["-o", example, "bindings/c/example.c", *flags.split(), library]
     assert run(COMPILER, *words) == (0, "")
-    status, said = run(example, "refs/heads/main", "a..b")
+    status, said = run(example, "main", "a..b")
     assert status == 1
-    fault = "a..b: RepeatedDot: Reference name cannot contain repeated dots\n"
-    assert fault in said
+    assert "a..b: it has two dots in a row (RepeatedDot at byte 2)\n" in said
+
+
+@need("pkg-config")
+@pytest.mark.parametrize(
+    "wanted, is_there",
+    [(f">= {NUMBERS}", True), (f"< {int(MAJOR) + 1}", True), (f"> {NUMBERS}", False)],
+)
+def test_pkg_config_takes_a_release_to_come_for_that_release(tree, wanted, is_there):
+    path = tree / "lib/pkgconfig"
+    ran = run("pkg-config", "--exists", f"gix_validate {wanted}", PKG_CONFIG_PATH=path)
+    assert (ran.status == 0) == is_there
+
+
+@need("pkg-config")
+def test_pkg_config_names_the_static_library(tree, room):
+    words = ["--cflags", "--variable=archive", "gix_validate"]
+    path = tree / "lib/pkgconfig"
+    status, flags = run("pkg-config", *words, PKG_CONFIG_PATH=path)
+    assert status == 0, flags
+    built = run(COMPILER, "-o", room / "a", "bindings/c/example.c", *flags.split())
+    assert built == (0, "")
+    assert LIBRARY not in needed_by(room / "a")
+
+
+@need("pkg-config")
+def test_a_static_program_is_built_as_pkg_config_says(tree, room):
+    words = ["--static", "--cflags", "--libs", "gix_validate"]
+    path = tree / "lib/pkgconfig"
+    status, flags = run("pkg-config", *words, PKG_CONFIG_PATH=path)
+    assert status == 0, flags
+    words = ["-static", "-o", room / "a", "bindings/c/example.c", *flags.split()]
+    assert run(COMPILER, *words) == (0, "")
+
+
+@need("cmake")
+@pytest.mark.parametrize("is_shared", ["ON", "OFF"])
+def test_cmake_links_the_kind_of_library_that_build_shared_libs_says(
+    prefix, room, is_shared
+):
+    option = f"-DBUILD_SHARED_LIBS={is_shared}"
+    example = built_by_cmake(room, prefix, "gix_validate", option)
+    assert (LIBRARY in needed_by(example)) == (is_shared == "ON")
+
+
+def needed_by(program):
+    """The libraries that a program needs."""
+    return re.findall(r"\(NEEDED\).*\[(.*)\]", run("readelf", "-d", program).said)
 
 
 @need("aarch64-linux-gnu-gcc", "qemu-aarch64")
-def test_the_rows_pass_with_the_block_for_aarch64(prefix, native, room):
+def test_the_rows_pass_with_the_block_for_aarch64(prefix, tree, room):
     words = [f"-I{prefix}/include", "-static", "-o", room / "rows"]
-    code = ["bindings/c/rows.c", native / "aarch64.s"]
+    code = ["bindings/c/rows.c", tree / "c/gix_validate.S"]
     assert run("aarch64-linux-gnu-gcc", *words, *code) == (0, "")
     status, said = run("qemu-aarch64", room / "rows", ROWS)
     assert status == 0, said

@@ -56,7 +56,9 @@ def package(tree, session_room):
 def test_the_npm_package_has_the_functions_that_the_release_has(package, prefix):
     lines = (package / "gix_validate_wasm.mjs").read_text().splitlines()
     functions = base64.b64decode("".join(lines[2:-1]), validate=True)
-    assert functions == (prefix / "lib/gix_validate.wasm").read_bytes()
+    released = (prefix / "lib/gix_validate.wasm").read_bytes()
+    assert functions == released
+    assert (package / "gix_validate.wasm").read_bytes() == released
 
 
 @need("node", "npm")

@@ -29,9 +29,9 @@ def test_the_hook_and_the_user_run_the_same_program(prefix, hook_folder):
 
 @pytest.mark.parametrize("program", PROGRAMS)
 def test_a_program_can_be_linked_again_as_the_page_of_the_objects_says(
-    prefix, room, program
+    tree, room, program
 ):
-    objects = prefix / "share/gix-validate/objects"
+    objects = tree / "objects"
     page = (objects / "README.md").read_text()
     command = "cc -static-pie -o check_names check_names.o libos_c.a liblibc_c.a"
     assert f"\n    {command}\n" in page

@@ -6,8 +6,9 @@ from html import unescape
 
 import pytest
 
+from release import descriptions
 from tests.built_site import Site, is_elsewhere
-from tests.release.commands import OF_THE_HOOK, SUBCOMMANDS, files_under, need, run
+from tests.release.commands import need, run
 
 OF_RUST = "reference/rust/"
 CHECKER = "docs/names.html"
@@ -35,10 +36,10 @@ def shown(url, room):
 @pytest.mark.parametrize(
     "page, text",
     [
-        ("index.html", "Dihareku checks Git names"),
+        ("index.html", "Dihareku checks the names that Git stores"),
         ("docs/RULES.html", "RepeatedDot"),
-        ("reference/python.html", "is_valid_tag_name"),
-        ("reference/rust/gix_validate/index.html", "Names of tags."),
+        ("reference/python.html", "validate_branch_ref"),
+        ("reference/rust/git_names/index.html", "suggest_branch"),
     ],
 )
 def test_a_page_opens_from_a_disk(site, room, page, text):
@@ -73,28 +74,28 @@ def test_no_page_loads_anything_from_a_network(site):
     assert [it for it in loaded if not site.target(*it)[0].is_file()] == []
 
 
-def test_each_program_has_a_page_with_what_its_help_says(site, prefix):
-    commands = [[it] for it in files_under(prefix / "bin")]
-    assert commands
-    for command, *words in [*commands, *([OF_THE_HOOK, it] for it in SUBCOMMANDS)]:
-        page = (site.path / f"reference/programs/{command}.html").read_text("utf-8")
-        _, said = run(prefix / "bin" / command, *words, "--help")
-        assert said.strip() in text_of(page)
+def test_each_program_and_the_hook_have_a_page(site):
+    for name, described in descriptions.read_all().items():
+        page = (site.path / f"reference/programs/{name}.html").read_text("utf-8")
+        shown = " ".join(text_of(page).split())
+        for example in described["examples"]:
+            assert " ".join(example["command"].split()) in shown
 
 
 @pytest.mark.parametrize(
     "page, function",
     [
         ("c.html", "gix_validate_sanitize_in_place"),
+        ("cpp.html", "check_branch_ref"),
         ("go.html", "func CheckBranchRef"),
-        ("javascript.html", "shortBranchName"),
-        ("python.html", "is_valid_tag_name"),
-        ("rust/gix_validate/tag/index.html", "fault_offset"),
+        ("javascript.html", "suggestBranch"),
+        ("python.html", "validate_branch_ref"),
+        ("rust/git_names/fn.branch_ref.html", "full branch name"),
     ],
 )
 def test_each_language_has_a_page_that_the_first_one_leads_to(site, page, function):
     assert function in text_of((site.path / "reference" / page).read_text("utf-8"))
-    front = "rust/gix_validate/index.html" if page.startswith("rust") else page
+    front = "rust/git_names/index.html" if page.startswith("rust") else page
     assert f"reference/{front}" in site.pages["index.html"].links
 
 

@@ -61,7 +61,8 @@ class Copy:
                 shutil.copy2(ROOT / name, self.path / name, follow_symlinks=False)
         self.bin.mkdir()
         (self.bin / "rt").symlink_to(STAND_IN)
-        (room / "kit/bin").mkdir(parents=True)
+        for tools in "kit/bin", "kit/toolchain/bin":
+            (room / tools).mkdir(parents=True)
         (room / "kit/bin/rattle").symlink_to(STAND_IN)
         self.does = "nothing"
         self.state = state_of(self.path)

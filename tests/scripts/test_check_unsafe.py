@@ -55,7 +55,7 @@ FILES = [
     "bindings/rust/src/target/mod.rs",
     "bindings/rust/build.rs",
     "bindings/rust/tests/rows.rs",
-    "bindings/rust/drop_in/src/main.rs",
+    "bindings/rust/gix-validate/drop_in/src/main.rs",
     "bindings/go/many.go",
     "bindings/go/block_amd64.go.go",
     "bindings/go/internal/more/block_amd64.go",

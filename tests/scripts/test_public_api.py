@@ -139,9 +139,9 @@ def test_a_definition_that_cites_another_one_by_the_same_name_is_shown(copy):
         ),
         (
             "crates/gix_validate_c/src/names.rt",
-            'pub extern "C" fn gix_validate_tag\\(name: &\\[u8\\]\\) -> u32',
-            'pub extern "C" fn gix_validate_tag(name: &[u8]) -> u8',
-            '+pub extern "C" fn gix_validate_tag(name: &[u8]) -> u8',
+            'pub extern "C" fn gix_validate_is_windows_device\\(name: &\\[u8\\]\\) -> bool',
+            'pub extern "C" fn gix_validate_is_windows_device(name: &[u8]) -> u8',
+            '+pub extern "C" fn gix_validate_is_windows_device(name: &[u8]) -> u8',
         ),
     ],
 )

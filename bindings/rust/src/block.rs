@@ -4,7 +4,7 @@
 //! The declarations have to say what `bindings/c/gix_validate.h` says; the compiler compares those of the block with
 //! nothing.
 
-use bstr::{BStr, BString};
+use alloc::vec::Vec;
 
 /// The block of machine code. (In a clone bindings/build and release/aarch64 make it.)
 #[cfg(all(
@@ -17,9 +17,9 @@ use bstr::{BStr, BString};
 ))]
 mod functions {
     #[cfg(target_arch = "x86_64")]
-    std::arch::global_asm!(include_str!("../native/x86_64.s"), options(att_syntax));
+    core::arch::global_asm!(include_str!("../native/x86_64.s"), options(att_syntax));
     #[cfg(target_arch = "aarch64")]
-    std::arch::global_asm!(include_str!("../native/aarch64.s"));
+    core::arch::global_asm!(include_str!("../native/aarch64.s"));
 
     #[allow(non_camel_case_types)]
     type size_t = usize;
@@ -27,23 +27,28 @@ mod functions {
     macro_rules! declare {
         ($abi:literal) => {
             extern $abi {
-                pub(super) fn gix_validate_tag(name: *const u8, name_len: size_t) -> u32;
-                pub(super) fn gix_validate_partial(name: *const u8, name_len: size_t) -> u32;
-                pub(super) fn gix_validate_full(name: *const u8, name_len: size_t) -> u32;
-                pub(super) fn gix_validate_branch(name: *const u8, name_len: size_t) -> u32;
-                pub(super) fn gix_validate_short_branch(name: *const u8, name_len: size_t) -> u32;
-                pub(super) fn gix_validate_submodule(name: *const u8, name_len: size_t) -> u32;
-                pub(super) fn gix_validate_component(name: *const u8, name_len: size_t, flags: u32) -> u32;
-                pub(super) fn gix_validate_path(path: *const u8, path_len: size_t, flags: u32) -> u32;
-                pub(super) fn gix_validate_path_offset(path: *const u8, path_len: size_t, flags: u32) -> size_t;
-                pub(super) fn gix_validate_invalid_byte(name: *const u8, name_len: size_t) -> u32;
-                pub(super) fn gix_validate_fault_offset(name: *const u8, name_len: size_t) -> size_t;
-                pub(super) fn gix_validate_is_windows_device(name: *const u8, name_len: size_t) -> bool;
+                pub(super) fn gix_validate_fault_of(kind: u32, name: *const u8, len: size_t, flags: u32) -> u32;
+                pub(super) fn gix_validate_offset_of(kind: u32, name: *const u8, len: size_t, flags: u32) -> size_t;
+                pub(super) fn gix_validate_text_of(
+                    kind: u32,
+                    name: *const u8,
+                    len: size_t,
+                    flags: u32,
+                    text: *mut u8,
+                    text_len: size_t,
+                ) -> size_t;
                 pub(super) fn gix_validate_sanitize_in_place(
                     buffer: *mut u8,
                     buffer_len: size_t,
                     name_len: size_t,
                 ) -> size_t;
+                pub(super) fn gix_validate_suggest(
+                    name: *const u8,
+                    len: size_t,
+                    buffer: *mut u8,
+                    buffer_len: size_t,
+                ) -> size_t;
+                pub(super) fn gix_validate_is_windows_device(name: *const u8, len: size_t) -> bool;
                 #[cfg(test)]
                 pub(super) fn gix_validate_version() -> u32;
             }
@@ -61,9 +66,34 @@ mod functions {
     pub(super) fn check_processor() {
         #[cfg(target_arch = "x86_64")]
         assert!(
-            std::is_x86_feature_detected!("sse4.2"),
-            "the proved functions of gix-validate need a processor with SSE 4.2 (x86-64-v2), or the feature `portable`"
+            has_sse42(),
+            "the proved functions of git-names need a processor with SSE 4.2 (x86-64-v2), or the feature `portable`"
         );
+    }
+
+    /// Whether the processor has SSE 4.2. It is asked once.
+    #[cfg(target_arch = "x86_64")]
+    #[inline]
+    fn has_sse42() -> bool {
+        use core::sync::atomic::{AtomicU8, Ordering};
+
+        const UNKNOWN: u8 = 2;
+        static HAS: AtomicU8 = AtomicU8::new(UNKNOWN);
+
+        #[cold]
+        fn ask() -> u8 {
+            // SAFETY: each x86-64 processor has the instruction CPUID, and its leaf 1.
+            #[allow(unused_unsafe)]
+            let features = unsafe { core::arch::x86_64::__cpuid(1) }.ecx;
+            let has = u8::from(features & 1 << 20 != 0);
+            HAS.store(has, Ordering::Relaxed);
+            has
+        }
+
+        match HAS.load(Ordering::Relaxed) {
+            UNKNOWN => ask() != 0,
+            has => has != 0,
+        }
     }
 }
 
@@ -85,84 +115,64 @@ mod functions {
 
 use functions::*;
 
-/// Whether a name is accepted, or the number of its fault.
-pub(crate) type Code = u32;
+// SAFETY, of each call below: pointers and lengths are those of slices that are borrowed until the call returns, those
+// that it writes to alone. So their bytes are there, and nobody else writes them. The calls read and write nothing
+// else, keep no pointer and have no state.
 
-/// The number that says that a name is accepted.
-pub(crate) const ACCEPTED: Code = 0;
-
-// SAFETY, of each call below: pointer and length are those of a slice that is borrowed until the call returns, so
-// its bytes are readable and nobody writes them. The calls read nothing else, keep no pointer and have no state.
-
-macro_rules! checks {
-    ($($kind:ident: $function:ident($($flags:ident)?);)*) => {$(
-        #[inline]
-        pub(crate) fn $kind(name: &BStr $(, $flags: u32)?) -> Code {
-            check_processor();
-            unsafe { $function(name.as_ptr(), name.len() $(, $flags)?) }
-        }
-    )*};
+/// The number of the fault that the name has as one of this kind, or 0.
+#[inline]
+pub(crate) fn fault_of(kind: u32, name: &[u8], flags: u32) -> u32 {
+    check_processor();
+    unsafe { gix_validate_fault_of(kind, name.as_ptr(), name.len(), flags) }
 }
 
-checks! {
-    tag: gix_validate_tag();
-    partial: gix_validate_partial();
-    full: gix_validate_full();
-    branch: gix_validate_branch();
-    short_branch: gix_validate_short_branch();
-    submodule: gix_validate_submodule();
-    component: gix_validate_component(flags);
-    path: gix_validate_path(flags);
+/// Where that fault is, or the length of the name.
+pub(crate) fn offset_of(kind: u32, name: &[u8], flags: u32) -> usize {
+    check_processor();
+    unsafe { gix_validate_offset_of(kind, name.as_ptr(), name.len(), flags) }
+}
+
+/// Writes the text of that fault to the buffer if it fits, and returns its length.
+pub(crate) fn text_of(kind: u32, name: &[u8], flags: u32, text: &mut [u8]) -> usize {
+    check_processor();
+    unsafe {
+        gix_validate_text_of(
+            kind,
+            name.as_ptr(),
+            name.len(),
+            flags,
+            text.as_mut_ptr(),
+            text.len(),
+        )
+    }
 }
 
 #[inline]
-pub(crate) fn is_windows_device(name: &BStr) -> bool {
+pub(crate) fn is_windows_device(name: &[u8]) -> bool {
     check_processor();
     unsafe { gix_validate_is_windows_device(name.as_ptr(), name.len()) }
-}
-
-/// The byte that makes the name invalid as a tag or reference, where that is its fault.
-pub(crate) fn invalid_byte(name: &BStr) -> Option<u8> {
-    let answer = unsafe { gix_validate_invalid_byte(name.as_ptr(), name.len()) };
-    u8::try_from(answer).ok()
-}
-
-/// The offset of the name's fault as a tag, or its length.
-pub(crate) fn fault_offset(name: &BStr) -> usize {
-    unsafe { gix_validate_fault_offset(name.as_ptr(), name.len()) }
-}
-
-/// The offset of the part for which the path is refused, or its length.
-pub(crate) fn path_offset(path: &BStr, flags: u32) -> usize {
-    unsafe { gix_validate_path_offset(path.as_ptr(), path.len(), flags) }
 }
 
 /// The length of what the first bytes of the buffer are repaired to, or 0 if it has no room for that.
 pub(crate) fn sanitize_in_place(buffer: &mut [u8], len: usize) -> usize {
     check_processor();
-    // SAFETY: pointer and length are those of a slice that is borrowed alone until the call returns.
     unsafe { gix_validate_sanitize_in_place(buffer.as_mut_ptr(), buffer.len(), len) }
 }
 
-/// The name repaired to a partial reference name.
-pub(crate) fn sanitized(name: &BStr) -> BString {
-    let mut buffer = Vec::with_capacity(name.len().max(1));
-    buffer.extend_from_slice(name);
-    if buffer.is_empty() {
-        buffer.push(0); // room for the one byte that the empty name becomes
-    }
-    let repaired = sanitize_in_place(&mut buffer, name.len());
-    buffer.truncate(repaired);
-    buffer.into()
+/// The branch name that is suggested for a name.
+pub(crate) fn suggestion(name: &[u8]) -> Option<Vec<u8>> {
+    check_processor();
+    let mut buffer = name.to_vec();
+    let len = unsafe {
+        gix_validate_suggest(name.as_ptr(), name.len(), buffer.as_mut_ptr(), buffer.len())
+    };
+    buffer.truncate(len);
+    (len > 0).then_some(buffer)
 }
 
 #[test]
 fn the_functions_have_the_version_of_the_crate() {
-    let version = env!("CARGO_PKG_VERSION")
-        .rsplit("dihareku.")
-        .next()
-        .unwrap();
-    let number = version
+    let number = env!("CARGO_PKG_VERSION")
         .trim_end_matches("-dev")
         .split('.')
         .fold(0, |number, part| {

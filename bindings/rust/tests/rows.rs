@@ -1,73 +1,9 @@
 //! Replays the rows of `tests/rows`.
 
-use bstr::{BStr, BString, ByteSlice};
-use gix_validate::{branch, path, reference, submodule, tag};
-
-/// `Ok`, or the variant of the error with its payload, and the printed text. On success a call has to return the very
-/// name that it was passed.
-fn answer<E: std::error::Error>(name: &BStr, given: Result<&BStr, E>) -> (String, String) {
-    match given {
-        Ok(back) => {
-            assert_eq!((back.as_ptr(), back.len()), (name.as_ptr(), name.len()));
-            ("Ok".into(), String::new())
-        }
-        Err(error) => {
-            assert_eq!(error.source().is_some(), cfg!(feature = "gix-error"));
-            (format!("{error:?}"), error.to_string())
-        }
-    }
-}
-
-/// The mode and the options of these settings.
-fn settings_of(settings: &str) -> (Option<path::component::Mode>, path::component::Options) {
-    let has = |letter| settings.contains::<char>(letter);
-    assert!(
-        settings.chars().all(|letter| "whns".contains(letter)),
-        "unknown settings {settings}"
-    );
-    let options = path::component::Options {
-        protect_windows: has('w'),
-        protect_hfs: has('h'),
-        protect_ntfs: has('n'),
-    };
-    (has('s').then_some(path::component::Mode::Symlink), options)
-}
-
-fn component(name: &BStr, settings: &str) -> (String, String) {
-    let (mode, options) = settings_of(settings);
-    answer(name, path::component(name, mode, options))
-}
-
-/// An error that wraps another one is here as that one.
-fn whole(name: &BStr, settings: &str) -> (String, String) {
-    let (mode, options) = settings_of(settings);
-    let given = path::whole(name, mode, options);
-    let printed = given.as_ref().err().map(ToString::to_string);
-    let (variant, text) = match given {
-        Err(path::whole::Error::InvalidPart { error, .. }) => answer(name, Err(error)),
-        Err(path::whole::Error::EmptyPart { .. }) => {
-            ("EmptyPart".into(), printed.clone().unwrap_or_default())
-        }
-        Err(path::whole::Error::Nul { .. }) => ("Nul".into(), printed.clone().unwrap_or_default()),
-        given => answer(name, given),
-    };
-    assert_eq!(printed.unwrap_or_default(), text);
-    (variant, text)
-}
-
-fn short_branch(name: &BStr) -> (String, String) {
-    let given = branch::short_name(name);
-    let printed = given.as_ref().err().map(ToString::to_string);
-    let (variant, text) = match given {
-        Err(branch::short_name::Error::Name(error)) => answer(name, Err(error)),
-        given => answer(name, given),
-    };
-    assert_eq!(printed.unwrap_or_default(), text);
-    (variant, text)
-}
+use git_names::{Error, Fault, Kind, Protections};
 
 /// The bytes of a quoted text, and what follows its closing quote.
-fn quoted(text: &str) -> (BString, &str) {
+fn quoted(text: &str) -> (Vec<u8>, &str) {
     let (inner, rest) = text
         .strip_prefix('"')
         .and_then(|text| text.split_once('"'))
@@ -78,142 +14,121 @@ fn quoted(text: &str) -> (BString, &str) {
         bytes.push(u8::from_str_radix(&piece[..2], 16).expect("two hexadecimal digits"));
         bytes.extend_from_slice(&piece.as_bytes()[2..]);
     }
-    (bytes.into(), rest)
+    (bytes, rest)
 }
 
-/// The variant as it is printed by `Debug`, of the row's word for it.
-fn variant_of(word: &str, name: &BStr) -> String {
-    if word == "Reserved" {
-        return format!("Reserved {{ name: {name:?} }}");
-    }
-    match word.strip_prefix("InvalidByte:") {
-        Some(hex) => {
-            let byte = [u8::from_str_radix(hex, 16).expect("two hexadecimal digits")];
-            format!("InvalidByte {{ byte: {:?} }}", byte.as_bstr())
-        }
-        None => word.into(),
-    }
-}
-
-/// The text that the row has, with the byte or name at its end quoted as `bstr` does, which is how this crate does.
-fn text_of(text: &str, variant: &str) -> String {
-    match (text.split_once(": \""), variant.split_once(": ")) {
-        (Some((words, _)), Some((_, payload))) => {
-            format!("{words}: {}", payload.trim_end_matches(" }"))
-        }
-        _ => text.into(),
-    }
-}
-
-/// The variants' names, without their payloads, of a call for many names.
-fn variants<'a, E: std::fmt::Debug>(
-    given: impl Iterator<Item = Result<&'a BStr, E>>,
-) -> Vec<String> {
-    let word = |error| {
-        format!("{error:?}")
-            .split(' ')
-            .next()
-            .unwrap_or_default()
-            .into()
-    };
-    given
-        .map(|given| given.map_or_else(word, |_| "Ok".into()))
-        .collect()
-}
-
-type Wrapped = Box<dyn std::error::Error>;
-
-fn replay_many(row: &str, kind: &str, end: &str, buffer: &BStr, wanted: &str) {
-    let end = u8::from_str_radix(end, 16).expect("two hexadecimal digits");
-    let given = match kind {
-        "tag" => variants(tag::names(buffer, end)),
-        "partial" => variants(reference::names_partial(buffer, end)),
-        "full" => variants(reference::names(buffer, end)),
-        "branch" => variants(reference::branch_names(buffer, end)),
-        "short_branch" => variants(branch::short_names(buffer, end).map(|given| {
-            // (The error is here as the one that it wraps.)
-            given.map_err(|error| match error {
-                branch::short_name::Error::Name(error) => Box::new(error) as Wrapped,
-                error => Box::new(error) as Wrapped,
-            })
-        })),
-        "submodule" => variants(submodule::names(buffer, end)),
-        _ => panic!("{row}"),
-    };
-    let mut words = wanted.split(' ');
-    assert_eq!(words.next(), Some(&*given.len().to_string()), "{row}");
-    assert_eq!(given, words.collect::<Vec<_>>(), "{row}");
-}
-
-pub fn replay(row: &str) {
-    let (call, rest) = row.split_once(' ').expect("a call");
-    let (name, rest) = quoted(rest);
-    let name = name.as_bstr();
-    let wanted = rest.trim_start();
-    if let Some((kind, end)) = call.split_once("_many:") {
-        return replay_many(row, kind, end, name, wanted);
-    }
-    let (given, printed) = match call {
-        "tag" => answer(name, tag::name(name)),
-        "partial" => answer(name, reference::name_partial(name)),
-        "full" => answer(name, reference::name(name)),
-        "branch" => answer(name, reference::branch_name(name)),
-        "short_branch" => short_branch(name),
-        "submodule" => answer(name, submodule::name(name)),
-        "device" => {
-            assert_eq!(
-                path::component_is_windows_device(name),
-                wanted == "yes",
-                "{row}"
-            );
-            return assert!(["yes", "no"].contains(&wanted), "{row}");
-        }
-        "offset" => {
-            let given = tag::fault_offset(name).map_or("none".into(), |offset| offset.to_string());
-            return assert_eq!(given, wanted, "{row}");
-        }
-        "sanitize" => {
-            let wanted = quoted(wanted).0;
-            assert_eq!(reference::name_partial_or_sanitize(name), wanted, "{row}");
-            return repaired_in_place(name, &wanted, row);
-        }
-        _ if call.starts_with("path_offset:") => {
-            let (mode, options) = settings_of(&call["path_offset:".len()..]);
-            let given = path::whole(name, mode, options)
-                .map_or_else(|error| error.offset().to_string(), |_| "none".into());
-            return assert_eq!(given, wanted, "{row}");
-        }
-        _ if call.starts_with("path:") => whole(name, &call["path:".len()..]),
-        _ => component(name, call.strip_prefix("component:").expect("a known call")),
-    };
-    let (word, text) = wanted.split_once(' ').unwrap_or((wanted, ""));
-    let variant = variant_of(word, name);
-    assert_eq!(given, variant, "{row}");
+fn protections_of(settings: &str) -> Protections {
     assert!(
-        text.is_empty() || printed == text_of(text, &variant),
+        settings.chars().all(|letter| "whn".contains(letter)),
+        "unknown settings {settings}"
+    );
+    Protections {
+        windows: settings.contains('w'),
+        hfs: settings.contains('h'),
+        ntfs: settings.contains('n'),
+    }
+}
+
+/// The kind, and what its function returns.
+fn call(kind: &str, name: &[u8], protections: Protections) -> (Kind, Result<Vec<u8>, Error>) {
+    macro_rules! kinds {
+        ($($word:literal $kind:ident $function:ident($($protections:ident)?);)*) => {
+            match kind {
+                $($word => {
+                    let given = git_names::$function(name $(, $protections)?);
+                    (Kind::$kind, given.map(|it| it.as_bytes().to_vec()))
+                })*
+                _ => panic!("unknown kind {kind}"),
+            }
+        };
+    }
+    kinds! {
+        "branch" Branch branch();
+        "branch-ref" BranchRef branch_ref();
+        "tag" Tag tag();
+        "ref" Reference reference();
+        "partial" Partial partial();
+        "tag-name" TagName tag_name();
+        "safe-ref" SafeRef safe_ref(protections);
+        "path" Path path(protections);
+        "symlink-path" SymlinkPath symlink_path(protections);
+        "component" Component component(protections);
+        "symlink" Symlink symlink(protections);
+        "submodule" Submodule submodule(protections);
+    }
+}
+
+fn replay_check(row: &str, kind: &str, name: &[u8], wanted: &str) {
+    let (kind, settings) = kind.split_once(':').unwrap_or((kind, ""));
+    let protections = protections_of(settings);
+    let (kind, given) = call(kind, name, protections);
+    let fault = kind.fault(name, protections);
+    assert_eq!(kind.check(name, protections).err(), given.clone().err());
+    let (result, text) = wanted.split_once(' ').unwrap_or((wanted, ""));
+    let (result, offset) = result.split_once('@').unwrap_or((result, ""));
+    let (word, byte) = result.split_once(':').unwrap_or((result, ""));
+    let error = match given {
+        Ok(kept) => {
+            assert_eq!((&*kept, fault, word), (name, None, "Ok"), "{row}");
+            return;
+        }
+        Err(error) => error,
+    };
+    assert_eq!(fault, Some(error.fault()), "{row}");
+    assert_eq!(format!("{:?}", error.fault()), word, "{row}");
+    assert_eq!(error.name(), name, "{row}");
+    if !offset.is_empty() {
+        assert_eq!(error.offset().to_string(), offset, "{row}");
+    }
+    if error.fault() == Fault::InvalidByte {
+        let byte = u8::from_str_radix(byte, 16).expect("two hexadecimal digits");
+        assert_eq!(error.byte(), Some(byte), "{row}");
+    }
+    let printed = error.to_string();
+    let place = printed.strip_prefix(text).expect(row);
+    assert!(
+        text.is_empty() || name.is_empty() || place.starts_with(" ("),
         "{row}: {printed}"
     );
 }
 
-/// A repair at the start of a buffer leaves alone what follows the name.
-fn repaired_in_place(name: &BStr, wanted: &[u8], row: &str) {
+fn replay_repair(row: &str, name: &[u8], wanted: &[u8]) {
+    assert_eq!(git_names::sanitize(name), wanted, "{row}");
     let mut buffer = [name, &b"rest"[..]].concat();
-    let length = reference::sanitize_in_place(&mut buffer, name.len()).expect("there is room");
-    assert_eq!(&buffer[..length], wanted, "{row}");
-    let end = name.len().max(1);
-    assert_eq!(&buffer[end..], &b"rest"[end - name.len()..], "{row}");
+    let len = git_names::sanitize_in_place(&mut buffer, name.len()).expect(row);
+    assert_eq!(&buffer[..len], wanted, "{row}");
+    assert!(
+        name.is_empty() || buffer[name.len()..] == b"rest"[..],
+        "{row}"
+    );
+}
+
+pub fn replay(row: &str) {
+    let (call, rest) = row.split_once(' ').expect("a call");
+    if call.starts_with("many:") {
+        return; // An iterator over the names is no function of this crate.
+    }
+    let (name, rest) = quoted(rest);
+    let wanted = rest.trim_start();
+    match call {
+        "device" => {
+            let is_device = git_names::is_windows_device(&name);
+            assert_eq!(if is_device { "yes" } else { "no" }, wanted, "{row}");
+        }
+        "sanitize" => replay_repair(row, &name, &quoted(wanted).0),
+        "suggest" if wanted == "none" => {
+            assert_eq!(git_names::suggest_branch(&name), None, "{row}")
+        }
+        "suggest" => {
+            let suggested = git_names::suggest_branch(&name);
+            assert_eq!(suggested, Some(quoted(wanted).0), "{row}");
+        }
+        kind => replay_check(row, kind, &name, wanted),
+    }
 }
 
 #[test]
-fn a_repair_in_place_needs_a_byte_and_the_whole_name() {
-    assert_eq!(reference::sanitize_in_place(&mut [], 0), None);
-    let mut short = [b'/'];
-    assert_eq!(reference::sanitize_in_place(&mut short, 2), None);
-    assert_eq!(short, [b'/']);
-}
-
-#[test]
-fn rows() {
+fn each_row_is_returned() {
     let rows: Vec<&str> = include_str!("../../../tests/rows")
         .lines()
         .filter(|row| !row.is_empty() && !row.starts_with('#'))

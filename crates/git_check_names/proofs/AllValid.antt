@@ -1,31 +1,37 @@
 -- The verdict is that all names are valid if and only if they are, by the grammar.
-use Rattle.gix_validate.proofs.Common.{◌≡◌, ◌≢◌, ℕ, ◌+◌, ◌≤◌, ◌==◌, Bool, true, false, not, ◌&&◌}
+use Rattle.gix_validate.proofs.Common.{◌≡◌, ◌≢◌, ℕ, ◌+◌, ◌≤◌, ◌==◌, nat_le, Bool, true, false, not, ◌&&◌}
+use Rattle.gix_validate.proofs.Common.{if◌then◌else◌, length}
 use Rattle.gix_validate.proofs.Common.{◌||◌, List, [], ◌∷◌, Option, None, Some, Result, Ok, Err}
 use Rattle.gix_validate.proofs.Common.{refl, arith, nat_tests, IfOk-weaker, IfSome_then, is_none}
-use Rattle.gix_validate.proofs.Common.{sym, ◌∙◌, IfOk, IfSome}
+use Rattle.gix_validate.proofs.Common.{ap, sym, ◌∙◌, IfOk, IfSome}
 use Rattle.std.specs.List.{list_all}
 use Rattle.gix_validate.proofs.TagNames.Grammar.{tag_grammar_law}
 use Rattle.gix_validate.proofs.Components.Laws.{component_grammar_law}
-use Rattle.gix_validate.specs.Reference.{is_partial_name, is_full_name, partial_fault_of}
-use Rattle.gix_validate.specs.Reference.{full_fault_of}
-use Rattle.gix_validate.specs.Submodule.{is_submodule_name, fault_of as submodule_fault_of}
+use Rattle.gix_validate.specs.Reference.{branch_fault_of, full_fault_of, partial_fault_of}
+use Rattle.gix_validate.specs.Reference.{is_branch_name, is_full_name, is_partial_name}
+use Rattle.gix_validate.specs.declared.path.ComponentMode.TheVariants.{Symlink}
 use Rattle.gix_validate.specs.Pieces.{names_in}
 use Rattle.gix_validate.specs.declared.path.ComponentOptions.{ComponentOptions}
-use Rattle.git_names.proofs.ShortNameLemmas.{short_grammar_law}
 use Rattle.git_names.proofs.NulLemmas.{path_grammar_law}
+use Rattle.git_names.proofs.SafeRefLemmas.{safe_grammar_law}
+use Rattle.git_names.proofs.ShortNameLemmas.{short_grammar_law, tag_is_branch}
+use Rattle.git_names.proofs.SubmoduleLemmas.{submodule_grammar_law}
+use Rattle.git_names.specs.Kinds
+use Rattle.git_check_names.proofs.AcceptedPaths.{accepting_path_law}
 use Rattle.programs.specs.Command.{Ran}
-use Rattle.programs.specs.Reports.{Said}
 use Rattle.git_check_names.specs.Kinds.{kind_of}
-use Rattle.git_check_names.specs.declared.kind.Kind.{Kind}
-use Rattle.git_check_names.specs.declared.kind.Kind.TheVariants as kind
+use Rattle.git_names.specs.declared.faults.Kind.{Kind}
+use Rattle.git_names.specs.declared.faults.Kind.TheVariants as kind
 use Rattle.git_check_names.specs.declared.problem.Problem.{Problem}
+use Rattle.git_check_names.specs.declared.problem.Problem.TheVariants.{Nul, TooLong}
+use Rattle.programs.specs.Reports.{max_line}
 use Rattle.git_check_names.specs.declared.problem.Verdict.{Verdict}
-use Rattle.git_check_names.specs.declared.problem.Verdict.TheVariants.{Valid}
-use Rattle.git_check_names.specs.Faults.{fault_of, is_name}
-use Rattle.git_check_names.specs.Names.{Report, asked_by, asked_in, asked_of, given_said}
-use Rattle.git_check_names.specs.Names.{input_report, is_none_of, name_end, Runs, problem_of}
-use Rattle.git_check_names.specs.Names.{read_from, report_of, said_first, said_of, text_for}
-use Rattle.git_check_names.specs.Names.{verdict_of}
+use Rattle.git_check_names.specs.declared.problem.Ended.TheVariants.{Valid}
+use Rattle.git_check_names.specs.Faults.{fault_of, is_name, protections_for}
+use Rattle.git_check_names.specs.Names.{Outcome, Report, Runs, as_outcome, asked_by, asked_in, asked_of}
+use Rattle.git_check_names.specs.Names.{failed_by, given_report, has_nul, input_report, is_none_of}
+use Rattle.git_check_names.specs.Names.{name_end, name_report, then_reported}
+use Rattle.git_check_names.specs.Names.{outcome_of, read_from, read_then, report_of, text_for}
 use Rattle.git_check_names.specs.Options.{Options}
 use Rattle.git_check_names.specs.ValidNames.{AreAllValid, IsValidIff, is_readable, is_valid}
 use Rattle.git_check_names.specs.ValidNames.{names_of}
@@ -40,53 +46,109 @@ full_law : (x : List ℕ) → is_full_name x ≡ is_none (full_fault_of x)
 unfolding is_full_name full_fault_of
 full_law x = grind (arith, partial_law x)
 
-submodule_law : (x : List ℕ) → is_submodule_name x ≡ is_none (submodule_fault_of x)
-unfolding is_submodule_name submodule_fault_of
-submodule_law x = grind arith
+branch_law : (x : List ℕ) → is_branch_name x ≡ is_none (branch_fault_of x)
+unfolding is_branch_name branch_fault_of
+branch_law x = grind (arith, full_law x)
 
 -- a text is a name of a kind if and only if it has no fault
-name_law : (protections : ComponentOptions) (kind : Kind) (name : List ℕ)
-    → is_name protections kind name ≡ is_none (fault_of protections kind name)
-name_law protections kind.Branch name = grind (arith, short_grammar_law name)
-name_law protections kind.Path name = grind (arith, path_grammar_law protections None name)
-name_law protections kind.Tag name = grind (arith, tag_grammar_law name)
-name_law protections kind.Reference name = grind (arith, full_law name)
-name_law protections kind.Submodule name = grind (arith, submodule_law name)
-name_law protections kind.Component name = grind (arith, component_grammar_law protections None name)
+kind_law : (protections : ComponentOptions) (kind : Kind) (name : List ℕ)
+    → Kinds.is_name protections kind name ≡ is_none (Kinds.fault_of protections kind name)
+kind_law protections kind.Branch name = grind (arith, short_grammar_law name)
+kind_law protections kind.BranchRef name = grind (arith, branch_law name)
+kind_law protections kind.Tag name = grind (arith, short_grammar_law name, tag_is_branch name)
+kind_law protections kind.Reference name = grind (arith, full_law name)
+kind_law protections kind.Partial name = grind (arith, partial_law name)
+kind_law protections kind.TagName name = grind (arith, tag_grammar_law name)
+kind_law protections kind.SafeRef name = grind (arith, safe_grammar_law protections name)
+kind_law protections kind.Path name = grind (arith, path_grammar_law protections None name)
+kind_law protections kind.SymlinkPath name = grind (arith, path_grammar_law protections (Some Symlink) name)
+kind_law protections kind.Component name = grind (arith, component_grammar_law protections None name)
+kind_law protections kind.Symlink name = grind (arith, component_grammar_law protections (Some Symlink) name)
+kind_law protections kind.Submodule name = grind (arith, submodule_grammar_law protections name)
+
+pub name_law : (options : Options) (kind : Kind) (name : List ℕ)
+    → is_name options kind name ≡ is_none (fault_of options kind name)
+name_law options kind.Branch name = kind_law options.protections kind.Branch name
+name_law options kind.BranchRef name = kind_law options.protections kind.BranchRef name
+name_law options kind.Tag name = kind_law options.protections kind.Tag name
+name_law options kind.Reference name = kind_law options.protections kind.Reference name
+name_law options kind.Partial name = kind_law options.protections kind.Partial name
+name_law options kind.TagName name = kind_law options.protections kind.TagName name
+name_law options kind.SafeRef name = kind_law options.protections kind.SafeRef name
+name_law options kind.Path name =
+    grind (arith, kind_law options.protections kind.Path name, accepting_path_law options name)
+name_law options kind.SymlinkPath name = kind_law options.protections kind.SymlinkPath name
+name_law options kind.Component name = kind_law (protections_for options name) kind.Component name
+name_law options kind.Symlink name = kind_law options.protections kind.Symlink name
+name_law options kind.Submodule name = kind_law options.protections kind.Submodule name
+
+and_same : (a b c d : Bool) → a ≡ b → c ≡ d → (a && c) ≡ (b && d)
+and_same a b c d first second = rw (first, second) refl
+
+none_of_both : (f r g s : Bool) → (not (f || g) && not (r || s)) ≡ ((not f && not r) && (not g && not s))
+none_of_both true r g s = refl
+none_of_both false true true s = refl
+none_of_both false true false s = refl
+none_of_both false false g s = refl
+
+neither : (f r v : Bool) → f ≡ false → r ≡ not v → (not f && not r) ≡ v
+neither f r true f_is r_is = rw (f_is, r_is) refl
+neither f r false f_is r_is = rw (f_is, r_is) refl
 
 -- a first name, and those after it
-with_first : (clear refused clean r v rs vs none first : Bool) → clear ≡ r → refused ≡ not v
-    → clean ≡ ((none || not first) && rs && vs) → first ≡ false
-    → (clear && not refused && clean) ≡ ((r && rs) && (v && vs))
-with_first clear refused clean r v rs vs none first a b c d = grind arith
+with_first : (clean r v rs vs none first : Bool) → clean ≡ ((none || not first) && rs && vs) → first ≡ false
+    → (r && (v && clean)) ≡ ((r && rs) && (v && vs))
+with_first clean r v rs vs none first is later = grind arith
 
 later : (number : ℕ) → 1 ≤ number → (number + 1 == 1) ≡ false
 later number some = grind (arith, nat_tests)
 
 module _ (options : Options) (kind : Kind) where
   -- a name is refused if and only if it isn't valid
-  refused_law : (name : List ℕ) → (said_of options kind name).refused ≡ not (is_valid options kind name)
-  refused_law name = grind (arith, name_law options.protections kind)
+  refused_law : (name : List ℕ) → (name_report options kind name).refused ≡ not (is_valid options kind name)
+  refused_law name = grind (arith, name_law options kind name)
+
+  passed_law : (name : List ℕ) → (name_report options kind name).failed ≡ false
+  passed_law name = grind arith
 
   -- ---- names in order
 
-  given_law : (names : List (List ℕ))
-      → (given_said options kind names).refused ≡ not (list_all (is_valid options kind) names)
-  given_law [] = refl
-  given_law (name ∷ names) = grind (arith, refused_law name, given_law names)
-
   -- nothing is wrong with the input, and no name is refused
   abbrev is_clean : Report → Bool
-  is_clean report = is_none report.1 && not report.0.refused
+  is_clean report = not report.failed && not report.refused
 
-  first_clean : (problem : Option Problem) (said : Said) (more : Report)
-      → is_clean (said_first problem said more) ≡ (is_none problem && not said.refused && is_clean more)
-  first_clean None said more = grind arith
-  first_clean (Some problem) said more = refl
+  clean_both : (a b : Report) → is_clean (then_reported a b) ≡ (is_clean a && is_clean b)
+  clean_both a b = none_of_both a.failed a.refused b.failed b.refused
 
-  problem_law : (number : ℕ) (name : List ℕ)
-      → is_none (problem_of options number name) ≡ is_readable options name
-  problem_law number name = grind (arith, nat_tests)
+  one_clean : (name : List ℕ) → is_clean (name_report options kind name) ≡ is_valid options kind name
+  one_clean name = neither (name_report options kind name).failed (name_report options kind name).refused
+      (is_valid options kind name) (passed_law name) (refused_law name)
+
+  given_law : (names : List (List ℕ))
+      → is_clean (given_report options kind names) ≡ list_all (is_valid options kind) names
+  given_law [] = refl
+  given_law (name ∷ names) =
+      clean_both (name_report options kind name) (given_report options kind names)
+      ∙ and_same _ _ _ _ (one_clean name) (given_law names)
+
+  readable_law : (name : List ℕ)
+      → (not (nat_le max_line (length name)) && not (has_nul options name)) ≡ is_readable options name
+  readable_law name = grind (arith, nat_tests)
+
+  read_clean : (long nul : Bool) (a b c more : Report) → is_clean a ≡ false → is_clean b ≡ false
+      → is_clean (if long then then_reported a more else if nul then b else then_reported c more)
+      ≡ ((not long && not nul) && (is_clean c && is_clean more))
+  read_clean true nul a b c more a_no b_no = clean_both a more ∙ and_same _ _ _ _ a_no refl
+  read_clean false true a b c more a_no b_no = b_no
+  read_clean false false a b c more a_no b_no = clean_both c more
+
+  then_clean : (number : ℕ) (name : List ℕ) (more : Report)
+      → is_clean (read_then options kind number name more)
+      ≡ (is_readable options name && (is_valid options kind name && is_clean more))
+  then_clean number name more =
+      read_clean (nat_le max_line (length name)) (has_nul options name) (failed_by (TooLong number))
+      (failed_by (Nul number)) (name_report options kind name) more refl refl
+      ∙ and_same _ _ _ _ (readable_law name) (and_same _ _ _ _ (one_clean name) refl)
 
   read_law : (number : ℕ) (names : List (List ℕ)) → 1 ≤ number
       → is_clean (read_from options kind number names)
@@ -94,13 +156,10 @@ module _ (options : Options) (kind : Kind) where
       && list_all (is_readable options) names && list_all (is_valid options kind) names)
   read_law number [] some = grind (arith, nat_tests)
   read_law number (name ∷ names) some =
-      first_clean (problem_of options number name) (said_of options kind name)
-      (read_from options kind (number + 1) names)
-      ∙ with_first (is_none (problem_of options number name)) (said_of options kind name).refused
-      (is_clean (read_from options kind (number + 1) names)) (is_readable options name)
+      then_clean number name (read_from options kind (number + 1) names)
+      ∙ with_first (is_clean (read_from options kind (number + 1) names)) (is_readable options name)
       (is_valid options kind name) (list_all (is_readable options) names)
       (list_all (is_valid options kind) names) (not (is_none_of names)) (number + 1 == 1)
-      (problem_law number name) (refused_law name)
       (read_law (number + 1) names (omega (arith, some))) (later number some)
 
 -- ---- a run
@@ -144,7 +203,7 @@ module _ (options : Options) (text : List ℕ) where
   )
 
   valid_by : (asked : Result (Kind × List (List ℕ)) Problem) → asked_of options ≡ asked
-      → verdict_of (report_of options text) ≡ Valid → AreAllValid options text
+      → (outcome_of (report_of options text)).ended ≡ Valid → AreAllValid options text
   valid_by (Err problem) is e = absurd (grind (arith, is, e))
   valid_by (Ok (kind, given)) is e =
       let law = report_law kind given is in
@@ -158,16 +217,18 @@ module _ (options : Options) (text : List ℕ) where
         valid = grind (arith, law, clean);
       }
 
-  valid_if : AreAllValid options text → verdict_of (report_of options text) ≡ Valid
+  valid_if : AreAllValid options text → (outcome_of (report_of options text)).ended ≡ Valid
   valid_if all =
       let law = report_law all.kind all.given all.asked in
       grind (arith, law, all.readable, all.valid, some_names (names_of options all.given text) all.some)
 
   -- the verdict on the report is that all are valid if and only if they are
-  valid_iff : (verdict : Verdict) → verdict ≡ verdict_of (report_of options text)
+  valid_iff : (verdict : Verdict) → as_outcome verdict ≡ outcome_of (report_of options text)
       → IsValidIff options verdict text
-  valid_iff verdict is =
-      (λ e. valid_by (asked_of options) refl (sym is ∙ e), λ all. is ∙ valid_if all)
+  valid_iff verdict is = (
+    λ e. valid_by (asked_of options) refl (sym (ap (λ (o : Outcome). o.ended) is) ∙ e),
+    λ all. ap (λ (o : Outcome). o.ended) is ∙ valid_if all,
+  )
 
 -- what a run does decides whether all are valid
 pub valid_run : (options : Options) (input rest output written : Option (List ℕ)) (ran : Ran Verdict)

@@ -1,18 +1,78 @@
 -- The report of an input while it is read.
-use Rattle.gix_validate.proofs.Common.{◌≡◌, ℕ, ◌+◌, ◌==◌, ◌||◌, Bool, false, true, cond, List, []}
-use Rattle.gix_validate.proofs.Common.{Option, None, Some, refl, arith, nat_tests}
-use Rattle.gix_validate.proofs.Common.{append-nil, IfSome, IfSome_then, Appends, Appends-nil}
+use Rattle.gix_validate.proofs.Common.{◌≡◌, ℕ, ◌+◌, ◌==◌, ◌||◌, Bool, false, true, List, [], ◌++◌}
+use Rattle.gix_validate.proofs.Common.{Option, Some, refl, arith, nat_tests, append_assoc, ⊤}
+use Rattle.gix_validate.proofs.Common.{IfSome, IfSome_then, Appends, Appends-nil, append-nil, sym, ◌∙◌}
+use Rattle.gix_validate.proofs.Common.{Appends-trans, MatchOption-at_some}
 use Rattle.programs.specs.Messages.{AppendsPrefixOf}
-use Rattle.programs.specs.Reports.{nothing, then_said}
-use Rattle.programs.proofs.ReportSoFar.{SoFar, goes, stops, when_known}
+use Rattle.programs.proofs.ReportSoFar.{Begins_more, when_known}
+use Rattle.git_names.specs.declared.faults.Kind.{Kind}
 use Rattle.git_check_names.specs.declared.input.Next.TheVariants.{Name, TooLong, End}
-use Rattle.git_check_names.specs.declared.kind.Kind.{Kind}
-use Rattle.git_check_names.specs.declared.problem.Problem.{Problem}
+use Rattle.git_check_names.specs.declared.problem.Ended.TheVariants.{Failed}
 use Rattle.git_check_names.specs.declared.problem.Problem.TheVariants as problem
-use Rattle.git_check_names.specs.declared.problem.Verdict.TheVariants.{Valid, Invalid, Stopped}
-use Rattle.git_check_names.specs.Names.{Report, has_nul, input_report, name_end, said_of, verdict_of}
+use Rattle.git_check_names.specs.Names.{Outcome, Report, ended_of, failed_by, has_nul, input_report}
+use Rattle.git_check_names.specs.Names.{name_end, name_report, nothing, outcome_of, then_reported}
 use Rattle.git_check_names.specs.Options.{Options}
 use Rattle.git_check_names.specs.Private.{IsNext}
+
+-- ---- a text of which a part is read
+
+then_assoc : (a b c : Report) → then_reported a (then_reported b c) ≡ then_reported (then_reported a b) c
+then_assoc a b c = grind (arith, append_assoc)
+
+-- The report of a text is what was said so far, whose lines are appended, and then the report of what is
+-- left.
+pub record SoFar (all now : List ℕ → Report) (a b old new : Option (List ℕ))
+    (messages : List ℕ) (refused failed : Bool) : Type 0 where
+  pub known : IfSome a (λ text. (rest : List ℕ) × (said : Report)
+      × (b ≡ Some rest) × Appends old new said.lines × (messages ≡ said.messages)
+      × (refused ≡ said.refused) × (failed ≡ said.failed)
+      × (all text ≡ then_reported said (now rest)))
+
+pub starts : (all : List ℕ → Report) (a old : Option (List ℕ)) (messages : List ℕ) → messages ≡ []
+    → SoFar all all a a old old messages false false
+starts all a old messages none =
+    record { known = when_known a _ (λ text e. (text, nothing, e, Appends-nil old, none, refl, refl, refl)) }
+
+module _ {all now : List ℕ → Report} {a b old mid : Option (List ℕ)} {messages : List ℕ}
+    {refused failed : Bool} (sofar : SoFar all now a b old mid messages refused failed) where
+  -- what the next step says is said too
+  goes : (next : List ℕ → Report) (c new : Option (List ℕ)) (m : List ℕ) (r f : Bool)
+      → IfSome b (λ rest. (more : Report) × (after : List ℕ) × (c ≡ Some after)
+      × (now rest ≡ then_reported more (next after))
+      × Appends mid new more.lines × (m ≡ messages ++ more.messages)
+      × (r ≡ (refused || more.refused)) × (f ≡ (failed || more.failed)))
+      → SoFar all next a c old new m r f
+  goes next c new m r f step = record {
+    known = IfSome_then a sofar.known (λ text (rest, said, there, done, m_was, r_was, f_was, is).
+        let (more, after, left, first, appends, m_is, r_is, f_is) =
+        MatchOption-at_some ⊤ _ rest there step in (
+          after,
+          then_reported said more,
+          left,
+          Appends-trans old mid new said.lines more.lines done appends,
+          grind arith,
+          grind arith,
+          grind arith,
+          grind (arith, then_assoc),
+        ));
+  }
+
+  ends : (new : Option (List ℕ)) (last : Report)
+      → IfSome b (λ rest. (now rest ≡ last) × Appends mid new last.lines)
+      → IfSome a (λ text. Appends old new (all text).lines
+      × (outcome_of (all text) ≡ record {
+        ended = ended_of (failed || last.failed) (refused || last.refused);
+        messages = messages ++ last.messages;
+      }))
+  ends new last step = IfSome_then a sofar.known (λ text so. grind (arith, Appends-trans))
+
+  -- a front of that is
+  stops : (new : Option (List ℕ)) → IfSome b (λ rest. AppendsPrefixOf mid new (now rest).lines)
+      → IfSome a (λ text. AppendsPrefixOf old new (all text).lines)
+  stops new begun =
+      IfSome_then a sofar.known (λ text (rest, said, there, done, m_was, r_was, f_was, is).
+      rw is (Begins_more old mid new said.lines (now rest).lines done
+      (MatchOption-at_some ⊤ _ rest there begun)))
 
 -- ---- the first name of a text
 
@@ -20,98 +80,123 @@ module _ (options : Options) (kind : Kind) (number : ℕ) (text name : List ℕ)
   abbrev now : Report
   now = input_report options kind number text
 
+  abbrev later : List ℕ → Report
+  later rest = input_report options kind (number + 1) rest
+
   name_first : (rest : List ℕ) → IsNext (name_end options) text left name Name → left ≡ Some rest
-      → has_nul options name ≡ false
-      → now ≡ (
-        then_said (said_of options kind name) (input_report options kind (number + 1) rest).0,
-        (input_report options kind (number + 1) rest).1,
-      )
+      → has_nul options name ≡ false → now ≡ then_reported (name_report options kind name) (later rest)
   unfolding input_report
   name_first rest read there none = grind (arith, nat_tests)
 
   nul_first : IsNext (name_end options) text left name Name → has_nul options name ≡ true
-      → now ≡ (nothing, Some (problem.Nul number))
+      → now ≡ failed_by (problem.Nul number)
   unfolding input_report
   nul_first read some = grind (arith, nat_tests)
 
-  long_first : IsNext (name_end options) text left name TooLong
-      → now ≡ (nothing, Some (problem.TooLong number))
+  long_first : (rest : List ℕ) → IsNext (name_end options) text left name TooLong → left ≡ Some rest
+      → now ≡ then_reported (failed_by (problem.TooLong number)) (later rest)
   unfolding input_report
-  long_first read = grind (arith, nat_tests)
+  long_first rest read there = grind (arith, nat_tests)
 
-  none_first : IsNext (name_end options) text left name End → (number == 1) ≡ false → now ≡ (nothing, None)
+  none_first : IsNext (name_end options) text left name End → (number == 1) ≡ false → now ≡ nothing
   unfolding input_report
   none_first read later = grind (arith, nat_tests)
 
   empty_first : IsNext (name_end options) text left name End → (number == 1) ≡ true
-      → now ≡ (nothing, Some problem.EmptyInput)
+      → now ≡ failed_by problem.EmptyInput
   unfolding input_report
   empty_first read first = grind (arith, nat_tests)
 
 -- ---- an input while it is read
 
 module _ (options : Options) (kind : Kind) (number : ℕ) (name : List ℕ)
-    {a b old mid : Option (List ℕ)} {refused : Bool}
-    (sofar : SoFar (input_report options kind 1) (input_report options kind number) a b old mid refused) where
-  pub name_goes : {c : Option (List ℕ)} (new : Option (List ℕ)) (found : Bool)
+    {a b old mid : Option (List ℕ)} {messages : List ℕ} {refused failed : Bool}
+    (sofar : SoFar (input_report options kind 1) (input_report options kind number) a b old mid messages
+    refused failed) where
+  -- the run ends with this outcome
+  abbrev EndsWith : Outcome → Type 0
+  EndsWith outcome = IfSome a (λ text. Appends old mid (input_report options kind 1 text).lines
+      × (outcome ≡ outcome_of (input_report options kind 1 text)))
+
+  pub name_goes : {c : Option (List ℕ)} (new : Option (List ℕ)) (m : List ℕ) (found : Bool)
       → IfSome b (λ text. IsNext (name_end options) text c name Name) → has_nul options name ≡ false
-      → Appends mid new (said_of options kind name).lines → found ≡ (said_of options kind name).refused
+      → Appends mid new (name_report options kind name).lines
+      → m ≡ messages ++ (name_report options kind name).messages
+      → found ≡ (name_report options kind name).refused → (name_report options kind name).failed ≡ false
       → SoFar (input_report options kind 1) (input_report options kind (number + 1)) a c old new
-      (refused || found)
-  name_goes {c = c} new found read none appends is =
-      goes sofar _ c new found (IfSome_then b read (λ text next. (
-        said_of options kind name,
+      m (refused || found) failed
+  name_goes {c = c} new m found read none appends m_is r_is f_is =
+      goes sofar _ c new m (refused || found) failed (IfSome_then b read (λ text next. (
+        name_report options kind name,
         next.1.0,
         next.1.1,
         name_first options kind number text name c next.1.0 next next.1.1 none,
         appends,
-        is,
+        m_is,
+        grind arith,
+        grind arith,
       )))
 
-  stopped_by : (problem : Problem)
-      → IfSome b (λ text. input_report options kind number text ≡ (nothing, Some problem))
-      → IfSome a (λ text. Appends old mid (input_report options kind 1 text).0.lines
-      × (Stopped problem ≡ verdict_of (input_report options kind 1 text)))
-  stopped_by problem ends = IfSome_then a sofar.known (λ text so. grind (arith, append-nil))
+  pub long_goes : {c : Option (List ℕ)} (m : List ℕ)
+      → IfSome b (λ text. IsNext (name_end options) text c name TooLong)
+      → m ≡ messages ++ (failed_by (problem.TooLong number)).messages
+      → SoFar (input_report options kind 1) (input_report options kind (number + 1)) a c old mid
+      m refused true
+  long_goes {c = c} m read m_is =
+      goes sofar _ c mid m refused true (IfSome_then b read (λ text next. (
+        failed_by (problem.TooLong number),
+        next.1,
+        next.2,
+        long_first options kind number text name c next.1 next next.2,
+        Appends-nil mid,
+        m_is,
+        grind arith,
+        grind arith,
+      )))
 
-  pub nul_stops : (c : Option (List ℕ)) → IfSome b (λ text. IsNext (name_end options) text c name Name)
-      → has_nul options name ≡ true
-      → IfSome a (λ text. Appends old mid (input_report options kind 1 text).0.lines
-      × (Stopped (problem.Nul number) ≡ verdict_of (input_report options kind 1 text)))
-  nul_stops c read some =
-      stopped_by (problem.Nul number) (IfSome_then b read (λ text next.
-      nul_first options kind number text name c next some))
+  ended_by : (last : Report) (outcome : Outcome) → last.lines ≡ []
+      → outcome ≡ record {
+        ended = ended_of (failed || last.failed) (refused || last.refused);
+        messages = messages ++ last.messages;
+      }
+      → IfSome b (λ text. input_report options kind number text ≡ last) → EndsWith outcome
+  ended_by last outcome none is ends_so =
+      IfSome_then a (ends sofar mid last (IfSome_then b ends_so (λ text now_is.
+      (now_is, rw none (Appends-nil mid))))) (λ text so. (so.0, is ∙ sym so.1))
 
-  pub long_stops : (c : Option (List ℕ)) → IfSome b (λ text. IsNext (name_end options) text c name TooLong)
-      → IfSome a (λ text. Appends old mid (input_report options kind 1 text).0.lines
-      × (Stopped (problem.TooLong number) ≡ verdict_of (input_report options kind 1 text)))
-  long_stops c read =
-      stopped_by (problem.TooLong number) (IfSome_then b read (λ text next.
-      long_first options kind number text name c next))
+  failed_first : (last : Report) → last.failed ≡ true
+      → ended_of (failed || last.failed) (refused || last.refused) ≡ Failed
+  failed_first last some = grind (arith, some)
 
-  pub empty_stops : (c : Option (List ℕ)) → IfSome b (λ text. IsNext (name_end options) text c name End)
-      → (number == 1) ≡ true
-      → IfSome a (λ text. Appends old mid (input_report options kind 1 text).0.lines
-      × (Stopped problem.EmptyInput ≡ verdict_of (input_report options kind 1 text)))
-  empty_stops c read first =
-      stopped_by problem.EmptyInput (IfSome_then b read (λ text next.
-      empty_first options kind number text name c next first))
+  pub nul_stops : (c : Option (List ℕ)) (outcome : Outcome)
+      → outcome ≡ record { ended = Failed; messages = messages ++ (failed_by (problem.Nul number)).messages }
+      → IfSome b (λ text. IsNext (name_end options) text c name Name) → has_nul options name ≡ true
+      → EndsWith outcome
+  nul_stops c outcome is read some =
+      ended_by (failed_by (problem.Nul number)) outcome refl
+      (grind (arith, is, failed_first (failed_by (problem.Nul number)) refl))
+      (IfSome_then b read (λ text next. nul_first options kind number text name c next some))
 
-  pub names_end : (c : Option (List ℕ)) → IfSome b (λ text. IsNext (name_end options) text c name End)
-      → (number == 1) ≡ false
-      → IfSome a (λ text. Appends old mid (input_report options kind 1 text).0.lines
-      × (cond refused Invalid Valid ≡ verdict_of (input_report options kind 1 text)))
-  names_end c read later =
-      let none : IfSome b (λ text. input_report options kind number text ≡ (nothing, None)) =
-      IfSome_then b read (λ text next. none_first options kind number text name c next later) in
-      IfSome_then a sofar.known (λ text so. grind (arith, append-nil))
+  pub empty_stops : (c : Option (List ℕ)) (outcome : Outcome)
+      → outcome ≡ record { ended = Failed; messages = messages ++ (failed_by problem.EmptyInput).messages }
+      → IfSome b (λ text. IsNext (name_end options) text c name End) → (number == 1) ≡ true → EndsWith outcome
+  empty_stops c outcome is read first =
+      ended_by (failed_by problem.EmptyInput) outcome refl
+      (grind (arith, is, failed_first (failed_by problem.EmptyInput) refl))
+      (IfSome_then b read (λ text next. empty_first options kind number text name c next first))
+
+  pub names_end : (c : Option (List ℕ)) (outcome : Outcome)
+      → outcome ≡ record { ended = ended_of failed refused; messages = messages }
+      → IfSome b (λ text. IsNext (name_end options) text c name End) → (number == 1) ≡ false
+      → EndsWith outcome
+  names_end c outcome is read later =
+      ended_by nothing outcome refl (grind (arith, is, append-nil))
+      (IfSome_then b read (λ text next. none_first options kind number text name c next later))
 
   -- nothing is left
   pub names_spent : (c : Option (List ℕ)) → IfSome b (λ text. IsNext (name_end options) text c name End)
       → IfSome a (λ _. c ≡ Some [])
   names_spent c read = IfSome_then a sofar.known (λ text so. grind arith)
 
-  pub names_pause : IfSome a (λ text. AppendsPrefixOf old mid (input_report options kind 1 text).0.lines)
-  names_pause =
-      IfSome_then a (stops sofar (Unit {0}) mid (when_known b _ (λ rest e _. ([], Appends-nil mid, refl))))
-      (λ text begins. begins tt)
+  pub names_pause : IfSome a (λ text. AppendsPrefixOf old mid (input_report options kind 1 text).lines)
+  names_pause = stops sofar mid (when_known b _ (λ rest e. ([], Appends-nil mid, refl)))

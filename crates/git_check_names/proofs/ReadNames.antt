@@ -1,17 +1,18 @@
 -- The first name of an input, as it is read.
-use Rattle.gix_validate.proofs.Common.{◌≡◌, ◌≢◌, ℕ, ◌<◌, ◌≤◌, ◌==◌, false, List, [], ◌∷◌, ◌++◌, All}
+use Rattle.gix_validate.proofs.Common.{◌≡◌, ◌≢◌, ◌⊎◌, inl, inr, ℕ, ◌<◌, ◌≤◌, ◌==◌, false, List, [], ◌∷◌}
+use Rattle.gix_validate.proofs.Common.{◌++◌, All, Consumes, Consumes-nil, Consumes-trans}
 use Rattle.gix_validate.proofs.Common.{Option, None, Some, length, get_or, refl, arith, nat_tests}
 use Rattle.gix_validate.proofs.Common.{append_assoc, append-nil, length-append, length-slice_split}
 use Rattle.gix_validate.proofs.Common.{slice_split_none, All-from_get_or, IfSome}
 use Rattle.std.proofs.lemmas.List.Splits.{slice_split_at}
-use Rattle.std.proofs.lemmas.List.Elements.{All-get_or, All-head, All-tail}
 use Rattle.std.specs.List.{slice_split}
+use Rattle.std.proofs.lemmas.List.Elements.{All-append, All-get_or, All-nil}
 use Rattle.gix_validate.specs.Pieces.{names_in, less_empty_last}
 use Rattle.programs.specs.Promises.{ReadsBefore}
 use Rattle.programs.specs.Reports.{max_line}
 use Rattle.programs.specs.declared.input.Found.TheVariants.{Byte, Limit, End}
 use Rattle.git_check_names.specs.declared.input.Next.TheVariants as next
-use Rattle.git_check_names.specs.Private.{IsNext}
+use Rattle.git_check_names.specs.Private.{IsNext, SkipsPast}
 
 -- ---- the names of a text
 
@@ -45,41 +46,6 @@ unfolding names_in
 names_last end front none some =
     grind (arith, slice_split_none (λ b. b == end) front (others end front none))
 
-split_after : (end : ℕ) (front rest part : List ℕ) (parts : List (List ℕ)) → All (λ b. b ≢ end) front
-    → slice_split (λ b. b == end) rest ≡ part ∷ parts
-    → slice_split (λ b. b == end) (front ++ rest) ≡ (front ++ part) ∷ parts
-split_after end [] rest part parts none is = is
-split_after end (b ∷ front) rest part parts none is = grind (
-  arith,
-  other_byte b end (All-head (λ b. b ≢ end) b front none),
-  split_after end front rest part parts (All-tail (λ b. b ≢ end) b front none) is,
-)
-
--- a text has a first name of at least this length
-abbrev HasLong : ℕ → ℕ → List ℕ → Type 0
-HasLong end least text =
-    (first : List ℕ) × (more : List (List ℕ)) × (names_in end text ≡ first ∷ more) × (least ≤ length first)
-
-kept_first : (first : List ℕ) (more : List (List ℕ)) → 0 < length first
-    → (kept : List (List ℕ)) × (less_empty_last (first ∷ more) ≡ first ∷ kept)
-kept_first [] more some = absurd (omega arith)
-kept_first (b ∷ first) [] some = ([], refl)
-kept_first (b ∷ first) (next ∷ more) some = (less_empty_last (next ∷ more), refl)
-
-long_first : (end least : ℕ) (front rest : List ℕ) (parts : List (List ℕ)) → All (λ b. b ≢ end) front
-    → length front ≡ least → 0 < least → slice_split (λ b. b == end) rest ≡ parts
-    → HasLong end least (front ++ rest)
-unfolding names_in
-long_first end least front rest [] none long some is =
-    absurd (grind (arith, length-slice_split (λ b. b == end) rest))
-long_first end least front rest (part ∷ parts) none long some is =
-    let (kept, names) = kept_first (front ++ part) parts (grind (arith, length-append)) in (
-      front ++ part,
-      kept,
-      rw (split_after end front rest part parts none is) names,
-      grind (arith, length-append),
-    )
-
 -- ---- what a read gives
 
 pub name_read : (end : ℕ) (front : List ℕ) (a b : Option (List ℕ)) → ReadsBefore end max_line a b front Byte
@@ -107,10 +73,75 @@ end_read end front (Some text) None read none = absurd (read.bytes)
 end_read end [] (Some text) (Some rest) read none = grind (arith, none_in end)
 end_read end (c ∷ front) (Some text) (Some rest) read none = absurd (omega arith)
 
-pub long_read : (end : ℕ) (front : List ℕ) (a b : Option (List ℕ)) → ReadsBefore end max_line a b front Limit
-    → IfSome a (λ text. IsNext end text b front next.TooLong)
-long_read end front None b read = tt
-long_read end front (Some text) None read = absurd (read.bytes)
-long_read end front (Some text) (Some rest) read =
-    rw read.bytes (long_first end max_line front rest (slice_split (λ b. b == end) rest)
-    read.none read.reach (omega arith) refl)
+-- ---- a name that is too long
+
+-- what was skipped so far
+abbrev pub Skipped : ℕ → Option (List ℕ) → Option (List ℕ) → Type 0
+Skipped end a b = (done : List ℕ) × All (λ b. b ≢ end) done × Consumes a b done
+
+pub skipped_none : (end : ℕ) (a : Option (List ℕ)) → Skipped end a a
+skipped_none end a = ([], All-nil (λ b. b ≢ end), Consumes-nil a)
+
+pub skipped_more : (end : ℕ) (part : List ℕ) (a b c : Option (List ℕ)) → Skipped end a b
+    → ReadsBefore end max_line b c part Limit → Skipped end a c
+skipped_more end part a b c (done, none, consumed) read = (
+  done ++ part,
+  All-append (λ b. b ≢ end) done part none read.none,
+  Consumes-trans a b c done part consumed read.bytes,
+)
+
+-- the text is skipped to the byte
+pub skipped_past : (end : ℕ) (part : List ℕ) (a b c : Option (List ℕ)) → Skipped end a b
+    → ReadsBefore end max_line b c part Byte → IfSome a (λ text. SkipsPast end text c)
+skipped_past end part None b c so read = tt
+skipped_past end part (Some text) None c (done, none, consumed) read = absurd consumed
+skipped_past end part (Some text) (Some rest) None so read = absurd (read.bytes)
+skipped_past end part (Some text) (Some rest) (Some left) (done, none, consumed) read = record {
+  skipped = done ++ part;
+  rest = left;
+  left_is = refl;
+  none = All-append (λ b. b ≢ end) done part none read.none;
+  cut = inl (grind (arith, append_assoc, read.bytes, consumed));
+}
+
+-- the text is skipped to its end
+pub skipped_all : (end : ℕ) (part : List ℕ) (a b c : Option (List ℕ)) → Skipped end a b
+    → ReadsBefore end max_line b c part End → IfSome a (λ text. SkipsPast end text c)
+skipped_all end part None b c so read = tt
+skipped_all end part (Some text) None c (done, none, consumed) read = absurd consumed
+skipped_all end part (Some text) (Some rest) None so read = absurd (read.bytes)
+skipped_all end part (Some text) (Some rest) (Some left) (done, none, consumed) read = record {
+  skipped = done ++ part;
+  rest = left;
+  left_is = refl;
+  none = All-append (λ b. b ≢ end) done part none read.none;
+  cut = inr (grind (arith, append_assoc, append-nil, read.bytes, read.reach.1, consumed), read.reach.1);
+}
+
+long_some : (front skipped : List ℕ) → length front ≡ max_line → front ++ skipped ≢ []
+long_some [] skipped long none = absurd (grind (arith, long))
+long_some (b ∷ front) skipped long none = absurd (grind (arith, none))
+
+long_names : (end : ℕ) (front skipped rest text after : List ℕ) → text ≡ front ++ after
+    → (after ≡ skipped ++ end ∷ rest) ⊎ ((after ≡ skipped) × (rest ≡ []))
+    → All (λ b. b ≢ end) (front ++ skipped) → front ++ skipped ≢ []
+    → names_in end text ≡ (front ++ skipped) ∷ names_in end rest
+long_names end front skipped rest text after is (inl cut) none some =
+    grind (arith, append_assoc, is, cut, names_first end (front ++ skipped) rest none)
+long_names end front skipped rest text after is (inr cut) none some =
+    grind (arith, is, cut.0, cut.1, names_last end (front ++ skipped) none some)
+
+pub long_read : (end : ℕ) (front name : List ℕ) (a b c : Option (List ℕ))
+    → ReadsBefore end max_line a b front Limit → IfSome b (λ text. SkipsPast end text c)
+    → IfSome a (λ text. IsNext end text c name next.TooLong)
+long_read end front name None b c read past = tt
+long_read end front name (Some text) None c read past = absurd (read.bytes)
+long_read end front name (Some text) (Some rest) c read past =
+    let all = All-append (λ b. b ≢ end) front past.skipped read.none past.none in (
+      front ++ past.skipped,
+      past.rest,
+      past.left_is,
+      long_names end front past.skipped past.rest text rest read.bytes past.cut all
+          (long_some front past.skipped read.reach),
+      grind (arith, length-append, read.reach),
+    )

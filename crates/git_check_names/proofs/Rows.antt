@@ -4,7 +4,7 @@ use Rattle.gix_validate.proofs.Common.{Ok, Err, codes}
 use Rattle.gix_validate.proofs.Rows.Tables.{Gives}
 use Rattle.gix_validate.specs.Component.{all_protections}
 use Rattle.programs.specs.Operands.{split_words}
-use Rattle.git_check_names.specs.declared.kind.Kind.TheVariants.{Branch, Reference, Tag}
+use Rattle.git_names.specs.declared.faults.Kind.TheVariants.{Branch, Reference, Tag}
 use Rattle.git_check_names.specs.declared.problem.Problem.TheVariants.{NoKind, NoName, TwoSources, NoRepair}
 use Rattle.git_check_names.specs.Names.{asked_of, shown}
 use Rattle.git_check_names.specs.Options.{Options, rule, without_options}
@@ -29,6 +29,10 @@ split = refl
 -- names, and how they are shown
 shown_names : Gives shown
     ((codes "a b", codes "a b")
+    ∷ (codes "a:b", codes "a:b")
+    ∷ (codes "a: b", codes "\"a: b\"")
+    ∷ (codes " a", codes "\" a\"")
+    ∷ (codes "a ", codes "\"a \"")
     ∷ ([], codes "\"\"")  -- empty
     ∷ (codes "a\"b", codes "\"a\\\"b\"")
     ∷ (codes "a\\b", codes "\"a\\\\b\"")
@@ -49,6 +53,8 @@ reading reads repair operands = record {
   repair = repair;
   verbose = false;
   operands = operands;
+  accepted = [];
+  lists = 0;
 }
 
 -- what operands ask for

@@ -1,7 +1,7 @@
 pub mod Kinds
+pub mod Options
 pub mod Faults
 pub mod Problems
-pub mod Options
 pub mod GitQuoted
 pub mod Names
 pub mod Private

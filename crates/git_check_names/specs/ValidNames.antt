@@ -3,20 +3,19 @@ use Rattle.std.specs.Prelude.{◌≡◌, ◌≢◌, ◌↔◌, ℕ, Bool, true, 
 use Rattle.std.specs.Prelude.{IsTrue, List, [], length, Ok}
 use Rattle.std.specs.List.{list_all}
 use Rattle.gix_validate.specs.Pieces.{names_in}
-use Rattle.gix_validate.specs.Sanitized.{sanitized}
+use Rattle.std.specs.Option.{is_some}
 use Rattle.programs.specs.Reports.{max_line}
-use Rattle.git_check_names.specs.declared.kind.Kind.{Kind}
+use Rattle.git_names.specs.declared.faults.Kind.{Kind}
 use Rattle.git_check_names.specs.declared.problem.Verdict.{Verdict}
-use Rattle.git_check_names.specs.declared.problem.Verdict.TheVariants.{Valid}
+use Rattle.git_check_names.specs.declared.problem.Ended.TheVariants.{Valid}
 use Rattle.git_check_names.specs.Faults.{is_name}
-use Rattle.git_check_names.specs.Names.{asked_of, has_nul, name_end}
+use Rattle.git_check_names.specs.Names.{asked_of, has_nul, name_end, repair_of}
 use Rattle.git_check_names.specs.Options.{Options}
 
--- the name is one of this kind, or its repair is, if that is asked for
+-- the name is one of this kind, or has a repair, if that is asked for
 abbrev pub is_valid : Options → Kind → List ℕ → Bool
 is_valid options kind name =
-    is_name options.protections kind name
-    || options.repair && is_name options.protections kind (sanitized name)
+    is_name options kind name || options.repair && is_some (repair_of options kind name)
 
 -- a name of the input isn't too long, and has no NUL that no `-z` explains
 abbrev pub is_readable : Options → List ℕ → Bool
@@ -38,4 +37,4 @@ pub record AreAllValid (options : Options) (text : List ℕ) : Type 0 where
 
 -- The status is 0 if and only if all names are valid.
 abbrev pub IsValidIff : Options → Verdict → List ℕ → Type 0
-IsValidIff options verdict text = (verdict ≡ Valid) ↔ AreAllValid options text
+IsValidIff options verdict text = (verdict.ended ≡ Valid) ↔ AreAllValid options text

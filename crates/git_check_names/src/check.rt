@@ -1,24 +1,25 @@
 //! A run: the names of the arguments or of the input, one after the other.
 
-ghost use Rattle.std.specs.Prelude.{◌≡◌, ◌≢◌, [], false, None, Some, Err, ℕ, List, Option};
-ghost use Rattle.std.specs.Prelude.{IfOk, IfSome, OnErr, if◌then◌else◌, map};
+ghost use Rattle.std.specs.Prelude.{◌≡◌, ◌≢◌, ◌++◌, [], false, Some, Err, ℕ, List, Option};
+ghost use Rattle.std.specs.Prelude.{IfOk, IfSome, OnErr, OnOk, map};
 ghost use Rattle.std.specs.Io.KnownBytes.{Appends};
 ghost use Rattle.std.specs.Result.{result_map_both};
 ghost use Rattle.std.specs.String.{string_bytes};
-ghost use Rattle.programs.specs.Command.{EndsAs, Ran};
+ghost use Rattle.programs.specs.Command.{EndsAs, Ran, SaysIf};
 ghost use Rattle.programs.specs.Messages.{AppendsPrefixOf};
-ghost use Rattle.git_check_names.specs.Names.{Runs, asked_of, given_said, has_nul, input_report};
-ghost use Rattle.git_check_names.specs.Names.{is_stopped, name_end, text_for};
-ghost use Rattle.git_check_names.specs.Names.{verdict_of};
+ghost use Rattle.git_check_names.specs.Names.{Runs, as_outcome, asked_of, ended_of, failed_by};
+ghost use Rattle.git_check_names.specs.Names.{given_report, has_nul, input_report, name_end};
+ghost use Rattle.git_check_names.specs.Names.{outcome_of, text_for};
 ghost use Rattle.git_check_names.specs.Options.{as_options};
-ghost use Rattle.git_check_names.specs.Problems.{end_of};
+ghost use Rattle.git_check_names.specs.Problems.{end_of, said_of, status_of};
 ghost use Rattle.git_check_names.specs.ValidNames.{IsValidIff};
 
 use crate::input::{Next, next_name};
-use crate::kind::{Kind, is_repairable, kind_of};
+use crate::kind::{is_repairable, kind_of};
 use crate::options::CheckOptions;
-use crate::problem::{Problem, Verdict};
-use crate::report::push_said;
+use crate::problem::{Ended, MESSAGE_START, Problem, Verdict};
+use crate::report::push_report;
+use git_names::Kind;
 use programs::command::Command;
 use programs::error::RunError;
 use programs::messages::Messages;
@@ -36,13 +37,14 @@ impl<'a> Command<'a> for CheckOptions<'a> {
 
     ghost end_of = { end_of };
 
-    /// Checks the names, and writes a line for each that is invalid to `output`, or each name,
-    /// repaired (docs/RULES.md, "The report of names"). `output` is not flushed.
+    /// Checks the names, and writes a line for each that is invalid to `output`, or the repair of each
+    /// that has one (docs/RULES.md, "The report of names"). `output` is not flushed.
     ///
     /// # Memory
     ///
     /// It allocates memory for the longest name of the input, of at most 65,535 bytes, for the longest
-    /// line or the lines of all names that are arguments, and for a repaired name, from `alloc`.
+    /// line or the lines of all names that are arguments, for a repaired name, and for what is said of
+    /// names that have no repair or are too long, from `alloc`.
     #[tactic(auto, using(crate::proofs::AllValid::valid_run))]
     fn run<R: BufRead, W: Write>(
         self,
@@ -68,11 +70,32 @@ impl<'a> Command<'a> for CheckOptions<'a> {
         ensures { EndsAs E.contents name.now errors.old errors.new result (end_of ran) }
     {
         match ran {
-            Ok(Verdict::Valid) => ExitCode::SUCCESS,
-            Ok(Verdict::Invalid) => ExitCode::FAILURE,
-            Ok(Verdict::Stopped(problem)) => fail(name, problem, errors),
+            Ok(Verdict { ended, messages }) => {
+                say_messages(name, &messages, errors);
+                ExitCode::from(status_of(ended))
+            }
             Err(stop) => fail(name, stop, errors),
         }
+    }
+}
+
+/// Says the messages of a run, if there are any.
+fn say_messages<E: Write>(name: &str, messages: &[u8], errors: &mut Messages<E>)
+    ensures { SaysIf E.contents name.now errors.old errors.new (said_of messages.now) }
+{
+    if messages.len() >= MESSAGE_START.len() {
+        errors.say_bytes(name, &messages[MESSAGE_START.len()..]);
+    }
+}
+
+/// The status of a run that ended so.
+fn status_of(ended: Ended) -> u8
+    ensures { result ≡ status_of ended }
+{
+    match ended {
+        Ended::Valid => 0,
+        Ended::Invalid => 1,
+        Ended::Failed => 2,
     }
 }
 
@@ -89,13 +112,35 @@ fn check_names<R: BufRead, W: Write>(
 {
     let (kind, names) = match asked_of(options) {
         Ok(asked) => asked,
-        Err(problem) => return Ok(Verdict::Stopped(problem)),
+        Err(problem) => return failed_by(alloc, problem),
     };
     if options.reads {
-        check_input(alloc, options, kind, input, output)
+        check_input(alloc, &options, kind, input, output)
     } else {
-        check_given(alloc, options, kind, names, output)
+        check_given(alloc, &options, kind, names, output)
     }
+}
+
+/// The verdict of a run that does nothing, since something is wrong with the arguments.
+fn failed_by(alloc: Global, problem: Problem) -> Result<Verdict, RunError>
+    ensures verdict { IfOk result (λ verdict. as_outcome verdict ≡ outcome_of (failed_by problem)) }
+    ensures stopped { OnErr result (result ≡ Err RunError.Memory) }
+{
+    let mut messages = Vec::new(alloc);
+    push_problem(&mut messages, problem)?;
+    Ok(Verdict {
+        ended: Ended::Failed,
+        messages,
+    })
+}
+
+/// Appends the message of a problem.
+fn push_problem(messages: &mut Vec<u8>, problem: Problem) -> Result<(), RunError>
+    ensures messages { OnOk result
+        (messages.new.items ≡ messages.old.items ++ (failed_by problem).messages) }
+    ensures stopped { OnErr result (result ≡ Err RunError.Memory) }
+{
+    write!(messages, "{MESSAGE_START}{problem}").map_err(|_| RunError::Memory)
 }
 
 /// The kind and the names that the operands have, or what is wrong with them.
@@ -119,97 +164,120 @@ fn asked_of<'a>(options: CheckOptions<'a>) -> Result<(Kind, &'a [String]), Probl
     }
 }
 
-/// Checks names that are arguments, and writes what is said of them at the end.
+/// Checks names that are arguments, and writes what is printed of them at the end.
 #[tactic(auto, using(crate::proofs::GivenNames::given_names))]
 fn check_given<W: Write>(
     alloc: Global,
-    options: CheckOptions<'_>,
+    options: &CheckOptions<'_>,
     kind: Kind,
     names: &[String],
     output: &mut W,
 ) -> Result<Verdict, RunError>
     ensures verdict { IfOk result (λ verdict.
-        let said = given_said (as_options options.entry) kind (map string_bytes names.now) in
-        Appends (W.contents output.old) (W.contents output.new) said.lines
-        × (verdict ≡ verdict_of (said, None))) }
+        let report = given_report (as_options options.now) kind (map string_bytes names.now) in
+        Appends (W.contents output.old) (W.contents output.new) report.lines
+        × (as_outcome verdict ≡ outcome_of report)) }
     ensures stopped { result ≢ Err RunError.Write → OnErr result (output.new ≡ output.old) }
 {
-    let mut lines = Vec::new(alloc);
+    let (mut lines, mut messages) = (Vec::new(alloc), Vec::new(alloc));
     let mut refused = false;
     let mut rest = names;
     while let [name, after @ ..] = rest {
-        let found = push_said(alloc, options, kind, name.as_bytes(), &mut lines).map_err(
+        let name = name.as_bytes();
+        let found = push_report(alloc, options, kind, name, &mut lines, &mut messages).map_err(
             |_| RunError::Memory,
         )?;
         refused |= found;
         rest = after;
     }
     output.write_all(&lines).map_err(|_| RunError::Write)?;
-    Ok(whole(refused))
+    Ok(Verdict {
+        ended: ended_of(false, refused),
+        messages,
+    })
 }
 
-/// Checks the names of the input, and writes what is said of each as it is read.
+/// Checks the names of the input, and writes what is printed of each as it is read.
 fn check_input<R: BufRead, W: Write>(
     alloc: Global,
-    options: CheckOptions<'_>,
+    options: &CheckOptions<'_>,
     kind: Kind,
     input: &mut R,
     output: &mut W,
 ) -> Result<Verdict, RunError>
     ensures verdict { IfOk result (λ verdict. IfSome (R.remaining input.old) (λ text.
-        let report = input_report (as_options options.entry) kind 1 text in
-        Appends (W.contents output.old) (W.contents output.new) report.0.lines
-        × (verdict ≡ verdict_of report))) }
-    ensures spent { IfOk result (λ verdict. is_stopped verdict ≡ false
+        let report = input_report (as_options options.now) kind 1 text in
+        Appends (W.contents output.old) (W.contents output.new) report.lines
+        × (as_outcome verdict ≡ outcome_of report))) }
+    ensures spent { IfOk result (λ verdict. verdict.ended ≢ Ended.Failed
         → IfSome (R.remaining input.old) (λ _. R.remaining input.new ≡ Some [])) }
     ensures stopped { result ≢ Err RunError.Write
         → OnErr result (IfSome (R.remaining input.old) (λ text.
         AppendsPrefixOf (W.contents output.old) (W.contents output.new)
-        (input_report (as_options options.entry) kind 1 text).0.lines)) }
+        (input_report (as_options options.now) kind 1 text).lines)) }
 {
     let mut name = Vec::new(alloc);
-    let mut lines = Vec::new(alloc);
-    let mut refused = false;
+    let (mut lines, mut messages) = (Vec::new(alloc), Vec::new(alloc));
+    let (mut refused, mut failed) = (false, false);
     until_returned!(before => {
         let number = before + 1;
         match next_name(input, name_end(options), &mut name)? {
-            Next::TooLong => return Ok(Verdict::Stopped(Problem::TooLong { number })),
-            Next::End if number == 1 => return Ok(Verdict::Stopped(Problem::EmptyInput)),
-            Next::End => return Ok(whole(refused)),
+            Next::TooLong => {
+                push_problem(&mut messages, Problem::TooLong { number })?;
+                failed = true;
+                continue;
+            }
+            Next::End if number == 1 => return stopped_by(messages, Problem::EmptyInput),
+            Next::End => return Ok(Verdict { ended: ended_of(failed, refused), messages }),
             Next::Name => {}
         }
         if has_nul(options, &name) {
-            return Ok(Verdict::Stopped(Problem::Nul { number }));
+            return stopped_by(messages, Problem::Nul { number });
         }
         lines.clear();
-        let found = push_said(alloc, options, kind, &name, &mut lines).map_err(|_| RunError::Memory)?;
+        let found = push_report(alloc, options, kind, &name, &mut lines, &mut messages)
+            .map_err(|_| RunError::Memory)?;
         output.write_all(&lines).map_err(|_| RunError::Write)?;
         refused |= found;
     })
 }
 
-/// The verdict on names without a problem.
-fn whole(refused: bool) -> Verdict
-    ensures { result ≡ (if refused then Verdict.Invalid else Verdict.Valid) }
+/// The verdict of a run that stops with a problem, after these messages.
+fn stopped_by(messages: Vec<u8>, problem: Problem) -> Result<Verdict, RunError>
+    ensures verdict { IfOk result (λ verdict. as_outcome verdict
+        ≡ record { ended = Ended.Failed; messages = messages.items ++ (failed_by problem).messages }) }
+    ensures stopped { OnErr result (result ≡ Err RunError.Memory) }
 {
-    if refused {
-        Verdict::Invalid
-    } else {
-        Verdict::Valid
+    let mut messages = messages;
+    push_problem(&mut messages, problem)?;
+    Ok(Verdict {
+        ended: Ended::Failed,
+        messages,
+    })
+}
+
+/// How a run ends that has read all names.
+fn ended_of(failed: bool, refused: bool) -> Ended
+    ensures { result ≡ ended_of failed refused }
+{
+    match (failed, refused) {
+        (true, _) => Ended::Failed,
+        (false, true) => Ended::Invalid,
+        (false, false) => Ended::Valid,
     }
 }
 
 /// The byte that ends a name in the input.
-fn name_end(options: CheckOptions<'_>) -> u8
-    ensures { result ≡ name_end (as_options options.entry) }
+fn name_end(options: &CheckOptions<'_>) -> u8
+    ensures { result ≡ name_end (as_options options.now) }
 {
     if options.nul { 0 } else { b'\n' }
 }
 
 /// Whether a line has a NUL, and so is taken for names that end with one.
 #[tactic(auto, using(crate::proofs::GivenNames::nul_found))]
-fn has_nul(options: CheckOptions<'_>, name: &[u8]) -> bool
-    ensures { result ≡ has_nul (as_options options.entry) name.now }
+fn has_nul(options: &CheckOptions<'_>, name: &[u8]) -> bool
+    ensures { result ≡ has_nul (as_options options.now) name.now }
 {
     !options.nul && split_once(0, name).is_some()
 }

@@ -1,122 +1,210 @@
-//! Why a name is invalid.
+//! Why a name is invalid, and where.
 
-ghost use Rattle.std.specs.Prelude.{◌≡◌, ◌↔◌, IsTrue, None, Some};
-ghost use Rattle.git_check_names.specs.Faults.{fault_of, is_name, offset_of, text_of};
-ghost use Rattle.git_check_names.specs.Faults.{component_word, fault_word, reference_word};
+ghost use Rattle.std.specs.Prelude.{◌≡◌, ◌↔◌, ◌+◌, ◌<◌, ◌^◌, IsTrue, None, length, option_map};
+ghost use Rattle.std.specs.List.{position};
+ghost use Rattle.gix_validate.specs.Pieces.{pieces};
+ghost use Rattle.gix_validate.specs.Reference.{carried};
+ghost use Rattle.git_names.specs.Paths.{is_nul};
+ghost use Rattle.git_names.specs.Kinds.{fault_of as fault_by_kind, is_name as is_name_by_kind};
+ghost use Rattle.git_check_names.specs.Faults.{component_word, path_word, reason_word, reference_word};
+ghost use Rattle.git_check_names.specs.Faults.{fault_of, is_accepting_path, is_name, nul_fault_of};
+ghost use Rattle.git_check_names.specs.Faults.{part_fault_of, parts_fault_of, path_fault_of};
+ghost use Rattle.git_check_names.specs.Faults.{protections_for};
+ghost use Rattle.git_check_names.specs.Options.{as_options};
+ghost use Rattle.git_check_names.specs.Private.{IsFirstPart};
 
-use crate::kind::Kind;
+use crate::options::CheckOptions;
 use bstr::BStr;
-use git_names::{PathError, ShortNameError};
-use gix_validate::path::{ComponentError, ComponentOptions, component};
+use git_names::{
+    Fault, Kind, PathError, Reason, SafeRefError, ShortNameError, SubmoduleError, check,
+};
+use gix_validate::path::{ComponentError, ComponentOptions};
 use gix_validate::{reference, submodule, tag};
-use std::fmt;
+use programs::accepted::without_windows;
+use programs::text::split_once;
 
-/// Why a name is invalid, by its kind.
-#[derive(Drop)]
-pub enum Fault {
-    Branch(ShortNameError),
-    Path(PathError),
-    Tag(tag::NameError),
-    Reference(reference::NameError),
-    Submodule(submodule::NameError),
-    Component(ComponentError),
+/// Why a name is not one of this kind, and where; `None` if it is (docs/RULES.md, "The report of
+/// names").
+///
+/// ```
+/// fault_of(&options, Kind::Branch, b"main"); // None
+/// fault_of(&options, Kind::Path, b"a//b"); // `EmptyPart`, at 2
+/// ```
+///
+/// It does not allocate.
+pub fn fault_of(options: &CheckOptions<'_>, kind: Kind, name: &[u8]) -> Option<Fault>
+    ensures fault { result ≡ fault_of (as_options options.now) kind name.now }
+    ensures grammar { (result ≡ None) ↔ IsTrue (is_name (as_options options.now) kind name.now) }
+{
+    match kind {
+        Kind::Path if !options.accepted.is_empty() => path_fault(options, name),
+        Kind::Component => fault_under(protections_for(options, name), kind, name),
+        _ => fault_under(options.protections, kind, name),
+    }
 }
 
-impl fmt::Display for Fault {
-    ghost output = { λ fault. Some (text_of fault) };
+/// Why a name is not one of this kind under these switches, which hold for each part of a path.
+fn fault_under(protections: ComponentOptions, kind: Kind, name: &[u8]) -> Option<Fault>
+    ensures fault { result ≡ fault_by_kind protections kind name.now }
+    ensures grammar { (result ≡ None) ↔ IsTrue (is_name_by_kind protections kind name.now) }
+{
+    match check(kind, BStr::new(name), protections) {
+        Ok(_) => None,
+        Err(fault) => Some(fault),
+    }
+}
 
-    fn fmt<W: fmt::Write>(&self, f: &mut fmt::Formatter<W>) -> fmt::Result {
-        match self {
-            Fault::Branch(fault) => fault.fmt(f),
-            Fault::Path(fault) => fault.fmt(f),
-            Fault::Tag(fault) => fault.fmt(f),
-            Fault::Reference(fault) => fault.fmt(f),
-            Fault::Submodule(fault) => fault.fmt(f),
-            Fault::Component(fault) => fault.fmt(f),
+/// The switches for a component.
+fn protections_for(options: &CheckOptions<'_>, name: &[u8]) -> ComponentOptions
+    ensures { result ≡ protections_for (as_options options.now) name.now }
+{
+    if options.accepted.contains(name) {
+        without_windows(options.protections)
+    } else {
+        options.protections
+    }
+}
+
+/// Why a name is not a path, of which some parts are accepted.
+#[tactic(auto, using(crate::proofs::AcceptedPaths::path_laws))]
+fn path_fault(options: &CheckOptions<'_>, name: &[u8]) -> Option<Fault>
+    ensures fault { result ≡ path_fault_of (as_options options.now) name.now }
+    ensures grammar { (result ≡ None) ↔ IsTrue (is_accepting_path (as_options options.now) name.now) }
+{
+    match parts_fault(options, name) {
+        None => nul_fault(name),
+        Some(fault) => Some(fault),
+    }
+}
+
+/// The first part of a path, and what is after its slash, if it has one.
+#[tactic(auto, using(crate::proofs::AcceptedPaths::parts_cut))]
+fn first_part(path: &[u8]) -> Option<(&[u8], &[u8])>
+    ensures { IsFirstPart path.now (option_map (λ parts. (parts.0.now, parts.1.now)) result) }
+{
+    split_once(b'/', path)
+}
+
+/// The fault of the first part that has one.
+fn parts_fault(options: &CheckOptions<'_>, name: &[u8]) -> Option<Fault>
+    ensures { result ≡ parts_fault_of (as_options options.now) 0 (pieces name.now) }
+{
+    let (mut rest, mut offset) = (name, 0);
+    while let Some((part, after)) = first_part(rest) {
+        if let Some(fault) = part_fault(options, offset, part) {
+            return Some(fault);
+        }
+        offset += part.len() + 1;
+        rest = after;
+    }
+    part_fault(options, offset, rest)
+}
+
+/// The fault of a part that begins at this offset.
+fn part_fault(options: &CheckOptions<'_>, offset: usize, part: &[u8]) -> Option<Fault>
+    requires { offset + length part.now < 2 ^ 64 }
+    ensures { result ≡ part_fault_of (as_options options.now) offset part.now }
+{
+    if part.is_empty() {
+        let reason = Reason::Path(PathError::EmptyPart { offset });
+        return Some(Fault { reason, offset });
+    }
+    match check(
+        Kind::Component,
+        BStr::new(part),
+        protections_for(options, part),
+    ) {
+        Err(
+            Fault {
+                reason: Reason::Component(error),
+                offset: within,
+            },
+        ) => Some(Fault {
+            reason: Reason::Path(PathError::InvalidPart { offset, error }),
+            offset: offset + within,
+        }),
+        // (A component has no other fault.)
+        Err(fault) => Some(fault),
+        Ok(_) => None,
+    }
+}
+
+/// That a path has a NUL, if it has one.
+fn nul_fault(name: &[u8]) -> Option<Fault>
+    ensures { result ≡ nul_fault_of name.now }
+{
+    match first_nul(name) {
+        None => None,
+        Some(offset) => {
+            let reason = Reason::Path(PathError::Nul { offset });
+            Some(Fault { reason, offset })
         }
     }
 }
 
-/// Why a name is not one of this kind; `None` if it is (docs/RULES.md, "The report of names").
-///
-/// ```
-/// fault_of(Kind::Branch, ComponentOptions::default(), b"main"); // None
-/// fault_of(Kind::Path, ComponentOptions::default(), b"a//b"); // Fault::Path, with `EmptyPart`
-/// ```
-///
-/// The switches are for paths and components. It does not allocate.
-pub fn fault_of(kind: Kind, protections: ComponentOptions, name: &[u8]) -> Option<Fault>
-    ensures fault { result ≡ fault_of protections kind name.now }
-    ensures grammar { (result ≡ None) ↔ IsTrue (is_name protections kind name.now) }
+fn first_nul(name: &[u8]) -> Option<usize>
+    ensures { result ≡ position is_nul name.now }
 {
-    let name = BStr::new(name);
-    match kind {
-        Kind::Branch => match git_names::branch(name) {
-            Err(fault) => Some(Fault::Branch(fault)),
-            Ok(_) => None,
-        },
-        Kind::Path => match git_names::path(name, None, protections) {
-            Err(fault) => Some(Fault::Path(fault)),
-            Ok(_) => None,
-        },
-        Kind::Tag => match tag::name(name) {
-            Err(fault) => Some(Fault::Tag(fault)),
-            Ok(_) => None,
-        },
-        Kind::Reference => match reference::name(name) {
-            Err(fault) => Some(Fault::Reference(fault)),
-            Ok(_) => None,
-        },
-        Kind::Submodule => match submodule::name(name) {
-            Err(fault) => Some(Fault::Submodule(fault)),
-            Ok(_) => None,
-        },
-        Kind::Component => match component(name, None, protections) {
-            Err(fault) => Some(Fault::Component(fault)),
-            Ok(_) => None,
-        },
-    }
-}
-
-/// Where in the name the fault is, in bytes; `None` if it is not of one place.
-///
-/// It does not allocate.
-pub fn offset_of(fault: &Fault, name: &[u8]) -> Option<usize>
-    ensures offset { result ≡ offset_of name.now fault.now }
-{
-    match fault {
-        Fault::Branch(_) | Fault::Tag(_) | Fault::Reference(_) => tag::fault_offset(BStr::new(
-            name,
-        )),
-        Fault::Path(fault) => Some(fault.offset()),
-        Fault::Submodule(_) | Fault::Component(_) => None,
-    }
+    name.iter().position(|byte| *byte == 0)
 }
 
 /// The name of the error, as `RepeatedSlash`.
 ///
 /// It does not allocate.
-pub fn fault_word(fault: Fault) -> &'static str
-    ensures word { result.now ≡ fault_word fault }
+pub fn reason_word(reason: &Reason) -> &'static str
+    ensures word { result.now ≡ reason_word reason.now }
 {
-    match fault {
-        Fault::Branch(ShortNameError::Name(fault)) => reference_word(fault),
-        Fault::Branch(ShortNameError::StartsWithDash) => "StartsWithDash",
-        Fault::Path(PathError::EmptyPart { .. }) => "EmptyPart",
-        Fault::Path(PathError::InvalidPart { error, .. }) => component_word(error),
-        Fault::Path(PathError::Nul { .. }) => "Nul",
-        Fault::Tag(fault) => reference_word(fault.into()),
-        Fault::Reference(fault) => reference_word(fault),
-        Fault::Submodule(submodule::NameError::Empty) => "Empty",
-        Fault::Submodule(submodule::NameError::ParentComponent) => "ParentComponent",
-        Fault::Component(fault) => component_word(fault),
+    match reason {
+        Reason::Short(ShortNameError::Name(error)) => reference_word(error),
+        Reason::Short(ShortNameError::StartsWithDash) => "StartsWithDash",
+        Reason::Reference(error) => reference_word(error),
+        Reason::TagName(error) => tag_word(error),
+        Reason::SafeRef(SafeRefError::Name(error)) => reference_word(error),
+        Reason::SafeRef(SafeRefError::OutsideRefs) => "OutsideRefs",
+        Reason::SafeRef(SafeRefError::Piece(error)) => path_word(error),
+        Reason::Path(error) => path_word(error),
+        Reason::Component(error) => component_word(error),
+        Reason::Submodule(SubmoduleError::Name(submodule::NameError::Empty)) => "Empty",
+        Reason::Submodule(SubmoduleError::Name(submodule::NameError::ParentComponent)) => {
+            "ParentComponent"
+        }
+        Reason::Submodule(SubmoduleError::Part(error)) => path_word(error),
+        Reason::Submodule(SubmoduleError::Disguised { .. }) => "Disguised",
     }
 }
 
-fn reference_word(fault: reference::NameError) -> &'static str
-    ensures { result.now ≡ reference_word fault }
+fn path_word(error: &PathError) -> &'static str
+    ensures { result.now ≡ path_word error.now }
 {
-    match fault {
+    match error {
+        PathError::EmptyPart { .. } => "EmptyPart",
+        PathError::InvalidPart { error, .. } => component_word(error),
+        PathError::Nul { .. } => "Nul",
+    }
+}
+
+fn tag_word(error: &tag::NameError) -> &'static str
+    ensures { result.now ≡ reference_word (carried error.now) }
+{
+    match error {
+        tag::NameError::InvalidByte { .. } => "InvalidByte",
+        tag::NameError::StartsWithSlash => "StartsWithSlash",
+        tag::NameError::RepeatedSlash => "RepeatedSlash",
+        tag::NameError::RepeatedDot => "RepeatedDot",
+        tag::NameError::LockFileSuffix => "LockFileSuffix",
+        tag::NameError::ReflogPortion => "ReflogPortion",
+        tag::NameError::Asterisk => "Asterisk",
+        tag::NameError::StartsWithDot => "StartsWithDot",
+        tag::NameError::EndsWithDot => "EndsWithDot",
+        tag::NameError::EndsWithSlash => "EndsWithSlash",
+        tag::NameError::Empty => "Empty",
+    }
+}
+
+fn reference_word(error: &reference::NameError) -> &'static str
+    ensures { result.now ≡ reference_word error.now }
+{
+    match error {
         reference::NameError::InvalidByte { .. } => "InvalidByte",
         reference::NameError::StartsWithSlash => "StartsWithSlash",
         reference::NameError::RepeatedSlash => "RepeatedSlash",
@@ -133,10 +221,10 @@ fn reference_word(fault: reference::NameError) -> &'static str
     }
 }
 
-fn component_word(fault: ComponentError) -> &'static str
-    ensures { result.now ≡ component_word fault }
+fn component_word(error: &ComponentError) -> &'static str
+    ensures { result.now ≡ component_word error.now }
 {
-    match fault {
+    match error {
         ComponentError::Empty => "Empty",
         ComponentError::PathSeparator => "PathSeparator",
         ComponentError::WindowsPathPrefix => "WindowsPathPrefix",

@@ -1,11 +1,12 @@
 //! The names of an input.
 
 ghost use Rattle.std.specs.Prelude.{◌≢◌, IfOk, IfSome, Err};
-ghost use Rattle.git_check_names.specs.Private.{IsNext};
+ghost use Rattle.git_check_names.specs.Private.{IsNext, SkipsPast};
 
 use programs::error::RunError;
 use programs::input::{Found, read_before};
 use programs::lines::MAX_LINE;
+use programs::until_returned;
 use std::io::BufRead;
 
 /// What [`next_name`] read.
@@ -13,14 +14,14 @@ use std::io::BufRead;
 pub enum Next {
     /// A name.
     Name,
-    /// The beginning of a name that is too long.
+    /// A name that is too long.
     TooLong,
     /// Nothing, since the input has ended.
     End,
 }
 
 /// Reads the next name into `name`, whose old contents are dropped, and the byte `end` after it, which
-/// the last name need not have.
+/// the last name need not have. Of a name that is too long nothing is kept.
 pub(crate) fn next_name<R: BufRead>(
     input: &mut R,
     end: u8,
@@ -32,8 +33,26 @@ pub(crate) fn next_name<R: BufRead>(
 {
     match read_before(input, end, MAX_LINE as usize, name)? {
         Found::Byte => Ok(Next::Name),
-        Found::Limit => Ok(Next::TooLong),
+        Found::Limit => {
+            skip_past(input, end, name)?;
+            Ok(Next::TooLong)
+        }
         Found::End if name.is_empty() => Ok(Next::End),
         Found::End => Ok(Next::Name),
     }
+}
+
+/// Skips what is left of a name, and the byte after it. `part` is where the skipped bytes are read.
+fn skip_past<R: BufRead>(input: &mut R, end: u8, part: &mut Vec<u8>) -> Result<(), RunError>
+    ensures skips { IfOk result (λ _. IfSome (R.remaining input.old)
+        (λ text. SkipsPast end text (R.remaining input.new))) }
+    ensures stop { result ≢ Err RunError.Write }
+{
+    until_returned!(_ => {
+        match read_before(input, end, MAX_LINE as usize, part)? {
+            Found::Limit => {}
+            Found::Byte => return Ok(()),
+            Found::End => return Ok(()),
+        }
+    })
 }

@@ -5,6 +5,7 @@ ghost use Rattle.std.specs.String.{string_bytes};
 ghost use Rattle.git_check_names.specs.Options.{Options, as_options, rule, without_options};
 
 use gix_validate::path::ComponentOptions;
+use programs::accepted::AcceptedNames;
 use programs::arguments::{ParseOptions, Setting};
 use programs::protections::{PROTECTIONS, protections_of};
 
@@ -12,43 +13,49 @@ pub const HELP: &str = "\
 Prints a line for each name that is invalid, and why it is:
 
     git check-names branch main 'feature//login'
-    git for-each-ref --format='%(refname)' | git check-names ref --stdin
     git ls-files -z | git check-names path -z
+    git check-names branch --repair -- 'my branch'
 
 The first argument is the kind of the names:
 
-    branch       a branch, such as main
-    path         a whole path, such as src/main.rs
-    tag          a tag, such as v1.2.3
-    ref          the full name of a reference, such as HEAD or refs/heads/main
-    submodule    a submodule
-    component    the name of a file or a folder, such as main.rs
+    branch        a branch, such as main
+    branch-ref    the full name of a branch, such as refs/heads/main
+    tag           a tag, such as v1.2.3
+    ref           the full name of a reference, such as HEAD or refs/heads/main
+    safe-ref      a full name that a store can use as a path: below refs/, or of
+                  capitals and _ alone, and each part of it a component
+    path          a whole path, such as src/main.rs
+    component     the name of a file or a directory, such as main.rs
+    submodule     a submodule, such as vendor/library
 
 The other arguments are names and options, in any order:
 
     --stdin           reads the names from standard input, one on each line
     -z                reads them too, but each name ends with a NUL
-    --protect LIST    the file systems to protect from paths and components,
-                      separated by commas: windows, hfs and ntfs, or none. The
-                      default is all three. windows protects NTFS, too
+    --protect LIST    the file systems to protect, separated by commas: windows,
+                      hfs and ntfs, or none. The default is all three. windows
+                      protects NTFS, too. For paths, components, submodules and
+                      safe-ref
+    --accept NAMES    names, separated by slashes, that are checked without
+                      windows, as components and in paths: aux.c/con.h accepts
+                      these two. It can be given 16 times
     --repair          prints each name of a branch or a ref, repaired if it is
-                      invalid; after -z each with a NUL at its end. Some have no
-                      valid repair: the branch HEAD, an empty name, a branch
-                      that begins with a dash, a dot or a space, a ref like main
-    -v, --verbose     adds the name of the error, and its offset, if it has one:
-                      in bytes, from 0. In a path this is where the invalid part
-                      begins
+                      invalid, and nothing else; after -z each with a NUL at its
+                      end. Standard error says which names have no repair, such
+                      as the branch HEAD or the ref main, and what is wrong
+    -v, --verbose     adds the error's name and its offset in bytes, from 0
     --                ends the options, for names that begin with a dash
     -h, --help        prints this text
     --version         prints the version
 
 A name in a line is in double quotes, with the escapes of git ls-files, if it is
-empty or has a double quote, a backslash or a byte that is not printable ASCII.
+empty, begins or ends with a space, or has ': ', a double quote, a backslash or
+a byte that is not printable ASCII.
 
 The status is 0 if all names are valid, or were repaired. It is 1 if a name is
-invalid, and has no valid repair if that is asked for. It is 2 if there is no
-name, a name in the input is longer than 65535 bytes, a line has a NUL, reading
-or writing fails, memory runs out, or an argument is wrong.";
+invalid, and has no repair if that is asked for. It is 2 if there is no name, a
+name in the input is longer than 65535 bytes (the others are checked), a line
+has a NUL, reading or writing fails, memory runs out, or an argument is wrong.";
 
 /// How names are checked, and which.
 #[derive(Clone, Copy)]
@@ -65,7 +72,12 @@ pub struct CheckOptions<'a> {
     pub verbose: bool,
     /// The kind, and then the names that are arguments.
     pub operands: &'a [String],
+    /// The names to which the rules of Windows do not apply (`--accept`).
+    pub accepted: AcceptedNames<'a>,
 }
+
+/// What is said if there are too many lists of accepted names.
+const FEWER_LISTS: &str = "--accept at most 16 times";
 
 impl<'a> CheckOptions<'a> {
     /// The options of a program without options, with these operands.
@@ -79,6 +91,7 @@ impl<'a> CheckOptions<'a> {
             repair: false,
             verbose: false,
             operands,
+            accepted: AcceptedNames::none(),
         }
     }
 }
@@ -102,10 +115,14 @@ impl<'a> ParseOptions<'a> for CheckOptions<'a> {
             ("-z", None) => (self.reads, self.nul) = (true, true),
             ("--repair", None) => self.repair = true,
             ("-v" | "--verbose", None) => self.verbose = true,
-            ("--protect", None) => return Setting::NeedsValue,
+            ("--protect" | "--accept", None) => return Setting::NeedsValue,
             ("--protect", Some(list)) => match protections_of(list.as_bytes()) {
                 Some(protections) => self.protections = protections,
                 None => return Setting::Invalid(list, PROTECTIONS),
+            },
+            ("--accept", Some(names)) => match self.accepted.with(names) {
+                Some(accepted) => self.accepted = accepted,
+                None => return Setting::Invalid(names, FEWER_LISTS),
             },
             _ => return Setting::Unknown,
         }

@@ -1,11 +1,11 @@
-//! What a run says of its names, and what ends it early.
+//! What is wrong with the arguments or the input, and how a run ends.
 
 ghost use Rattle.std.specs.Prelude.{Some};
 ghost use Rattle.git_check_names.specs.Problems.{problem_text_of};
 
 use std::fmt;
 
-/// Why a run ends early: nothing is wrong with a name, but with the arguments or the input.
+/// What is wrong, not with a name, but with the arguments or the input.
 #[derive(Drop)]
 pub enum Problem {
     /// The first argument is no kind.
@@ -30,7 +30,7 @@ impl fmt::Display for Problem {
     fn fmt<W: fmt::Write>(&self, f: &mut fmt::Formatter<W>) -> fmt::Result {
         match self {
             Problem::NoKind => f.write_str(
-                "the first argument has to be branch, path, tag, ref, submodule or component, see git-check-names -h",
+                "the first argument has to be branch, branch-ref, tag, ref, safe-ref, path, component or submodule, see git-check-names -h",
             ),
             Problem::NoName => f.write_str("no name is given: give names, or --stdin to read them"),
             Problem::EmptyInput => f.write_str("there is no name in the input"),
@@ -41,7 +41,7 @@ impl fmt::Display for Problem {
             Problem::TooLong { number } => {
                 write!(
                     f,
-                    "malformed input: name {number} is longer than 65535 bytes"
+                    "malformed input: name {number} is longer than 65535 bytes, and isn't checked"
                 )
             }
             Problem::Nul { number } => {
@@ -54,13 +54,25 @@ impl fmt::Display for Problem {
     }
 }
 
+/// How a run ended that did not fail.
+#[derive(Clone, Copy)]
+pub enum Ended {
+    /// All names are valid, or have a repair if that is asked for.
+    Valid,
+    /// A name is not, or has none.
+    Invalid,
+    /// The arguments are wrong, or the input is.
+    Failed,
+}
+
 /// The result of a run that did not fail.
 #[derive(Drop)]
-pub enum Verdict {
-    /// All names are valid, or have a valid repair if that is asked for.
-    Valid,
-    /// A name is not.
-    Invalid,
-    /// The run ended early.
-    Stopped(Problem),
+pub struct Verdict {
+    /// How it ended.
+    pub ended: Ended,
+    /// What is said on standard error. Each message is after [`MESSAGE_START`].
+    pub messages: Vec<u8>,
 }
+
+/// What is before each message of a run: the program's name is before the first one.
+pub const MESSAGE_START: &str = "\ngit-check-names: ";

@@ -1,107 +1,143 @@
 //! What is printed for a name.
 
-ghost use Rattle.std.specs.Prelude.{◌≡◌, ◌++◌, codes, IfOk, OnOk};
+ghost use Rattle.std.specs.Prelude.{◌≡◌, ◌++◌, codes, false, IfOk, IfSome, IsTrue, OnOk, option_map};
 ghost use Rattle.std.specs.List.{list_all};
-ghost use Rattle.git_check_names.specs.Faults.{fault_of, fault_word, offset_of};
-ghost use Rattle.git_check_names.specs.Names.{at_offset, invalid_line, is_plain_byte, print_end};
-ghost use Rattle.git_check_names.specs.Names.{said_by, said_of, shown};
+ghost use Rattle.gix_validate.specs.Bytes.{holds};
+ghost use Rattle.bstr.specs.Owned.{bstring_bytes};
+ghost use Rattle.git_check_names.specs.Faults.{is_name};
+ghost use Rattle.git_check_names.specs.Names.{fault_text, is_plain_byte, is_unclear, name_report};
+ghost use Rattle.git_check_names.specs.Names.{print_end, repair_of, shown};
 ghost use Rattle.git_check_names.specs.Options.{as_options};
+ghost use Rattle.git_check_names.specs.Private.{IsCutAtColon};
+ghost use Rattle.git_check_names.specs.Problems.{message_start};
 
-use crate::fault::{Fault, fault_of, fault_word, offset_of};
-use crate::kind::Kind;
+use crate::fault::{fault_of, reason_word};
 use crate::options::CheckOptions;
+use crate::problem::MESSAGE_START;
 use crate::quote::push_git_quoted;
-use bstr::BStr;
+use bstr::{BStr, BString};
+use git_names::{Fault, Kind, suggest};
 use gix_validate::reference::name_partial_or_sanitize;
+use programs::text::split_once;
 use std::alloc::{AllocError, Global};
 use std::io::{self, Write};
 
-/// Appends what is said of a name, and returns whether it is invalid, and has no valid repair if that is
-/// asked for (docs/RULES.md, "The report of names").
-pub(crate) fn push_said(
+/// Appends what is said of a name, lines that are printed and messages on standard error, and returns
+/// whether it is refused: it is invalid, and has no repair if that is asked for (docs/RULES.md, "The
+/// report of names").
+pub(crate) fn push_report(
     alloc: Global,
-    options: CheckOptions<'_>,
+    options: &CheckOptions<'_>,
     kind: Kind,
     name: &[u8],
     lines: &mut Vec<u8>,
+    messages: &mut Vec<u8>,
 ) -> io::Result<bool>
-    ensures lines { OnOk result
-        (lines.new.items ≡ lines.old.items ++ (said_of (as_options options.entry) kind name.now).lines) }
+    ensures lines { OnOk result (lines.new.items
+        ≡ lines.old.items ++ (name_report (as_options options.now) kind name.now).lines) }
+    ensures messages { OnOk result (messages.new.items
+        ≡ messages.old.items ++ (name_report (as_options options.now) kind name.now).messages) }
     ensures refused { IfOk result (λ refused.
-        refused ≡ (said_of (as_options options.entry) kind name.now).refused) }
+        refused ≡ (name_report (as_options options.now) kind name.now).refused) }
+    ensures failed { (name_report (as_options options.now) kind name.now).failed ≡ false }
 {
-    if options.repair && fault_of(kind, options.protections, name).is_some() {
-        let repaired = name_partial_or_sanitize(alloc, BStr::new(name))?;
-        push_checked(options, kind, name, repaired.as_slice(), lines)
-    } else {
-        push_checked(options, kind, name, name, lines)
-    }
-}
-
-/// Appends what is said of a name, of which `checked` is checked.
-fn push_checked(
-    options: CheckOptions<'_>,
-    kind: Kind,
-    name: &[u8],
-    checked: &[u8],
-    lines: &mut Vec<u8>,
-) -> io::Result<bool>
-    ensures lines { let by = said_by (as_options options.entry) name.now checked.now
-        (fault_of options.entry.protections kind checked.now) in
-        OnOk result (lines.new.items ≡ lines.old.items ++ by.lines) }
-    ensures refused { let by = said_by (as_options options.entry) name.now checked.now
-        (fault_of options.entry.protections kind checked.now) in
-        IfOk result (λ refused. refused ≡ by.refused) }
-{
-    if let Some(fault) = fault_of(kind, options.protections, checked) {
-        push_invalid(options, name, checked, fault, lines)?;
+    let fault = fault_of(options, kind, name);
+    if !options.repair {
+        let Some(fault) = fault else {
+            return Ok(false);
+        };
+        push_fault(options, name, &fault, lines)?;
+        lines.push(b'\n')?;
         return Ok(true);
     }
-    if options.repair {
-        lines.extend_from_slice(checked)?;
+    if let Some(repair) = repair_of(alloc, options, kind, name)? {
+        lines.extend_from_slice(repair.as_slice())?;
         lines.push(print_end(options))?;
+        return Ok(false);
     }
-    Ok(false)
+    let Some(fault) = fault else {
+        return Ok(false);
+    };
+    push_unrepaired(options, name, &fault, messages)?;
+    Ok(true)
 }
 
-/// Appends the line of an invalid name.
-fn push_invalid(
-    options: CheckOptions<'_>,
+/// The repair of a name, if it has one.
+#[tactic(auto, using(crate::proofs::Repairs::repair_laws))]
+fn repair_of(
+    alloc: Global,
+    options: &CheckOptions<'_>,
+    kind: Kind,
     name: &[u8],
-    checked: &[u8],
-    fault: Fault,
-    lines: &mut Vec<u8>,
-) -> io::Result<()>
-    ensures { OnOk result (lines.new.items
-        ≡ lines.old.items ++ invalid_line (as_options options.entry) name.now checked.now fault) }
+) -> Result<Option<BString>, AllocError>
+    ensures repair { IfOk result (λ found.
+        option_map bstring_bytes found ≡ repair_of (as_options options.now) kind name.now) }
+    ensures valid { IfOk result (λ found. IfSome found (λ repair.
+        IsTrue (is_name (as_options options.now) kind (bstring_bytes repair)))) }
 {
-    push_shown(lines, name)?;
-    write!(lines, ": {fault}")?;
-    if options.verbose {
-        push_details(lines, checked, fault)?;
+    let name = BStr::new(name);
+    if kind == Kind::Branch {
+        return suggest(alloc, name);
     }
-    lines.push(print_end(options))?;
-    Ok(())
+    if fault_of(options, kind, name.as_bytes()).is_none() {
+        return Ok(Some(BString::new(copied(alloc, name.as_bytes())?)));
+    }
+    let repaired = name_partial_or_sanitize(alloc, name)?;
+    if fault_of(options, kind, repaired.as_slice()).is_none() {
+        Ok(Some(repaired))
+    } else {
+        Ok(None)
+    }
 }
 
-/// Appends the name of the error, and where it is.
-fn push_details(lines: &mut Vec<u8>, checked: &[u8], fault: Fault) -> io::Result<()>
-    ensures { OnOk result (lines.new.items ≡ lines.old.items
-        ++ codes " (" ++ fault_word fault ++ at_offset (offset_of checked.now fault) ++ codes ")") }
+/// A copy of the bytes.
+fn copied(alloc: Global, bytes: &[u8]) -> Result<Vec<u8>, AllocError>
+    ensures copy { IfOk result (λ copy. copy.items ≡ bytes.now) }
 {
-    let offset = offset_of(&fault, checked);
-    let word = fault_word(fault);
-    match offset {
-        Some(offset) => write!(lines, " ({word} at {offset})"),
-        None => write!(lines, " ({word})"),
+    let mut copy = Vec::with_capacity(alloc, bytes.len())?;
+    copy.extend_from_slice(bytes)?;
+    Ok(copy)
+}
+
+/// Appends the message of a name without a repair.
+#[tactic(auto, using(crate::proofs::GivenNames::given_names))]
+fn push_unrepaired(
+    options: &CheckOptions<'_>,
+    name: &[u8],
+    fault: &Fault,
+    messages: &mut Vec<u8>,
+) -> io::Result<()>
+    ensures { OnOk result (messages.new.items ≡ messages.old.items
+        ++ message_start ++ codes "can't repair " ++ fault_text (as_options options.now) name.now fault.now) }
+{
+    write!(messages, "{MESSAGE_START}can't repair ")?;
+    push_fault(options, name, fault, messages)
+}
+
+/// Appends a name and its fault.
+fn push_fault(
+    options: &CheckOptions<'_>,
+    name: &[u8],
+    fault: &Fault,
+    line: &mut Vec<u8>,
+) -> io::Result<()>
+    ensures { OnOk result (line.new.items
+        ≡ line.old.items ++ fault_text (as_options options.now) name.now fault.now) }
+{
+    push_shown(line, name)?;
+    write!(line, ": {}", fault.message(BStr::new(name)))?;
+    if options.verbose {
+        let word = reason_word(&fault.reason);
+        write!(line, " ({word} at {})", fault.offset)?;
     }
+    Ok(())
 }
 
 /// Appends a name as it is, or quoted if it has to be.
 fn push_shown(lines: &mut Vec<u8>, name: &[u8]) -> Result<(), AllocError>
     ensures { OnOk result (lines.new.items ≡ lines.old.items ++ shown name.now) }
 {
-    if !name.is_empty() && are_plain(name) {
+    if !name.is_empty() && are_plain(name) && !is_unclear(name) {
         lines.extend_from_slice(name)
     } else {
         push_git_quoted(lines, name)
@@ -115,9 +151,38 @@ fn are_plain(name: &[u8]) -> bool
     name.iter().all(|byte| matches!(*byte, b' ' | b'!' | b'#'..=b'[' | b']'..=b'~'))
 }
 
+/// Whether a line would not say where the name ends.
+fn is_unclear(name: &[u8]) -> bool
+    ensures { result ≡ is_unclear name.now }
+{
+    name.starts_with(b" ") || name.ends_with(b" ") || has_separator(name)
+}
+
+/// What is before the first colon, and after it, if there is one.
+#[tactic(auto, using(crate::proofs::UnclearNames::names_held))]
+fn cut_at_colon(name: &[u8]) -> Option<(&[u8], &[u8])>
+    ensures { IsCutAtColon name.now (option_map (λ parts. (parts.0.now, parts.1.now)) result) }
+{
+    split_once(b':', name)
+}
+
+/// Whether the name has a colon and a blank in a row.
+fn has_separator(name: &[u8]) -> bool
+    ensures { result ≡ holds name.now (codes ": ") }
+{
+    let mut rest = name;
+    while let Some((_, after)) = cut_at_colon(rest) {
+        if after.starts_with(b" ") {
+            return true;
+        }
+        rest = after;
+    }
+    false
+}
+
 /// The byte that ends what is printed.
-fn print_end(options: CheckOptions<'_>) -> u8
-    ensures { result ≡ print_end (as_options options.entry) }
+fn print_end(options: &CheckOptions<'_>) -> u8
+    ensures { result ≡ print_end (as_options options.now) }
 {
     if options.repair && options.nul {
         0

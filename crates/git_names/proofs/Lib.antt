@@ -8,4 +8,5 @@ pub mod SuggestionLaws
 pub mod NulLemmas
 pub mod OffsetLemmas
 pub mod JoinLemmas
+pub mod MessageLemmas
 mod Rows

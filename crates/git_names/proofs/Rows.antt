@@ -181,7 +181,7 @@ printed_of_paths : Gives path_text_of
 printed_of_paths = refl
 
 printed_of_short_names : Gives short_text_of
-    ((StartsWithDash, codes "Branch name cannot start with a dash, as it may be mistaken for an option")
+    ((StartsWithDash, codes "Branch or tag name cannot start with a dash, as it may be mistaken for an option")
     ∷ (Name (reserved (codes "HEAD")), codes "Reference name is reserved and cannot be used: \"HEAD\"")
     ∷ [])
 printed_of_short_names = refl

@@ -26,6 +26,7 @@ is_name options kind.Partial x = Reference.is_partial_name x
 is_name options kind.TagName x = Tag.is_tag_name x
 is_name options kind.SafeRef x = SafeRefs.is_safe_ref options x
 is_name options kind.Path x = Paths.is_path options None x
+is_name options kind.SymlinkPath x = Paths.is_path options (Some OfSymlink) x
 is_name options kind.Component x = Component.is_component options None x
 is_name options kind.Symlink x = Component.is_component options (Some OfSymlink) x
 is_name options kind.Submodule x = Submodules.is_submodule options x
@@ -40,6 +41,8 @@ reason_of options kind.Partial x = option_map (λ e. reason.Reference e) (Refere
 reason_of options kind.TagName x = option_map (λ e. reason.TagName e) (Tag.fault_of x)
 reason_of options kind.SafeRef x = option_map (λ e. reason.SafeRef e) (SafeRefs.fault_of options x)
 reason_of options kind.Path x = option_map (λ e. reason.Path e) (Paths.fault_of options None x)
+reason_of options kind.SymlinkPath x =
+    option_map (λ e. reason.Path e) (Paths.fault_of options (Some OfSymlink) x)
 reason_of options kind.Component x = option_map (λ e. reason.Component e) (Component.fault_of options None x)
 reason_of options kind.Symlink x =
     option_map (λ e. reason.Component e) (Component.fault_of options (Some OfSymlink) x)

@@ -2,6 +2,7 @@ pub mod ShortNames
 pub mod Paths
 pub mod Offsets
 pub mod Kinds
+pub mod Messages
 pub mod SafeRefs
 pub mod Submodules
 pub mod Suggestions

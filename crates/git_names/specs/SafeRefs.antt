@@ -19,7 +19,7 @@ unfoldable pub is_safe_ref : ComponentOptions → List ℕ → Bool
 is_safe_ref options x = is_full_name x && is_set_apart x && is_path options None x
 
 -- The fault of a text: that of the full name, or else that it isn't set apart, or else that of the first
--- piece that is no component.
+-- piece that isn't a component.
 unfoldable pub fault_of : ComponentOptions → List ℕ → Option SafeRefError
 fault_of options x =
     option_map (λ e. Name e) (full_fault_of x)

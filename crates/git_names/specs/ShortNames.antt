@@ -39,4 +39,4 @@ fault_of x =
 -- What an error prints.
 abbrev pub text_of : ShortNameError → List ℕ
 text_of (Name e) = name_text_of e
-text_of StartsWithDash = codes "Branch name cannot start with a dash, as it may be mistaken for an option"
+text_of StartsWithDash = codes "Branch or tag name cannot start with a dash, as it may be mistaken for an option"

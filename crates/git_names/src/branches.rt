@@ -36,7 +36,7 @@ impl ShortNameError {
         match self {
             Self::Name(error) => error.text(),
             Self::StartsWithDash => Text {
-                words: "Branch name cannot start with a dash, as it may be mistaken for an option",
+                words: "Branch or tag name cannot start with a dash, as it may be mistaken for an option",
                 quoted: None,
             },
         }

@@ -18,7 +18,7 @@ use crate::references::{SafeRefError, safe_ref};
 use crate::submodules::{SubmoduleError, submodule};
 use crate::tags::tag;
 use bstr::BStr;
-use gix_validate::path::{ComponentError, ComponentOptions};
+use gix_validate::path::{ComponentError, ComponentMode, ComponentOptions};
 use gix_validate::text::Text;
 use gix_validate::{reference, tag as tag_names};
 use std::error::Error;
@@ -35,7 +35,10 @@ pub enum Kind {
     TagName,
     SafeRef,
     Path,
+    /// A path whose last part is to be a symbolic link.
+    SymlinkPath,
     Component,
+    /// A component that is to be a symbolic link.
     Symlink,
     Submodule,
 }
@@ -171,6 +174,10 @@ fn reason_by_kind(kind: Kind, name: BStr<'_>, options: ComponentOptions) -> Opti
             Ok(_) => None,
         },
         Kind::Path => match path(name, None, options) {
+            Err(error) => Some(Reason::Path(error)),
+            Ok(_) => None,
+        },
+        Kind::SymlinkPath => match path(name, Some(ComponentMode::Symlink), options) {
             Err(error) => Some(Reason::Path(error)),
             Ok(_) => None,
         },

@@ -20,6 +20,7 @@
 mod branches;
 mod components;
 mod faults;
+mod messages;
 mod offsets;
 mod paths;
 mod references;
@@ -34,8 +35,9 @@ pub use gix_validate::reference::{
     branch_name as branch_ref, name as reference, name_partial as partial,
 };
 pub use gix_validate::tag::name as tag_name;
+pub use messages::Message;
 pub use paths::{PathError, join, path};
 pub use references::{SafeRefError, safe_ref};
 pub use submodules::{SubmoduleError, submodule};
-pub use suggestions::suggest;
+pub use suggestions::{suggest, suggest_into};
 pub use tags::tag;

@@ -188,7 +188,7 @@ pub(crate) fn path_offset(error: &PathError, name: &[u8], options: ComponentOpti
 }
 
 /// What there is from the offset to the next slash.
-fn part_at(name: &[u8], offset: usize) -> &[u8]
+pub(crate) fn part_at(name: &[u8], offset: usize) -> &[u8]
     requires { offset ≤ length name.now }
     ensures part { result.now ≡ part_at name.now offset }
     ensures within { length result.now ≤ length name.now }
@@ -201,7 +201,7 @@ fn part_at(name: &[u8], offset: usize) -> &[u8]
 }
 
 #[tactic(auto, using(crate::proofs::OffsetLemmas::position_within))]
-fn next_slash(name: &[u8]) -> Option<usize>
+pub(crate) fn next_slash(name: &[u8]) -> Option<usize>
     ensures slash { result ≡ position is_slash name.now }
     ensures within { IfSome result (λ at. at < length name.now) }
 {

@@ -1,6 +1,6 @@
 //! Suggestions for invalid branch names. A name is repaired piece by piece, into another buffer.
 
-ghost use Rattle.std.specs.Prelude.{◌≡◌, ◌↔◌, ◌≤◌, ◌+◌, ◌⊎◌, false, [], length, take, drop, IsTrue};
+ghost use Rattle.std.specs.Prelude.{◌≡◌, ◌↔◌, ◌≤◌, ◌<◌, ◌+◌, ◌⊎◌, false, [], length, take, drop, IsTrue};
 ghost use Rattle.std.specs.Prelude.{IsOk, IfOk, MatchOption, IfSome, IsNone, None, Some, codes};
 ghost use Rattle.std.specs.Prelude.{option_map, vec_capacity, if◌then◌else◌};
 ghost use Rattle.bstr.specs.BStr.{bstr_bytes};
@@ -67,7 +67,7 @@ fn fill_suggestion(branch: &mut Vec<u8>, name: BStr<'_>) -> Result<bool, AllocEr
         ≡ (if found then Some branch.new.items else None)) }
 {
     branch.extend_from_slice(name.as_bytes())?;
-    match suggest_into(name, branch.as_mut_slice()) {
+    match write_suggestion(name, branch.as_mut_slice()) {
         Some(len) => {
             branch.truncate(len);
             Ok(true)
@@ -76,10 +76,37 @@ fn fill_suggestion(branch: &mut Vec<u8>, name: BStr<'_>) -> Result<bool, AllocEr
     }
 }
 
+/// Writes what [`suggest`] returns to the start of the buffer, and returns its length. `None` if there
+/// is no suggestion, or the buffer is shorter than `name`.
+///
+/// A shorter buffer stays as it was. Otherwise the bytes from the length of `name` on stay as they
+/// were, and those between the suggestion and that offset are unspecified. It doesn't allocate.
+///
+/// ```
+/// let mut buffer = [0; 8];
+/// suggest_into(BStr::from(".hidden"), &mut buffer); // Some(6), and the buffer begins with `hidden`
+/// suggest_into(BStr::from("..."), &mut buffer); // None
+/// ```
+pub fn suggest_into(name: BStr<'_>, buffer: &mut [u8]) -> Option<usize>
+    ensures text { MatchOption result
+        (length (bstr_bytes name.entry) ≤ length buffer.old → suggestion (bstr_bytes name.entry) ≡ None)
+        (λ len. suggestion (bstr_bytes name.entry) ≡ Some (take len buffer.new)) }
+    ensures untouched { length buffer.old < length (bstr_bytes name.entry) → buffer.new ≡ buffer.old }
+    ensures within { IfSome result (λ len. len ≤ length (bstr_bytes name.entry)) }
+    ensures valid { IfSome result (λ len. IsTrue (is_short_name (take len buffer.new))) }
+    ensures rest { let n = length (bstr_bytes name.entry) in drop n buffer.new ≡ drop n buffer.old }
+{
+    let len = name.as_bytes().len();
+    if buffer.len() < len {
+        return None;
+    }
+    write_suggestion(name, &mut buffer[..len])
+}
+
 /// Writes the suggestion to the start of the buffer, and returns its length, or `None` if there is no
 /// suggestion. What is in the buffer after the suggestion, or if there is none, is unspecified.
 #[tactic(auto, using(crate::proofs::SuggestionLaws::suggestion_laws))]
-fn suggest_into(name: BStr<'_>, buffer: &mut [u8]) -> Option<usize>
+fn write_suggestion(name: BStr<'_>, buffer: &mut [u8]) -> Option<usize>
     requires room { length (bstr_bytes name) ≤ length buffer.old }
     ensures text { MatchOption result
         (suggestion (bstr_bytes name.entry) ≡ None)

@@ -1,4 +1,4 @@
 pub mod FlagLemmas
-pub mod ReferenceFaults
 pub mod Rows
 pub mod NumbersWritten
+pub mod NoEmptyBranch

@@ -8,17 +8,21 @@ use Rattle.gix_validate.specs.declared.submodule.NameError.TheVariants as submod
 use Rattle.gix_validate.specs.declared.path.ComponentError.TheVariants as path
 use Rattle.gix_validate.specs.declared.tag.NameError.{NameError as TagError}
 use Rattle.gix_validate.specs.declared.path.ComponentError.{ComponentError}
-use Rattle.gix_validate.specs.declared.path.ComponentMode.TheVariants.{Symlink}
 use Rattle.gix_validate.specs.Component.{all_protections}
 use Rattle.gix_validate.specs.Reference.{carried, reserved}
 use Rattle.gix_validate.specs.Pieces.{names_in}
 use Rattle.gix_validate.specs.Private.Classes.{switches}
 use Rattle.gix_validate_c.specs.Numbers.{tag_number, reference_number, submodule_number}
-use Rattle.gix_validate_c.specs.Numbers.{component_number, code_by, invalid_byte_of, offset_or}
+use Rattle.gix_validate_c.specs.Numbers.{component_number, code_by, safe_ref_number}
+use Rattle.gix_validate_c.specs.Numbers.{protected_submodule_number}
+use Rattle.gix_validate_c.specs.Kinds.{kind_of, offset_or}
 use Rattle.gix_validate_c.specs.Numbers.{short_name_number, path_number, version_number}
 use Rattle.git_names.specs.declared.branches.ShortNameError.TheVariants as short
 use Rattle.git_names.specs.declared.paths.PathError.TheVariants as whole
-use Rattle.gix_validate_c.specs.Flags.{options_of, mode_of}
+use Rattle.git_names.specs.declared.faults.Kind.TheVariants as kind
+use Rattle.git_names.specs.declared.references.SafeRefError.TheVariants as safe
+use Rattle.git_names.specs.declared.submodules.SubmoduleError.TheVariants as protected
+use Rattle.gix_validate_c.specs.Flags.{options_of}
 use Rattle.gix_validate_c.specs.Texts.{text_by, with_text}
 
 -- The faults of tag names in the order of their numbers, which never change.
@@ -57,16 +61,38 @@ numbers_of_paths : map path_number (whole.EmptyPart 7 ∷ whole.InvalidPart 7 pa
     ≡ 23 ∷ 21 ∷ 24 ∷ []
 numbers_of_paths = refl
 
+numbers_of_safe_refs : map safe_ref_number
+    (safe.Name reference.Empty ∷ safe.OutsideRefs ∷ safe.Piece (whole.InvalidPart 5 path.DotGitDir) ∷ [])
+    ≡ 11 ∷ 25 ∷ 19 ∷ []
+numbers_of_safe_refs = refl
+
+numbers_of_protected_submodules : map protected_submodule_number
+    (protected.Name submodule.ParentComponent ∷ protected.Part (whole.Nul 1) ∷ protected.Disguised 2 ∷ [])
+    ≡ 14 ∷ 24 ∷ 26 ∷ []
+numbers_of_protected_submodules = refl
+
+-- the kinds in the order of their numbers, which never change, and numbers of none
+kinds : Gives kind_of
+    ((0, Some kind.Branch)
+    ∷ (1, Some kind.BranchRef)
+    ∷ (2, Some kind.Tag)
+    ∷ (3, Some kind.Reference)
+    ∷ (4, Some kind.Partial)
+    ∷ (5, Some kind.TagName)
+    ∷ (6, Some kind.SafeRef)
+    ∷ (7, Some kind.Path)
+    ∷ (8, Some kind.SymlinkPath)
+    ∷ (9, Some kind.Component)
+    ∷ (10, Some kind.Symlink)
+    ∷ (11, Some kind.Submodule)
+    ∷ (12, None)
+    ∷ (0xFFFFFFFF, None)
+    ∷ [])
+kinds = refl
+
 -- what else is a number
 no_fault : code_by tag_number None ≡ 0
 no_fault = refl
-
-invalid_bytes : Gives invalid_byte_of
-    ((Some (tag.InvalidByte 0xFF), 0xFF)
-    ∷ (Some tag.Asterisk, 256)  -- another fault
-    ∷ (None, 256)  -- no fault
-    ∷ [])
-invalid_bytes = refl
 
 offsets : Gives (offset_or 5)
     ((Some 3, 3)
@@ -88,14 +114,6 @@ switches_of_flags : Gives options_of
     ∷ (0xFFFFFFF8, switches false false false)  -- other bits
     ∷ [])
 switches_of_flags = refl
-
-modes_of_flags : Gives mode_of
-    ((8, Some Symlink)
-    ∷ (15, Some Symlink)
-    ∷ (7, None)
-    ∷ (0xFFFFFFF0, None)  -- other bits
-    ∷ [])
-modes_of_flags = refl
 
 -- buffers in which the text `abc` is written, and what is in them then
 buffers : Gives (with_text (codes "abc"))

@@ -1,5 +1,4 @@
--- The numbers that C sees: those of the faults of all six types,
--- the byte of an invalid byte, and the version.
+-- The numbers that C sees: those of the faults of all types, and the version.
 use Rattle.std.specs.Prelude.{ℕ, ◌+◌, ◌*◌, Option, Some, None}
 use Rattle.gix_validate.specs.declared.path.ComponentError.{ComponentError}
 use Rattle.gix_validate.specs.declared.reference.NameError.{NameError as ReferenceError}
@@ -13,6 +12,12 @@ use Rattle.git_names.specs.declared.branches.ShortNameError.{ShortNameError}
 use Rattle.git_names.specs.declared.branches.ShortNameError.TheVariants as short
 use Rattle.git_names.specs.declared.paths.PathError.{PathError}
 use Rattle.git_names.specs.declared.paths.PathError.TheVariants as whole
+use Rattle.git_names.specs.declared.references.SafeRefError.{SafeRefError}
+use Rattle.git_names.specs.declared.references.SafeRefError.TheVariants as safe
+use Rattle.git_names.specs.declared.submodules.SubmoduleError.{SubmoduleError as ProtectedError}
+use Rattle.git_names.specs.declared.submodules.SubmoduleError.TheVariants as protected
+use Rattle.git_names.specs.declared.faults.Reason.{Reason}
+use Rattle.git_names.specs.declared.faults.Reason.TheVariants as reason
 
 -- the number of a fault, or 0 where there is none
 abbrev pub code_by : {E : Type 0} → (E → ℕ) → Option E → ℕ
@@ -76,25 +81,28 @@ path_number (whole.InvalidPart at e) = component_number e
 path_number (whole.EmptyPart at) = 23
 path_number (whole.Nul at) = 24
 
--- the byte of the fault `InvalidByte`, and 256, which is not a byte, where there is no such fault
-abbrev pub invalid_byte_of : Option TagError → ℕ
-invalid_byte_of (Some (tag.InvalidByte b)) = b
-invalid_byte_of _ = 256
+-- Those of safe reference names: faults of reference names and of paths keep theirs, and there is one more.
+abbrev pub safe_ref_number : SafeRefError → ℕ
+safe_ref_number (safe.Name e) = reference_number e
+safe_ref_number safe.OutsideRefs = 25
+safe_ref_number (safe.Piece e) = path_number e
 
--- the byte of the fault `InvalidByte` of a reference name, and 256 where there is no such fault
-abbrev pub reference_invalid_byte_of : Option ReferenceError → ℕ
-reference_invalid_byte_of (Some (reference.InvalidByte b)) = b
-reference_invalid_byte_of _ = 256
+-- Those of submodules under switches: faults of submodule names and of paths keep theirs, and there is
+-- one more.
+abbrev pub protected_submodule_number : ProtectedError → ℕ
+protected_submodule_number (protected.Name e) = submodule_number e
+protected_submodule_number (protected.Part e) = path_number e
+protected_submodule_number (protected.Disguised at) = 26
 
--- the byte of the fault `InvalidByte` of a short name, and 256 where there is no such fault
-abbrev pub short_invalid_byte_of : Option ShortNameError → ℕ
-short_invalid_byte_of (Some (short.Name (reference.InvalidByte b))) = b
-short_invalid_byte_of _ = 256
-
--- an offset in a text of n bytes, and n where there is none
-abbrev pub offset_or : ℕ → Option ℕ → ℕ
-offset_or n None = n
-offset_or n (Some i) = i
+-- the number of the reason for which a name isn't of a kind
+abbrev pub reason_number : Reason → ℕ
+reason_number (reason.Short e) = short_name_number e
+reason_number (reason.Reference e) = reference_number e
+reason_number (reason.TagName e) = tag_number e
+reason_number (reason.SafeRef e) = safe_ref_number e
+reason_number (reason.Path e) = path_number e
+reason_number (reason.Component e) = component_number e
+reason_number (reason.Submodule e) = protected_submodule_number e
 
 -- a version as one number
 abbrev pub version_number : ℕ → ℕ → ℕ → ℕ

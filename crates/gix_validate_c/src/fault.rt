@@ -3,9 +3,10 @@
 ghost use Rattle.std.specs.Prelude.{◌≡◌, ◌↔◌, ◌≤◌, ℕ, IsOk, MatchResult};
 ghost use Rattle.gix_validate_c.specs.Numbers.{tag_number, reference_number, submodule_number};
 ghost use Rattle.gix_validate_c.specs.Numbers.{component_number, short_name_number, path_number};
+ghost use Rattle.gix_validate_c.specs.Numbers.{safe_ref_number, protected_submodule_number};
 
 use bstr::BStr;
-use git_names::{PathError, ShortNameError};
+use git_names::{PathError, SafeRefError, ShortNameError, SubmoduleError};
 use gix_validate::path::ComponentError;
 use gix_validate::{reference, submodule, tag};
 
@@ -97,6 +98,30 @@ impl Fault for PathError {
             Self::EmptyPart { .. } => 23,
             Self::InvalidPart { error, .. } => error.number(),
             Self::Nul { .. } => 24,
+        }
+    }
+}
+
+impl Fault for SafeRefError {
+    ghost number = { safe_ref_number };
+
+    fn number(self) -> u8 {
+        match self {
+            Self::Name(error) => error.number(),
+            Self::OutsideRefs => 25,
+            Self::Piece(error) => error.number(),
+        }
+    }
+}
+
+impl Fault for SubmoduleError {
+    ghost number = { protected_submodule_number };
+
+    fn number(self) -> u8 {
+        match self {
+            Self::Name(error) => error.number(),
+            Self::Part(error) => error.number(),
+            Self::Disguised { .. } => 26,
         }
     }
 }

@@ -1,9 +1,9 @@
-//! The flags of path components (docs/RULES.md, "Calls for C").
+//! The flags of a call (docs/RULES.md, "Calls for C").
 
 ghost use Rattle.std.specs.Prelude.{◌≡◌};
-ghost use Rattle.gix_validate_c.specs.Flags.{options_of, mode_of};
+ghost use Rattle.gix_validate_c.specs.Flags.{options_of};
 
-use gix_validate::path::{ComponentMode, ComponentOptions};
+use gix_validate::path::ComponentOptions;
 
 /// The switches that the flags turn on.
 pub(crate) fn options_of(flags: u32) -> ComponentOptions
@@ -14,11 +14,4 @@ pub(crate) fn options_of(flags: u32) -> ComponentOptions
         protect_hfs: flags & 2 != 0,
         protect_ntfs: flags & 4 != 0,
     }
-}
-
-/// What the flags say that the name is to be.
-pub(crate) fn mode_of(flags: u32) -> Option<ComponentMode>
-    ensures { result ≡ mode_of flags }
-{
-    (flags & 8 != 0).then_some(ComponentMode::Symlink)
 }

@@ -1,11 +1,12 @@
-//! The calls of `gix_validate` for C: a static library of functions with the C calling convention.
+//! The calls of `git_names` for C: a static library of functions with the C calling convention.
 //!
 //! | Module | Functions |
 //! |---|---|
-//! | [`names`] | validate one name: return 0, or the number of its fault |
+//! | [`names`] | validate one name: the number of its fault, and its offset |
 //! | [`many`] | the same for many names in one buffer |
 //! | [`texts`] | write the printed text of a name's fault to the caller's buffer |
 //! | [`sanitize`] | repair a reference name in the caller's buffer |
+//! | [`suggest`] | suggest a branch name for one that a person typed |
 //! | [`version`] | the version of the library |
 //!
 //! A slice is a pointer and a length. Lengths and offsets are in bytes. No function has a
@@ -19,5 +20,6 @@ mod flags;
 pub mod many;
 pub mod names;
 pub mod sanitize;
+pub mod suggest;
 pub mod texts;
 pub mod version;

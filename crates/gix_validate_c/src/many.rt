@@ -1,147 +1,63 @@
 //! Many names in one call.
-//!
-//! The names are in one buffer, in which a byte that the caller chooses ends each name, as LF or
-//! NUL. What follows the last such byte is a name too, unless it is empty. So an empty buffer has no
-//! name, and two such bytes in a row have an empty name between them.
-//!
-//! Each function writes one byte for each name, in order, to the start of the caller's array: what
-//! the function for one name returns (docs/RULES.md, "Calls for C"). It writes as many as fit, and
-//! the rest of the array stays as it was. It returns how many names there are, even if more than
-//! fit. A name whose number doesn't fit isn't checked, so an empty array only counts the names.
 
 ghost use Rattle.std.specs.Prelude.{◌≡◌, ◌<◌, ◌≤◌, [], ◌∷◌, length, map, take, drop, MatchOption};
 ghost use Rattle.std.specs.Prelude.{IfSome};
-ghost use Rattle.gix_validate.specs.Tag as tag;
-ghost use Rattle.gix_validate.specs.Reference.{partial_fault_of, full_fault_of, branch_fault_of};
-ghost use Rattle.gix_validate.specs.Submodule as submodule;
-ghost use Rattle.gix_validate_c.specs.Numbers.{code_by, tag_number, reference_number};
-ghost use Rattle.gix_validate_c.specs.Numbers.{submodule_number, short_name_number};
-ghost use Rattle.git_names.specs.ShortNames as short;
+ghost use Rattle.bstr.specs.BStr.{bstr_bytes};
 ghost use Rattle.gix_validate.specs.Pieces.{names_in};
+ghost use Rattle.gix_validate_c.specs.Kinds.{kind_of, number_by};
 
-use crate::fault::{Fault, code};
+use crate::names::{kind_of, number_by};
 use bstr::BStr;
-use git_names::Short;
+use git_names::Kind;
 use memchr::memchr;
-use typed_names::{Branch, Full, Partial, Rule, Submodule, Tag};
 
-/// Checks the names as [`gix_validate_tag`] does.
+/// Checks many names as [`gix_validate_fault_of`](crate::names::gix_validate_fault_of) checks one.
+///
+/// The names are in one buffer, in which the byte `end` ends each name, as LF or NUL. What follows the
+/// last such byte is a name too, unless it is empty. So an empty buffer has no name, and two such bytes
+/// in a row have an empty name between them.
+///
+/// It writes one byte for each name, in order, to the start of the array `faults`: 0, or the number of
+/// the fault. It writes as many as fit, and the rest of the array stays as it was. It returns how many
+/// names there are, even if more than fit. A name whose number doesn't fit isn't checked, so an empty
+/// array only counts the names.
 ///
 /// ```c
-/// gix_validate_tag_many((const uint8_t *)"v1\na..b\n", 8, '\n', faults, sizeof faults); // 2: 0, and 4, RepeatedDot
+/// gix_validate_faults_of(2, "v1\na..b\n", 8, 0, '\n', faults, sizeof faults); // 2: 0, and 4, RepeatedDot
 /// ```
 #[unsafe(no_mangle)]
-pub extern "C" fn gix_validate_tag_many(names: &[u8], end: u8, faults: &mut [u8]) -> usize
+pub extern "C" fn gix_validate_faults_of(
+    kind: u32,
+    names: &[u8],
+    flags: u32,
+    end: u8,
+    faults: &mut [u8],
+) -> usize
     ensures count { result ≡ length (names_in end names.now) }
-    ensures numbers { take result faults.new ≡ take (length faults.old)
-        (map (λ name. code_by tag_number (tag.fault_of name)) (names_in end names.now)) }
+    ensures numbers { take result faults.new
+        ≡ take (length faults.old) (map (number_by (kind_of kind) flags) (names_in end names.now)) }
     ensures rest { drop result faults.new ≡ drop result faults.old }
     ensures bounds { result ≤ length names.now }
 {
-    write_numbers::<Tag>(names, end, faults)
-}
-
-/// Checks the names as [`gix_validate_partial`] does.
-///
-/// ```c
-/// gix_validate_partial_many((const uint8_t *)"main\n@", 6, '\n', faults, sizeof faults); // 2: 0, and 13, Reserved
-/// ```
-#[unsafe(no_mangle)]
-pub extern "C" fn gix_validate_partial_many(names: &[u8], end: u8, faults: &mut [u8]) -> usize
-    ensures count { result ≡ length (names_in end names.now) }
-    ensures numbers { take result faults.new ≡ take (length faults.old)
-        (map (λ name. code_by reference_number (partial_fault_of name)) (names_in end names.now)) }
-    ensures rest { drop result faults.new ≡ drop result faults.old }
-    ensures bounds { result ≤ length names.now }
-{
-    write_numbers::<Partial>(names, end, faults)
-}
-
-/// Checks the names as [`gix_validate_full`] does.
-///
-/// ```c
-/// gix_validate_full_many((const uint8_t *)"HEAD\0main", 9, '\0', faults, sizeof faults); // 2: 0, and 12, SomeLowercase
-/// ```
-#[unsafe(no_mangle)]
-pub extern "C" fn gix_validate_full_many(names: &[u8], end: u8, faults: &mut [u8]) -> usize
-    ensures count { result ≡ length (names_in end names.now) }
-    ensures numbers { take result faults.new ≡ take (length faults.old)
-        (map (λ name. code_by reference_number (full_fault_of name)) (names_in end names.now)) }
-    ensures rest { drop result faults.new ≡ drop result faults.old }
-    ensures bounds { result ≤ length names.now }
-{
-    write_numbers::<Full>(names, end, faults)
-}
-
-/// Checks the names as [`gix_validate_branch`] does.
-///
-/// ```c
-/// gix_validate_branch_many((const uint8_t *)"refs/heads/HEAD", 15, '\n', faults, sizeof faults); // 1: 13, Reserved
-/// ```
-#[unsafe(no_mangle)]
-pub extern "C" fn gix_validate_branch_many(names: &[u8], end: u8, faults: &mut [u8]) -> usize
-    ensures count { result ≡ length (names_in end names.now) }
-    ensures numbers { take result faults.new ≡ take (length faults.old)
-        (map (λ name. code_by reference_number (branch_fault_of name)) (names_in end names.now)) }
-    ensures rest { drop result faults.new ≡ drop result faults.old }
-    ensures bounds { result ≤ length names.now }
-{
-    write_numbers::<Branch>(names, end, faults)
-}
-
-/// Checks the names as [`gix_validate_short_branch`] does.
-///
-/// ```c
-/// gix_validate_short_branch_many((const uint8_t *)"main\n-d", 7, '\n', faults, sizeof faults); // 2: 0, and 22, StartsWithDash
-/// ```
-#[unsafe(no_mangle)]
-pub extern "C" fn gix_validate_short_branch_many(names: &[u8], end: u8, faults: &mut [u8]) -> usize
-    ensures count { result ≡ length (names_in end names.now) }
-    ensures numbers { take result faults.new ≡ take (length faults.old)
-        (map (λ name. code_by short_name_number (short.fault_of name)) (names_in end names.now)) }
-    ensures rest { drop result faults.new ≡ drop result faults.old }
-    ensures bounds { result ≤ length names.now }
-{
-    write_numbers::<Short>(names, end, faults)
-}
-
-/// Checks the names as [`gix_validate_submodule`] does.
-///
-/// ```c
-/// gix_validate_submodule_many((const uint8_t *)"lib\n\n", 5, '\n', faults, sizeof faults); // 2: 0, and 11, Empty
-/// ```
-#[unsafe(no_mangle)]
-pub extern "C" fn gix_validate_submodule_many(names: &[u8], end: u8, faults: &mut [u8]) -> usize
-    ensures count { result ≡ length (names_in end names.now) }
-    ensures numbers { take result faults.new ≡ take (length faults.old)
-        (map (λ name. code_by submodule_number (submodule.fault_of name)) (names_in end names.now)) }
-    ensures rest { drop result faults.new ≡ drop result faults.old }
-    ensures bounds { result ≤ length names.now }
-{
-    write_numbers::<Submodule>(names, end, faults)
-}
-
-/// Writes the numbers of the names, as many as fit, and returns how many names there are. (It doesn't
-/// call the function for one name: a second caller would keep the compiler from inlining that.)
-fn write_numbers<R: Rule>(names: &[u8], end: u8, numbers: &mut [u8]) -> usize
-where
-    R::Fault: Fault + Drop,
-    ensures count { result ≡ length (names_in end names.now) }
-    ensures numbers { take result numbers.new ≡ take (length numbers.old)
-        (map (λ name. code_by R.Fault.number (R.fault_of name)) (names_in end names.now)) }
-    ensures rest { drop result numbers.new ≡ drop result numbers.old }
-    ensures bounds { result ≤ length names.now }
-{
+    let kind = kind_of(kind);
     let mut count = 0;
     let mut rest = names;
     while let Some((name, after)) = first_name(rest, end) {
-        if count < numbers.len() {
-            numbers[count] = code(R::check(BStr::new(name)));
+        if count < faults.len() {
+            faults[count] = byte_by(kind, BStr::new(name), flags);
         }
         count += 1;
         rest = after;
     }
     count
+}
+
+/// The number of the name's fault as a byte.
+#[inline(always)]
+fn byte_by(kind: Option<Kind>, name: BStr<'_>, flags: u32) -> u8
+    ensures number { result ≡ number_by kind flags (bstr_bytes name.entry) }
+{
+    number_by(kind, name, flags) as u8
 }
 
 /// The first name in the buffer, without the byte that ends it, and what follows that byte.

@@ -51,7 +51,7 @@ pub extern "C" fn gix_validate_sanitize_in_place(buffer: &mut [u8], name_len: us
 ///
 /// ```c
 /// uint8_t buffer[32];
-/// gix_validate_sanitize((const uint8_t *)"refs//heads/../x.lock", 21, buffer, sizeof buffer); // 14, "refs/heads/-/x"
+/// gix_validate_sanitize("refs//heads/../x.lock", 21, buffer, sizeof buffer); // 14, "refs/heads/-/x"
 /// ```
 #[unsafe(no_mangle)]
 pub extern "C" fn gix_validate_sanitize(name: &[u8], buffer: &mut [u8]) -> usize

@@ -52,6 +52,8 @@ const KINDS: &[(Kind, &str, &[u8], usize, Names)] = &[
     (Kind::Component, "----", b"Component(Relative)", 0, b".,.."),
     (Kind::Symlink, "whn-", b"Component(SymlinkedGitModules)", 0, b".gitmodules,GITMOD~1"),
     (Kind::Symlink, "whn-", b"", 0, b"latest"),
+    (Kind::SymlinkPath, "whn-", b"Path(InvalidPart { offset: 2, error: SymlinkedGitModules })", 2, b"a/.gitmodules,a/GITMOD~1"),
+    (Kind::SymlinkPath, "whn-", b"", 0, b"a/latest,.gitmodules/a"),
 ];
 
 /// Names of submodules, among them those that other programs' tests disguise.

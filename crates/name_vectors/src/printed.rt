@@ -69,7 +69,7 @@ pub(crate) fn component_texts() -> Texts {
 #[rattlefmt::skip]
 pub(crate) fn branch_texts() -> Texts {
     &[
-        (b"StartsWithDash", b"Branch name cannot start with a dash, as it may be mistaken for an option"),
+        (b"StartsWithDash", b"Branch or tag name cannot start with a dash, as it may be mistaken for an option"),
     ]
 }
 

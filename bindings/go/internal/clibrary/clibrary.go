@@ -15,34 +15,35 @@ package clibrary
 // (The shared object calls its own functions, and not those of this program's block.)
 static void *opened(const char *path) { return dlopen(path, RTLD_NOW | RTLD_LOCAL | RTLD_DEEPBIND); }
 
-static uint32_t code(void *function, _GoString_ name, uint32_t flags) {
-    uint32_t (*call)(const char *, size_t, uint32_t) = function; // (flags are no argument of most)
-    return call(_GoStringPtr(name), _GoStringLen(name), flags);
+static uint32_t fault(void *function, uint32_t kind, _GoString_ name, uint32_t flags) {
+    uint32_t (*call)(uint32_t, const void *, size_t, uint32_t) = function;
+    return call(kind, _GoStringPtr(name), _GoStringLen(name), flags);
 }
 
-static size_t text(void *function, _GoString_ name, char *text, size_t room) {
-    size_t (*call)(const char *, size_t, char *, size_t) = function;
-    return call(_GoStringPtr(name), _GoStringLen(name), text, room);
+static size_t offset(void *function, uint32_t kind, _GoString_ name, uint32_t flags) {
+    size_t (*call)(uint32_t, const void *, size_t, uint32_t) = function;
+    return call(kind, _GoStringPtr(name), _GoStringLen(name), flags);
 }
 
-static size_t text_under(void *function, _GoString_ name, uint32_t flags, char *text, size_t room) {
-    size_t (*call)(const char *, size_t, uint32_t, char *, size_t) = function;
-    return call(_GoStringPtr(name), _GoStringLen(name), flags, text, room);
+static size_t text(void *function, uint32_t kind, _GoString_ name, uint32_t flags, char *text, size_t room) {
+    size_t (*call)(uint32_t, const void *, size_t, uint32_t, char *, size_t) = function;
+    return call(kind, _GoStringPtr(name), _GoStringLen(name), flags, text, room);
 }
 
-static size_t offset(void *function, _GoString_ name, uint32_t flags) {
-    size_t (*call)(const char *, size_t, uint32_t) = function;
-    return call(_GoStringPtr(name), _GoStringLen(name), flags);
+static size_t faults(void *function, uint32_t kind, _GoString_ names, uint32_t flags, uint8_t end, char *faults,
+                     size_t room) {
+    size_t (*call)(uint32_t, const void *, size_t, uint32_t, uint8_t, char *, size_t) = function;
+    return call(kind, _GoStringPtr(names), _GoStringLen(names), flags, end, faults, room);
+}
+
+static size_t changed(void *function, _GoString_ name, char *buffer, size_t room) {
+    size_t (*call)(const void *, size_t, char *, size_t) = function;
+    return call(_GoStringPtr(name), _GoStringLen(name), buffer, room);
 }
 
 static bool device(void *function, _GoString_ name) {
-    bool (*call)(const char *, size_t) = function;
+    bool (*call)(const void *, size_t) = function;
     return call(_GoStringPtr(name), _GoStringLen(name));
-}
-
-static size_t many(void *function, _GoString_ names, uint8_t end, char *faults, size_t room) {
-    size_t (*call)(const char *, size_t, uint8_t, char *, size_t) = function;
-    return call(_GoStringPtr(names), _GoStringLen(names), end, faults, room);
 }
 */
 import "C"
@@ -76,31 +77,29 @@ func (l Library) function(name string) unsafe.Pointer {
 	return function
 }
 
-// Code is the number of the fault of a name of the kind, as tag or component.
-func (l Library) Code(kind, name string, flags uint32) uint32 {
-	return uint32(C.code(l.function(kind), name, C.uint32_t(flags)))
+// Fault is the number of the fault of a name of the kind.
+func (l Library) Fault(kind uint32, name string, flags uint32) uint32 {
+	return uint32(C.fault(l.function("fault_of"), C.uint32_t(kind), name, C.uint32_t(flags)))
+}
+
+// Offset is where that fault is.
+func (l Library) Offset(kind uint32, name string, flags uint32) int {
+	return int(C.offset(l.function("offset_of"), C.uint32_t(kind), name, C.uint32_t(flags)))
 }
 
 // Text is the text of that fault.
-func (l Library) Text(kind, name string, flags uint32) string {
+func (l Library) Text(kind uint32, name string, flags uint32) string {
 	var buffer [256]C.char
-	var length C.size_t
-	if kind == "component" || kind == "path" {
-		length = C.text_under(l.function(kind+"_text"), name, C.uint32_t(flags), &buffer[0], C.size_t(len(buffer)))
-	} else {
-		length = C.text(l.function(kind+"_text"), name, &buffer[0], C.size_t(len(buffer)))
-	}
+	length := C.text(l.function("text_of"), C.uint32_t(kind), name, C.uint32_t(flags), &buffer[0], C.size_t(len(buffer)))
 	return C.GoStringN(&buffer[0], C.int(length))
 }
 
-// Offset is where the fault of a tag is.
-func (l Library) Offset(name string) int {
-	return int(C.offset(l.function("fault_offset"), name, 0))
-}
-
-// PathOffset is where the invalid part of a path begins.
-func (l Library) PathOffset(name string, flags uint32) int {
-	return int(C.offset(l.function("path_offset"), name, C.uint32_t(flags)))
+// Faults are the numbers of the faults of the names in a buffer.
+func (l Library) Faults(kind uint32, names string, flags uint32, end byte) []byte {
+	buffer := make([]C.char, len(names)+1)
+	count := C.faults(l.function("faults_of"), C.uint32_t(kind), names, C.uint32_t(flags), C.uint8_t(end),
+		&buffer[0], C.size_t(len(buffer)))
+	return C.GoBytes(unsafe.Pointer(&buffer[0]), C.int(count))
 }
 
 // IsWindowsDevice reports whether Windows takes the name for a device.
@@ -109,15 +108,13 @@ func (l Library) IsWindowsDevice(name string) bool {
 }
 
 // Sanitize repairs a name.
-func (l Library) Sanitize(name string) string {
-	buffer := make([]C.char, len(name)+1)
-	length := C.text(l.function("sanitize"), name, &buffer[0], C.size_t(len(buffer)))
-	return C.GoStringN(&buffer[0], C.int(length))
-}
+func (l Library) Sanitize(name string) string { return l.changed("sanitize", name) }
 
-// Many are the numbers of the faults of the names in a buffer.
-func (l Library) Many(kind, names string, end byte) []byte {
-	buffer := make([]C.char, len(names)+1)
-	count := C.many(l.function(kind+"_many"), names, C.uint8_t(end), &buffer[0], C.size_t(len(buffer)))
-	return C.GoBytes(unsafe.Pointer(&buffer[0]), C.int(count))
+// Suggest is the branch name to suggest, or empty if there is none.
+func (l Library) Suggest(name string) string { return l.changed("suggest", name) }
+
+func (l Library) changed(function, name string) string {
+	buffer := make([]C.char, len(name)+1)
+	length := C.changed(l.function(function), name, &buffer[0], C.size_t(len(buffer)))
+	return C.GoStringN(&buffer[0], C.int(length))
 }

@@ -21,6 +21,7 @@ use crate::trees::options::Options;
 use crate::trees::report::{set_modules, set_refused, set_refused_by_windows};
 use bstr::BStr;
 use gix_validate::path::{self, ComponentError, ComponentMode, ComponentOptions};
+use programs::accepted::without_windows;
 use programs::command::Command;
 use programs::error::RunError;
 use programs::header::{Kind, Object};
@@ -253,16 +254,6 @@ fn protections_for(options: &Options<'_>, name: &[u8]) -> ComponentOptions
         without_windows(options.protections)
     } else {
         options.protections
-    }
-}
-
-/// The switches without that for Windows.
-fn without_windows(protections: ComponentOptions) -> ComponentOptions
-    ensures { result ≡ without_windows protections }
-{
-    ComponentOptions {
-        protect_windows: false,
-        ..protections
     }
 }
 

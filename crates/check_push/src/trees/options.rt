@@ -3,8 +3,8 @@
 ghost use Rattle.check_push.specs.Trees.Arguments.{no_options, rule};
 ghost use Rattle.check_push.specs.Trees.Arguments.{Options, as_options};
 
-use crate::trees::accepted::AcceptedNames;
 use gix_validate::path::ComponentOptions;
+use programs::accepted::AcceptedNames;
 use programs::arguments::{ParseOptions, Setting};
 use programs::protections::{PROTECTIONS, protections_of};
 

@@ -1,9 +1,11 @@
-use Rattle.gix_validate.proofs.Common.{arith, common_steps}
+use Rattle.gix_validate.proofs.Common.{[], arith, common_steps}
 use Rattle.git_check_names.proofs.ReadNames.{end_read, last_read, long_read, name_read}
 use Rattle.git_check_names.proofs.input.next_name.Goals as goal
 
-pub returns-in-Limit-clause-next : goal.returns-in-Limit-clause-next
-returns-in-Limit-clause-next g c = long_read _ _ _ _ (rw c.in-Limit.is at c.in_ok-read_before.ensures.read)
+pub returns-in_ok-skip_past-in-Limit-clause-next : goal.returns-in_ok-skip_past-in-Limit-clause-next
+returns-in_ok-skip_past-in-Limit-clause-next g c =
+    long_read _ _ [] _ _ _ (rw c.in-Limit.is at c.in_ok-read_before.ensures.read)
+    c.in_ok-skip_past-in-Limit.ensures.skips
 
 pub returns-in-End-clause-next : goal.returns-in-End-clause-next
 returns-in-End-clause-next g c =

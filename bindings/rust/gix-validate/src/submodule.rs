@@ -1,0 +1,26 @@
+//! Names of submodules.
+
+use bstr::BStr;
+use git_names::{Kind, Protections};
+
+use crate::checked;
+
+/// The error of [`name()`].
+pub mod name {
+    pub use crate::errors::submodule::Error;
+}
+
+/// Returns `name` if it is a valid name of a submodule, otherwise its fault. It may be neither empty nor have a
+/// part `..` between its slashes and backslashes.
+///
+/// ```
+/// use bstr::ByteSlice;
+/// use gix_validate::submodule;
+///
+/// assert!(submodule::name(b"vendor/package".as_bstr()).is_ok());
+/// assert!(submodule::name(b"vendor/../x".as_bstr()).is_err());
+/// ```
+#[inline]
+pub fn name(name: &BStr) -> Result<&BStr, name::Error> {
+    checked(Kind::Submodule, name, Protections::NONE, name::Error::of)
+}

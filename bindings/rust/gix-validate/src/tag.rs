@@ -1,0 +1,25 @@
+//! Names of tags.
+
+use bstr::BStr;
+use git_names::{Kind, Protections};
+
+use crate::checked;
+
+/// The error of [`name()`].
+pub mod name {
+    pub use crate::errors::tag::Error;
+}
+
+/// Returns `input` if it is a valid name of a tag, otherwise its first fault. It may hold slashes.
+///
+/// ```
+/// use bstr::ByteSlice;
+/// use gix_validate::tag;
+///
+/// assert!(tag::name(b"v1.2.3".as_bstr()).is_ok());
+/// assert!(matches!(tag::name(b"a..b".as_bstr()), Err(tag::name::Error::RepeatedDot)));
+/// ```
+#[inline]
+pub fn name(input: &BStr) -> Result<&BStr, name::Error> {
+    checked(Kind::TagName, input, Protections::NONE, name::Error::of)
+}

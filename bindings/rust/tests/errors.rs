@@ -1,0 +1,76 @@
+//! What no row says: how errors print, and what they and the types of names are for Rust.
+
+use git_names::{branch, path, Branch, Error, Fault, Protections};
+
+fn printed(name: &str) -> String {
+    branch(name).unwrap_err().to_string()
+}
+
+#[test]
+fn an_error_prints_the_byte_and_the_piece() {
+    assert_eq!(printed(""), "Reference name cannot be empty");
+    assert_eq!(
+        printed("a..b"),
+        "Reference name cannot contain repeated dots ('.' at byte 2)"
+    );
+    assert_eq!(
+        printed("feature/.hidden"),
+        r#"Reference name cannot start with a dot ('.' at byte 8, in ".hidden")"#
+    );
+    assert_eq!(
+        printed("a\n/b"),
+        r#"Reference name contains invalid byte: "\n" ('\n' at byte 1, in "a\n")"#
+    );
+    assert_eq!(
+        printed("é/x y"),
+        r#"Reference name contains invalid byte: " " (' ' at byte 4, in "x y")"#
+    );
+    let quote = branch(b"\xff/it's ".as_slice()).unwrap_err().to_string();
+    assert!(quote.ends_with(r#"(' ' at byte 6, in "it's ")"#), "{quote}");
+    let raw = branch(b"a/\xff ".as_slice()).unwrap_err().to_string();
+    assert!(raw.ends_with(r#"(' ' at byte 3, in "\xff ")"#), "{raw}");
+}
+
+#[test]
+fn an_error_at_the_end_says_so() {
+    let error = path("src/", Protections::ALL).unwrap_err();
+    assert_eq!(
+        (error.fault(), error.offset(), error.byte()),
+        (Fault::EmptyPart, 4, None)
+    );
+    assert_eq!(error.piece(), b"");
+    assert_eq!(
+        error.to_string(),
+        "A path must not be empty, start or end with a slash, or have two in a row (at the end)"
+    );
+}
+
+#[test]
+fn an_empty_piece_is_not_printed() {
+    let error = path("a//b", Protections::ALL).unwrap_err();
+    assert!(
+        error.to_string().ends_with("in a row ('/' at byte 2)"),
+        "{error}"
+    );
+}
+
+#[test]
+fn errors_are_compared_cloned_boxed_and_sent() {
+    let error: Error = branch("a..b").unwrap_err();
+    assert_eq!(error.clone(), error);
+    assert_ne!(branch("a..c").unwrap_err(), error);
+    let boxed: Box<dyn std::error::Error + Send + Sync> = error.into();
+    assert!(boxed.to_string().contains("repeated dots"));
+}
+
+#[test]
+fn names_of_any_type_of_bytes_are_checked() {
+    assert!(branch("main").is_ok());
+    assert!(branch(b"main").is_ok());
+    assert!(branch(&String::from("main")).is_ok());
+    assert!(branch(&vec![b'm']).is_ok());
+    let parsed: Branch<'_> = "main".try_into().unwrap();
+    assert_eq!(parsed, branch("main").unwrap());
+    assert_eq!(parsed.to_str(), Ok("main"));
+    assert_eq!(format!("{parsed:?}"), r#"Branch("main")"#);
+}

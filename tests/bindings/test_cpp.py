@@ -1,0 +1,71 @@
+"""The header for C++, by each compiler that is there, in each version of C++."""
+import pytest
+
+from .tools import ARCHIVE, BINDINGS, CXX, ROWS, STRICT, need, output, rows, run
+
+SOURCE = BINDINGS / "cpp/rows.cpp"
+WORDS = [*STRICT, "-Wshadow", f"-I{SOURCE.parent}"]
+ALL_HOLD = f"{len(rows())} rows, 0 wrong"
+# What each version adds, as the program for the rows says. (Debian 12's Clang lacks what
+# std::expected of GCC's library needs.)
+ADDED = {
+    (CXX, "17"): "",
+    (CXX, "20"): ", <=>, span, u8",
+    (CXX, "2b"): ", <=>, span, u8, expected",
+    ("clang++", "17"): "",
+    ("clang++", "20"): ", <=>, span, u8",
+    ("clang++", "2b"): ", <=>, span, u8",
+}
+LINES = {
+    "a name that isn't checked": ('gix_validate::branch_name("main");', "private"),
+    "a name without a text": ("gix_validate::branch_name name;", "no matching"),
+    "a tag for a branch": (
+        'gix_validate::branch_name it = *gix_validate::tag_name::parse("a");',
+        "conversion",
+    ),
+    "a view of a string that is gone": (
+        "(void)gix_validate::valid<gix_validate::kind::tag, gix_validate::protect::all,"
+        ' std::string_view>::parse(std::string("a"));',
+        "a view of a string that is gone after this call",
+    ),
+    "a result that is ignored": ('gix_validate::check_tag("a");', "nodiscard"),
+    "a number for a kind": ('(void)gix_validate::check(2, "a");', "kind"),
+}
+
+
+@pytest.mark.parametrize("compiler, version", ADDED)
+def test_the_rows_hold(compiler, version, tmp_path):
+    need(compiler)
+    program = tmp_path / "rows"
+    run(compiler, f"-std=c++{version}", *WORDS, "-o", program, SOURCE, ARCHIVE)
+    assert output(program, ROWS).startswith(ALL_HOLD + ADDED[compiler, version])
+
+
+def test_the_rows_hold_with_sanitizers(tmp_path):
+    need(CXX)
+    program = tmp_path / "rows"
+    words = ["-std=c++17", "-fsanitize=address,undefined", "-fno-sanitize-recover"]
+    run(CXX, *words, *WORDS, "-o", program, SOURCE, ARCHIVE)
+    assert output(program, ROWS) == f"{ALL_HOLD}\n"
+
+
+def compiled(tmp_path, line, *words, status=0):
+    """What the compiler says of a program that has this line."""
+    need(CXX)
+    source = tmp_path / "program.cpp"
+    source.write_text(
+        f'#include "gix_validate.hpp"\nint main() {{\n  {line}\n}}\n', "ascii"
+    )
+    words = ["-std=c++17", *words, *WORDS, "-fsyntax-only", source]
+    return run(CXX, *words, status=status).stderr
+
+
+@pytest.mark.parametrize("what", LINES)
+def test_the_compiler_refuses(what, tmp_path):
+    line, why = LINES[what]
+    assert why in compiled(tmp_path, line, status=1)
+
+
+def test_a_compiler_of_an_older_version_says_what_the_header_needs(tmp_path):
+    said = compiled(tmp_path, "", "-std=c++14", status=1)
+    assert "gix_validate.hpp needs C++17 or later" in said

@@ -1,0 +1,209 @@
+"""The whole files of docs/CI.md: their commands, as GitHub Actions and GitLab run them."""
+
+import hashlib
+import os
+import re
+import shutil
+import subprocess
+from pathlib import Path
+from typing import NamedTuple
+
+import pytest
+
+yaml = pytest.importorskip("yaml")
+
+PAGE = Path(__file__).resolve().parent.parent.parent / "docs/CI.md"
+DEVICE = "aux.c: Windows device-names may have side-effects and are not allowed"
+NO_COMMIT = "0" * 40
+
+
+class Clone(NamedTuple):
+    """The clone of a job, the commit where its range begins, and the one that it checks."""
+
+    path: Path
+    base: str
+    head: str
+
+
+class Git:
+    """Git, which sees nobody's settings."""
+
+    def __init__(self, room):
+        config = room / "config"
+        config.write_text("[user]\nname = a\nemail = a@example\n")
+        self.environment = {
+            **os.environ,
+            "GIT_CONFIG_GLOBAL": str(config),
+            "GIT_CONFIG_NOSYSTEM": "1",
+        }
+
+    def __call__(self, cwd, *words):
+        how = {"cwd": cwd, "env": self.environment, "text": True}
+        return subprocess.check_output(["git", *words], **how).strip()
+
+    def commit(self, cwd, *changes):
+        """Makes a commit for each of these changes, `NAME` or `-NAME`, and names it."""
+        for change in changes:
+            name = change.removeprefix("-")
+            if change == name:
+                (cwd / name).write_text("\n")
+                self(cwd, "add", name)
+            else:
+                self(cwd, "rm", "-q", name)
+            self(cwd, "commit", "-q", "-m", change)
+        return self(cwd, "rev-parse", "HEAD")
+
+
+class Job:
+    """The job of a file on the page, with the release that it is to get."""
+
+    def __init__(self, text, room, archive, sum_of_it):
+        self.file, self.room = yaml.safe_load(text), room
+        self.release = {"RELEASE_URL": archive.as_uri(), "RELEASE_SHA256": sum_of_it}
+        self.environment = {**Git(room).environment, "RUNNER_TEMP": str(room)}
+
+    def run_script(self, shell, script, clone, **variables):
+        environment = {**self.environment, **variables}
+        command = [shell, "-e", "-c", script]
+        how = {"cwd": clone.path, "env": environment, "text": True}
+        ran = subprocess.run(command, **how, stdout=-1, stderr=-2, errors="replace")
+        return ran.returncode, ran.stdout
+
+
+class GitHub(Job):
+    heading = "GitHub Actions"
+
+    def check_out(self, git, server, *how):
+        """What actions/checkout leaves: the merge of the branch into main."""
+        git(self.room, "clone", "-q", "-n", *how, server.as_uri(), "job")
+        path = self.room / "job"
+        git(path, "checkout", "-q", "origin/main")
+        git(path, "merge", "-q", "--no-ff", "-m", "merge", "origin/change")
+        return path
+
+    def run(self, clone):
+        [job] = self.file["jobs"].values()
+        for step in job["steps"]:
+            given = {**step.get("env", {}), **self.release, "BASE": clone.base}
+            if "run" in step:
+                ended, said = self.run_script("bash", step["run"], clone, **given)
+                if ended:
+                    break
+        return ended, said
+
+
+class GitLab(Job):
+    heading = "GitLab"
+
+    def check_out(self, git, server, *how):
+        """What the runner leaves: the branch, without a name."""
+        git(self.room, "clone", "-q", "-n", *how, server.as_uri(), "job")
+        path = self.room / "job"
+        git(path, "checkout", "-q", "origin/change")
+        return path
+
+    def run(self, clone):
+        [job] = self.file.values()
+        lines = [it for it in job["before_script"] if not it.startswith("apt-get ")]
+        script = "\n".join([*lines, *job["script"]])
+        script = script.replace("/tmp/", f"{self.room}/")
+        base = {"CI_COMMIT_BEFORE_SHA": clone.base}
+        return self.run_script("sh", script, clone, **self.release, **base)
+
+
+@pytest.fixture(params=[GitHub, GitLab])
+def job(request, archive, tmp_path):
+    for tool in ("curl", "git"):
+        if not shutil.which(tool):
+            pytest.skip(f"needs {tool}")
+    kind = request.param
+    form = rf"(?ms)^## {kind.heading}$.*?^```yaml\n(.*?)^```$"
+    [text] = re.findall(form, PAGE.read_text("utf-8"))
+    sum_of_it = hashlib.sha256(archive.read_bytes()).hexdigest()
+    return kind(text, tmp_path, archive, sum_of_it)
+
+
+@pytest.fixture
+def opened(job, tmp_path):
+    """Opens a pull request for commits with these changes, and checks it out."""
+    git = Git(tmp_path)
+
+    def open_it(*changes, before=("README",), how=()):
+        server, author = tmp_path / "server", tmp_path / "author"
+        git(tmp_path, "init", "-q", "--bare", "-b", "main", server)
+        git(tmp_path, "init", "-q", "-b", "main", author)
+        base = git.commit(author, *before)
+        git(author, "push", "-q", server, "HEAD:refs/heads/main")
+        git.commit(author, *changes)
+        git(author, "push", "-q", server, "HEAD:refs/heads/change")
+        path = job.check_out(git, server, *how)
+        return Clone(path, base, git(path, "rev-parse", "HEAD"))
+
+    return open_it
+
+
+def test_a_job_for_good_names_passes_and_says_how_many_it_checked(job, opened):
+    clone = opened("main.c", "other.c")
+    status, said = job.run(clone)
+    assert status == 0, said
+    commits = 3 if isinstance(job, GitHub) else 2  # (with the merge)
+    assert said.splitlines()[-1] == (
+        f"git-scan-names: 3 files, {commits} commits in {clone.base}..HEAD"
+    )
+
+
+@pytest.mark.parametrize("changes", [["aux.c"], ["aux.c", "-aux.c"]])
+def test_a_job_for_a_device_fails_also_if_a_later_commit_removes_it(
+    job, opened, changes
+):
+    status, said = job.run(opened("main.c", *changes))
+    assert status == 1
+    assert said.count(DEVICE) == 1
+    assert said.endswith("Rename these paths in the commits that add them.\n")
+
+
+def test_a_job_for_an_old_device_fails(job, opened):
+    status, said = job.run(opened("main.c", before=["aux.c"]))
+    assert (status, said.count(DEVICE)) == (1, 1)
+
+
+def test_a_job_without_a_base_checks_all_history(job, opened):
+    clone = opened("main.c", before=["aux.c", "-aux.c", "README"])
+    assert job.run(clone)[0] == 0
+    shutil.rmtree(job.room / "release")
+    status, said = job.run(clone._replace(base=NO_COMMIT))
+    assert (status, said.count(DEVICE)) == (1, 1)
+
+
+def test_a_job_in_a_shallow_clone_fails(job, opened):
+    clone = opened("main.c")
+    shallow = job.room / "shallow"
+    Git(job.room)(job.room, "clone", "-q", "--depth=1", clone.path.as_uri(), shallow)
+    status, said = job.run(clone._replace(path=shallow))
+    assert status == 2, said
+    assert "A commit is missing." in said
+
+
+def test_a_job_in_an_empty_checkout_fails(job, opened):
+    clone = opened("main.c")
+    empty = job.room / "empty"
+    Git(job.room)(job.room, "clone", "-q", "-n", clone.path.as_uri(), empty)
+    status, said = job.run(clone._replace(path=empty))
+    assert status == 2, said
+    assert "the index is empty, so nothing was checked" in said
+
+
+def test_a_job_for_no_commits_fails(job, opened):
+    clone = opened("main.c")
+    status, said = job.run(clone._replace(base=clone.head))
+    assert status == 2, said
+    assert " 0 commits in " in said
+
+
+def test_a_job_runs_nothing_of_an_archive_with_another_checksum(job, opened):
+    clone = opened("aux.c")
+    job.release["RELEASE_SHA256"] = "0" * 64
+    status, said = job.run(clone)
+    assert status == 1
+    assert "FAILED" in said
+    assert DEVICE not in said

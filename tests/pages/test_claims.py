@@ -1,0 +1,133 @@
+"""What README and the FAQ say of names, and of what Git does with them, is so."""
+
+import os
+import re
+import subprocess
+import tarfile
+
+import pytest
+
+from tests.pages.blocks import ROOT
+
+# Names that README says are accepted, each as what it is checked.
+ACCEPTED = [
+    ("path", "-x"),
+    ("ref", "refs/heads/-x"),
+    ("path", "README"),
+    ("path", "readme"),
+    ("path", "\u00e9"),
+    ("path", "e\u0301"),
+    ("path", "COM\u00b9"),
+    ("path", ".git\udcff"),
+    ("ref", "refs/heads/aux"),
+    ("submodule", "hippo"),
+    ("submodule", "hippo/hooks"),
+    ("path", "a" * 60_000),
+]
+
+CONFIG = """[user]
+name = a
+email = a@example
+[protocol "file"]
+allow = always
+"""
+
+
+@pytest.fixture(scope="session")
+def command(archive, tmp_path_factory):
+    """The `git-check-names` of the release."""
+    room = tmp_path_factory.mktemp("release")
+    with tarfile.open(archive) as opened:
+        opened.extractall(room)
+    [program] = room.glob("*/bin/git-check-names")
+    return program
+
+
+@pytest.fixture
+def git(tmp_path):
+    """Git, which sees nobody's settings, and fetches from directories."""
+    config = tmp_path / "config"
+    config.write_text(CONFIG)
+    environment = {
+        **os.environ,
+        "GIT_CONFIG_GLOBAL": str(config),
+        "GIT_CONFIG_NOSYSTEM": "1",
+    }
+
+    def run(*words, cwd=tmp_path):
+        how = {"cwd": cwd, "env": environment, "capture_output": True, "text": True}
+        return subprocess.run(["git", *words], **how)
+
+    return run
+
+
+def section(page, heading):
+    """The text below a heading of a page."""
+    text = (ROOT / page).read_text("utf-8")
+    return re.search(rf"(?ms)^#+ {heading}$(.*?)(?=^#|\Z)", text)[1]
+
+
+@pytest.mark.parametrize("kind, name", ACCEPTED)
+def test_what_README_says_is_not_checked_is_accepted(command, kind, name):
+    words = [command, kind, "-z"]
+    given = os.fsencode(name) + b"\0"
+    ran = subprocess.run(words, input=given, stdout=subprocess.PIPE)
+    assert (ran.returncode, ran.stdout) == (0, b"")
+
+
+def test_README_names_what_is_not_checked():
+    text = section("README.md", "What it doesn't check")
+    named = {it for _, it in ACCEPTED if it.isascii() and len(it) < 100}
+    assert [it for it in named if f"`{it}`" not in text] == []
+
+
+def test_the_rules_that_the_FAQ_calls_those_of_Windows_go_with_Windows(command):
+    table = section("docs/FAQ.md", r"Which rules are Windows' alone\?")
+    rows = re.findall(r"(?m)^\|[^|]*\|([^|]*)\|$", table)
+    examples = [it for row in rows for it in re.findall("`([^`]*)`", row)]
+    assert len(examples) == 7
+    for name in examples:
+        ran = [
+            subprocess.run([command, "path", *words, name], stdout=subprocess.PIPE)
+            for words in ([], ["--protect", "hfs,ntfs"])
+        ]
+        assert [it.returncode for it in ran] == [1, 0], name
+
+
+@pytest.mark.parametrize("word", ["branch", "tag"])
+def test_git_refuses_a_branch_and_a_tag_that_begin_with_a_dash(git, tmp_path, word):
+    git("init", "-q")
+    assert git("commit", "-q", "--allow-empty", "-m", "a").returncode == 0
+    assert git(word, "--", "x").returncode == 0
+    refused = git(word, "--", "-x")
+    assert refused.returncode == 128
+    assert "is not a valid" in refused.stderr
+
+
+def test_git_refuses_to_clone_a_submodule_in_another_one(git, tmp_path):
+    (tmp_path / "top").mkdir()
+    for name in ("top", "part"):
+        git("init", "-q", name)
+    git("commit", "-q", "--allow-empty", "-m", "a", cwd=tmp_path / "part")
+    head = git("rev-parse", "HEAD", cwd=tmp_path / "part").stdout.strip()
+    form = '[submodule "{}"]\n\tpath = {}\n\turl = {}/part\n'
+    names = {"hippo": "one", "hippo/hooks": "two"}
+    modules = (form.format(it, path, tmp_path) for it, path in names.items())
+    (tmp_path / "top/.gitmodules").write_text("".join(modules))
+    git("add", ".", cwd=tmp_path / "top")
+    for path in names.values():
+        entry = f"160000,{head},{path}"
+        git("update-index", "--add", "--cacheinfo", entry, cwd=tmp_path / "top")
+    git("commit", "-q", "-m", "a", cwd=tmp_path / "top")
+    assert git("fsck", cwd=tmp_path / "top").returncode == 0
+    cloned = git("clone", "-q", "--recurse-submodules", "top", "clone")
+    assert cloned.returncode == 1
+    assert "in another submodule's git dir" in cloned.stderr
+
+
+def test_tar_lists_a_name_with_a_newline_on_one_line(tmp_path):
+    (tmp_path / "a\nb").touch()
+    archive = tmp_path / "a.tar"
+    subprocess.check_call(["tar", "-cf", archive, "a\nb"], cwd=tmp_path)
+    listed = subprocess.check_output(["tar", "-tf", archive], text=True)
+    assert listed == "a\\nb\n"

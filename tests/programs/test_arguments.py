@@ -75,10 +75,26 @@ def test_an_empty_word_is_a_wrong_argument_or_an_operand(program, help_text):
     assert ran == (printed if program.needed else wrong)
 
 
-def test_an_argument_that_is_no_utf_8_is_refused(program):
-    why, command = "the arguments can't be read as UTF-8", program.executable
-    expected = program.fails(why, status=2, command=command)
-    assert program.run(program.given, b"\xff") == expected
+def test_an_argument_that_is_not_utf_8_is_refused_and_named(program):
+    """check_names names none, since its arguments are `--help` and `--version` alone."""
+    why = {
+        "check_names": "the arguments can't be read as UTF-8",
+        "check_push": "argument {} isn't UTF-8",
+        "git_check_names": "argument {} isn't UTF-8: "
+        "use -z to read such names from the input",
+    }[program.name.split()[0]]
+    words = [*program.words, b"\xff", b"\xfe"]
+    number = 1 + len(program.name.split()[1:]) + len(program.words)
+    said = why.format(number)
+    expected = program.fails(said, status=2, command=program.executable)
+    assert program.run(program.given, *words) == expected
+
+
+def test_a_long_argument_that_is_not_utf_8_is_refused_without_its_number(
+    git_check_names,
+):
+    ran = git_check_names.run(b"", "path", b"\xff" * 4097)
+    assert ran == git_check_names.fails("an argument isn't UTF-8", status=2)
 
 
 @pytest.mark.parametrize(

@@ -3,6 +3,7 @@ read, a write or an allocation fails (tests/devices.c)."""
 
 import os
 import pty
+import stat
 
 import pytest
 
@@ -60,9 +61,13 @@ def target(request):
 
 @pytest.mark.parametrize("size", ["small", "large"])
 def test_a_report_that_can_not_be_written_is_a_failure(program, target, size):
+    """If nobody reads the report any more, as after `| head -1`, nothing is said, but by
+    check_names, whose messages are part of its specification."""
     given = program.given if size == "small" else program.large
     ran = program.run(given, *program.words, to=target)
-    assert ran == program.fails("write failed")
+    is_pipe = stat.S_ISFIFO(os.fstat(target).st_mode)
+    is_quiet = is_pipe and program.name != "check_names"
+    assert ran == (Ran(2, b"", "") if is_quiet else program.fails("write failed"))
 
 
 @pytest.mark.parametrize("word", ["--help", "--version"])

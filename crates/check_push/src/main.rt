@@ -7,10 +7,12 @@ mod submodules;
 mod trees;
 
 use options::{HELP, Subcommand, subcommand_of};
-use programs::arguments::{ArgumentError, ParseOptions, arguments, fail_arguments};
+use programs::arguments::{ArgumentError, NotUtf8, ParseOptions, arguments};
+use programs::arguments::{fail_arguments, first_not_utf8};
 use programs::command::execute_on_streams;
 use programs::messages::Messages;
 use programs::{VERSION, fail, print};
+use std::env;
 use std::io::Write;
 use std::process::ExitCode;
 
@@ -18,7 +20,9 @@ const NAME: &str = "check_push";
 
 fn main(rt: HostRuntime) -> ExitCode {
     let mut errors = Messages::new(rt.stderr());
-    let arguments = match arguments(rt.alloc(), std::env::args(&rt), NAME, &mut errors) {
+    let args = env::args(&rt);
+    let not_utf8 = first_not_utf8(&rt).map_or(NotUtf8::Long, |number| NotUtf8::Argument(number));
+    let arguments = match arguments(rt.alloc(), args, not_utf8, NAME, &mut errors) {
         Ok(arguments) => arguments,
         Err(status) => return status,
     };

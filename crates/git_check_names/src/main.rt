@@ -11,19 +11,22 @@ mod quote;
 mod report;
 
 use options::{CheckOptions, HELP};
-use programs::arguments::arguments;
+use programs::arguments::{NotUtf8, arguments, first_not_utf8};
 use programs::command::{Program, execute_on_streams};
 use programs::error::RunError;
 use programs::fail;
 use programs::messages::Messages;
 use programs::operands::split_words;
+use std::env;
 use std::process::ExitCode;
 
 const NAME: &str = "git-check-names";
 
 fn main(rt: HostRuntime) -> ExitCode {
     let mut errors = Messages::new(rt.stderr());
-    let arguments = match arguments(rt.alloc(), std::env::args(&rt), NAME, &mut errors) {
+    let args = env::args(&rt);
+    let not_utf8 = first_not_utf8(&rt).map_or(NotUtf8::Long, |number| NotUtf8::Name(number));
+    let arguments = match arguments(rt.alloc(), args, not_utf8, NAME, &mut errors) {
         Ok(arguments) => arguments,
         Err(status) => return status,
     };

@@ -16,7 +16,15 @@ HOOK = DESCRIBED["git-names-hook"]
 PROGRAMS = [it for it in DESCRIBED if it != HOOK["name"]]
 SUBCOMMANDS = DESCRIBED["check_push"]["subcommands"]
 # What a manual page has, in this order, with others between.
-HEADINGS = ["NAME", "SYNOPSIS", "DESCRIPTION", "EXIT STATUS", "EXAMPLES", "SEE ALSO"]
+HEADINGS = [
+    "NAME",
+    "SYNOPSIS",
+    "DESCRIPTION",
+    "OPTIONS",
+    "EXIT STATUS",
+    "EXAMPLES",
+    "SEE ALSO",
+]
 
 
 def help_of(name):

@@ -175,17 +175,17 @@ class Fault(enum.Enum):
     ENDS_WITH_DOT = 9, "it ends in a dot"
     ENDS_WITH_SLASH = 10, "it ends in a slash"
     EMPTY = 11, "it is empty"
-    SOME_LOWERCASE = 12, "it has no slash, and a byte other than A to Z and _, as a digit"
-    RESERVED = 13, "it is reserved: @, or as a branch HEAD, which is refs/heads/HEAD in full"
+    SOME_LOWERCASE = 12, "it has no slash, and a byte other than A to Z and _, such as a digit"
+    RESERVED = 13, "it is reserved: @, or for a branch HEAD, which is refs/heads/HEAD in full"
     PARENT_COMPONENT = 14, "a part of it is .."
     PATH_SEPARATOR = 15, "it has a slash, or with Windows protection a backslash"
     WINDOWS_PATH_PREFIX = 16, "a colon follows its first unit, as in C:"
-    WINDOWS_RESERVED_NAME = 17, "it is a device, as NUL or com1.txt"
+    WINDOWS_RESERVED_NAME = 17, "it is a device, such as NUL or com1.txt"
     WINDOWS_ILLEGAL_CHARACTER = 18, "it has a byte below 0x20 or one of <>:\"|?*, or a dot or space last"
     DOT_GIT_DIR = 19, "it is .git, or may be read as that"
     SYMLINKED_GIT_MODULES = 20, "it is a symlink, and .gitmodules, or may be read as that"
     RELATIVE = 21, "it is . or .."
-    STARTS_WITH_DASH = 22, "it starts with a dash, as an option of a command does"
+    STARTS_WITH_DASH = 22, "it starts with a dash, as an option does"
     EMPTY_PART = 23, "a part is empty: a slash is first or last, or follows another one, or the path is empty"
     NUL = 24, "it has a NUL byte, although each part is a component"
     OUTSIDE_REFS = 25, "it is not below refs/, and has a byte other than A to Z and _"
@@ -329,7 +329,7 @@ def validate_branch(name: Name) -> Name:
     InvalidName.
 
     "refs/heads/" with it is a valid full name. It isn't "HEAD", and doesn't start with a
-    dash, as an option of a command does.
+    dash, as an option does.
     """
     return _validated(name, "branch")
 
@@ -349,7 +349,7 @@ def validate_tag(name: Name) -> Name:
     InvalidName.
 
     "refs/tags/" with it is a valid full name. It isn't "HEAD", and doesn't start with a
-    dash, as an option of a command does.
+    dash, as an option does.
     """
     return _validated(name, "tag")
 

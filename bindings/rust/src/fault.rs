@@ -27,9 +27,9 @@ pub enum Fault {
     EndsWithSlash = 10,
     /// It is empty.
     Empty = 11,
-    /// It has no slash, and a byte other than `A` to `Z` and `_`, as a digit.
+    /// It has no slash, and a byte other than `A` to `Z` and `_`, such as a digit.
     SomeLowercase = 12,
-    /// It is reserved: `@`, or as a branch `HEAD`, which is `refs/heads/HEAD` in full.
+    /// It is reserved: `@`, or for a branch `HEAD`, which is `refs/heads/HEAD` in full.
     Reserved = 13,
     /// A part of it is `..`. Both `/` and `\` separate parts.
     ParentComponent = 14,
@@ -37,7 +37,7 @@ pub enum Fault {
     PathSeparator = 15,
     /// A colon follows its first unit, as in `C:`. This needs Windows protection.
     WindowsPathPrefix = 16,
-    /// It is a device, as `NUL` or `com1.txt`. This needs Windows and NTFS protection.
+    /// It is a device, such as `NUL` or `com1.txt`. This needs Windows and NTFS protection.
     WindowsReservedName = 17,
     /// It has a byte below 0x20 or one of `<>:"|?*`, or a dot or space last. This needs Windows and NTFS protection.
     WindowsIllegalCharacter = 18,
@@ -47,7 +47,7 @@ pub enum Fault {
     SymlinkedGitModules = 20,
     /// It is `.` or `..`.
     Relative = 21,
-    /// It starts with a dash, as an option of a command does.
+    /// It starts with a dash, as an option does.
     StartsWithDash = 22,
     /// A part is empty: a slash is first or last, or follows another one, or the path is empty.
     EmptyPart = 23,

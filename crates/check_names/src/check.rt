@@ -24,8 +24,8 @@ use std::{fmt, io};
 use typed_names::{Component, FullName, PartialName, TagName};
 
 /// Reads all of `input`, builds a line of output for each of its lines, writes all of them to
-/// `output` at once, and flushes (docs/RULES.md, "The program's lines"). Reading is by std's
-/// `read_to_end` and writing by its `write_all`: nothing else is tried again.
+/// `output` at once, and flushes (check_names(1)). It reads with std's `read_to_end` and writes
+/// with its `write_all`, which try an interrupted call again; nothing else is tried again.
 ///
 /// A line is a kind, a space and a name, such as `tag v1.0`, for which the output is `ok`. If there
 /// is no line, nothing is written and nothing is flushed.
@@ -89,7 +89,7 @@ impl Display for RunError {
     }
 }
 
-/// All bytes that the reader has left.
+/// All bytes that are left in the reader.
 fn read_all<R: Read>(alloc: Global, input: &mut R) -> io::Result<Vec<u8>>
     ensures bytes { IfOk result (λ text. IfSome (R.remaining input.old) (λ bytes. text.items ≡ bytes)) }
     ensures end { OnOk result (IsAtEnd (R.remaining input.new)) }
@@ -145,8 +145,8 @@ fn first_line(text: &[u8]) -> Option<(&[u8], &[u8])>
     }
 }
 
-/// Appends the result for one line. Each kind takes a comparison for every kind before it, and full
-/// reference names come first.
+/// Appends the result for one line. The kinds are compared one after the other, and full reference
+/// names come first.
 #[tactic(auto, using(crate::proofs::AnswerLemmas::asked_otherwise), unfolding(crate::specs::Answers::answer_of, crate::specs::Answers::kinds))]
 fn push_answer(alloc: Global, line: &[u8], answers: &mut Vec<u8>) -> Result<(), AllocError>
     ensures ok { OnOk result (answers.new.items ≡ answers.old.items ++ answer_of line.now) }
@@ -203,7 +203,7 @@ fn push_component(
     )
 }
 
-/// Appends whether the name is a device on Windows: `yes` or `no`.
+/// Appends `yes` if the name is a device on Windows, and otherwise `no`.
 fn push_device(name: BStr<'_>, answers: &mut Vec<u8>) -> Result<(), AllocError>
     ensures { OnOk result (answers.new.items
         ≡ answers.old.items ++ (if is_device (bstr_bytes name.entry) then codes "yes" else codes "no")) }
@@ -215,8 +215,8 @@ fn push_device(name: BStr<'_>, answers: &mut Vec<u8>) -> Result<(), AllocError>
     }
 }
 
-/// Appends the name, repaired to a partial name. The repaired name is copied, unless it is the first
-/// result: then it becomes the results.
+/// Appends the name, repaired to a partial name. The repaired name is copied, unless it is the
+/// first result, whose memory is then used for all results.
 fn push_sanitized(alloc: Global, name: BStr<'_>, answers: &mut Vec<u8>) -> Result<(), AllocError>
     ensures { OnOk result (answers.new.items
         ≡ answers.old.items ++ sanitized (bstr_bytes name.entry)) }
@@ -230,7 +230,7 @@ fn push_sanitized(alloc: Global, name: BStr<'_>, answers: &mut Vec<u8>) -> Resul
     }
 }
 
-/// Appends the verdict of a validator that returned this: `ok`, or the error.
+/// Appends the result of a validator: `ok`, or the error.
 fn push_verdict<T: Drop, E: Display + Drop>(
     checked: Result<T, E>,
     answers: &mut Vec<u8>,
@@ -256,7 +256,7 @@ fn push_fault<E: Display + Drop>(fault: E, answers: &mut Vec<u8>) -> Result<(), 
     write!(Appender { answers }, "error: {fault}").map_err(|_| AllocError)
 }
 
-/// The results, as a target of formatted writes. A write fails if memory for its bytes can't be
+/// The results, as a target of formatted writes, which fail if memory for their bytes can't be
 /// allocated.
 #[derive(Drop)]
 struct Appender<'a> {

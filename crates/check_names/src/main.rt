@@ -18,7 +18,7 @@ use std::process::ExitCode;
 /// The version of the library and of the programs, which `--version` prints.
 const VERSION: &str = "3.0.0-dev";
 
-/// What is said to somebody at a terminal.
+/// The hint for somebody at a terminal.
 const HINT: &str =
     "type lines such as 'tag v1.2.3', and then Ctrl-D; the results are printed at the end";
 
@@ -54,7 +54,7 @@ fn print<R: Print + Eprint, D: Display + Drop>(rt: &R, text: D) -> ExitCode {
     }
 }
 
-/// Says on standard error what is wrong, and returns this status.
+/// Reports on standard error what is wrong, and returns this status.
 fn fail<R: Eprint, D: Display + Drop>(rt: &R, status: u8, what: D) -> ExitCode {
     let _ = eprintln!(rt; "check_names: {what}");
     ExitCode::from(status)

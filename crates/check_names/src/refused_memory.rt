@@ -1,16 +1,16 @@
 //! Runs in which an allocation fails. `tests/memory` builds these tests once, makes the same
 //! allocation of each fail, and counts what they print.
 //!
-//! A test is named after the allocation of a run that fails in it: it first makes so many allocations
-//! of its own that this one is the one that fails.
+//! A test is named after the allocation of a run that fails in it. It first makes as many
+//! allocations of its own as it takes for this one to be the one that fails.
 
 use crate::check::{RunError, run};
 use crate::tests::{Device, ROWS, printed};
 use std::process::Abort;
 use std::test::Fail;
 
-/// Makes allocations until the given one of the run is the one that fails, runs with a writer that
-/// doesn't allocate, and again if an allocation of the run fails.
+/// Makes allocations until the given one of the run is the one that fails. Then runs with a writer
+/// that doesn't allocate, and once more if an allocation of the run fails.
 fn run_with_refused<R: Abort + AllocGlobal + Print>(rt: &R, request: usize) -> Result<(), Fail> {
     let (input, output) = ROWS;
     let mut room = [0; 512];
@@ -31,7 +31,7 @@ fn run_with_refused<R: Abort + AllocGlobal + Print>(rt: &R, request: usize) -> R
     Ok(())
 }
 
-/// A vector as the writer is what allocates last.
+/// If the writer is a vector, it makes the last allocation.
 #[test]
 fn growing_writer(rt: HostRuntime) -> Result<(), Fail> {
     let (input, output) = ROWS;

@@ -1,5 +1,6 @@
-//! What no clause of `run` says: that it succeeds, which error it returns, and that it flushes. And
-//! tables of lines, with what docs/RULES.md gives for each.
+//! Tests of what no clause of `run` says: that it succeeds, which error it returns, and that it
+//! flushes. Also tables of lines with the expected result of each, by check_names(1) and
+//! docs/RULES.md.
 
 use crate::check::{RunError, run};
 use bstr::BStr;
@@ -36,7 +37,7 @@ const TAGS: (&[u8], &[u8]) = (
     error: A ref must not end with a '/'\n",
 );
 
-/// What is printed for this input, over memory.
+/// What a run that reads and writes memory prints for this input.
 pub fn printed(alloc: Global, input: &[u8]) -> Result<Vec<u8>, RunError> {
     let mut output = Vec::new(alloc);
     run(alloc, &mut &*input, &mut output)?;
@@ -53,8 +54,8 @@ fn expect_line(rt: &(impl Abort + AllocGlobal), line: &[u8], answer: &[u8]) -> R
     Ok(())
 }
 
-/// Lines, and the answers: the space after the kind alone is not part of the name, and no name is
-/// too short or has a byte too many.
+/// Lines, and the results: only the space after the kind is not part of the name, and no byte of a
+/// name is lost or added.
 #[rattlefmt::skip]
 const LINES: &[(&[u8], &[u8])] = &[
     (b"", b"unknown kind"),
@@ -96,7 +97,7 @@ fn sanitizes_names(rt: HostRuntime) -> Result<(), Fail> {
     Ok(())
 }
 
-/// The kinds of line, in the order of the answers below.
+/// The kinds of line, in the order of the results below.
 #[rattlefmt::skip]
 const KINDS: [&[u8]; 9] = [
     b"tag ", b"partial ", b"ref ", b"branch ", b"submodule ", b"path ", b"symlink ", b"device ", b"sanitize ",
@@ -140,9 +141,10 @@ const GIT: &[u8] = b"error: The .git name may never be used";
 
 const MODULES: &[u8] = b"error: The .gitmodules file must not be a symlink";
 
-/// Names, and the answers of each kind. Each two kinds differ for one of the names. Without one of its
-/// protections `path` accepts `a\b`, `.git` with an ignored character, or `git~1`, and `symlink` these
-/// and as many names for `.gitmodules`, which `path` accepts.
+/// Names, and the result for each kind. Every two kinds have different results for one of the
+/// names. Without one of its protections `path` would accept `a\b`, `.git` with an ignored
+/// character, or `git~1`. `symlink` would also accept one of three names for `.gitmodules`, which
+/// `path` accepts.
 #[rattlefmt::skip]
 const ANSWERS: &[(&[u8], [&[u8]; 9])] = &[
     (b"", [TAG_EMPTY, REF_EMPTY, REF_EMPTY, REF_EMPTY, NO_NAME, NO_PATH, NO_PATH, b"no", b"-"]),
@@ -180,7 +182,8 @@ impl Read for Broken {
     }
 }
 
-/// A writer that takes bytes while it has room, and then fails. It can be flushed `flushes` times.
+/// A writer that accepts bytes while it has room, and then fails. It can be flushed `flushes`
+/// times.
 #[derive(Drop)]
 pub struct Device<'a> {
     room: &'a mut [u8],

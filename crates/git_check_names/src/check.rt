@@ -1,4 +1,4 @@
-//! A run: the names of the arguments or of the input, one after the other.
+//! A run over the names in the arguments or in the input, one after the other.
 
 ghost use Rattle.std.specs.Prelude.{◌≡◌, ◌≢◌, ◌++◌, [], false, Some, Err, ℕ, List, Option};
 ghost use Rattle.std.specs.Prelude.{IfOk, IfSome, OnErr, OnOk, map};
@@ -37,14 +37,14 @@ impl<'a> Command<'a> for CheckOptions<'a> {
 
     ghost end_of = { end_of };
 
-    /// Checks the names, and writes a line for each that is invalid to `output`, or the repair of each
-    /// that has one (docs/RULES.md, "The report of names"). `output` is not flushed.
+    /// Checks the names, and writes a line for each that is invalid to `output`, or the repair of
+    /// each that has one (git-check-names(1)). `output` is not flushed.
     ///
     /// # Memory
     ///
-    /// It allocates memory for the longest name of the input, of at most 65,535 bytes, for the longest
-    /// line or the lines of all names that are arguments, for a repaired name, and for what is said of
-    /// names that have no repair or are too long, from `alloc`.
+    /// It allocates memory for the longest name of the input, of at most 65,535 bytes, for the
+    /// longest line or the lines of all names that are arguments, for a repaired name, and for the
+    /// messages about names that have no repair or are too long, from `alloc`.
     #[tactic(auto, using(crate::proofs::AllValid::valid_run))]
     fn run<R: BufRead, W: Write>(
         self,
@@ -79,7 +79,7 @@ impl<'a> Command<'a> for CheckOptions<'a> {
     }
 }
 
-/// Says the messages of a run, if there are any.
+/// Writes the messages of a run, if there are any.
 fn say_messages<E: Write>(name: &str, messages: &[u8], errors: &mut Messages<E>)
     ensures { SaysIf E.contents name.now errors.old errors.new (said_of messages.now) }
 {
@@ -88,7 +88,7 @@ fn say_messages<E: Write>(name: &str, messages: &[u8], errors: &mut Messages<E>)
     }
 }
 
-/// The status of a run that ended so.
+/// The exit status of a run that ended like this.
 fn status_of(ended: Ended) -> u8
     ensures { result ≡ status_of ended }
 {
@@ -121,7 +121,7 @@ fn check_names<R: BufRead, W: Write>(
     }
 }
 
-/// The verdict of a run that does nothing, since something is wrong with the arguments.
+/// The verdict of a run that does nothing because something is wrong with the arguments.
 fn failed_by(alloc: Global, problem: Problem) -> Result<Verdict, RunError>
     ensures verdict { IfOk result (λ verdict. as_outcome verdict ≡ outcome_of (failed_by problem)) }
     ensures stopped { OnErr result (result ≡ Err RunError.Memory) }
@@ -143,7 +143,7 @@ fn push_problem(messages: &mut Vec<u8>, problem: Problem) -> Result<(), RunError
     write!(messages, "{MESSAGE_START}{problem}").map_err(|_| RunError::Memory)
 }
 
-/// The kind and the names that the operands have, or what is wrong with them.
+/// The kind and the names among the operands, or what is wrong with these.
 fn asked_of<'a>(options: CheckOptions<'a>) -> Result<(Kind, &'a [String]), Problem>
     ensures { result_map_both (λ asked. (asked.0, map string_bytes asked.1.now)) (λ problem. problem) result
         ≡ asked_of (as_options options.entry) }
@@ -164,7 +164,7 @@ fn asked_of<'a>(options: CheckOptions<'a>) -> Result<(Kind, &'a [String]), Probl
     }
 }
 
-/// Checks names that are arguments, and writes what is printed of them at the end.
+/// Checks names that are arguments, and writes the lines for all of them at the end.
 #[tactic(auto, using(crate::proofs::GivenNames::given_names))]
 fn check_given<W: Write>(
     alloc: Global,
@@ -197,7 +197,7 @@ fn check_given<W: Write>(
     })
 }
 
-/// Checks the names of the input, and writes what is printed of each as it is read.
+/// Checks the names of the input, and writes the lines for each as it is read.
 fn check_input<R: BufRead, W: Write>(
     alloc: Global,
     options: &CheckOptions<'_>,
@@ -256,7 +256,7 @@ fn stopped_by(messages: Vec<u8>, problem: Problem) -> Result<Verdict, RunError>
     })
 }
 
-/// How a run ends that has read all names.
+/// How a run that has read all names ends.
 fn ended_of(failed: bool, refused: bool) -> Ended
     ensures { result ≡ ended_of failed refused }
 {
@@ -274,7 +274,7 @@ fn name_end(options: &CheckOptions<'_>) -> u8
     if options.nul { 0 } else { b'\n' }
 }
 
-/// Whether a line has a NUL, and so is taken for names that end with one.
+/// Whether a line has a NUL, and so may be a list of names that end with NUL.
 #[tactic(auto, using(crate::proofs::GivenNames::nul_found))]
 fn has_nul(options: &CheckOptions<'_>, name: &[u8]) -> bool
     ensures { result ≡ has_nul (as_options options.now) name.now }

@@ -23,8 +23,7 @@ use gix_validate::{reference, submodule, tag};
 use programs::accepted::without_windows;
 use programs::text::split_once;
 
-/// Why a name is not one of this kind, and where; `None` if it is (docs/RULES.md, "The report of
-/// names").
+/// Why a name is not valid as this kind, and where; `None` if it is (git-check-names(1)).
 ///
 /// ```
 /// fault_of(&options, Kind::Branch, b"main"); // None
@@ -43,7 +42,7 @@ pub fn fault_of(options: &CheckOptions<'_>, kind: Kind, name: &[u8]) -> Option<F
     }
 }
 
-/// Why a name is not one of this kind under these switches, which hold for each part of a path.
+/// Why a name is not valid as this kind under these switches, which apply to each part of a path.
 fn fault_under(protections: ComponentOptions, kind: Kind, name: &[u8]) -> Option<Fault>
     ensures fault { result ≡ fault_by_kind protections kind name.now }
     ensures grammar { (result ≡ None) ↔ IsTrue (is_name_by_kind protections kind name.now) }
@@ -65,7 +64,7 @@ fn protections_for(options: &CheckOptions<'_>, name: &[u8]) -> ComponentOptions
     }
 }
 
-/// Why a name is not a path, of which some parts are accepted.
+/// Why a name is not a valid path if some parts are accepted.
 #[tactic(auto, using(crate::proofs::AcceptedPaths::path_laws))]
 fn path_fault(options: &CheckOptions<'_>, name: &[u8]) -> Option<Fault>
     ensures fault { result ≡ path_fault_of (as_options options.now) name.now }
@@ -77,7 +76,7 @@ fn path_fault(options: &CheckOptions<'_>, name: &[u8]) -> Option<Fault>
     }
 }
 
-/// The first part of a path, and what is after its slash, if it has one.
+/// The first part of a path, and what follows its slash, if it has one.
 #[tactic(auto, using(crate::proofs::AcceptedPaths::parts_cut))]
 fn first_part(path: &[u8]) -> Option<(&[u8], &[u8])>
     ensures { IsFirstPart path.now (option_map (λ parts. (parts.0.now, parts.1.now)) result) }
@@ -129,7 +128,7 @@ fn part_fault(options: &CheckOptions<'_>, offset: usize, part: &[u8]) -> Option<
     }
 }
 
-/// That a path has a NUL, if it has one.
+/// The fault of a path with a NUL, if it has one.
 fn nul_fault(name: &[u8]) -> Option<Fault>
     ensures { result ≡ nul_fault_of name.now }
 {
@@ -148,7 +147,7 @@ fn first_nul(name: &[u8]) -> Option<usize>
     name.iter().position(|byte| *byte == 0)
 }
 
-/// The name of the error, as `RepeatedSlash`.
+/// The name of the error, such as `RepeatedSlash`.
 ///
 /// It does not allocate.
 pub fn reason_word(reason: &Reason) -> &'static str

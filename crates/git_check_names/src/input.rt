@@ -16,12 +16,12 @@ pub enum Next {
     Name,
     /// A name that is too long.
     TooLong,
-    /// Nothing, since the input has ended.
+    /// Nothing, because the input has ended.
     End,
 }
 
-/// Reads the next name into `name`, whose old contents are dropped, and the byte `end` after it, which
-/// the last name need not have. Of a name that is too long nothing is kept.
+/// Reads the next name into `name`, whose old contents are dropped, and consumes the byte `end`
+/// after it, which the last name need not have. A name that is too long is dropped.
 pub(crate) fn next_name<R: BufRead>(
     input: &mut R,
     end: u8,
@@ -42,7 +42,7 @@ pub(crate) fn next_name<R: BufRead>(
     }
 }
 
-/// Skips what is left of a name, and the byte after it. `part` is where the skipped bytes are read.
+/// Skips the rest of a name, and the byte after it. `part` is the buffer for the skipped bytes.
 fn skip_past<R: BufRead>(input: &mut R, end: u8, part: &mut Vec<u8>) -> Result<(), RunError>
     ensures skips { IfOk result (λ _. IfSome (R.remaining input.old)
         (λ text. SkipsPast end text (R.remaining input.new))) }

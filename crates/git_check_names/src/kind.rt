@@ -5,7 +5,7 @@ ghost use Rattle.git_check_names.specs.Kinds.{is_repairable, kind_of};
 
 use git_names::Kind;
 
-/// The kind that a word names (docs/RULES.md, "The report of names"); `None` if there is none.
+/// The kind that a word names (git-check-names(1)); `None` if there is none.
 ///
 /// ```
 /// kind_of(b"ref"); // Kind::Reference
@@ -37,7 +37,7 @@ pub fn kind_of(word: &[u8]) -> Option<Kind>
     }
 }
 
-/// Whether there is a repair of names of this kind.
+/// Whether names of this kind can be repaired.
 pub fn is_repairable(kind: Kind) -> bool
     ensures repairable { result ≡ is_repairable kind }
 {

@@ -1,4 +1,4 @@
-//! Prints a line for each name that Git can't use. The names are arguments, or come from standard input.
+//! Prints a line for each invalid name. The names are arguments, or are read from standard input.
 #![tactic(auto)]
 
 mod check;

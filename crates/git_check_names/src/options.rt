@@ -1,4 +1,4 @@
-//! The program's options (docs/RULES.md, "The report of names").
+//! The program's options (git-check-names(1)).
 
 ghost use Rattle.std.specs.Prelude.{◌≡◌, [], map};
 ghost use Rattle.std.specs.String.{string_bytes};
@@ -57,18 +57,18 @@ invalid, and has no repair if that is asked for. It is 2 if there is no name, a
 name in the input is longer than 65535 bytes (the others are checked), a line
 has a NUL, reading or writing fails, memory runs out, or an argument is wrong.";
 
-/// How names are checked, and which.
+/// How names are checked, and which names.
 #[derive(Clone, Copy)]
 pub struct CheckOptions<'a> {
     /// The file systems to protect.
     pub protections: ComponentOptions,
     /// Whether names are read from the input (`--stdin`, `-z`).
     pub reads: bool,
-    /// Whether each name in the input ends with a NUL (`-z`), and not with a newline.
+    /// Whether each name in the input ends with a NUL (`-z`) instead of a newline.
     pub nul: bool,
     /// Whether names are repaired (`--repair`).
     pub repair: bool,
-    /// Whether a line has the name of the error too (`--verbose`).
+    /// Whether a line also has the name of the error (`--verbose`).
     pub verbose: bool,
     /// The kind, and then the names that are arguments.
     pub operands: &'a [String],
@@ -76,7 +76,7 @@ pub struct CheckOptions<'a> {
     pub accepted: AcceptedNames<'a>,
 }
 
-/// What is said if there are too many lists of accepted names.
+/// The message if there are too many lists of accepted names.
 const FEWER_LISTS: &str = "--accept at most 16 times";
 
 impl<'a> CheckOptions<'a> {

@@ -5,16 +5,16 @@ ghost use Rattle.git_check_names.specs.Problems.{problem_text_of};
 
 use std::fmt;
 
-/// What is wrong, not with a name, but with the arguments or the input.
+/// What is wrong with the arguments or the input, apart from invalid names.
 #[derive(Drop)]
 pub enum Problem {
-    /// The first argument is no kind.
+    /// The first operand is not a kind.
     NoKind,
     /// There is no name among the arguments.
     NoName,
     /// There is no name in the input.
     EmptyInput,
-    /// Names are among the arguments, and are also to be read.
+    /// Names are among the arguments, although names are to be read.
     TwoSources,
     /// Names of this kind can't be repaired.
     NoRepair,
@@ -54,14 +54,14 @@ impl fmt::Display for Problem {
     }
 }
 
-/// How a run ended that did not fail.
+/// How a run that did not fail ended.
 #[derive(Clone, Copy)]
 pub enum Ended {
     /// All names are valid, or have a repair if that is asked for.
     Valid,
-    /// A name is not, or has none.
+    /// A name is invalid, or has no repair if that is asked for.
     Invalid,
-    /// The arguments are wrong, or the input is.
+    /// The arguments or the input are wrong.
     Failed,
 }
 
@@ -70,9 +70,10 @@ pub enum Ended {
 pub struct Verdict {
     /// How it ended.
     pub ended: Ended,
-    /// What is said on standard error. Each message is after [`MESSAGE_START`].
+    /// What is written to standard error. Each message follows [`MESSAGE_START`].
     pub messages: Vec<u8>,
 }
 
-/// What is before each message of a run: the program's name is before the first one.
+/// What comes before each message of a run. Before the first one the program's name is printed
+/// instead.
 pub const MESSAGE_START: &str = "\ngit-check-names: ";

@@ -5,8 +5,7 @@ ghost use Rattle.git_check_names.specs.GitQuoted.{git_escape_of, git_quoted, oct
 
 use std::alloc::AllocError;
 
-/// Appends a name between double quotes, with its bytes escaped as Git does (docs/RULES.md, "The report
-/// of names").
+/// Appends a name between double quotes, with its bytes escaped as Git does (git-check-names(1)).
 pub(crate) fn push_git_quoted(line: &mut Vec<u8>, name: &[u8]) -> Result<(), AllocError>
     ensures { OnOk result (line.new.items ≡ line.old.items ++ git_quoted name.now) }
 {

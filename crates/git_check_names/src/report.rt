@@ -22,9 +22,9 @@ use programs::text::split_once;
 use std::alloc::{AllocError, Global};
 use std::io::{self, Write};
 
-/// Appends what is said of a name, lines that are printed and messages on standard error, and returns
-/// whether it is refused: it is invalid, and has no repair if that is asked for (docs/RULES.md, "The
-/// report of names").
+/// Appends the lines to print for a name and the messages about it for standard error, and returns
+/// whether the name is refused: it is invalid, and has no repair if that is asked for
+/// (git-check-names(1)).
 pub(crate) fn push_report(
     alloc: Global,
     options: &CheckOptions<'_>,
@@ -151,14 +151,14 @@ fn are_plain(name: &[u8]) -> bool
     name.iter().all(|byte| matches!(*byte, b' ' | b'!' | b'#'..=b'[' | b']'..=b'~'))
 }
 
-/// Whether a line would not say where the name ends.
+/// Whether a line would not show where the name ends.
 fn is_unclear(name: &[u8]) -> bool
     ensures { result ≡ is_unclear name.now }
 {
     name.starts_with(b" ") || name.ends_with(b" ") || has_separator(name)
 }
 
-/// What is before the first colon, and after it, if there is one.
+/// The bytes before and after the first colon, if there is one.
 #[tactic(auto, using(crate::proofs::UnclearNames::names_held))]
 fn cut_at_colon(name: &[u8]) -> Option<(&[u8], &[u8])>
     ensures { IsCutAtColon name.now (option_map (λ parts. (parts.0.now, parts.1.now)) result) }
@@ -166,7 +166,7 @@ fn cut_at_colon(name: &[u8]) -> Option<(&[u8], &[u8])>
     split_once(b':', name)
 }
 
-/// Whether the name has a colon and a blank in a row.
+/// Whether the name has a colon followed by a space.
 fn has_separator(name: &[u8]) -> bool
     ensures { result ≡ holds name.now (codes ": ") }
 {
@@ -180,7 +180,7 @@ fn has_separator(name: &[u8]) -> bool
     false
 }
 
-/// The byte that ends what is printed.
+/// The byte that ends a printed name.
 fn print_end(options: &CheckOptions<'_>) -> u8
     ensures { result ≡ print_end (as_options options.now) }
 {

@@ -19,12 +19,12 @@ use std::error::Error;
 use std::fmt;
 use typed_names::{Name, Rule};
 
-/// Why a name is not the short name of a branch or of a tag (docs/RULES.md, "Short names").
+/// Why a name is not the short name of a branch or tag (docs/RULES.md, "Short names").
 #[derive(Debug, Drop)]
 pub enum ShortNameError {
     /// It isn't a valid tag name, or it is `HEAD`, which is `Reserved`.
     Name(reference::NameError),
-    /// It starts with a dash, as an option of a command does.
+    /// It starts with a dash, as an option does.
     StartsWithDash,
 }
 
@@ -53,11 +53,12 @@ impl fmt::Display for ShortNameError {
 
 impl Error for ShortNameError {}
 
-/// Returns `name` if it is the short name of a branch, as `main`: with `refs/heads/` before it it is
-/// the full name of one, and it doesn't start with a dash (docs/RULES.md, "Short names").
+/// Returns `name` if it is the short name of a branch, such as `main`: it doesn't start with a
+/// dash, and `refs/heads/` followed by it is the full name of a branch (docs/RULES.md, "Short
+/// names").
 ///
-/// Git's commands accept the same names for a new branch, but that they also replace forms such as
-/// `@{-1}`. The function doesn't allocate. On `Ok` it returns the value that it was passed.
+/// Git's commands accept the same names for a new branch, except that they also expand forms such
+/// as `@{-1}`. The function doesn't allocate. On `Ok` it returns the value that it was passed.
 ///
 /// ```
 /// branch(BStr::from("main"))?; // `main`
@@ -67,7 +68,8 @@ impl Error for ShortNameError {}
 ///
 /// # Errors
 ///
-/// The fault of [`tag::name`] if there is one. Otherwise `Reserved` for `HEAD`, or `StartsWithDash`.
+/// The error of [`tag::name`] if there is one, and otherwise `Reserved` for `HEAD`, or
+/// `StartsWithDash`.
 #[inline(always)]
 #[tactic(auto, using(crate::proofs::ShortNameLemmas::short_names), unfolding(crate::specs::ShortNames::fault_of))]
 pub fn branch<'a>(name: BStr<'a>) -> Result<BStr<'a>, ShortNameError>

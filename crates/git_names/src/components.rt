@@ -1,4 +1,4 @@
-//! Names of entries of a directory, by what the entry is.
+//! The names of directory entries: of any entry, and of a symbolic link.
 
 ghost use Rattle.std.specs.Prelude.{◌≡◌, ◌↔◌, IsOk, IfOk, IsTrue, None, Some};
 ghost use Rattle.bstr.specs.BStr.{bstr_bytes};
@@ -9,10 +9,11 @@ ghost use Rattle.gix_validate.specs.declared.path.ComponentMode.TheVariants.{Sym
 use bstr::BStr;
 use gix_validate::path::{self, ComponentError, ComponentMode, ComponentOptions};
 
-/// Returns `name` if it is a valid path component, as `main.rs` (docs/RULES.md, "Path components").
+/// Returns `name` if it is a valid path component, such as `main.rs` (docs/RULES.md, "Path
+/// components").
 ///
-/// It is `gix_validate::path::component` without a mode. The function doesn't allocate. On `Ok` it
-/// returns the value that it was passed.
+/// This is `gix_validate::path::component` without a mode. The function doesn't allocate. On `Ok`
+/// it returns the value that it was passed.
 ///
 /// ```
 /// component(BStr::from("src"), ComponentOptions::default())?; // `src`
@@ -21,7 +22,7 @@ use gix_validate::path::{self, ComponentError, ComponentMode, ComponentOptions};
 ///
 /// # Errors
 ///
-/// The first condition of the table that refuses the name.
+/// The error of the first condition in docs/RULES.md that refuses the name.
 #[inline(always)]
 pub fn component<'a>(name: BStr<'a>, options: ComponentOptions) -> Result<BStr<'a>, ComponentError>
     ensures answer { Validates (fault_of options None) (bstr_bytes name.entry) result }
@@ -34,7 +35,7 @@ pub fn component<'a>(name: BStr<'a>, options: ComponentOptions) -> Result<BStr<'
 /// Returns `name` if it is a valid path component of a symbolic link (docs/RULES.md, "Path
 /// components").
 ///
-/// It is `gix_validate::path::component` with the mode of a symbolic link. The function doesn't
+/// This is `gix_validate::path::component` with the mode of a symbolic link. The function doesn't
 /// allocate. On `Ok` it returns the value that it was passed.
 ///
 /// ```
@@ -44,7 +45,7 @@ pub fn component<'a>(name: BStr<'a>, options: ComponentOptions) -> Result<BStr<'
 ///
 /// # Errors
 ///
-/// The first condition of the table that refuses the name.
+/// The error of the first condition in docs/RULES.md that refuses the name.
 #[inline(always)]
 pub fn symlink<'a>(name: BStr<'a>, options: ComponentOptions) -> Result<BStr<'a>, ComponentError>
     ensures answer { Validates (fault_of options (Some Symlink)) (bstr_bytes name.entry) result }

@@ -24,7 +24,7 @@ use gix_validate::{reference, tag as tag_names};
 use std::error::Error;
 use std::fmt;
 
-/// What kind of name a name is to be.
+/// The kind of name that a check is for.
 #[derive(Debug, Copy, Clone, PartialEq, Eq)]
 pub enum Kind {
     Branch,
@@ -35,30 +35,30 @@ pub enum Kind {
     TagName,
     SafeRef,
     Path,
-    /// A path whose last part is to be a symbolic link.
+    /// The path of a symbolic link.
     SymlinkPath,
     Component,
-    /// A component that is to be a symbolic link.
+    /// The name of a symbolic link.
     Symlink,
     Submodule,
 }
 
-/// Why a name is not of a kind: the error of that kind's call.
+/// Why a name is not of a kind: the error that the function for that kind returns.
 #[derive(Debug, Drop)]
 pub enum Reason {
-    /// Of a branch or tag as people write them.
+    /// For a branch or tag, as people write it.
     Short(ShortNameError),
-    /// Of a full branch name, another full name or a partial name.
+    /// For a full branch name, another full name or a partial name.
     Reference(reference::NameError),
-    /// Of a tag name.
+    /// For a tag name.
     TagName(tag_names::NameError),
-    /// Of a safe reference name.
+    /// For a safe reference name.
     SafeRef(SafeRefError),
-    /// Of a whole path.
+    /// For a whole path.
     Path(PathError),
-    /// Of a component, or the name of a symbolic link.
+    /// For a component, or the name of a symbolic link.
     Component(ComponentError),
-    /// Of a submodule name.
+    /// For a submodule name.
     Submodule(SubmoduleError),
 }
 
@@ -97,7 +97,7 @@ pub struct Fault {
     pub offset: usize,
 }
 
-/// It prints the text of the reason.
+/// Prints the text of the reason.
 impl fmt::Display for Fault {
     ghost output = { λ fault. Some (text_of fault.reason) };
 
@@ -110,9 +110,9 @@ impl Error for Fault {}
 
 /// Returns `name` if it is a valid name of this kind.
 ///
-/// It is the call of that kind, but that its error has an offset. The options are for paths,
-/// components, submodules and safe reference names. The function doesn't allocate. On `Ok` it returns
-/// the value that it was passed.
+/// This does what the function for that kind does, and its error also has an offset. The options
+/// are for paths, components, submodules and safe reference names. The function doesn't allocate.
+/// On `Ok` it returns the value that it was passed.
 ///
 /// ```
 /// check(Kind::Branch, BStr::from("main"), ComponentOptions::default())?; // `main`
@@ -122,7 +122,7 @@ impl Error for Fault {}
 ///
 /// # Errors
 ///
-/// The error of the kind's call, with its offset in bytes.
+/// The error that the function for that kind returns, with its offset in bytes.
 pub fn check<'a>(kind: Kind, name: BStr<'a>, options: ComponentOptions) -> Result<BStr<'a>, Fault>
     ensures answer { Validates (fault_of options kind) (bstr_bytes name.entry) result }
     ensures grammar { IsOk result ↔ IsTrue (is_name options kind (bstr_bytes name.entry)) }

@@ -1,20 +1,20 @@
-//! The kinds of names that people have in hand, a call for each.
+//! A function for each kind of name that programs get.
 //!
-//! | Call | Names |
+//! | Function | Names |
 //! |---|---|
-//! | [`branch`] | branches as people write them, as `main` |
-//! | [`branch_ref`] | full branch names, as `refs/heads/main` |
-//! | [`tag`] | tags as people write them, as `v1.2.3` |
-//! | [`reference`] | full reference names, as `HEAD` and `refs/remotes/origin/main` |
+//! | [`branch`] | branches as people write them, such as `main` |
+//! | [`branch_ref`] | full branch names, such as `refs/heads/main` |
+//! | [`tag`] | tags as people write them, such as `v1.2.3` |
+//! | [`reference`] | full reference names, such as `HEAD` and `refs/remotes/origin/main` |
 //! | [`safe_ref`] | full names that a store may use as paths |
 //! | [`partial`], [`tag_name`] | names that are a part of a full name |
-//! | [`path`] | whole paths, as `src/main.rs` |
+//! | [`path`] | whole paths, such as `src/main.rs` |
 //! | [`submodule`] | submodule names |
 //! | [`component`], [`symlink`] | names of files and directories, and of symbolic links |
 //!
-//! The rules of [`branch_ref`], [`reference`], [`partial`] and [`tag_name`] are functions of
-//! `gix_validate` by other names. The other rules are built on those of `gix_validate`. Only
-//! [`full_name`] and [`join`] allocate.
+//! [`branch_ref`], [`reference`], [`partial`] and [`tag_name`] are functions of `gix_validate`
+//! under other names, and the other rules build on those of `gix_validate`. Only [`full_name`],
+//! [`join`] and [`suggest`] allocate.
 #![tactic(auto)]
 
 mod branches;

@@ -1,4 +1,4 @@
-//! What is said of an invalid name: the text of its error, and where in the name that is.
+//! The message for an invalid name: the text of its error, and where in the name that is.
 
 ghost use Rattle.std.specs.Prelude.{◌≡◌, ◌≤◌, length, Some};
 ghost use Rattle.bstr.specs.BStr.{bstr_bytes};
@@ -11,8 +11,8 @@ use bstr::BStr;
 use gix_validate::text::escape;
 use std::fmt;
 
-/// What is said of an invalid name, on one line: the text of the reason, and where in the name that is
-/// (docs/RULES.md, "Messages"). [`Fault::message`] returns it.
+/// The message for an invalid name, on one line: the text of the reason, and where in the name that
+/// is (docs/RULES.md, "Messages"). [`Fault::message`] returns it.
 #[derive(Debug, Clone, Copy)]
 pub struct Message<'a> {
     /// What is wrong with the name.
@@ -22,9 +22,9 @@ pub struct Message<'a> {
 }
 
 impl Fault {
-    /// What is said of `name`, which has this fault: the text of the reason, the byte at the offset, the
-    /// offset in bytes from 0, and, if the name has a slash, the piece that the byte is in. It doesn't
-    /// allocate.
+    /// The message for `name`, which has this fault: the text of the reason, the byte at the
+    /// offset, the offset in bytes from 0, and, if the name has a slash, the piece that the byte is
+    /// in. It doesn't allocate.
     ///
     /// ```
     /// let name = BStr::from("feature/a b");
@@ -32,7 +32,8 @@ impl Fault {
     /// fault.message(name); // Reference name contains invalid byte: " " (' ' at byte 9, in "a b")
     /// ```
     ///
-    /// A name that is empty has no byte, and of one that ends too early it says `(at the end)`.
+    /// The message for an empty name shows no byte, and that for a name which ends too early says
+    /// `(at the end)`.
     pub fn message<'a>(&'a self, name: BStr<'a>) -> Message<'a>
         ensures message { (result.fault ≡ self.entry) × (result.name ≡ name.entry) }
     {
@@ -109,7 +110,7 @@ fn piece_of(name: &[u8], at: usize) -> &[u8]
     }
 }
 
-/// What stands between the slashes around the offset.
+/// What is between the slashes around the offset.
 fn piece_around(name: &[u8], at: usize) -> &[u8]
     requires { at ≤ length name.now }
     ensures { result.now ≡ piece_around name.now at }

@@ -62,7 +62,7 @@ pub(crate) fn tag_name_offset(error: &tag::NameError, name: &[u8]) -> usize
     }
 }
 
-/// Where the fault of a tag name is.
+/// Where the error of a tag name is.
 #[tactic(auto, using(crate::proofs::OffsetLemmas::tag_within))]
 fn tag_offset(name: &[u8]) -> usize
     ensures offset { result ≡ tag_offset_of name.now }
@@ -74,7 +74,7 @@ fn tag_offset(name: &[u8]) -> usize
     }
 }
 
-/// Where the `.lock` begins whose fault is at this offset.
+/// Where the `.lock` begins whose error is at this offset.
 fn lock_start(name: &[u8], offset: usize) -> usize
     ensures start { result ≡ lock_start name.now offset }
     ensures within { result ≤ offset }
@@ -187,7 +187,7 @@ pub(crate) fn path_offset(error: &PathError, name: &[u8], options: ComponentOpti
     }
 }
 
-/// What there is from the offset to the next slash.
+/// The bytes from the offset to the next slash.
 pub(crate) fn part_at(name: &[u8], offset: usize) -> &[u8]
     requires { offset ≤ length name.now }
     ensures part { result.now ≡ part_at name.now offset }

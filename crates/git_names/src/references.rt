@@ -71,8 +71,8 @@ impl Error for SafeRefError {}
 ///
 /// # Errors
 ///
-/// The fault of `gix_validate::reference::name` if there is one, otherwise `OutsideRefs`, otherwise
-/// that of the first piece that is not a component.
+/// The error of `gix_validate::reference::name` if there is one, otherwise `OutsideRefs`, and
+/// otherwise the error of the first piece that is not a component.
 #[tactic(auto, using(crate::proofs::SafeRefLemmas::safe_ref_laws), unfolding(crate::specs::SafeRefs::fault_of))]
 pub fn safe_ref<'a>(name: BStr<'a>, options: ComponentOptions) -> Result<BStr<'a>, SafeRefError>
     ensures answer { Validates (fault_of options) (bstr_bytes name.entry) result }
@@ -92,7 +92,7 @@ pub fn safe_ref<'a>(name: BStr<'a>, options: ComponentOptions) -> Result<BStr<'a
     }
 }
 
-/// Whether the name is below `refs/`, or has only bytes of a name that stands alone.
+/// Whether the name is below `refs/`, or has only bytes that a name without a slash may have.
 #[tactic(auto, unfolding(crate::specs::SafeRefs::is_set_apart))]
 fn is_set_apart(name: &[u8]) -> bool
     ensures { result ≡ is_set_apart name.now }

@@ -66,10 +66,10 @@ impl Error for SubmoduleError {}
 
 /// Returns `name` if it is a valid submodule name (docs/RULES.md, "Submodule names").
 ///
-/// Under no options that is the rule of `gix_validate::submodule::name`. Clients keep a submodule's
-/// repository in `.git/modules/` followed by its name. So under an option the name also has to be a
-/// valid path, and no part of it may be read as `.` or `..`, as `.. ` is on Windows. The function
-/// doesn't allocate. On `Ok` it returns the value that it was passed.
+/// Under no options this is the rule of `gix_validate::submodule::name`. But clients keep a
+/// submodule's repository in `.git/modules/` followed by its name, so under an option the name also
+/// has to be a valid path, and no part of it may be read as `.` or `..`, as `.. ` is on Windows.
+/// The function doesn't allocate. On `Ok` it returns the value that it was passed.
 ///
 /// ```
 /// submodule(BStr::from("vendor/lib"), ComponentOptions::default())?; // `vendor/lib`
@@ -79,8 +79,8 @@ impl Error for SubmoduleError {}
 ///
 /// # Errors
 ///
-/// That of `gix_validate::submodule::name` if there is one, otherwise that of [`path`], otherwise
-/// `Disguised`.
+/// The error of `gix_validate::submodule::name` if there is one, otherwise that of [`path`], and
+/// otherwise `Disguised`.
 #[tactic(auto, using(crate::proofs::SubmoduleLemmas::submodule_laws), unfolding(crate::specs::Submodules::fault_of))]
 pub fn submodule<'a>(name: BStr<'a>, options: ComponentOptions) -> Result<BStr<'a>, SubmoduleError>
     ensures answer { Validates (fault_of options) (bstr_bytes name.entry) result }

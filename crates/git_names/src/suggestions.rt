@@ -18,9 +18,9 @@ use std::alloc::{AllocError, Global};
 
 /// Suggests a branch name for a name that a person typed (docs/RULES.md, "Suggestions").
 ///
-/// A valid short name is its own suggestion. Of any other name each run of bytes that a branch may
-/// not have becomes a dash, and what may not stand at the ends of a piece goes. There is no
-/// suggestion if nothing is left, or only `@` or `HEAD`.
+/// A valid short name is its own suggestion. In any other name each run of bytes that a branch may
+/// not have becomes a dash, and bytes with which a piece may not begin or end are removed. There is
+/// no suggestion if nothing is left, or only `@` or `HEAD`.
 ///
 /// ```
 /// suggest(alloc, BStr::from("Fix: it's done.."))?; // Some, `Fix-it's-done`
@@ -57,8 +57,8 @@ pub fn suggest(alloc: Global, name: BStr<'_>) -> Result<Option<BString>, AllocEr
     }
 }
 
-/// Writes the suggestion to an empty vector, and returns whether there is one. The vector has room for
-/// exactly the name. So it never fails.
+/// Writes the suggestion to an empty vector, and returns whether there is one. The vector has room
+/// for exactly the name, so this never fails.
 fn fill_suggestion(branch: &mut Vec<u8>, name: BStr<'_>) -> Result<bool, AllocError>
     requires empty { branch.old.items ≡ [] }
     requires room { vec_capacity branch.old ≡ length (bstr_bytes name) }
@@ -76,11 +76,11 @@ fn fill_suggestion(branch: &mut Vec<u8>, name: BStr<'_>) -> Result<bool, AllocEr
     }
 }
 
-/// Writes what [`suggest`] returns to the start of the buffer, and returns its length. `None` if there
-/// is no suggestion, or the buffer is shorter than `name`.
+/// Writes what [`suggest`] returns to the start of the buffer, and returns its length, or `None` if
+/// there is no suggestion or the buffer is shorter than `name`.
 ///
-/// A shorter buffer stays as it was. Otherwise the bytes from the length of `name` on stay as they
-/// were, and those between the suggestion and that offset are unspecified. It doesn't allocate.
+/// A shorter buffer is unchanged. Otherwise the bytes from the length of `name` on are unchanged,
+/// and those between the suggestion and that offset are unspecified. The function doesn't allocate.
 ///
 /// ```
 /// let mut buffer = [0; 8];
@@ -133,7 +133,7 @@ fn is_no_branch(name: &[u8]) -> bool
     name.is_empty() || name == b"@".as_slice() || name == b"HEAD".as_slice()
 }
 
-/// Writes what becomes of the name, and returns its length.
+/// Writes the changed name, and returns its length.
 fn write_repaired(name: &[u8], buffer: &mut [u8]) -> usize
     requires room { length name.now ≤ length buffer.old }
     ensures within { result ≤ length name.now }
@@ -148,8 +148,9 @@ fn write_repaired(name: &[u8], buffer: &mut [u8]) -> usize
     append_piece(&name[start..], buffer, end)
 }
 
-/// Writes what becomes of the piece after the first `end` bytes, with a slash before it unless it is
-/// the first, and returns how many bytes there are then. Of some pieces nothing is left.
+/// Writes the changed piece after the first `end` bytes, with a slash before it unless it is the
+/// first, and returns how many bytes there are then. A piece of which nothing is left is not
+/// written.
 fn append_piece(piece: &[u8], buffer: &mut [u8], end: usize) -> usize
     requires room { end + 1 + length piece.now ≤ length buffer.old ⊎ ((end ≡ 0) × (length piece.now ≤ length buffer.old)) }
     ensures within { result ≤ end + 1 + length piece.now }
@@ -167,7 +168,7 @@ fn append_piece(piece: &[u8], buffer: &mut [u8], end: usize) -> usize
     start + len
 }
 
-/// Writes what becomes of the piece, and returns its length.
+/// Writes the changed piece, and returns its length.
 fn write_piece(piece: &[u8], buffer: &mut [u8]) -> usize
     requires room { length piece.now ≤ length buffer.old }
     ensures within { result ≤ length piece.now }
@@ -177,8 +178,8 @@ fn write_piece(piece: &[u8], buffer: &mut [u8]) -> usize
     length_of_trimmed(&buffer[..len])
 }
 
-/// Writes the piece with dashes, without dots and dashes at its start, and with one for those of a
-/// kind in a row.
+/// Writes the piece with dashes for the bytes that become one, without dots and dashes at its
+/// start, and with one dot or dash for several in a row.
 #[tactic(auto, using(crate::proofs::SuggestionLemmas::thinned_steps))]
 fn write_thinned(piece: &[u8], buffer: &mut [u8]) -> usize
     requires room { length piece.now ≤ length buffer.old }
@@ -222,7 +223,7 @@ fn is_dot_or_dash(byte: u8) -> bool
     matches!(byte, b'.' | b'-')
 }
 
-/// Whether no byte is kept before this one, or the same one.
+/// Whether no byte was kept before this one, or the last one kept is the same.
 fn is_first_or_again(kept: Option<u8>, byte: u8) -> bool
     ensures { result ≡ is_first_or_again kept byte }
 {
@@ -232,7 +233,7 @@ fn is_first_or_again(kept: Option<u8>, byte: u8) -> bool
     }
 }
 
-/// The length of a text without the dots, dashes and `.lock`s at its end.
+/// The length of the bytes without the dots, the dashes and each `.lock` at their end.
 #[tactic(auto, using(crate::proofs::SuggestionLemmas::trimmed_fronts))]
 fn length_of_trimmed(text: &[u8]) -> usize
     ensures within { result ≤ length text.now }

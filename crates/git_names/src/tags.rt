@@ -8,8 +8,9 @@ ghost use Rattle.git_names.specs.ShortNames.{fault_of, is_short_name, is_short_t
 use crate::branches::{ShortNameError, branch};
 use bstr::BStr;
 
-/// Returns `name` if it is the short name of a tag, as `v1.2.3`: with `refs/tags/` before it it is a
-/// valid full name, it isn't `HEAD`, and it doesn't start with a dash (docs/RULES.md, "Short names").
+/// Returns `name` if it is the short name of a tag, such as `v1.2.3`: it isn't `HEAD`, it doesn't
+/// start with a dash, and `refs/tags/` followed by it is a valid full name (docs/RULES.md, "Short
+/// names").
 ///
 /// These are the names that [`branch`] accepts. Git refuses to make a tag with a leading dash, and
 /// since 2.48 one named `HEAD`. The function doesn't allocate. On `Ok` it returns the value that it
@@ -23,7 +24,7 @@ use bstr::BStr;
 ///
 /// # Errors
 ///
-/// That of [`branch`].
+/// The error of [`branch`].
 #[inline(always)]
 #[tactic(auto, using(crate::proofs::ShortNameLemmas::tag_is_branch))]
 pub fn tag<'a>(name: BStr<'a>) -> Result<BStr<'a>, ShortNameError>

@@ -9,8 +9,8 @@ use std::marker::Model;
 /// The name in the header of a submodule's section, as it is in the file: between the double
 /// quotes, with its backslashes.
 ///
-/// In contracts it is the bytes of the name, without the backslashes that escape. It borrows the
-/// bytes of the file. [`Sections`](crate::Sections) makes it.
+/// In contracts a value is the bytes of the name, without the backslashes that escape. It borrows
+/// the bytes of the file, and [`Sections`](crate::Sections) returns it.
 #[derive(Clone, Debug, Drop)]
 pub struct EscapedName<'a> {
     /// The bytes between the double quotes.
@@ -27,8 +27,8 @@ impl<'a> Model for EscapedName<'a> {
 }
 
 impl<'a> EscapedName<'a> {
-    /// The name that these bytes begin with, up to `"]`, if they begin with one. The first of these
-    /// bytes is the one after the opening quote.
+    /// The name that these bytes begin with, up to `"]`, if they begin with one. They start after
+    /// the opening quote.
     pub(crate) fn after_quote(bytes: &'a [u8]) -> Option<EscapedName<'a>>
         ensures { result ≡ option_map (unescaped false) (escaped_name false bytes.now) }
     {

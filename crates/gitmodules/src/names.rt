@@ -30,8 +30,8 @@ pub enum NamesError {
 /// Returns the names of the submodules in a `.gitmodules` file: the name of each section, in order
 /// (docs/RULES.md, "The names in a .gitmodules file").
 ///
-/// The sections are those of [`Sections`], which also finds some that Git doesn't see, as one in a
-/// comment.
+/// The sections are those of [`Sections`], which also finds some that Git doesn't see, such as one
+/// in a comment.
 ///
 /// ```
 /// submodule_names(alloc, b"[submodule \"a\"]\n[core]\n[submodule \"b/c\"]\n")?; // `a` and `b/c`
@@ -39,7 +39,7 @@ pub enum NamesError {
 ///
 /// # Errors
 ///
-/// That of the first section whose name is invalid or that can't be read, or `Memory`.
+/// The error of the first section whose name is invalid or that can't be read, or `Memory`.
 ///
 /// # Memory
 ///

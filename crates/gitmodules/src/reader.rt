@@ -26,12 +26,12 @@ pub struct Section<'a> {
 /// An iterator over the sections of submodules in a `.gitmodules` file, in the order of their
 /// offsets.
 ///
-/// In contracts it is the list of the sections that are left: the offset of each, and its name or
-/// `None`.
+/// In contracts an iterator is the list of the sections that are left: the offset of each, and its
+/// name or `None`.
 #[derive(Debug, Drop)]
 pub struct Sections<'a> {
     file: &'a [u8],
-    /// The offset from which on the next section is searched for.
+    /// The offset at which the search for the next section starts.
     start: usize,
 }
 
@@ -51,7 +51,8 @@ impl<'a> Sections<'a> {
     /// Sections::new(b"[submodule \"a\"]\n").next(); // the name `a` at offset 0
     /// ```
     ///
-    /// It does not allocate. A whole iteration reads each byte a bounded number of times.
+    /// The iterator does not allocate, and a whole iteration reads each byte a bounded number of
+    /// times.
     #[tactic(auto, using(crate::proofs::SpelledSections::each_section_found, crate::proofs::ReadSections::each_name_spelled, crate::proofs::ReadSections::in_order, crate::proofs::Blanks::named_after_each_blank))]
     pub fn new(file: &'a [u8]) -> Sections<'a>
         ensures value { result ≡ sections 0 file.now }
@@ -136,7 +137,7 @@ fn bracket_from(file: &[u8], start: usize) -> Option<usize>
     Some(start + count)
 }
 
-/// What a `[` begins that has these bytes after it.
+/// What a `[` followed by these bytes begins.
 #[tactic(auto, unfolding(crate::specs::Sections::header_after_bracket))]
 fn header_after_bracket(bytes: &[u8]) -> Header<'_>
     ensures { header_of result ≡ header_after_bracket bytes.now }
@@ -147,7 +148,7 @@ fn header_after_bracket(bytes: &[u8]) -> Header<'_>
     }
 }
 
-/// What a `[` and the word `submodule` begin that have these bytes after them.
+/// What a `[` and the word `submodule`, followed by these bytes, begin.
 fn header_after_word(bytes: &[u8]) -> Header<'_>
     ensures { header_of result ≡ header_after_word bytes.now }
 {

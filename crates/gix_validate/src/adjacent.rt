@@ -21,9 +21,9 @@ use crate::lanes::{classify, nonzero_lanes};
 use crate::scan::{self, Pattern};
 use std::simd::prelude::*;
 
-// The classes of bytes that may be suspect, a bit for each. Those of bad bytes, `*` and `{` are
-// suspect anywhere. A class has all that have the same high nibble, or one of several that have the
-// same low ones beside them.
+// The classes of bytes that may be suspect, a bit for each. Bad bytes, `*` and `{` are suspect
+// anywhere. A class contains the suspect bytes of one high nibble, or of several high nibbles that
+// have the same low nibbles.
 
 /// A suspect byte from 0x00 to 0x1F.
 const SUSPECT_0X: u8 = 0x01;
@@ -59,8 +59,8 @@ const CLASSES_BY_LOW_NIBBLE: [u8; 16] = [
     BREAK | SUSPECT_0X | SUSPECT_5X | SUSPECT_7X, BREAK | SUSPECT_0X | SUSPECT_3X | SUSPECT_7X, // 0E
 ];
 
-/// The classes that a byte with this high nibble may have. What both tables have for a byte is its
-/// class, or nothing.
+/// The classes that a byte with this high nibble may have. The bits that both tables have for a
+/// byte are its class, if it has one.
 #[rattlefmt::skip]
 const CLASSES_BY_HIGH_NIBBLE: [u8; 16] = [
     SUSPECT_0X, SUSPECT_0X, BREAK | SUSPECT_2X, SUSPECT_3X, // 00
@@ -76,7 +76,7 @@ const SUSPECT_AFTER: [u8; 16] = [
     ANYWHERE, ANYWHERE, ANYWHERE, ANYWHERE, ANYWHERE, ANYWHERE, ANYWHERE, ANYWHERE,
 ];
 
-/// Whether a name is clear. A clear name is a tag name. For any other name this says nothing.
+/// Whether a name is clear, and so a tag name. Any other name may be a tag name too.
 #[inline(always)]
 #[tactic(auto, using(crate::proofs::Blocks::Lanes::clear_by_looks))]
 pub(crate) fn is_clear(text: &[u8]) -> bool
@@ -88,8 +88,8 @@ pub(crate) fn is_clear(text: &[u8]) -> bool
     scan::first_pair::<Suspect>(text).is_none()
 }
 
-/// How many bytes at the front of a name need no closer check: all of them if and only if the name is
-/// clear. A walk over the others finds each fault, and each byte that a repair changes.
+/// How many bytes at the front of a name need no closer check: all of them if and only if the name
+/// is clear. A walk over the others finds each error, and each byte that a repair changes.
 #[inline(always)]
 pub(crate) fn clear_front(text: &[u8]) -> usize
     requires { 0 < length text.now }
@@ -124,7 +124,7 @@ impl Pattern for Suspect {
     fn hits(front: u8x16, back: u8x16) -> u64 {
         let suspect = classify(CLASSES_BY_LOW_NIBBLE, CLASSES_BY_HIGH_NIBBLE, back)
             & suspect_after(front);
-        // LLVM makes one instruction of this test, and more of one of the mask.
+        // LLVM compiles this test to one instruction, and a test of the mask to more.
         if suspect.reduce_or() == 0 {
             return 0;
         }

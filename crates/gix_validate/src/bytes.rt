@@ -1,5 +1,5 @@
-//! One table says which bytes may be an error in a name (docs/RULES.md, "Bytes"), since more than one
-//! loop reads it. Its 256 entries are proved against the rule.
+//! One table, which several loops read, says which bytes may be an error in a name (docs/RULES.md,
+//! "Bytes"). Its 256 entries are proved against the rule.
 
 ghost use Rattle.std.specs.Prelude.{◌≡◌};
 ghost use Rattle.gix_validate.specs.Private.Adjacent.{may_be_faulty};

@@ -6,7 +6,7 @@
 //! | [`reference`] | partial names, full names and branch names; repair and join |
 //! | [`submodule`] | submodule names |
 //! | [`path`] | path components, and their join |
-//! | [`text`] | no names: what an error prints, in its parts |
+//! | [`text`] | what an error prints, in its parts |
 //!
 //! Only the joins and `reference::name_partial_or_sanitize` allocate. The rules are in
 //! docs/RULES.md, and the definitions that the contracts cite are in `specs/`.

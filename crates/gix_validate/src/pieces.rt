@@ -32,7 +32,7 @@ pub(crate) fn joined(alloc: Global, parts: &[BStr<'_>]) -> Result<BString, Alloc
     Ok(BString::new(path))
 }
 
-/// The length of the parts and the slashes between them, if that fits a `usize`.
+/// The length of the parts and the slashes between them, if that fits in a `usize`.
 #[tactic(auto, using(crate::proofs::Components::JoinedParts::length_joined, std::proofs::lemmas::List::Sums::sum_by_more_le, std::proofs::lemmas::List::take_all))]
 fn joined_len(parts: &[BStr<'_>]) -> Option<usize>
     requires { 0 < length parts.now }
@@ -47,7 +47,7 @@ fn joined_len(parts: &[BStr<'_>]) -> Option<usize>
     Some(len)
 }
 
-/// What follows the allocation, which is for the path and no byte more. So it succeeds.
+/// Writes the parts and the slashes. The buffer has room for exactly these, so this succeeds.
 fn write_joined(mut buffer: Vec<u8>, parts: &[BStr<'_>]) -> Result<Vec<u8>, AllocError>
     requires room { vec_capacity buffer ≡ vec_len buffer + length (joined (map bstr_bytes parts.now)) }
     ensures bytes { IfOk result (λ path. path.items ≡ buffer.items ++ joined (map bstr_bytes parts.now)) }

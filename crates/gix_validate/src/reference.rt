@@ -49,9 +49,9 @@ pub enum NameError {
     EndsWithDot,
     EndsWithSlash,
     Empty,
-    /// It has no slash, and a byte other than `A` to `Z` and `_`, as a digit.
+    /// It has no slash, and a byte other than `A` to `Z` and `_`, such as a digit.
     SomeLowercase,
-    /// It is reserved: `@`, or as a branch `HEAD`, which is `refs/heads/HEAD` in full.
+    /// It is reserved: `@`, or for a branch `HEAD`, which is `refs/heads/HEAD` in full.
     Reserved { name: ArrayVec<u8, 15> },
 }
 
@@ -119,8 +119,8 @@ impl From<tag::NameError> for NameError {
     }
 }
 
-/// Returns `path` if it is a valid partial name, as `main`: any tag name but `@` (docs/RULES.md,
-/// "Reference names").
+/// Returns `path` if it is a valid partial name, such as `main`: any tag name but `@`
+/// (docs/RULES.md, "Reference names").
 ///
 /// ```
 /// name_partial(BStr::from("main"))?; // `main`
@@ -129,7 +129,7 @@ impl From<tag::NameError> for NameError {
 ///
 /// # Errors
 ///
-/// The fault of [`tag::name`] if there is one, and otherwise `Reserved` with `@`.
+/// The error of [`tag::name`] if there is one, and otherwise `Reserved` with `@`.
 #[tactic(auto, using(crate::proofs::References::reserved_names), unfolding(crate::specs::Reference::partial_fault_of, crate::specs::Reference::is_partial_name))]
 #[inline(always)]
 pub fn name_partial<'a>(path: BStr<'a>) -> Result<BStr<'a>, NameError>
@@ -143,8 +143,8 @@ pub fn name_partial<'a>(path: BStr<'a>) -> Result<BStr<'a>, NameError>
     unless_reserved(tag::name(path)?, b"@")
 }
 
-/// Returns `path` if it is a valid full name, as `HEAD` or `refs/heads/main`: a partial name that
-/// has a slash, or only the letters `A` to `Z` and `_` (docs/RULES.md, "Reference names").
+/// Returns `path` if it is a valid full name, such as `HEAD` or `refs/heads/main`: a partial name
+/// that has a slash, or only the letters `A` to `Z` and `_` (docs/RULES.md, "Reference names").
 ///
 /// ```
 /// name(BStr::from("refs/heads/main"))?; // `refs/heads/main`
@@ -153,7 +153,7 @@ pub fn name_partial<'a>(path: BStr<'a>) -> Result<BStr<'a>, NameError>
 ///
 /// # Errors
 ///
-/// The fault of [`name_partial`] if there is one, and otherwise `SomeLowercase`.
+/// The error of [`name_partial`] if there is one, and otherwise `SomeLowercase`.
 #[tactic(auto, using(crate::proofs::References::standing), unfolding(crate::specs::Reference::full_fault_of, crate::specs::Reference::is_full_name))]
 #[inline(always)]
 pub fn name<'a>(path: BStr<'a>) -> Result<BStr<'a>, NameError>
@@ -184,7 +184,7 @@ pub fn name<'a>(path: BStr<'a>) -> Result<BStr<'a>, NameError>
 ///
 /// # Errors
 ///
-/// The fault of [`name`] if there is one, and otherwise `Reserved` with `refs/heads/HEAD`.
+/// The error of [`name`] if there is one, and otherwise `Reserved` with `refs/heads/HEAD`.
 #[tactic(auto, using(crate::proofs::References::reserved_names), unfolding(crate::specs::Reference::branch_fault_of, crate::specs::Reference::is_branch_name))]
 #[inline(always)]
 pub fn branch_name<'a>(path: BStr<'a>) -> Result<BStr<'a>, NameError>
@@ -226,7 +226,7 @@ pub fn join(alloc: Global, a: BStr<'_>, b: BStr<'_>) -> Result<BString, AllocErr
     joined(alloc, &[a, b])
 }
 
-/// Returns any name except the reserved one, for which the error has room.
+/// Returns any name except the reserved one, which has to fit in the error.
 #[inline]
 fn unless_reserved<'a>(name: BStr<'a>, reserved: &[u8]) -> Result<BStr<'a>, NameError>
     requires { length reserved.now ≤ 15 }

@@ -15,7 +15,7 @@ use std::simd::prelude::*;
 pub(crate) const FOUR_BLOCKS: usize = 4 * LANES;
 
 pub(crate) trait Pattern {
-    /// Whether a byte and the one beside it are a hit.
+    /// Whether a byte and the one next to it are a hit.
     ghost hit: { ℕ → ℕ → Bool };
 
     /// A bit for each lane whose two bytes are a hit. The lowest bit is for the first lane.
@@ -36,7 +36,7 @@ pub(crate) fn first_pair<P: Pattern>(text: &[u8]) -> Option<usize>
     first::<P>(&text[..text.len() - 1], &text[1..])
 }
 
-/// The first offset where the bytes of two texts of one length are a hit.
+/// The first offset at which the bytes of two byte strings of one length are a hit.
 #[inline(always)]
 pub(crate) fn first<P: Pattern>(front: &[u8], back: &[u8]) -> Option<usize>
     requires { length back.now ≡ length front.now }
@@ -75,8 +75,8 @@ pub(crate) fn first<P: Pattern>(front: &[u8], back: &[u8]) -> Option<usize>
     first_of_parts::<P>(front, back, 1, first, u8x16::splat(back[0]))
 }
 
-/// The first hit of texts that have a block. The last block overlaps the one before it. Most names
-/// have two blocks at most, which need no loop.
+/// The first hit in byte strings of at least one block. The last block overlaps the one before it.
+/// Most names have at most two blocks, which need no loop.
 #[inline(always)]
 fn first_by_blocks<P: Pattern>(front: &[u8], back: &[u8]) -> Option<usize>
     requires same { length back.now ≡ length front.now }
@@ -116,7 +116,7 @@ fn first_of_block<P: Pattern>(front: &[u8], back: &[u8], at: usize) -> Option<us
     Some(at + first_lane(hits))
 }
 
-/// The first hit of short texts, whose first bytes and last bytes the lanes have.
+/// The first hit in short byte strings, whose first and last bytes are in the lanes.
 #[inline(always)]
 fn first_of_parts<P: Pattern>(
     front: &[u8],
@@ -145,8 +145,8 @@ fn first_of_parts<P: Pattern>(
     })
 }
 
-/// Whether a byte of a text of more than four blocks is a hit. Four blocks are checked at a time. The
-/// last four overlap those before them.
+/// Whether a byte is a hit in a byte string of more than four blocks. Four blocks are checked at a
+/// time, and the last four overlap those before them.
 #[inline(always)]
 pub(crate) fn has<P: Pattern>(text: &[u8]) -> bool
     requires { FOUR_BLOCKS < length text.now }

@@ -1,4 +1,4 @@
-//! Submodule names: any nonempty name without a part `..`. Both `/` and `\` separate parts.
+//! Submodule names: any nonempty name without a part `..`, where both `/` and `\` separate parts.
 //! Nothing else is refused: `/etc` is a submodule name.
 
 ghost use Rattle.std.specs.Prelude.{◌≡◌, ◌↔◌, ◌&&◌, ◌==◌, ◌≤◌, length, IsOk, IfOk, IsTrue, Some};

@@ -89,7 +89,7 @@ impl fmt::Display for NameError {
 
 impl Error for NameError {}
 
-/// Returns `input` if it is a valid tag name, and otherwise its first fault.
+/// Returns `input` if it is a valid tag name, and otherwise its first error.
 ///
 /// Slashes split a tag name into pieces. No piece is empty, has an invalid byte or a `*`, starts
 /// with a dot, ends in `.lock`, or contains `..` or `@{`. The whole name doesn't end in a dot. The
@@ -103,7 +103,7 @@ impl Error for NameError {}
 ///
 /// # Errors
 ///
-/// The first fault in the order of docs/RULES.md, "Tag names", which is the source of this rule.
+/// The first error in the order of docs/RULES.md, "Tag names", which has this rule.
 #[inline(always)]
 #[tactic(auto, using(crate::proofs::TagNames::ClearTexts::clear_has_no_fault, crate::proofs::TagNames::Grammar::tag_grammar_law, crate::proofs::TagNames::Laws::tag_laws))]
 pub fn name<'a>(input: BStr<'a>) -> Result<BStr<'a>, NameError>
@@ -120,8 +120,8 @@ pub fn name<'a>(input: BStr<'a>) -> Result<BStr<'a>, NameError>
     }
 }
 
-/// The result of `name` for a name that isn't clear. (As a part of `name` it would take four
-/// instructions more of clear names.)
+/// The result of `name` for a name that isn't clear. (As a part of `name` it would make clear names
+/// four instructions slower.)
 #[inline(always)]
 fn name_on_walk<'a>(input: BStr<'a>) -> Result<BStr<'a>, NameError>
     ensures answer { Validates fault_of (bstr_bytes input.entry) result }
@@ -133,9 +133,9 @@ fn name_on_walk<'a>(input: BStr<'a>) -> Result<BStr<'a>, NameError>
     }
 }
 
-/// The offset in bytes of the first fault of a tag name, or `None` if it is valid. A fault of the end,
-/// as `EndsWithDot`, is at the last byte; that of an empty name is at 0. The function doesn't
-/// allocate.
+/// The offset in bytes of a tag name's first error, or `None` if the name is valid. An error at the
+/// end, such as `EndsWithDot`, is at the last byte, and the error of an empty name is at 0. The
+/// function doesn't allocate.
 ///
 /// ```
 /// tag::fault_offset(BStr::from("v1..2")); // Some(3), the second dot
@@ -153,7 +153,7 @@ pub fn fault_offset(input: BStr<'_>) -> Option<usize>
     offset_of_fault(input.as_bytes())
 }
 
-/// The offset of the first fault, in the order of docs/RULES.md, "Tag names".
+/// The offset of the first error, in the order of docs/RULES.md, "Tag names".
 #[tactic(auto, unfolding(crate::specs::Tag::first_fault, crate::specs::Tag::fault_offset_of))]
 fn offset_of_fault(bytes: &[u8]) -> Option<usize>
     ensures { result ≡ fault_offset_of bytes.now }
@@ -195,7 +195,7 @@ fn first_offset(bytes: &[u8]) -> Option<usize>
     None
 }
 
-/// The first fault of a name, in the order of docs/RULES.md, "Tag names".
+/// The first error of a name, in the order of docs/RULES.md, "Tag names".
 #[inline(never)]
 #[tactic(auto, unfolding(crate::specs::Tag::first_fault, crate::specs::Tag::fault_of))]
 fn first_fault(bytes: &[u8]) -> Option<NameError>
@@ -224,7 +224,7 @@ fn first_fault(bytes: &[u8]) -> Option<NameError>
     None
 }
 
-/// The fault at the least offset that has one. Most bytes take one look into a table.
+/// The error at the lowest offset that has one. Most bytes need one look into a table.
 #[tactic(auto, using(crate::proofs::TagNames::ClearTexts::least_fault))]
 fn fault_at_first_offset(bytes: &[u8]) -> Option<NameError>
     requires { 0 < length bytes.now }
@@ -244,7 +244,7 @@ fn fault_at_first_offset(bytes: &[u8]) -> Option<NameError>
     None
 }
 
-/// The fault of a byte that may be one, after those before it, if another byte follows.
+/// The error of a byte that may be one, by the bytes before it, if another byte follows.
 #[inline]
 #[tactic(auto, unfolding(crate::specs::Private::Adjacent::fault_of_byte, crate::specs::Tag::fault_table, crate::specs::Bytes::is_bad))]
 fn fault_of_byte(before: &[u8], byte: u8) -> Option<NameError>

@@ -1,4 +1,4 @@
-//! What an error prints: words, and then bytes of the name in quotes, if it shows any.
+//! What an error prints: words, followed by bytes of the name in quotes if it quotes any.
 
 ghost use Rattle.std.specs.Prelude.{◌≡◌, ◌+◌, ◌*◌, ◌<◌, ◌≤◌, length, Some};
 ghost use Rattle.std.specs.Option.{ForSome};
@@ -13,8 +13,9 @@ pub const MAX_TEXT: usize = 134;
 
 /// What an error prints (docs/RULES.md, "Printed texts"): at most [`MAX_TEXT`] bytes.
 ///
-/// `Display` of the error prints it, too. A caller who can't use that, as one who writes to a buffer
-/// of a fixed length, appends the words, and then, between double quotes, each byte by [`escape`].
+/// `Display` of the error prints the same. A caller that can't use `Display`, for example because
+/// it writes to a buffer of fixed length, appends the words, and then, between double quotes, each
+/// byte as [`escape`] returns it.
 #[derive(Debug, Clone, Copy)]
 pub struct Text<'a> {
     /// The words.

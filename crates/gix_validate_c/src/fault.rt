@@ -14,8 +14,8 @@ use gix_validate::{reference, submodule, tag};
 pub(crate) trait Fault {
     ghost number: { Self → ℕ };
 
-    /// The number of the fault. A fault that several types share has one number. The numbers never
-    /// change, and a new fault takes the next one.
+    /// The number of the fault, which is the same in each type that has the fault. Numbers never
+    /// change, and a new fault gets the next one.
     fn number(self) -> u8
         ensures number { result ≡ number self }
         ensures some { 1 ≤ result };

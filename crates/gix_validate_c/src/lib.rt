@@ -1,4 +1,4 @@
-//! The calls of `git_names` for C: a static library of functions with the C calling convention.
+//! The functions of `git_names` for C: a static library with the C calling convention.
 //!
 //! | Module | Functions |
 //! |---|---|
@@ -10,8 +10,8 @@
 //! | [`version`] | the version of the library |
 //!
 //! A slice is a pointer and a length. Lengths and offsets are in bytes. No function has a
-//! precondition besides those of C: the memory is there, nobody else writes to it during the call,
-//! and a buffer to which a function writes overlaps no other argument. No function fails or
+//! precondition other than those of C: the memory is there, nobody else writes to it during the
+//! call, and a buffer to which a function writes overlaps no other argument. No function fails or
 //! allocates. docs/RULES.md, "Calls for C", has the numbers, the flags and the results.
 #![tactic(auto)]
 

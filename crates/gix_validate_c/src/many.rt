@@ -13,14 +13,14 @@ use memchr::memchr;
 
 /// Checks many names as [`gix_validate_fault_of`](crate::names::gix_validate_fault_of) checks one.
 ///
-/// The names are in one buffer, in which the byte `end` ends each name, as LF or NUL. What follows the
-/// last such byte is a name too, unless it is empty. So an empty buffer has no name, and two such bytes
-/// in a row have an empty name between them.
+/// The names are in one buffer, in which the byte `end`, such as LF or NUL, ends each name. What
+/// follows the last such byte is a name too, unless it is empty. So an empty buffer has no name,
+/// and two such bytes in a row have an empty name between them.
 ///
-/// It writes one byte for each name, in order, to the start of the array `faults`: 0, or the number of
-/// the fault. It writes as many as fit, and the rest of the array stays as it was. It returns how many
-/// names there are, even if more than fit. A name whose number doesn't fit isn't checked, so an empty
-/// array only counts the names.
+/// For each name one byte is written, in order, to the start of the array `faults`: 0, or the
+/// number of the fault. As many are written as fit, and the rest of the array is unchanged. The
+/// function returns the number of names, which may be more than fit. A name whose number doesn't
+/// fit isn't checked, so an empty array only counts the names.
 ///
 /// ```c
 /// gix_validate_faults_of(2, "v1\na..b\n", 8, 0, '\n', faults, sizeof faults); // 2: 0, and 4, RepeatedDot

@@ -1,15 +1,15 @@
 //! Validation of one name.
 //!
-//! Each function takes the number of a kind, a name, and flags (docs/RULES.md, "Calls for C"):
+//! The parameters are the number of a kind, a name, and flags (docs/RULES.md, "Calls for C"):
 //!
 //! | Number | Kind | Rule |
 //! |---|---|---|
-//! | 0 | branch, as `main` | [`git_names::branch`] |
-//! | 1 | full branch name, as `refs/heads/main` | [`git_names::branch_ref`] |
-//! | 2 | tag, as `v1.2.3` | [`git_names::tag`] |
+//! | 0 | branch, such as `main` | [`git_names::branch`] |
+//! | 1 | full branch name, such as `refs/heads/main` | [`git_names::branch_ref`] |
+//! | 2 | tag, such as `v1.2.3` | [`git_names::tag`] |
 //! | 3 | full reference name | [`git_names::reference`] |
 //! | 4 | partial reference name | [`git_names::partial`] |
-//! | 5 | tag name, as the crate has it | [`git_names::tag_name`] |
+//! | 5 | tag name, as in `gix_validate` | [`git_names::tag_name`] |
 //! | 6 | safe reference name | [`git_names::safe_ref`] |
 //! | 7 | path | [`git_names::path`] |
 //! | 8 | path of a symbolic link | [`git_names::path`] |
@@ -17,8 +17,8 @@
 //! | 10 | name of a symbolic link | [`git_names::symlink`] |
 //! | 11 | submodule name | [`git_names::submodule`] |
 //!
-//! The flags are 1 for the rules of Windows, 2 for those of HFS+ and 4 for those of NTFS. Other bits
-//! are ignored, and so are all flags for kinds 0 to 5.
+//! The flags are 1 for the rules for Windows, 2 for those for HFS+ and 4 for those for NTFS. Other
+//! bits are ignored, and so are all flags for kinds 0 to 5.
 
 ghost use Rattle.std.specs.Prelude.{◌≡◌, ◌⊎◌, ◌↔◌, ◌≤◌, ◌%◌, IsTrue, MatchOption, Some, length};
 ghost use Rattle.bstr.specs.BStr.{bstr_bytes};
@@ -35,8 +35,8 @@ use bstr::BStr;
 use git_names::Kind;
 use gix_validate::path::{ComponentMode, component_is_windows_device};
 
-/// Returns 0 if it is a valid name of this kind, otherwise the number of its fault. 255 says that
-/// there is no such kind.
+/// Returns 0 if the name is a valid name of this kind, and otherwise the number of its fault. 255
+/// means that there is no such kind.
 ///
 /// ```c
 /// gix_validate_fault_of(0, "main", 4, 0);     // 0: a branch
@@ -55,7 +55,8 @@ pub extern "C" fn gix_validate_fault_of(kind: u32, name: &[u8], flags: u32) -> u
 }
 
 /// Returns the offset in bytes of the fault for which [`gix_validate_fault_of`] refuses the name
-/// (docs/RULES.md, "Offsets"). The length of the name if it is valid, and 0 if there is no such kind.
+/// (docs/RULES.md, "Offsets"), the length of the name if it is valid, and 0 if there is no such
+/// kind.
 ///
 /// ```c
 /// gix_validate_offset_of(2, "v1..2", 5, 0);     // 3, the second dot
@@ -112,9 +113,9 @@ pub(crate) fn kind_of(number: u32) -> Option<Kind>
     }
 }
 
-/// The number of the name's fault, or 0 if it has none. 255 if there is no kind.
-// (Each kind has a function of its own, and `fault_of` ends in a jump to it. In one function all kinds
-// would pay for the frame of the largest, some fifty instructions.)
+/// The number of the name's fault, 0 if it has none, and 255 if there is no kind.
+// (Each kind has a function of its own, and `fault_of` ends in a jump to it. In one function all
+// kinds would set up the frame that the largest needs, which takes some fifty instructions.)
 #[inline(always)]
 pub(crate) fn number_by(kind: Option<Kind>, name: BStr<'_>, flags: u32) -> u32
     ensures unknown { MatchOption kind (result ≡ 255) (λ kind.

@@ -2,9 +2,9 @@
 //! "Calls for C").
 //!
 //! Each function returns the length of the repaired name, a valid partial name, which is at the
-//! start of the buffer. It has at least one byte, and at most as many as the given name, or one if
-//! that is empty. So 0 says that the buffer was too small; then nothing was written. Lengths and
-//! offsets are in bytes. The functions don't allocate.
+//! start of the buffer. That name has at least one byte, and at most as many as the given name, or
+//! one if that is empty. So 0 means that the buffer was too small; then nothing was written.
+//! Lengths and offsets are in bytes. The functions don't allocate.
 
 ghost use Rattle.std.specs.Prelude.{◌≡◌, ◌↔◌, ◌≤◌, max, length, take, drop, IsTrue};
 ghost use Rattle.gix_validate.specs.Reference.{is_partial_name};
@@ -15,9 +15,9 @@ use gix_validate::reference;
 /// Repairs the name in the first `name_len` bytes of the buffer, and returns the length of the
 /// repaired name.
 ///
-/// If the buffer has no byte, or fewer than `name_len`, it returns 0 and leaves the buffer as it
-/// was. Otherwise the bytes from offset `name_len` on, or from 1 on if that is 0, stay as they were.
-/// The bytes between the repaired name and that offset are unspecified.
+/// If the buffer has no byte, or fewer than `name_len`, it returns 0 and leaves the buffer
+/// unchanged. Otherwise the bytes from offset `name_len` on, or from 1 on if that is 0, are
+/// unchanged. The bytes between the repaired name and that offset are unspecified.
 ///
 /// ```c
 /// uint8_t buffer[] = "..azz";
@@ -44,8 +44,8 @@ pub extern "C" fn gix_validate_sanitize_in_place(buffer: &mut [u8], name_len: us
 /// Copies the name to the start of the buffer, repairs it there, and returns the length of the
 /// repaired name.
 ///
-/// If the buffer has no byte, or fewer than the name, it returns 0 and leaves the buffer as it was.
-/// Otherwise the bytes from the length of the name on, or from 1 on if that is 0, stay as they were.
+/// If the buffer has no byte, or fewer than the name, it returns 0 and leaves the buffer unchanged.
+/// Otherwise the bytes from the length of the name on, or from 1 on if that is 0, are unchanged.
 /// The bytes between the repaired name and that offset are unspecified. The name and the buffer may
 /// not overlap.
 ///

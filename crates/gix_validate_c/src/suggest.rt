@@ -6,13 +6,13 @@ ghost use Rattle.git_names.specs.Suggestions.{suggestion};
 
 use bstr::BStr;
 
-/// Writes the branch name that [`git_names::suggest`] suggests to the start of the buffer, and returns
-/// its length in bytes: at least 1, and at most that of the name. 0 if there is no suggestion, or if the
-/// buffer is shorter than the name (docs/RULES.md, "Suggestions").
+/// Writes the branch name that [`git_names::suggest`] suggests to the start of the buffer, and
+/// returns its length in bytes: at least 1, and at most that of the name. Returns 0 if there is no
+/// suggestion, or if the buffer is shorter than the name (docs/RULES.md, "Suggestions").
 ///
-/// A shorter buffer stays as it was. Otherwise the bytes from the length of the name on stay as they
-/// were, and those before it that the suggestion doesn't need are unspecified. No NUL byte ends it. The
-/// name and the buffer may not overlap. The function doesn't allocate.
+/// A shorter buffer is unchanged. Otherwise the bytes from the length of the name on are unchanged,
+/// and those before it that the suggestion doesn't need are unspecified. The suggestion isn't
+/// NUL-terminated. The name and the buffer may not overlap. The function doesn't allocate.
 ///
 /// ```c
 /// uint8_t buffer[32];

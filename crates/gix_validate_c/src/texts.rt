@@ -14,11 +14,11 @@ use gix_validate::text::{Text, escape};
 
 /// Writes the text of the fault for which
 /// [`gix_validate_fault_of`](crate::names::gix_validate_fault_of) refuses the name, and returns its
-/// length in bytes. 0 if the name is valid or there is no such kind.
+/// length in bytes, or 0 if the name is valid or there is no such kind.
 ///
-/// No text has more than [`MAX_TEXT`] bytes. If the whole text fits, it is written to the start of the
-/// buffer, and the rest of the buffer stays as it was. Otherwise nothing is written. No NUL byte ends
-/// it.
+/// No text has more than [`MAX_TEXT`] bytes. If the whole text fits, it is written to the start of
+/// the buffer, and the rest of the buffer is unchanged. Otherwise nothing is written. The text
+/// isn't NUL-terminated.
 ///
 /// ```c
 /// gix_validate_text_of(2, "a..b", 4, 0, text, sizeof text); // 61

@@ -1,5 +1,5 @@
-//! A name is passed to the functions of the library, and what they return is compared with what is
-//! wanted: what the second implementation returns, or what a table says.
+//! Passes a name to the functions of the library, and compares what they return with what is
+//! expected: the result of the second implementation, or of a table.
 
 use crate::path::{SETTINGS, conditions, hfs_form, is_device, of_component};
 use crate::printed::{
@@ -26,7 +26,7 @@ pub(crate) fn check(rt: &impl Host, text: &[u8]) {
     expect_repair(rt, text, &sanitized(rt, text));
 }
 
-/// Does so with the functions for names of references and submodules.
+/// Does so with the functions for reference names and submodule names.
 fn check_uncut(rt: &impl Host, text: &[u8], between_slashes: &[u8]) {
     let faults = of_references(text);
     expect_accepting(rt, text, accepting(text, between_slashes), &faults);
@@ -34,7 +34,7 @@ fn check_uncut(rt: &impl Host, text: &[u8], between_slashes: &[u8]) {
     expect_submodule(rt, text, of_submodule(text, between_slashes));
 }
 
-/// Panics if it isn't the first so many rules that find no error.
+/// Panics unless exactly the first so many rules find no error.
 fn expect_accepting(rt: &impl Abort, text: &[u8], accepting: usize, faults: &[Fault<'_>]) {
     for (kind, fault) in faults.iter().enumerate() {
         expect_bool(rt, ("a rule", text), kind < accepting, *fault == VALID);
@@ -56,19 +56,20 @@ fn expect_components(rt: &impl Host, text: &[u8], holds: &[bool; 13]) {
     }
 }
 
-/// Panics if the call with this name gave something else than what is wanted.
+/// Panics if the call with this name returned something other than what is expected.
 pub(crate) fn expect(rt: &impl Abort, (call, text): (&str, &[u8]), wanted: &[u8], came: &[u8]) {
     let [text, wanted, came] = [BStr::new(text), BStr::new(wanted), BStr::new(came)];
     assert_eq!(rt; came, wanted, "{call} of {text:?} (right: wanted)");
 }
 
-/// The same of a call that says whether something holds.
+/// The same for a call that returns whether something holds.
 pub(crate) fn expect_bool(rt: &impl Abort, (call, text): (&str, &[u8]), wanted: bool, came: bool) {
     let text = BStr::new(text);
     assert_eq!(rt; came, wanted, "{call} of {text:?} (right: wanted)");
 }
 
-/// Panics if the result isn't the name itself if it is valid, or else the error, which prints its text.
+/// Panics unless the result is the name itself if that is valid, and otherwise the error, which
+/// prints its text.
 pub(crate) fn expect_told<E: Debug + Display + Drop>(
     rt: &impl Host,
     call: (&str, &[u8]),
@@ -81,13 +82,13 @@ pub(crate) fn expect_told<E: Debug + Display + Drop>(
     }
 }
 
-/// Panics if the name isn't valid, or if something else came.
+/// Panics if the name isn't valid, or if something else was returned.
 pub(crate) fn expect_valid(rt: &impl Abort, call: (&str, &[u8]), fault: Fault<'_>, came: &[u8]) {
     let wanted = if fault == VALID { call.1 } else { fault.0 };
     expect(rt, call, wanted, came);
 }
 
-/// Panics if the error is another one, or prints something else than its text.
+/// Panics if the error is another one, or prints something other than its text.
 pub(crate) fn expect_error<E: Debug + Display>(
     rt: &impl Host,
     call: (&str, &[u8]),
@@ -99,7 +100,7 @@ pub(crate) fn expect_error<E: Debug + Display>(
     expect_text(rt, call, wanted, error);
 }
 
-/// Panics if the error prints something else than its text.
+/// Panics if the error prints something other than its text.
 pub(crate) fn expect_text<E: Display>(
     rt: &impl Host,
     call: (&str, &[u8]),
@@ -145,7 +146,7 @@ pub(crate) fn expect_submodule(rt: &impl Host, text: &[u8], error: &'static [u8]
     expect_told(rt, ("submodule::name", text), wanted, told);
 }
 
-/// The protections that these settings have.
+/// The protections of these settings.
 pub(crate) fn options(settings: &str) -> ComponentOptions {
     let letters = settings.as_bytes();
     ComponentOptions {
@@ -155,7 +156,7 @@ pub(crate) fn options(settings: &str) -> ComponentOptions {
     }
 }
 
-/// The mode that these settings have.
+/// The mode of these settings.
 pub(crate) fn mode(settings: &str) -> Option<ComponentMode> {
     settings.ends_with("s").then_some(ComponentMode::Symlink)
 }
@@ -190,8 +191,8 @@ pub(crate) fn expect_repair(rt: &impl Host, text: &[u8], wanted: &[u8]) {
     expect(rt, call, wanted, name.as_bytes());
 }
 
-/// Checks what is left in the buffer of the name that its first `len` bytes are, and that the bytes
-/// after the name are as they were. (A buffer has at least one byte.)
+/// Checks what becomes of the name in the first `len` bytes of the buffer, and that the bytes after
+/// the name are unchanged. (A buffer has at least one byte.)
 pub(crate) fn expect_in_place(rt: &impl Host, (given, len): (&[u8], usize), wanted: &[u8]) {
     if !given.is_empty() {
         let mut buffer = joined(rt, &[given]);
@@ -207,7 +208,7 @@ pub(crate) fn expect_in_place(rt: &impl Host, (given, len): (&[u8], usize), want
     }
 }
 
-/// How many bytes are left of the name.
+/// How many bytes the repaired name has.
 fn left_of(rt: &impl Abort, buffer: &mut [u8], len: usize) -> usize {
     assert!(rt; !buffer.is_empty() && len <= buffer.len());
     sanitize_in_place(buffer, len)

@@ -1,4 +1,4 @@
-//! The kinds of names of `git_names`: worked names, where the error of each is, and suggestions.
+//! The kinds of names in `git_names`: worked names, the offset of each error, and suggestions.
 
 use crate::agree::{expect, expect_bool, options};
 use crate::rows::{Names, listed};
@@ -56,7 +56,7 @@ const KINDS: &[(Kind, &str, &[u8], usize, Names)] = &[
     (Kind::SymlinkPath, "whn-", b"", 0, b"a/latest,.gitmodules/a"),
 ];
 
-/// Names of submodules, among them those that other programs' tests disguise.
+/// Submodule names, among them disguised ones from the tests of other programs.
 #[rattlefmt::skip]
 const SUBMODULES: &[(Kind, &str, &[u8], usize, Names)] = &[
     (Kind::Submodule, "----", b"", 0, b"a,vendor/lib,/,...,.. ,..:foo,.,C:\\win,a\0b"),

@@ -1,5 +1,5 @@
-//! Laws that belong to no function of the library. The contract of a function that does nothing says
-//! each, since only what a contract says is proved.
+//! Laws that belong to no function of the library. Each is in the contract of a function that does
+//! nothing, because a law is proved only if a contract states it.
 
 ghost use Rattle.std.specs.Prelude.{◌≡◌, ℕ, List, IsTrue, length, bytes_eq};
 ghost use Rattle.std.specs.List.{list_any};

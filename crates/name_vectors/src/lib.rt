@@ -4,19 +4,21 @@
 //!   `members`, of short and whole ones `short_and_whole`, and of
 //!   each kind of `git_names` `kinds`), and of the texts of errors (`printed`).
 //! - An independent second implementation of docs/RULES.md. (The first is the definitions in
-//!   `crates/gix_validate/specs`, against which the library is proved.) It uses nothing of the library,
-//!   and other algorithms: it searches names for what they may not have instead of scanning them, and
-//!   lists all names instead of comparing prefixes. An error is its name in docs/RULES.md.
+//!   `crates/gix_validate/specs`, against which the library is proved.) It uses nothing from the
+//!   library, and its algorithms are different: it searches names for what they may not have
+//!   instead of scanning them, and lists all names instead of comparing prefixes. An error is
+//!   represented by its name in docs/RULES.md.
 //! - Tests that pass tens of thousands of names to `gix_validate` and to the second implementation,
-//!   and compare the results, all names of up to two bytes too.
+//!   and compare the results. All names of up to two bytes are among them.
 //! - A law that no clause of the library states (`laws`).
-//! - What no clause says: that calls which may fail succeed, and what `Debug` prints. And callers
-//!   that show what the ghost members of the types' traits say.
+//! - Tests of what no clause says: that calls which may fail succeed, and what `Debug` prints. Also
+//!   callers that show what the ghost members of the types' traits say.
 //!
-//! Its proofs say that the tests are safe and end, so it is written for short ones. A failed allocation
-//! ends a test, since each `?` would be a second way out, on which all that lives is dropped. A
-//! function has one loop or few calls, and a loop gets its table as a parameter, so that its proof
-//! doesn't have the table in it. Few different functions of the standard library are called.
+//! The tests are proved to be safe and to end, and the crate is written so that these proofs are
+//! short. A failed allocation ends a test, because each `?` would be another exit, on which
+//! everything alive is dropped. A function has one loop or few calls, and a loop gets its table as
+//! a parameter, so that the table isn't part of the proof. Few different functions of the standard
+//! library are called.
 #![tactic(auto)]
 
 #[cfg(test)]

@@ -1,6 +1,6 @@
 //! Callers that depend on the contracts of the traits that the libraries' types implement. Such a
-//! contract is a ghost member of an `impl`, and where it is left out, it says nothing. So each caller
-//! here has an `ensures` that then couldn't be proved.
+//! contract is a ghost member of an `impl`, and says nothing if it is left out. So each caller here
+//! has an `ensures` that then couldn't be proved.
 
 ghost use Rattle.std.specs.Prelude.{◌≡◌, ◌↔◌, [], ◌∷◌, ◌++◌, map, IfOk, IsTrue, MatchOption};
 ghost use Rattle.std.specs.Prelude.{string_bytes, encode_utf8_all};
@@ -49,8 +49,8 @@ pub(crate) fn converted(fault: tag::NameError) -> reference::NameError
     reference::NameError::from(fault)
 }
 
-/// The default options, which have every protection; clones of options and of a mode, which succeed;
-/// and whether two modes are the same: there is only one.
+/// The default options, which have every protection; clones of options and of a mode, which
+/// succeed; and whether two modes are the same, as they are because there is only one.
 fn options_and_modes(
     options: &ComponentOptions,
     mode: &ComponentMode,

@@ -3,8 +3,8 @@
 use crate::reference::Fault;
 use crate::text::{Host, joined};
 
-/// Errors of one kind of name, and their texts. Functions return them, so that a proof has one of these
-/// tables only in its function.
+/// Errors of one kind of name, and their texts. Each table is returned by a function of its own, so
+/// that it is part of that function's proof alone.
 pub(crate) type Texts = &'static [(&'static [u8], &'static [u8])];
 
 #[rattlefmt::skip]
@@ -65,7 +65,7 @@ pub(crate) fn component_texts() -> Texts {
     ]
 }
 
-/// Those that short names of branches have besides those of reference names.
+/// The errors of short branch names that reference names don't have.
 #[rattlefmt::skip]
 pub(crate) fn branch_texts() -> Texts {
     &[
@@ -73,7 +73,7 @@ pub(crate) fn branch_texts() -> Texts {
     ]
 }
 
-/// Those that whole paths have besides those of components.
+/// The errors of whole paths that components don't have.
 #[rattlefmt::skip]
 pub(crate) fn path_texts() -> Texts {
     &[
@@ -82,7 +82,7 @@ pub(crate) fn path_texts() -> Texts {
     ]
 }
 
-/// The text of the error, followed by what is quoted after it in its quoted form, if it wants that.
+/// The text of the error, followed by what is quoted after it, if anything is.
 pub(crate) fn printed(rt: &impl Host, texts: Texts, (error, quoted): Fault<'_>) -> Vec<u8> {
     let text = text_of(texts, error);
     let mut printed = joined(rt, &[text]);

@@ -4,8 +4,8 @@
 use crate::text::{Host, before_first, contains_one, is_bad, joined};
 use bstr::ByteSlice;
 
-/// An error of a name, as docs/RULES.md calls it, and what is quoted after its text, if it wants that.
-/// Of a valid name both are empty.
+/// An error of a name, as docs/RULES.md calls it, and what is quoted after its text, if anything
+/// is. For a valid name both are empty.
 pub(crate) type Fault<'a> = (&'static [u8], &'a [u8]);
 
 pub(crate) const VALID: Fault<'static> = (b"", b"");
@@ -32,7 +32,7 @@ fn at_lowest_offset(text: &[u8]) -> Fault<'_> {
     or(VALID, is_lock_file, (b"LockFileSuffix", b""))
 }
 
-/// The error at an offset, of the bytes before it and those from it on.
+/// The error at an offset, given the bytes before it and those from it on.
 fn at_offset<'a>(before: &[u8], here: &'a [u8]) -> Fault<'a> {
     for (last, next, word) in AT_OFFSET {
         if before.ends_with(last) && here.starts_with(next) {
@@ -64,7 +64,7 @@ fn of_tag(text: &[u8]) -> Fault<'_> {
     }
 }
 
-/// The first error as a tag name, a partial name, a full name and the name of a branch.
+/// The first error as a tag name, a partial name, a full name and a branch name.
 pub(crate) fn of_references(text: &[u8]) -> [Fault<'_>; 4] {
     let tag = of_tag(text);
     let partial = or(tag, text == b"@".as_slice(), (b"Reserved", text));
@@ -172,7 +172,7 @@ fn cleaned_byte(before: &[u8], byte: u8) -> u8 {
     }
 }
 
-/// The piece without `.lock` at its end, as often as it is there.
+/// The piece without each `.lock` at its end.
 fn cut(piece: &[u8]) -> &[u8] {
     let mut front = piece;
     for _ in 0..piece.len() {

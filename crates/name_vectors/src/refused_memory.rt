@@ -1,9 +1,9 @@
 //! Calls that allocate, made again if an allocation fails. `tests/memory` builds these tests
 //! once, makes the same allocation of each fail, and counts what they print.
 //!
-//! A test is named after the allocation of the calls that fails in it: it first makes so many
-//! allocations of its own that this one is the one that fails. In the last test none of the calls'
-//! allocations fails.
+//! A test is named after the allocation of the calls that fails in it. It first makes as many
+//! allocations of its own as it takes for this one to be the one that fails. In the last test none
+//! of the calls' allocations fails.
 
 use crate::agree::expect;
 use crate::rows::part;

@@ -1,4 +1,4 @@
-//! Short names of branches and whole paths: worked names, and what docs/RULES.md gives for each.
+//! Short branch names and whole paths: worked names, and what docs/RULES.md gives for each.
 
 use crate::agree::{expect, expect_bool, expect_error, expect_text, expect_valid, mode, options};
 use crate::printed::{branch_texts, component_texts, path_texts, reference_texts};
@@ -69,8 +69,8 @@ fn for_short_names(rt: &impl Host, rows: &[(Fault<'static>, Names)]) {
     }
 }
 
-/// Each name is valid if and only if the second implementation accepts the full name of a branch, and
-/// it has no dash first.
+/// Each name is valid if and only if the second implementation accepts it as part of a full branch
+/// name, and it doesn't start with a dash.
 fn for_names(rt: &impl Host, fault: Fault<'static>, names: &[&[u8]]) {
     for name in names {
         expect_short(rt, name, fault);
@@ -79,7 +79,7 @@ fn for_names(rt: &impl Host, fault: Fault<'static>, names: &[&[u8]]) {
     }
 }
 
-/// Whether the second implementation accepts `refs/heads/` with this name as the name of a branch.
+/// Whether the second implementation accepts `refs/heads/` followed by this name as a branch name.
 fn is_branch(rt: &impl Host, name: &[u8]) -> bool {
     let full = joined(rt, &[b"refs/heads/", name]);
     of_references(&full)[3] == VALID

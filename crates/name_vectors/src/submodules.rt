@@ -1,5 +1,5 @@
-//! The names of the submodules in a `.gitmodules` file: that reading them can succeed, and what an
-//! error prints. (What is returned is in the contract.)
+//! Submodule names in a `.gitmodules` file: that reading them can succeed, and what an error
+//! prints. (The contract says what is returned.)
 
 use crate::agree::expect;
 use gitmodules::submodule_names;

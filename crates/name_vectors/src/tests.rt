@@ -4,9 +4,10 @@ use crate::agree::check;
 use crate::path::{DEVICES, IGNORED_CHARACTERS, SEQUENCES};
 use crate::text::{Host, joined};
 
-/// The parts of which names are made, and how many names there are of at most five, four or three:
-/// special bytes of the rules for references, the suffix that Git reserves for its own files among
-/// others, and byte strings that mean something to a rule, and something else next to one another.
+/// The parts of which names are made, and how many names there are of at most five, four or three.
+/// Some are special bytes of the rules for references, some contain the suffix that Git reserves
+/// for its own files, and some are byte strings that mean one thing to a rule alone, and another
+/// next to each other.
 #[rattlefmt::skip]
 const PARTS: &[(&[&[u8]], usize)] = &[
     (&[b".", b"/", b"@", b"{", b"a", b"*"], 1 + 6 + 36 + 216 + 1_296 + 7_776),
@@ -17,8 +18,8 @@ const PARTS: &[(&[&[u8]], usize)] = &[
     ], 1 + 16 + 256 + 4_096),
 ];
 
-/// The name of at most five parts with this number. Shorter names have the lower numbers: 0 is the
-/// empty name, and with N parts those of one part are 1 to N.
+/// The name of at most five parts with this number. Names of fewer parts have lower numbers: 0 is
+/// the empty name, and if there are N parts, the names of one part have the numbers 1 to N.
 fn numbered(rt: &impl Host, parts: &[&[u8]], number: usize) -> Vec<u8> {
     let mut text = Vec::new(rt.alloc());
     let mut left = number;
@@ -47,8 +48,8 @@ fn check_numbered(rt: &impl Host, parts: &[&[u8]], end: usize) {
     }
 }
 
-/// What is around each byte: nothing, what makes a name of one piece or of several, and the first two
-/// bytes of an ignored character.
+/// What surrounds each byte: nothing, bytes that make a name of one piece or of several, and the
+/// first two bytes of an ignored character.
 #[rattlefmt::skip]
 const AROUND: &[(&[u8], &[u8])] = &[
     (b"", b""), (b"a", b"b"), (b"refs/heads/a", b"b"),
@@ -93,7 +94,7 @@ fn agrees_on_names_of_two_bytes_from_c0(rt: HostRuntime) {
     check_quarter(&rt, 0xC0);
 }
 
-/// Checks the name with each word at each offset, in place of a byte or, if `len` is 0, between two.
+/// Checks the name with each word at each offset, instead of a byte or, if `len` is 0, between two.
 /// Returns how many names that were.
 fn check_changed(rt: &impl Host, (name, len): (&[u8], usize), words: &[&[u8]]) -> usize {
     let mut checked: usize = 0;
@@ -134,9 +135,9 @@ const SHORT_NAMES: &[&[u8]] = &[
 ];
 
 /// The devices, short names and ignored characters of the tables of component names, and their
-/// neighbours. Of each line the names are spelled in three ways, and changed by these words, in place
-/// of so many bytes, which gives so many names. If a table of the library lacks an element, the test
-/// fails.
+/// neighbours. The names of each line are written in three ways, and changed by these words, each
+/// instead of so many bytes, which gives so many names. If a table of the library lacks an element,
+/// the test fails.
 #[rattlefmt::skip]
 const CHANGES: &[(&[&[u8]], usize, &[&[u8]], usize)] = &[
     (DEVICES, 0, &[b"", b".x", b" :x", b"x"], 3 * 126 * 4),
@@ -151,7 +152,7 @@ fn agrees_on_each_element_of_tables(rt: HostRuntime) {
     }
 }
 
-/// Checks these names, spelled in three ways, with such changes. Returns how many names that were.
+/// Checks these names, written in three ways, with such changes. Returns how many names that were.
 fn check_spelled(rt: &impl Host, names: &[&[u8]], len: usize, words: &[&[u8]]) -> usize {
     let mut checked: usize = 0;
     for name in names {
@@ -163,7 +164,7 @@ fn check_spelled(rt: &impl Host, names: &[&[u8]], len: usize, words: &[&[u8]]) -
     checked
 }
 
-/// Does so with a name in one spelling.
+/// Does so with a name written in one way.
 fn check_spelling(
     rt: &impl Host,
     (name, uppercase): (&[u8], usize),

@@ -1,4 +1,4 @@
-//! Functions on byte strings that the rules and the tests use (docs/RULES.md, "Bytes"), and what they
+//! Functions on byte strings for the rules and the tests (docs/RULES.md, "Bytes"), and what these
 //! need of the runtime.
 
 use bstr::ByteSlice;
@@ -29,7 +29,7 @@ pub(crate) fn contains_one(text: &[u8], words: &[&[u8]]) -> bool {
     words.iter().any(|word| text.contains_str(word))
 }
 
-/// What is before the first of the given bytes, or the whole byte string if there is none.
+/// The part before the first of the given bytes, or the whole byte string if it has none of them.
 pub(crate) fn before_first<'a>(text: &'a [u8], bytes: &[u8]) -> &'a [u8] {
     let end = text.find_byteset(bytes).unwrap_or(text.len());
     text.get(..end).unwrap_or(text)

@@ -8,11 +8,11 @@ ghost use Rattle.programs.specs.Accepted.{lists_in, names_in, without_windows};
 
 use gix_validate::path::ComponentOptions;
 
-/// How often `--accept` can be given. A list is an argument, and Linux passes 128 KiB in one argument
-/// and 2 MB in all of them.
+/// How often `--accept` can be given. Once is too few, because a list is one argument, which Linux
+/// limits to 128 KiB, and all arguments to 2 MB.
 const MAX_LISTS: usize = 16;
 
-/// Some lists of names, which slashes separate.
+/// Lists of names, which are separated by slashes.
 #[derive(Clone, Copy)]
 pub struct AcceptedNames<'a> {
     lists: [&'a str; MAX_LISTS],
@@ -77,7 +77,7 @@ impl<'a> AcceptedNames<'a> {
     }
 }
 
-/// The switches without that for Windows, which are those for an accepted name. It doesn't allocate.
+/// The switches for an accepted name: all but that for Windows. It doesn't allocate.
 ///
 /// ```
 /// without_windows(ComponentOptions::default()); // HFS and NTFS
@@ -91,7 +91,7 @@ pub fn without_windows(protections: ComponentOptions) -> ComponentOptions
     }
 }
 
-/// Whether a name is one of the texts between the slashes of `names`.
+/// Whether a name is one of those that slashes separate in `names`.
 fn is_piece(name: &[u8], names: &str) -> bool
     ensures { result ≡ list_any (λ piece. bytes_eq piece name.now) (pieces names.now) }
 {

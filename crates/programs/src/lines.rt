@@ -22,8 +22,8 @@ use std::io::{BufRead, Write};
 /// The largest length of a line with its newline, in bytes.
 pub const MAX_LINE: u64 = 65_536;
 
-/// What Git prints for the word `..end`, without the newline. No reference, object or path can have
-/// that name.
+/// What Git prints for the word `..end`, without the newline. (Git reads this word neither as a
+/// reference nor as an object.)
 const END: &[u8; 13] = b"..end missing";
 
 /// Where an input has to end.
@@ -42,7 +42,7 @@ pub enum Ending {
 pub struct Buffers {
     /// What was read.
     pub read: Vec<u8>,
-    /// A part of that, such as an id or a name.
+    /// A part of what was read, such as an id or a name.
     pub part: Vec<u8>,
     /// What is to be written.
     pub lines: Vec<u8>,
@@ -71,15 +71,14 @@ pub trait LineCheck: Copy {
     ghost leaves: { (check : Self) → LeavesTheEnd (line_rule check) };
 }
 
-/// Reads all of `input`, and writes what `check` reports for each line and the bytes that belong to it
-/// to `output`, each as it is found (docs/RULES.md, "Streams of objects" and "The report of
-/// references"). `output` is not flushed. A malformed part ends the run, and what was found before it
-/// is written.
+/// Reads all of `input`, and writes what `check` reports for each line and the bytes that belong to
+/// it to `output`, each as it is found (check_push(1)). `output` is not flushed. A malformed part
+/// ends the run, and what was found before it is written.
 ///
 /// # Errors
 ///
-/// [`RunError`] says whether reading, memory or writing failed. If reading or memory did, what was
-/// written is the beginning of the report.
+/// [`RunError`] says whether reading, an allocation or writing failed. If it was not writing that
+/// failed, what was written is the beginning of the report.
 ///
 /// # Memory
 ///

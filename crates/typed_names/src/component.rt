@@ -13,7 +13,7 @@ use gix_validate::path::{self, ComponentError, ComponentMode, ComponentOptions};
 use std::convert::AsSlice;
 use std::fmt;
 
-/// The name of an entry in a directory, as `src` or `a.rs` (docs/RULES.md, "Path components").
+/// The name of an entry in a directory, such as `src` or `a.rs` (docs/RULES.md, "Path components").
 ///
 /// [`new`](Component::new) checks it under a mode and options. The type keeps what all of these
 /// have in common: the name is valid with no switch and without a mode. That is what
@@ -38,7 +38,7 @@ impl<'a> Component<'a> {
     ///
     /// # Errors
     ///
-    /// The fault that [`path::component`] returns under this mode and these options.
+    /// The error that [`path::component`] returns under this mode and these options.
     pub fn new(
         name: BStr<'a>,
         mode: Option<ComponentMode>,

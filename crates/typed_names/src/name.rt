@@ -32,7 +32,7 @@ pub struct Name<'a, R: Rule> {
     pub ghost valid: { IsTrue (R.is_name (bstr_bytes name)) },
 }
 
-/// A tag name, as `v1.2.3` and `refs/heads/main` are (docs/RULES.md, "Tag names").
+/// A tag name, such as `v1.2.3` or `refs/heads/main` (docs/RULES.md, "Tag names").
 ///
 /// ```
 /// TagName::new(BStr::from("v1.2.3"))?; // keeps `v1.2.3`
@@ -40,7 +40,7 @@ pub struct Name<'a, R: Rule> {
 /// ```
 pub type TagName<'a> = Name<'a, Tag>;
 
-/// A partial reference name, as `main` is (docs/RULES.md, "Reference names").
+/// A partial reference name, such as `main` (docs/RULES.md, "Reference names").
 ///
 /// ```
 /// PartialName::new(BStr::from("main"))?; // keeps `main`
@@ -48,7 +48,7 @@ pub type TagName<'a> = Name<'a, Tag>;
 /// ```
 pub type PartialName<'a> = Name<'a, Partial>;
 
-/// A full reference name, as `HEAD` and `refs/heads/main` are (docs/RULES.md, "Reference names").
+/// A full reference name, such as `HEAD` or `refs/heads/main` (docs/RULES.md, "Reference names").
 ///
 /// ```
 /// FullName::new(BStr::from("refs/heads/main"))?; // keeps `refs/heads/main`
@@ -56,7 +56,7 @@ pub type PartialName<'a> = Name<'a, Partial>;
 /// ```
 pub type FullName<'a> = Name<'a, Full>;
 
-/// The full name of a branch, as `refs/heads/main` is (docs/RULES.md, "Reference names").
+/// The full name of a branch, such as `refs/heads/main` (docs/RULES.md, "Reference names").
 ///
 /// ```
 /// BranchName::new(BStr::from("refs/heads/main"))?; // keeps `refs/heads/main`
@@ -64,7 +64,7 @@ pub type FullName<'a> = Name<'a, Full>;
 /// ```
 pub type BranchName<'a> = Name<'a, Branch>;
 
-/// A submodule name, as `vendor/package` is (docs/RULES.md, "Submodule names").
+/// A submodule name, such as `vendor/package` (docs/RULES.md, "Submodule names").
 ///
 /// ```
 /// SubmoduleName::new(BStr::from("vendor/package"))?; // keeps `vendor/package`
@@ -146,7 +146,7 @@ impl<'a> TagName<'a> {
     }
 }
 
-/// A partial name is a tag name. The name stays the same.
+/// A partial name is a tag name. The bytes stay the same.
 #[tactic(auto, unfolding(gix_validate::specs::Reference::is_partial_name))]
 impl<'a> From<PartialName<'a>> for TagName<'a> {
     ghost use Rattle.typed_names.specs.Names.{name_text};
@@ -161,7 +161,7 @@ impl<'a> From<PartialName<'a>> for TagName<'a> {
     }
 }
 
-/// A full name is a partial name. The name stays the same.
+/// A full name is a partial name. The bytes stay the same.
 #[tactic(auto, unfolding(gix_validate::specs::Reference::is_full_name))]
 impl<'a> From<FullName<'a>> for PartialName<'a> {
     ghost use Rattle.typed_names.specs.Names.{name_text};
@@ -176,7 +176,7 @@ impl<'a> From<FullName<'a>> for PartialName<'a> {
     }
 }
 
-/// The name of a branch is a full name. The name stays the same.
+/// A branch name is a full name. The bytes stay the same.
 #[tactic(auto, unfolding(gix_validate::specs::Reference::is_branch_name))]
 impl<'a> From<BranchName<'a>> for FullName<'a> {
     ghost use Rattle.typed_names.specs.Names.{name_text};
@@ -244,7 +244,7 @@ impl<'a, R: Rule> fmt::Display for Name<'a, R> {
     }
 }
 
-/// Prints the type and the name, as `TagName { name: "v1.2.3" }`.
+/// Prints the type and the name, such as `TagName { name: "v1.2.3" }`.
 impl<'a, R: Rule> fmt::Debug for Name<'a, R> {
     fn fmt<W: fmt::Write>(&self, f: &mut fmt::Formatter<W>) -> fmt::Result {
         f.debug_struct(R::TYPE_NAME)

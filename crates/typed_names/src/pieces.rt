@@ -12,7 +12,7 @@ use std::marker::Model;
 /// An iterator over the pieces of a tag name, in order. [`TagName::pieces`](crate::TagName::pieces)
 /// returns it.
 ///
-/// In contracts it is the list of the pieces that are left.
+/// In contracts an iterator is the list of the pieces that are left.
 #[derive(Clone, Debug, Drop)]
 pub struct Pieces<'a> {
     /// The bytes whose pieces are left, or `None` after the last piece was returned.
@@ -59,7 +59,7 @@ impl<'a> Iterator for Pieces<'a> {
 
 impl<'a> FusedIterator for Pieces<'a> {}
 
-/// What is before the first slash, and what follows it, if there is a slash.
+/// The bytes before the first slash and those after it, if there is a slash.
 #[tactic(auto, using(crate::proofs::SlashLemmas::first_slash_found))]
 pub(crate) fn split_at_first_slash<'a>(text: BStr<'a>) -> Option<(BStr<'a>, BStr<'a>)>
     ensures none { IsNone result ↔ IsTrue (has_no_slash (bstr_bytes text.entry)) }

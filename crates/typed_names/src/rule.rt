@@ -1,4 +1,4 @@
-//! The rules that decide by the name alone.
+//! The rules that depend on the name alone, without options.
 
 ghost use Rattle.std.specs.Prelude.{◌≡◌, ◌↔◌, ℕ, List, Bool, Option, IsOk, IfOk, IsTrue};
 ghost use Rattle.bstr.specs.BStr.{bstr_bytes};
@@ -14,8 +14,8 @@ use gix_validate::{reference, submodule, tag};
 /// A rule for names: which byte strings are valid names, and why another one is not.
 ///
 /// [`Tag`], [`Partial`], [`Full`], [`Branch`] and [`Submodule`] are the rules of `gix_validate`. A
-/// rule has no values. It is the `R` of a [`Name<'a, R>`](crate::Name), and the bound of a function
-/// that accepts names of every rule.
+/// rule has no values: it is the `R` of a [`Name<'a, R>`](crate::Name), and functions that accept
+/// names of every rule have `Rule` as a bound.
 ///
 /// ```
 /// fn length<R: Rule>(name: Name<'_, R>) -> usize {
@@ -26,7 +26,7 @@ pub trait Rule {
     /// The error type: why a byte string is not a valid name.
     type Fault;
 
-    /// The name of the type, as `Debug` prints it.
+    /// The name of the type that `Debug` prints.
     const TYPE_NAME: &'static str;
 
     /// Whether a byte string is a valid name.
@@ -109,7 +109,7 @@ impl Rule for Full {
     }
 }
 
-/// The rule of names of branches, [`reference::branch_name`] (docs/RULES.md, "Reference names").
+/// The rule of branch names, [`reference::branch_name`] (docs/RULES.md, "Reference names").
 ///
 /// ```
 /// Branch::check(BStr::from("refs/heads/HEAD")); // Reserved, with the name `refs/heads/HEAD`

@@ -55,9 +55,9 @@ pub mod reference {
         EndsWithSlash: "Reference name cannot end with a slash",
         /// It is empty.
         Empty: "Reference name cannot be empty",
-        /// It has no slash, and a byte other than `A` to `Z` and `_`, as a digit.
+        /// It has no slash, and a byte other than `A` to `Z` and `_`, such as a digit.
         SomeLowercase: "Standalone references must be all uppercased, like 'HEAD'",
-        /// It is reserved: `@`, or as a branch `HEAD`, which is `refs/heads/HEAD` in full.
+        /// It is reserved: `@`, or for a branch `HEAD`, which is `refs/heads/HEAD` in full.
         Reserved { name }: "Reference name is reserved and cannot be used: {name:?}",
     }
 }
@@ -81,7 +81,7 @@ pub mod path {
         PathSeparator: "Path separators like / or \\ are not allowed",
         /// A colon follows its first unit, as in `C:`. This needs Windows protection.
         WindowsPathPrefix: "Windows path prefixes are not allowed",
-        /// It is a device, as `NUL` or `com1.txt`. This needs Windows and NTFS protection.
+        /// It is a device, such as `NUL` or `com1.txt`. This needs Windows and NTFS protection.
         WindowsReservedName: "Windows device-names may have side-effects and are not allowed",
         /// It has a byte below 0x20 or one of `<>:"|?*`, or a dot or space last. This needs Windows
         /// and NTFS protection.

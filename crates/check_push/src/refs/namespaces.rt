@@ -1,4 +1,4 @@
-//! The names that a reference name stands for inside of Git's namespaces.
+//! The names that a reference has inside Git's namespaces.
 
 ghost use Rattle.std.specs.Prelude.{◌≡◌, Some};
 ghost use Rattle.std.specs.Option.{option_map};
@@ -7,8 +7,8 @@ ghost use Rattle.check_push.specs.Refs.Private.{innermost};
 
 use programs::text::split_once;
 
-/// The innermost name that a name stands for: the name itself if it is in no namespace (docs/RULES.md,
-/// "The report of references").
+/// The name of a reference in its innermost namespace, which is the name itself if that is in no
+/// namespace (check_push(1)).
 ///
 /// ```
 /// innermost(b"refs/namespaces/a/refs/namespaces/b/refs/heads/c"); // `refs/heads/c`
@@ -26,8 +26,7 @@ pub(crate) fn innermost(name: &[u8]) -> &[u8]
     innermost
 }
 
-/// The name that `refs/namespaces/NS/INNER` has in the namespace NS: INNER, if that begins with
-/// `refs/`.
+/// The name of `refs/namespaces/NS/INNER` in the namespace NS: INNER, if that begins with `refs/`.
 fn inner_of(name: &[u8]) -> Option<&[u8]>
     ensures { option_map (λ inner. inner.now) result ≡ inner_of name.now }
 {

@@ -8,13 +8,13 @@ use bstr::BStr;
 use gix_validate::reference::{self, NameError};
 use std::fmt;
 
-/// Why a reference name is refused (docs/RULES.md, "The report of references").
+/// Why a reference name is refused (check_push(1)).
 #[derive(Drop)]
 pub enum Refusal {
     /// The name is invalid.
     Name(NameError),
-    /// The name is under `refs/replace/`, or is in a namespace. Git shows the object of such a reference instead of
-    /// another one.
+    /// The name is under `refs/replace/`, perhaps in a namespace. Git shows the object of such a
+    /// reference instead of another one.
     Replacement,
 }
 
@@ -32,7 +32,7 @@ impl fmt::Display for Refusal {
     }
 }
 
-/// Why a reference name is refused; `None` if it isn't (docs/RULES.md, "The report of references").
+/// Why a reference name is refused; `None` if it isn't (check_push(1)).
 ///
 /// ```
 /// refusal_of(false, b"refs/heads/HEAD"); // Refusal::Name, with the error `Reserved`
@@ -42,21 +42,22 @@ impl fmt::Display for Refusal {
 /// ```
 ///
 /// [`reference::branch_name`] has to accept a name under `refs/heads/`, and [`reference::name`] any
-/// other name. A name under `refs/replace/` also has to be allowed. So has each name that it stands
-/// for in namespaces. The time is linear in the name. It does not allocate.
+/// other name. A name under `refs/replace/` also has to be allowed. The same holds for each name
+/// that the reference has inside a namespace. The time is linear in the length of the name. It does
+/// not allocate.
 #[tactic(auto, using(crate::proofs::refs::FirstRefusals::first_refusal))]
 pub fn refusal_of(allows_replace: bool, name: &[u8]) -> Option<Refusal>
     ensures { result ≡ refusal_of allows_replace name.now }
 {
     match own_refusal_of(allows_replace, name) {
         Some(refusal) => Some(refusal),
-        // Of the names inside of an accepted one only the innermost can be refused: each of the
-        // others begins with `refs/namespaces/`, and has no component that the outer name lacks.
+        // If the outer name is accepted, only the innermost one can be refused: each of the others
+        // begins with `refs/namespaces/`, and its components are also in the outer name.
         None => own_refusal_of(allows_replace, innermost(name)),
     }
 }
 
-/// Why a name alone is refused, whatever it stands for in namespaces.
+/// Why a name is refused, regardless of the names inside namespaces.
 fn own_refusal_of(allows_replace: bool, name: &[u8]) -> Option<Refusal>
     ensures { result ≡ own_refusal_of allows_replace name.now }
 {
@@ -72,7 +73,7 @@ fn own_refusal_of(allows_replace: bool, name: &[u8]) -> Option<Refusal>
     }
 }
 
-/// Whether a reference of this name shows its object instead of another one.
+/// Whether Git shows the object of a reference with this name instead of another one.
 pub(crate) fn is_replacement(name: &[u8]) -> bool
     ensures { result ≡ is_replacement name.now }
 {

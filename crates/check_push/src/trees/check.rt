@@ -44,8 +44,8 @@ impl<'a> Command<'a> for Options<'a> {
     ghost end_of = { end_of (codes "object") [] };
 
     /// Reads all of `input`, objects as `git cat-file --batch` prints them, and writes a line to
-    /// `output` for each entry of a tree whose name [`path::component`] refuses with these options, and
-    /// for each file to be listed (docs/RULES.md, "The report of trees").
+    /// `output` for each entry of a tree whose name [`path::component`] refuses with these options,
+    /// and for each file to be listed (check_push(1)).
     ///
     /// ```
     /// options.run(alloc, &mut input, &mut output)?; // Verdict::Refused
@@ -209,8 +209,8 @@ enum Finding {
 fn finding_of(options: &Options<'_>, front: EntryHeader<'_>) -> Finding
     ensures { result ≡ finding_of (as_options options.now) (as_entry_header front.entry) }
 {
-    // A name that is valid for a symbolic link is valid for any entry, and under fewer switches. Nearly
-    // every name is, and so isn't looked for in the list of accepted names.
+    // A name that is valid for a symbolic link is valid for any entry, and under fewer switches.
+    // Nearly every name is, so few are looked up in the list of accepted names.
     let as_symlink = Some(ComponentMode::Symlink);
     match path::component(BStr::new(front.name), as_symlink, options.protections) {
         Ok(_) => Finding::Accepted,
@@ -237,7 +237,7 @@ fn finding_of_suspect(options: &Options<'_>, front: EntryHeader<'_>) -> Finding
     }
 }
 
-/// Whether an entry's name is valid if Windows isn't protected.
+/// Whether an entry's name is valid without the switch for Windows.
 fn is_valid_without_windows(protections: ComponentOptions, front: EntryHeader<'_>) -> bool
     ensures { result ≡ is_none
         (fault_of (without_windows protections) front.entry.mode front.entry.name.now) }
@@ -267,8 +267,8 @@ fn is_gitmodules(protections: ComponentOptions, name: &[u8]) -> bool
     )
 }
 
-/// Reads or skips the bytes of an entry's id, and returns whether the input had them. They are kept
-/// if the entry is listed.
+/// Reads the bytes of an entry's id if the entry is listed, skips them otherwise, and returns
+/// whether the input had them.
 fn read_or_skip_id<R: BufRead>(
     finding: &Finding,
     input: &mut R,

@@ -1,4 +1,4 @@
-//! The subcommand's options (docs/RULES.md, "The report of trees").
+//! The subcommand's options (check_push(1)).
 
 ghost use Rattle.check_push.specs.Trees.Arguments.{no_options, rule};
 ghost use Rattle.check_push.specs.Trees.Arguments.{Options, as_options};
@@ -48,7 +48,7 @@ malformed, reading or writing fails, memory runs out, or an argument is wrong.
 A server wants the default. A list without windows accepts a\\.git, which Windows
 reads as a path, and which `git fsck` refuses.";
 
-/// What is said if there are too many lists of accepted names.
+/// The message if there are too many lists of accepted names.
 const FEWER_LISTS: &str = "--accept at most 16 times";
 
 /// How the input is checked.

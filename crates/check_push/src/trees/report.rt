@@ -1,13 +1,13 @@
 //! The lines of the report.
 //!
-//! The directory of an entry is what Git prints for `%(rest)`, the path at which it found the tree. It is
-//! only displayed: it is one of many, and cut at a newline. Each line of a tree repeats it, and a push
-//! decides how long it is. So only its first bytes are displayed: what is printed stays linear in what
-//! is read.
+//! The directory of an entry is what Git prints for `%(rest)`: a path at which it found the tree.
+//! The path is only for display, because it may be one of many, and is cut at a newline. Each line
+//! of a tree repeats it, and the push decides how long it is, so only its first bytes are shown.
+//! Otherwise the output would not be linear in the input.
 //!
-//! The first word tells the lines apart, since a line of neither kind begins with an id. `modules` is
-//! for a file that isn't refused: `check_push submodules` checks its contents. `windows` is for an entry
-//! that only the rules of Windows refuse, and that `--accept` can accept.
+//! The first word tells the lines apart. `modules` is for a file that isn't refused, whose contents
+//! `check_push submodules` checks. `windows` is for an entry that only the rules for Windows
+//! refuse, and that `--accept` can accept. Any other line begins with an id.
 
 ghost use Rattle.std.specs.Prelude.{◌≡◌, ◌++◌, OnOk, codes, flat_map};
 ghost use Rattle.std.specs.Option.{option_map};
@@ -24,10 +24,10 @@ use programs::output::{push_escaped, push_hex};
 use std::alloc::AllocError;
 use std::io::Write;
 
-/// How many bytes of a directory are displayed at most.
+/// The largest number of bytes of a directory that are shown.
 const MAX_DIRECTORY: usize = 128;
 
-/// Replaces the last line with that of a refused entry. Most entries have none.
+/// Replaces the previous line with that of a refused entry. Most entries have none.
 #[cold]
 #[inline(never)]
 pub(crate) fn set_refused(
@@ -43,7 +43,7 @@ pub(crate) fn set_refused(
     push_refused(line, tree, front, fault)
 }
 
-/// Replaces the last line with that of an entry that only the rules of Windows refuse.
+/// Replaces the previous line with that of an entry that only the rules for Windows refuse.
 #[cold]
 #[inline(never)]
 pub(crate) fn set_refused_by_windows(
@@ -60,7 +60,8 @@ pub(crate) fn set_refused_by_windows(
     push_refused(line, tree, front, fault)
 }
 
-/// Replaces the last line with that of a file that is read as `.gitmodules`. Its id is in bytes.
+/// Replaces the previous line with that of a file that is read as `.gitmodules`. Its id is in
+/// bytes.
 #[cold]
 #[inline(never)]
 pub(crate) fn set_modules(

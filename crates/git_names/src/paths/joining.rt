@@ -10,11 +10,11 @@ use bstr::BString;
 use std::alloc::{AllocError, Global};
 use typed_names::Component;
 
-/// Joins components with slashes to a path, whose pieces are the parts in their order
+/// Joins components with slashes into a path, whose pieces are these components in order
 /// (docs/RULES.md, "Joining").
 ///
-/// It is `gix_validate::path::join` for parts of this type. There has to be a part; a call for which
-/// that can't be proved doesn't compile.
+/// This is `gix_validate::path::join` for parts of this type. There has to be at least one part: a
+/// call for which that can't be proved doesn't compile.
 ///
 /// ```
 /// let options = ComponentOptions::default();

@@ -10,11 +10,12 @@ use std::simd::prelude::*;
 
 pub(super) const LANES: usize = 16;
 
-/// The most bytes of a text whose slashes one number has.
+/// The longest path whose slashes fit in one number, in bytes.
 pub(super) const MAX_SHORT: usize = 4 * LANES;
 
-/// A bit for each slash of a text of one to four blocks. The lowest bit is for the first byte. The
-/// last block overlaps the one before it, and the last two of more than two blocks the first two.
+/// A bit for each slash of a path of one to four blocks. The lowest bit is for the first byte. The
+/// last block overlaps the one before it, or if there are more than two, the last two overlap the
+/// first two.
 #[inline(always)]
 pub(super) fn slashes_of(text: &[u8]) -> u64
     requires some { LANES ≤ length text.now }
@@ -30,8 +31,8 @@ pub(super) fn slashes_of(text: &[u8]) -> u64
     ends | slashes_of_block(text, LANES) << LANES | slashes_of_block(text, inner) << inner
 }
 
-/// The offset of the first slash from this one on. The last block overlaps the one before it, since
-/// most parts are shorter than a block.
+/// The offset of the first slash from this one on. The last block overlaps the one before it,
+/// because most parts are shorter than a block.
 #[inline(always)]
 pub(crate) fn first_slash(text: &[u8], start: usize) -> Option<usize>
     requires { start ≤ length text.now }
@@ -58,7 +59,7 @@ pub(crate) fn first_slash(text: &[u8], start: usize) -> Option<usize>
     None
 }
 
-/// The same for a text that has no block.
+/// The same for bytes that are fewer than a block.
 fn first_slash_by_bytes(text: &[u8], start: usize) -> Option<usize>
     requires { start ≤ length text.now }
     ensures { MatchOption result

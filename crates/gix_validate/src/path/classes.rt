@@ -1,5 +1,5 @@
-//! One look at a short name says which classes of bytes it has. A long name is searched by `scan` for
-//! each thing by itself.
+//! One look at a short name finds which classes of bytes it has. In a long name `scan` searches for
+//! one thing at a time.
 
 ghost use Rattle.std.specs.Prelude.{◌≡◌, ◌==◌, false, IsTrue, ◌≤◌, ◌<◌, ◌+◌, ◌&&◌, ◌||◌, not};
 ghost use Rattle.std.specs.Prelude.{length, map};
@@ -45,7 +45,7 @@ const TILDE: u8 = 0x80;
 
 /// The four classes that Windows forbids.
 const ILLEGAL: u8 = CONTROL | QUOTE_OR_STAR | COLON_ANGLE_OR_MARK | PIPE;
-/// The two classes that part components.
+/// The two classes that separate components.
 pub(super) const SEPARATORS: u8 = SLASH | BACKSLASH;
 /// All classes.
 pub(super) const ALL_CLASSES: u8 = 0xFF;
@@ -64,8 +64,8 @@ const BY_LOW_NIBBLE: [u8; 16] = [
     CONTROL | COLON_ANGLE_OR_MARK | IGNORABLE_LEAD | SLASH, // F: `?`, 0xEF, `/`
 ];
 
-/// The classes that a byte with this high nibble may have. What both tables have for a byte is its
-/// class, or nothing.
+/// The classes that a byte with this high nibble may have. The bits that both tables have for a
+/// byte are its class, if it has one.
 #[rattlefmt::skip]
 const BY_HIGH_NIBBLE: [u8; 16] = [
     CONTROL, CONTROL, QUOTE_OR_STAR | SLASH, COLON_ANGLE_OR_MARK, // 0 to 3

@@ -11,12 +11,12 @@ use crate::pieces::joined;
 use bstr::{BStr, BString};
 use std::alloc::{AllocError, Global};
 
-/// Joins components with slashes to a path, whose pieces are the parts in their order
+/// Joins components with slashes into a path, whose pieces are these components in order
 /// (docs/RULES.md, "Joining").
 ///
-/// There has to be a part, and each part has to be a valid component with no switch and without a
-/// mode. [`component`](super::component) returns only such, whatever its options. A call for which
-/// that can't be proved doesn't compile.
+/// There has to be at least one part, and each has to be a valid component with no switch and
+/// without a mode, as all are that [`component`](super::component) returns, whatever its options. A
+/// call for which that can't be proved doesn't compile.
 ///
 /// ```
 /// join(alloc, &[BStr::from("src"), BStr::from("a.rs")])?; // `src/a.rs`

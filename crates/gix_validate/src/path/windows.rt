@@ -1,8 +1,8 @@
 //! Names that mean something else on Windows, and names that it forbids.
 //!
-//! The names of devices begin with one of six words. A table says which of these may have a letter at
-//! each of the first three offsets, since a branch for each letter is hard to predict. The one branch
-//! on what it says is hardly ever taken.
+//! Device names begin with one of six words. A table says which of these words have a given letter
+//! at each of the first three offsets, because a branch for each letter is hard to predict. The one
+//! branch on the result is hardly ever taken.
 
 ghost use Rattle.std.specs.Prelude.{◌≡◌, ◌≤◌, false, length, ◌==◌, ◌||◌, ◌∷◌, [], ◌++◌, ◌%◌};
 ghost use Rattle.std.specs.Prelude.{slice_index, bit_and, codes, IsTrue, not};
@@ -28,7 +28,7 @@ pub(super) fn ends_illegally(name: &[u8]) -> bool
     matches!(name.last(), Some(b'.' | b' '))
 }
 
-/// The six words that names of devices begin with, and the start of `.git`, a bit for each.
+/// The six words that device names begin with, and the start of `.git`, a bit for each.
 const AUX: u8 = 0x01;
 
 const CON: u8 = 0x02;
@@ -126,8 +126,8 @@ fn ends_console(rest: &[u8]) -> bool
     ends_device_form(rest) || device_form_is(rest, b"IN$") || device_form_is(rest, b"OUT$")
 }
 
-/// Whether the device form of the name is the word, in any ASCII case. No byte of the word ends a form, or
-/// is cut from its end.
+/// Whether the device form of the name is the word, in any ASCII case. The word has no byte that
+/// ends a form or is cut from its end.
 #[inline(always)]
 #[tactic(auto, using(crate::proofs::Components::Devices::device_word))]
 fn device_form_is(name: &[u8], word: &[u8]) -> bool

@@ -1,5 +1,5 @@
 //! The repair of names that are not partial names. A scan stops at the first byte that may have to
-//! change (see `adjacent`), and from there on a walk reads and writes in one buffer.
+//! change (see `adjacent`), and from that byte a walk reads and writes in one buffer.
 
 ghost use Rattle.std.specs.Prelude.{◌≡◌, ◌≢◌, ℕ, false, ◌↔◌, ◌+◌, ◌-◌, ◌≤◌, ◌<◌, ◌==◌, ◌||◌, ◌&&◌};
 ghost use Rattle.std.specs.Prelude.{◌++◌, [], ◌∷◌, max, if◌then◌else◌, length, take, drop, get_or};
@@ -26,8 +26,8 @@ use std::alloc::{AllocError, Global};
 ///
 /// On success the result is a valid partial name, and equals the input if and only if the input was
 /// one. Each nonempty piece of `path` becomes one piece of the result. If nothing is left, the
-/// result is `-`. It has at least one byte, and at most as many as `path`, or one if `path` is
-/// empty. Lengths are in bytes.
+/// result is `-`. The result has at least one byte, and at most as many as `path`, or one if `path`
+/// is empty. Lengths are in bytes.
 ///
 /// ```
 /// name_partial_or_sanitize(alloc, BStr::from("refs//heads/../x.lock"))?; // `refs/heads/-/x`
@@ -58,7 +58,7 @@ pub fn name_partial_or_sanitize(alloc: Global, path: BStr<'_>) -> Result<BString
 }
 
 /// Writes the sanitised path to an empty vector. The vector has room for exactly the path, or for
-/// one byte if that is empty. So it never fails.
+/// one byte if that is empty, so this never fails.
 fn fill_sanitized(name: &mut Vec<u8>, path: &[u8]) -> Result<(), AllocError>
     requires empty { name.old.items ≡ [] }
     requires room { vec_capacity name.old ≡ max 1 (length path.now) }
@@ -80,9 +80,9 @@ fn fill_sanitized(name: &mut Vec<u8>, path: &[u8]) -> Result<(), AllocError>
 /// The repaired name is at the start of `buf`. It is a valid partial name, the one that
 /// [`name_partial_or_sanitize`] returns for these `len` bytes.
 ///
-/// The buffer has to have a byte, since even an empty name becomes `-`, and it has to hold the name.
+/// The buffer has to hold the name, and at least one byte, because even an empty name becomes `-`.
 /// A call for which that can't be proved doesn't compile. The bytes from offset `len` on, or from 1
-/// on if `len` is 0, stay as they were. The bytes between the repaired name and that offset are
+/// on if `len` is 0, are unchanged. The bytes between the repaired name and that offset are
 /// unspecified. Offsets and lengths are in bytes.
 ///
 /// ```
@@ -127,9 +127,9 @@ fn write_sanitized(buf: &mut [u8], len: usize) -> usize
 }
 
 /// Writes the nonempty pieces of the name over it, each cleaned and cut, and returns how many bytes
-/// it wrote. The first `clear` bytes stay as they are. A byte is written at the offset of the byte
-/// just read, or before it, so the byte before that is kept in a variable. Only the cuts look at
-/// what was written.
+/// it wrote. The first `clear` bytes are unchanged. A byte is written at the offset of the byte
+/// that was just read, or before it, so a variable keeps the byte before that one. Only the cuts
+/// look at what was written.
 fn mend_pieces(text: &mut [u8], clear: usize) -> usize
     requires within { clear ≤ length text.old }
     requires clear { NoneBelow (suspect_at text.old) clear }
@@ -160,8 +160,9 @@ fn mend_pieces(text: &mut [u8], clear: usize) -> usize
     }
 }
 
-/// The byte that a byte of a piece is mended to, if it isn't plain, by the byte before it. A slash is
-/// before the first of a piece. Of dots in a row only the first is written.
+/// What replaces a byte of a piece, unless the byte is plain. It depends on the byte before, which
+/// is a slash for the first byte of a piece. If there are several dots in a row, only the first is
+/// written.
 #[tactic(auto, unfolding(crate::specs::Bytes::is_bad))]
 fn mended_byte(previous: u8, next: u8) -> Option<u8>
     requires no_slash { next ≢ byte "/" }
@@ -191,7 +192,7 @@ fn close_piece(text: &mut [u8], end: usize) -> usize
     end + 1
 }
 
-/// The length of a text without the `.lock`s at its end.
+/// The length of the bytes without each `.lock` at their end.
 #[tactic(auto, using(crate::proofs::Sanitizing::LockSuffixes::lock_by_lock))]
 fn length_of_cut(text: &[u8]) -> usize
     ensures within { result ≤ length text.now }

@@ -8,7 +8,7 @@ from pathlib import Path
 
 EDIT = re.compile(
     r"file: (.*)\n((?:old: .*\nnew: ?.*\n)+|(?:old: .*\nnew: ?.*\nright: ?.*\n)+)"
-    r"(?:hollow: (.*)\n)?refused: ([\w:]+)((?: \w+)+)( \(limit\))?\n"
+    r"(?:hollow: (.*)\n)?refused: ([\w:]+)((?: \w+)+)\n"
 )
 PAIR = re.compile(r"old: (.*)\nnew: ?(.*)\n(?:right: ?(.*)\n)?")
 # What begins a function, a type or the like, or one of their clauses.
@@ -20,13 +20,11 @@ BEGIN = re.compile(
     |[ ]*(?P<member>ghost|ensures)(?:[ ](?P<clause>\w+))?(?::|[ ]=)?[ ]\{)"""
 )
 Item = namedtuple("Item", "file offset path clause is_public")
-Edit = namedtuple(
-    "Edit", "file crate source pairs function clauses is_limit control hollow"
-)
+Edit = namedtuple("Edit", "file crate source pairs function clauses control hollow")
 
 
 class Wrong(Exception):
-    """What is wrong, a sentence on each line, for whoever runs a command."""
+    """What is wrong, a sentence on each line, for the person who runs a command."""
 
 
 def read(path):
@@ -108,7 +106,7 @@ def edit_of(file):
             f"{file} is no edit: its lines are 'file:', 'old:', 'new:', perhaps 'right:', "
             "perhaps more of these, perhaps 'hollow:', and 'refused: FUNCTION CLAUSE..'"
         )
-    name, lines, hollow, function, clauses, limit = parts.groups()
+    name, lines, hollow, function, clauses = parts.groups()
     crate, source = file.parts[1], file.parent.parent / name
     path, found = f"{crate}::{function}", PAIR.findall(lines)
     pairs = [(old, new) for old, new, _ in found]
@@ -122,10 +120,7 @@ def edit_of(file):
             raise Wrong(f"{file} no longer applies: {name} {wrong}") from wrong
         if not is_in_body(changed, source, path):
             raise Wrong(f"{file} changes something else than the body of {function}")
-    return Edit(
-        *(file, crate, source, pairs, path, clauses.split(), bool(limit)),
-        *(control, hollow),
-    )
+    return Edit(file, crate, source, pairs, path, clauses.split(), control, hollow)
 
 
 def is_in_body(changed, source, path):

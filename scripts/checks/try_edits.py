@@ -5,13 +5,13 @@ in the function that its line 'refused:' names, and in no other that it leaves a
 check may not name each clause.) It is 1 if
 
 - one is not, or no longer applies, or two have the same effect;
-- one is refused only by a search that gave up or came to its limit, without '(limit)';
 - a check was cut short, or there is no edit;
 - a control is refused, or an edit of must-fail/ has none and doesn't say why;
 - braces around a body, which change nothing, are refused.
 
 Edits are tried together, one of each function in a check. An edit that its line doesn't
-explain there is tried alone.
+explain there is tried alone. Each is printed with what refuses it. An edit that only a
+search that gave up refuses, or one that came to its limit, tells less than the others.
 
 A *control* is a right body that changes as much of the text as the edit. (Lines 'right:'
 have it, one after each 'new:'.) The check has to accept it: otherwise the edit may be
@@ -224,10 +224,6 @@ def wrong_with(edit, way, others):
         wrong.append(f"NOT REFUSED in {edit.function}")
     elif way == NAMES:
         wrong.append(f"NOT REFUSED in {edit.function}, but {way}")
-    elif way == LIMIT and not edit.is_limit:
-        wrong.append(
-            f"REFUSED in {edit.function} only {way}; its line doesn't end with '(limit)'"
-        )
     return wrong
 
 

@@ -138,7 +138,6 @@ class Refused(NamedTuple):
 
     said: str
     way: str
-    refused: str = "other answer"
 
 
 REFUSED = {
@@ -164,22 +163,18 @@ REFUSED = {
     "an old proof, of which only one part came to its limit": Refused(
         f"{AT_LIMIT}\n{OPEN}\nfn app::other: not proved", "by its old proof"
     ),
-    "an old proof that came to its limit, as the line says": Refused(
-        f"{AT_LIMIT}\nfn app::other: not proved",
-        "by a search that gave up",
-        "other answer (limit)",
+    "an old proof that came to its limit": Refused(
+        f"{AT_LIMIT}\nfn app::other: not proved", "by a search that gave up"
     ),
-    "a search that gave up, as the line says": Refused(
-        not_proved("other", GAVE_UP),
-        "by a search that gave up",
-        "other answer (limit)",
+    "a search that gave up": Refused(
+        not_proved("other", GAVE_UP), "by a search that gave up"
     ),
 }
 
 
 @pytest.mark.parametrize("refused", REFUSED.values(), ids=REFUSED)
 def test_an_edit_is_refused_by(app, refused):
-    app.add("eins", comment(refused.said), refused.refused)
+    app.add("eins", comment(refused.said))
     ended = app.try_edits("all")
     assert ended.status == 0, ended.errors
     assert f"{ADDED}: refused as its line says, {refused.way}\n" in ended.output
@@ -230,18 +225,6 @@ WRONG = {
     "its old proof names what is not in scope, and a search gave up": Wrong(
         f"{NOT_IN_SCOPE}\n{not_proved('other', GAVE_UP)}",
         "NOT REFUSED in app::other, but by names alone",
-        4,
-    ),
-    "a search gave up, which its line does not say": Wrong(
-        not_proved("other", GAVE_UP),
-        "REFUSED in app::other only by a search that gave up; its line doesn't end "
-        "with '(limit)'",
-        4,
-    ),
-    "its old proof came to a limit, which its line does not say": Wrong(
-        f"{AT_LIMIT}\nfn app::other: not proved",
-        "REFUSED in app::other only by a search that gave up; its line doesn't end "
-        "with '(limit)'",
         4,
     ),
     "its contract is not admitted": Wrong(

@@ -7,8 +7,9 @@ mod submodules;
 mod trees;
 
 use options::{HELP, Subcommand, subcommand_of};
-use programs::arguments::{ArgumentError, NotUtf8, ParseOptions, arguments};
-use programs::arguments::{fail_arguments, first_not_utf8};
+use programs::arguments::{
+    ArgumentError, NotUtf8, ParseOptions, arguments, fail_arguments, first_not_utf8,
+};
 use programs::command::execute_on_streams;
 use programs::messages::Messages;
 use programs::{VERSION, fail, print};

@@ -30,7 +30,7 @@ impl<W: Write> Pipe<W> {
     pub fn is_closed(&self) -> bool
         ensures { result ≡ is_closed self.now }
     {
-        self.closed
+        matches!(self, Pipe { closed: true, .. })
     }
 }
 

@@ -2,7 +2,7 @@
 
     .ci/run                 all of it, from nothing, with some of the edits
     .ci/run --all-edits     the same with all edits, as a release needs it
-    .ci/run CRATE..         these crates and those that stand on them, over what is proved
+    .ci/run CRATE..         these crates and those that depend on them, over what is proved
 
 Each part is a command that you can type; CONTRIBUTING.md says which one to run after which
 change. `rt ci` proves each crate from nothing, and builds the programs. What follows builds
@@ -188,7 +188,7 @@ def check_all(commit, edits):
 
 
 def check_some(crates):
-    """The parts for these crates and those that stand on them, in the order of building."""
+    """The parts for these crates and those that depend on them, in the order of building."""
     names = []
     for name, *below in crates_and_those_below():
         if {name, *below} & {*crates, *names}:
@@ -209,7 +209,7 @@ def check_some(crates):
 
 
 def crates_and_those_below():
-    """The lines of crates.txt: a crate, and what it stands on."""
+    """The lines of crates.txt: a crate, and what it depends on."""
     for line in Path("crates.txt").read_text("utf-8").splitlines():
         if words := re.findall(r"\w+", line.partition("#")[0]):
             yield words

@@ -20,8 +20,13 @@ LISTS = {
     "branches": "branches",
     "three_parts": "paths of three parts",
 }
-# The rows whose call isn't one of a function's name.
-TITLES = {"each_component": "`component`, each part"}
+# The functions in C that calls measure, if they have another name than the row.
+TITLES = {
+    "tag": "`tag_name`",
+    "full": "`ref`",
+    "short_branch": "`branch`",
+    "each_component": "`component`, each part",
+}
 BYTES = {
     "tag long": "valid references",
     "component long_file": "no slash",
@@ -59,7 +64,7 @@ PAGES = {"go": "bindings/go/README.md", "python": "bindings/python/README.md"}
 SPEEDS = "| Time for a reference name | "
 # The colours of this library, of what it is compared with most, and of others.
 OURS, OTHER, THIRD = "#0072b2", "#d55e00", "#767676"
-# In the dark the pictures have these in place of those above, and of those of the axes.
+# In the dark the pictures have these instead of those above, and of those of the axes.
 DARK = {OURS: "#56b4e9", OTHER: "#f59b52", THIRD: "#a5abb3"}
 DARK |= {"#000000": "#a9b1ba", "#e0e0e0": "#4d525c"}
 # The bars of the pictures of calls and of pushes: their colours and names.
@@ -115,8 +120,11 @@ def calls(times, counts):
             counted = counts[row.replace("sanitize", "sanitize_in_place")]
             ours, crates = counted[0], (counted[4:5] or ["-"])[0]
             nanoseconds = (shown(it, 1) for it in cells)
-            title = TITLES.get(call, f"`{call}`")
-            yield title, LISTS[names], *nanoseconds, shown(ours), shown(crates)
+            yield title_of(call), LISTS[names], *nanoseconds, shown(ours), shown(crates)
+
+
+def title_of(call):
+    return TITLES.get(call, f"`{call}`")
 
 
 def ways(lines):
@@ -251,6 +259,11 @@ def draw_bars(axes, rows, bars):
     axes.invert_yaxis()
 
 
+def put_legend_above(axes):
+    """Puts the legend in one row above the bars, where it covers no number."""
+    axes.legend(loc="lower center", bbox_to_anchor=(0.5, 1), ncols=3)
+
+
 def speeds(times):
     """What a full reference name takes, in the order of README's table."""
     ours, crate, libgit2 = (f"{shown(it)} ns" for it in times["full refs"])
@@ -259,16 +272,18 @@ def speeds(times):
 
 def bars(times):
     """The time of a call of this library next to that of others, as SVG."""
-    figure = figure_of((8, 4))
+    figure = figure_of((8, 4.6))
     axes = figure.subplots()
     rows = {}
     for row, cells in times.items():
         call, names = row.split()
         if names in LISTS:
-            rows[f"{call}, {LISTS[names]}"] = [shown(it) for it in cells]
+            row = f"{title_of(call)}: {LISTS[names]}".replace("`", "")
+            rows[row] = [shown(it) for it in cells]
     draw_bars(axes, rows, CALLS)
     axes.set_xlabel("nanoseconds of a call")
-    axes.legend(loc="lower right")
+    axes.margins(x=0.08)
+    put_legend_above(axes)
     description = "Bars: nanoseconds of a call. " + said(rows, CALLS)
     return svg_of(figure, "Calls next to the Rust crate and libgit2", description)
 
@@ -284,18 +299,17 @@ def said(rows, bars):
 
 def pushes(push, attacks):
     """What the hook adds to a push, and what it takes for those that attack it, as SVG."""
-    figure = figure_of((9, 9))
+    figure = figure_of((9, 11))
     above, below = figure.subplots(2, gridspec_kw={"height_ratios": [3.5, 14]})
     few = {name: cells for name, *cells in push}
     many = {name: cells for name, _, *cells in attacks}
     draw_bars(above, few, PUSH)
     draw_bars(below, many, ATTACKS)
-    above.set_title("Pushes, in milliseconds")
-    below.set_title("Attacks on the hook, in seconds")
+    above.set_title("Pushes, in milliseconds", pad=26)
+    below.set_title("Attacks on the hook, in seconds", pad=26)
     for axes in (above, below):
         axes.margins(x=0.12, y=0.02)
-    above.legend(loc="upper right")
-    below.legend(loc="center right", bbox_to_anchor=(1, 0.38))  # (next to short bars)
+        put_legend_above(axes)
     description = (
         f"Bars: milliseconds of a push. {said(few, PUSH)} Bars: seconds of a push that "
         f"attacks the hook. {said(many, ATTACKS)}"

@@ -81,8 +81,15 @@ def drawn(dot, path):
 COMPARISON = "docs/COMPARISON.md"
 COVERAGE = "docs/pictures/coverage.svg"
 LEFT, TOP, WIDTH, HEIGHT = 190, 46, 120, 20
+# Its parts, by the marks of the tables on that page.
+GROUPS = {
+    "components": "Names in a tree",
+    "references": "Reference names",
+    "submodules": "Submodule names",
+}
 GRID_STYLE = """
     text { fill: #1f2328; font: 12px Helvetica, Arial, sans-serif }
+    .group { font-weight: bold }
     .refused { fill: #12692f } .accepted { fill: none; stroke: #a4161a }
     @media (prefers-color-scheme: dark) {
         text { fill: #e6e9ed }
@@ -93,12 +100,13 @@ GRID_STYLE = """
 
 def compared():
     """The columns of the tables of names, and the rows, each a name and whether a column
-    refuses it. (A table without a column has no result there.)"""
+    refuses it. (A table without a column has no result there.) The row before those of a
+    table has its heading instead."""
     columns, rows = [], []
-    for part in re.findall(
-        r"<!-- (?:components|references|submodules) -->\n(?s:.*?)<!-- end -->",
-        read(COMPARISON),
+    for group, part in re.findall(
+        rf"<!-- ({'|'.join(GROUPS)}) -->\n((?s:.*?))<!-- end -->", read(COMPARISON)
     ):
+        rows.append((GROUPS[group], None))
         head, _, *body = [
             [cell.strip().strip("`") for cell in line.split(" | ")]
             for line in part.splitlines()
@@ -128,18 +136,20 @@ def coverage():
         )
     for y, (name, results) in enumerate(rows):
         top = TOP + HEIGHT * y
+        kind = "name" if results else "group"
         lines.append(
-            f'<text x="{LEFT - 12}" y="{top + 12}" text-anchor="end">{escape(name)}</text>'
+            f'<text class="{kind}" x="{LEFT - 12}" y="{top + 12}" text-anchor="end">{escape(name)}</text>'
         )
         for x, column in enumerate(columns):
-            if column in results:
+            if column in (results or {}):
                 kind = "refused" if results[column] else "accepted"
                 left = LEFT + WIDTH * x + WIDTH // 2 - 6
                 lines.append(
                     f'<rect class="{kind}" x="{left}" y="{top + 2}" width="12" height="12"/>'
                 )
+    checked = [results for _, results in rows if results]
     counts = ", ".join(
-        f"{it} {sum(results.get(it, False) for _, results in rows)} of {sum(it in results for _, results in rows)}"
+        f"{it} {sum(results.get(it, False) for results in checked)} of {sum(it in results for results in checked)}"
         for it in columns
     )
     return (

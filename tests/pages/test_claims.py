@@ -75,6 +75,20 @@ def test_what_README_says_is_not_checked_is_accepted(command, kind, name):
     assert (ran.returncode, ran.stdout) == (0, b"")
 
 
+# Names that Windows can't store as files. THREAT_MODEL has some of them.
+OF_WINDOWS = ["aux", '"', "<", ">", "|", "foo./bar", "con.a/b"]
+
+
+@pytest.mark.parametrize("name", OF_WINDOWS)
+def test_only_a_safe_reference_has_no_name_that_Windows_cannot_store(command, name):
+    full = f"refs/heads/{name}"
+    for kind, status in ("ref", 0), ("safe-ref", 1):
+        ran = subprocess.run([command, kind, full], stdout=subprocess.PIPE)
+        assert ran.returncode == status
+    text = (ROOT / "docs/THREAT_MODEL.md").read_text("utf-8")
+    assert "`refs/heads/aux`" in text and '`refs/heads/"`' in text
+
+
 def test_README_names_what_is_not_checked():
     text = section("README.md", "What it doesn't check")
     named = {it for _, it in ACCEPTED if it.isascii() and len(it) < 100}

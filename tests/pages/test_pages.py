@@ -9,12 +9,11 @@ import pytest
 from tests.pages.blocks import LANGUAGES, ROOT, Language, blocks_of
 from tests.pages.reader import Reader, only_crates_are_missing
 
-# The pages that are followed with a release, and the folder in which a reader begins.
+# The pages that are followed with a release, and the directory in which a reader begins.
 PAGES = {
     "README.md": "new",
     "docs/CI.md": "clone",
     "docs/RECIPES.md": "clone",
-    "docs/RULES.md": "new",
     "hook/README.md": "srv/git/project.git",
     "bindings/c/README.md": "new",
     "bindings/cpp/README.md": "new",

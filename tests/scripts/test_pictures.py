@@ -16,14 +16,14 @@ SVG_OF_TAG = "docs/pictures/tag.svg"
 
 
 def lines_of(label):
-    """The lines that a label of a .dot shows."""
+    """The lines that a label of a .dot shows, without the spaces around them."""
     parts = re.split(r"\\n", label.replace(r"\\", "\0"))
-    return [it.replace("\0", "\\") for it in parts]
+    return [it.replace("\0", "\\").strip() for it in parts]
 
 
 def texts(svg):
-    """The lines of text that a picture shows."""
-    return [it.text for it in ElementTree.fromstring(svg).iter(f"{SVG}text")]
+    """The lines of text that a picture shows, without the spaces around them."""
+    return [it.text.strip() for it in ElementTree.fromstring(svg).iter(f"{SVG}text")]
 
 
 @pytest.mark.parametrize("source", SOURCES, ids=lambda it: it.stem)
@@ -53,6 +53,32 @@ def test_a_picture_needs_no_network_and_has_colours_for_light_and_dark(source):
     links = re.findall(r"""(?:href|src|url)\W+([^"')]*)""", svg)
     assert not links
     assert "prefers-color-scheme: dark" in svg
+
+
+def reached(links, start):
+    """What the links lead to from there, in one step or in several."""
+    found, rest = set(), [start]
+    while rest:
+        more = links.get(rest.pop(), set()) - found
+        found |= more
+        rest += more
+    return found
+
+
+def test_the_arrows_between_crates_lead_to_what_each_depends_on():
+    lines = [it.partition(":") for it in (ROOT / "crates.txt").read_text().splitlines()]
+    depends = {head.split()[0]: {*rest.split()} for head, _, rest in lines if rest}
+    dot = (ROOT / "docs/pictures/crates.dot").read_text("utf-8")
+    names = dict(re.findall(r'(?m)^ +(\w+) \[label="(\w+)', dot))
+    arrows = {}
+    for start, end in re.findall(r"(\w+) -> (\w+)", dot):
+        if {names[start], names[end]} <= {*depends}:
+            arrows.setdefault(names[start], set()).add(names[end])
+    shown = {*names.values()} & {*depends}
+    assert len(shown) == 9
+    for name in shown:
+        assert arrows.get(name, set()) <= depends[name]
+        assert reached(arrows, name) == reached(depends, name) & {*depends}
 
 
 def test_a_picture_whose_source_changed_is_found_and_drawn_again(copy):

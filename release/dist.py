@@ -46,8 +46,9 @@ GO_BLOCKS = [
     f"bindings/go/block_{it}" for it in ("amd64.go", "amd64.s", "arm64.go", "arm64.s")
 ]
 # The functions without machine code, and the folder of the release that has them.
+IN_C = "bindings/c/gix_validate.c"
 PORTABLE = {
-    "bindings/c/gix_validate.c": "c",
+    IN_C: "c",
     "bindings/go/portable.go": "go/gitnames",
     "bindings/rust/native/portable.rs": "rust/git-names/native",
 }
@@ -311,14 +312,16 @@ class Release:
             self.copy_built(file, self.tree / folder / Path(file).name)
 
     def pack_python(self):
-        """Packs the module as a wheel, and as a source archive, which has the blocks of
-        code in place of the library. C and the Rust crate have these blocks, too."""
+        """Packs the module as a wheel, and as a source archive, which has the functions
+        for C of each target in place of the library. C and the Rust crate have the blocks
+        of code, too."""
         wheel, sdist = self.room / "wheel", self.room / "sdist"
         for block in BLOCKS:
             name = Path(block).name
             for folder in ["c", "rust/git-names/native"]:
                 self.copy_built(block, self.tree / folder / name)
             self.copy_built(block, sdist / name)
+        self.copy_built(IN_C, sdist / Path(IN_C).name)
         info = (wheel / "info").rename(wheel / f"{self.names.sdist}.dist-info")
         package = wheel / "gix_validate"
         package.mkdir()

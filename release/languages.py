@@ -16,7 +16,7 @@ def exports(header):
     """The functions that the header declares: the type of the result, the name, and the parameters, each with its type and
     its name, which begins with `*` if it is a pointer."""
     text = re.sub(r"/\*.*?\*/", "", header, flags=re.S)
-    declared = r"(?m)^(\w+) (gix_validate_\w+)\(([^)]*)\)\s+GIX_VALIDATE_ABI;"
+    declared = r"(?m)^(\w+) (gix_validate_\w+)\(([^)]*)\);"
     for result, name, params in re.findall(declared, text):
         split = [it.split() for it in params.split(",")]
         yield result, name, [(" ".join(it[:-1]), it[-1]) for it in split if it[:-1]]
@@ -135,7 +135,7 @@ class C:
             ]
             call = f"{module.name_of(name)}({', '.join(['&top', *given])})"
             taken = ", ".join(f"{kind} {it}" for kind, it in params) or "void"
-            yield f"\nGIX_VALIDATE_ABI {result} {name}({taken}) {{"
+            yield f"\n{result} {name}({taken}) {{"
             yield f"  CALL;\n  return ({result}){call};\n}}"
 
 

@@ -135,9 +135,7 @@ def page_of(described, version, day):
 def declarations(text):
     """Declarations of the header, without the bodies of functions, and without what only the
     compiler needs."""
-    text = re.sub(r"(?ms)^static inline ([^{]*?) \{\n.*?^\}", r"\1;", text).replace(
-        " GIX_VALIDATE_ABI", ""
-    )
+    text = re.sub(r"(?ms)^static inline ([^{]*?) \{\n.*?^\}", r"\1;", text)
     text = re.sub(
         r'(?m)^(#(?!define GIX_VALIDATE_[TV])|extern "C"|\}$)(.*\\\n)*.*\n',
         "",

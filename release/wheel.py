@@ -2,8 +2,8 @@
 
     wheel.py FOLDER OUT     packs a folder, and names the wheel by the folder and the tags of its file WHEEL
 
-In the source archive for Python this is what pip calls to build a wheel there: of the folder `wheel`, and of the block of
-machine code for the processor, which it makes a shared object by the C compiler.
+In the source archive for Python this is what pip calls to build a wheel there: of the folder `wheel`, and of a shared object
+that the C compiler makes, of the block of machine code for the processor, or else of the portable form.
 """
 import base64
 import hashlib
@@ -19,7 +19,8 @@ import time
 import zipfile
 from pathlib import Path
 
-BLOCKS = {"x86_64": "x86_64.s", "aarch64": "aarch64.s", "arm64": "aarch64.s"}
+# The processors that have a block. (macOS and Linux have two names for one of them.)
+PROCESSORS = ("x86_64", "aarch64", "arm64")
 
 
 def packed(folder, out):
@@ -58,27 +59,13 @@ def build_wheel(
     wheel_directory, config_settings=None, metadata_directory=None
 ):  # (PEP 517 gives the names)
     """Builds the wheel for this machine in the folder of the source archive."""
-    block = BLOCKS.get(platform.machine())
-    if not block or os.name != "posix":
-        sys.exit(
-            f"gix-validate has no shared object for {platform.system()} on {platform.machine()}"
-        )
+    source = "gix_validate.S" if platform.machine() in PROCESSORS else "gix_validate.c"
     with tempfile.TemporaryDirectory() as room:
         folder = Path(shutil.copytree("wheel", f"{room}/wheel"))
-        flags = ["-Wl,-z,noexecstack"] if platform.system() == "Linux" else []
         library = folder / "gix_validate" / "libgix_validate_c.so"
-        subprocess.run(
-            [
-                os.environ.get("CC", "cc"),
-                "-shared",
-                "-nostdlib",
-                *flags,
-                "-o",
-                library,
-                block,
-            ],
-            check=True,
-        )
+        compiler = os.environ.get("CC", "cc")
+        words = ["-shared", "-fPIC", "-O2", "-o", library, source]
+        subprocess.run([compiler, *words], check=True)
         tags = next(folder.glob("*.dist-info")) / "WHEEL"
         system = re.sub("[-.]", "_", sysconfig.get_platform())
         tags.write_text(

@@ -53,8 +53,9 @@ const LONE_TEXT =
 // What the first call makes: the module's functions, which have no allocator,
 // and whose stack and constants end at __heap_base. From there on the memory is
 // this file's: the text of a fault is at TEXT, the name at NAME, and a name
-// that is longer than what is left lets the memory grow.
-let proved, memory, room, start, TEXT, NAME;
+// that is longer than what is left lets the memory grow. (A length that a
+// function returns is unsigned, and JavaScript reads it as signed.)
+let proved, memory, room, TEXT, NAME;
 let encoder, decoder, texts, typeOf, lengthOf;
 
 /** Takes an instance of the module, unless there is one. */
@@ -63,8 +64,7 @@ function use({exports}) {
     return;
   }
   TEXT = exports.__heap_base.value;
-  NAME = TEXT + BigInt(TEXT_MAX);
-  start = Number(NAME);
+  NAME = TEXT + TEXT_MAX;
   encoder = new TextEncoder();
   decoder = new TextDecoder("utf-8", {ignoreBOM: true});
   texts = new Map();
@@ -79,7 +79,7 @@ function use({exports}) {
 /** Makes views of the memory, which has another buffer after it grew. */
 function viewMemory() {
   memory = new Uint8Array(proved.memory.buffer);
-  room = memory.subarray(start);
+  room = memory.subarray(NAME);
 }
 
 /** The bytes of the module. */
@@ -121,7 +121,7 @@ export async function ready(module) {
 
 /** Makes room for so many bytes from NAME on. */
 function reserve(length) {
-  const missing = start + length - memory.length;
+  const missing = length - room.length;
   if (missing > 0) {
     proved.memory.grow(
         Math.ceil(missing / PAGE));  // a RangeError, if there is no such memory
@@ -165,20 +165,25 @@ const quoted = (text) => PLAIN.test(text) ?
                 `\\u${unit.charCodeAt(0).toString(16).padStart(4, "0")}`));
 
 /**
- * What a message says of the place in a name: the character there, its index,
- * and what is between the slashes around it.
+ * A message: a text, and the place in a name that it is about. That is the
+ * character there, its index, and what is between the slashes around it.
  */
-function placeIn(name, at, index) {
+function placed(text, name, at, unit, index) {
   if (at === name.length) {
-    return at === 0 ? "" : " (at the end)";
+    return at === 0 ? text : `${text} (at the end)`;
   }
   // (lastIndexOf reads -1 as 0. Around a slash there the piece is empty, too.)
   const from = name.lastIndexOf("/", at - 1) + 1;
   const slash = name.indexOf("/", at), to = slash < 0 ? name.length : slash;
+  const piece = name.slice(from, to);
   const isPiece = from < to && to - from < name.length;
-  const piece = isPiece ? `, in ${quoted(name.slice(from, to))}` : "";
-  const character = String.fromCodePoint(name.codePointAt(at));
-  return ` (${quoted(character)} at ${index}${piece})`;
+  if (isPiece &&
+      PLAIN.test(name)) {  // (what follows does the same, but slower)
+    return `${text} ("${name[at]}" at ${unit} ${index}, in "${piece}")`;
+  }
+  const character = quoted(String.fromCodePoint(name.codePointAt(at)));
+  const within = isPiece ? `, in ${quoted(piece)}` : "";
+  return `${text} (${character} at ${unit} ${index}${within})`;
 }
 
 /** Where a string has its first lone surrogate, or -1. */
@@ -189,43 +194,40 @@ const loneIn = (name, length) =>
  * The text of a fault of the name at NAME. It is the same for all names of the
  * kind, but that it may quote the byte of the fault, or the whole name.
  */
-function textOf(number, kind, size, flags, offset) {
+function textOf(number, kind, length, flags, offset) {
   const key = (kind * FAULTS.length + number) * 256 +
       (number === INVALID_BYTE ? room[offset] : 0);
   if (texts.has(key)) {
     return texts.get(key);
   }
-  const written = proved.gix_validate_text_of(
-      kind, NAME, size, flags, TEXT, BigInt(TEXT_MAX));
-  const text =
-      decoder.decode(memory.subarray(Number(TEXT), Number(TEXT + written)));
+  const written =
+      proved.gix_validate_text_of(kind, NAME, length, flags, TEXT, TEXT_MAX);
+  const text = decoder.decode(memory.subarray(TEXT, TEXT + written));
   return number === RESERVED ? text : texts.set(key, text).get(key);
 }
 
 /** What is wrong with a name, which is at NAME. */
 function explained(number, kind, name, length, flags) {
-  const size = BigInt(length);
-  const offset = Number(proved.gix_validate_offset_of(kind, NAME, size, flags));
-  const text = textOf(number, kind, size, flags, offset),
+  const offset = proved.gix_validate_offset_of(kind, NAME, length, flags) >>> 0;
+  const text = textOf(number, kind, length, flags, offset),
         fault = FAULTS[number];
   if (typeof name !== "string") {
     const before = decoded(0, offset), shown = before + decoded(offset, length);
-    const place = placeIn(shown, before.length, `byte ${offset}`);
-    return {fault, message: text + place, index: offset};
+    const message = placed(text, shown, before.length, "byte", offset);
+    return {fault, message, index: offset};
   }
   const index = length === name.length ? offset : decoded(0, offset).length;
-  return {fault, message: text + placeIn(name, index, `index ${index}`), index};
+  return {fault, message: placed(text, name, index, "index", index), index};
 }
 
 /** Checks a name of a kind. */
 function check(kind, name, flags) {
   const length = put(name), index = loneIn(name, length);
   if (index >= 0) {
-    const place = placeIn(name, index, `index ${index}`);
-    return {fault: "LoneSurrogate", message: LONE_TEXT + place, index};
+    const message = placed(LONE_TEXT, name, index, "index", index);
+    return {fault: "LoneSurrogate", message, index};
   }
-  const number =
-      proved.gix_validate_fault_of(kind, NAME, BigInt(length), flags);
+  const number = proved.gix_validate_fault_of(kind, NAME, length, flags);
   return number === 0 ? null : explained(number, kind, name, length, flags);
 }
 
@@ -299,7 +301,7 @@ export function checkSubmodule(name, protections) {
 
 export function isWindowsDevice(name) {
   const length = put(name);
-  return proved.gix_validate_is_windows_device(NAME, BigInt(length)) !== 0;
+  return proved.gix_validate_is_windows_device(NAME, length) !== 0;
 }
 
 /**
@@ -309,13 +311,12 @@ export function isWindowsDevice(name) {
 function repaired(kind, name, call) {
   const isString = typeof name === "string";
   const length = put(isString ? name.replace(/\p{Surrogate}/gu, " ") : name);
-  const size = BigInt(length);
-  if (proved.gix_validate_fault_of(kind, NAME, size, 0) === 0) {
+  if (proved.gix_validate_fault_of(kind, NAME, length, 0) === 0) {
     return name;
   }
   const free = Math.max(1, length);
   reserve(length + free);
-  const written = Number(proved[call](NAME, size, NAME + size, BigInt(free)));
+  const written = proved[call](NAME, length, NAME + length, free) >>> 0;
   if (written === 0) {
     return null;
   }
@@ -346,9 +347,9 @@ function numberOf(kind) {
  */
 function numbersOf(kind, flags, length, end) {
   reserve(2 * length);
-  const count = Number(proved.gix_validate_faults_of(
-      kind, NAME, BigInt(length), flags, end, NAME + BigInt(length),
-      BigInt(length)));
+  const count = proved.gix_validate_faults_of(
+                    kind, NAME, length, flags, end, NAME + length, length) >>>
+      0;
   return room.slice(length, length + count);
 }
 

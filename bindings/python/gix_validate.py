@@ -235,7 +235,7 @@ class InvalidName(ValueError):
         the name."""
         given = _encoded(self.name)
         kind, flags = _number_of(self.kind), _flags_of(self.protect)
-        at: int = _offset_of(kind, given, len(given), flags)
+        at: int = _offset_of(kind, given, _size_of(given), flags)
         return _index(self.name, at) if isinstance(self.name, str) else at
 
     def __str__(self) -> str:
@@ -272,7 +272,7 @@ def _version_of(library: ctypes.CDLL) -> Tuple[int, int, int]:
 
 def _function(library: ctypes.CDLL, name: str, result: Any, *types: Any) -> Any:
     function = library[f"gix_validate_{name}"]
-    function.argtypes, function.restype = types, result
+    function.argtypes, function.restype = types or None, result
     return function
 
 
@@ -282,16 +282,17 @@ _short = ctypes.PyDLL(_loaded._name, handle=_loaded._handle)
 _SIZE, _NUMBER, _BYTE = ctypes.c_size_t, ctypes.c_uint32, ctypes.c_uint8
 _BYTES = ctypes.c_void_p, _SIZE  # (takes bytes, and an address)
 _GIVEN = _NUMBER, *_BYTES, _NUMBER  # a kind, a name or a buffer, and flags
-_fault_of = _function(_short, "fault_of", _NUMBER, *_GIVEN)
-_offset_of = _function(_short, "offset_of", _SIZE, *_GIVEN)
-_text_of = _function(_short, "text_of", _SIZE, *_GIVEN, *_BYTES)
+# (What is called for one name declares no types, with which each argument takes twice as
+# long: a kind and flags are C's int, a name is a pointer, and a length is of `_size_of`.)
+_fault_of = _function(_short, "fault_of", _NUMBER)
+_offset_of = _function(_short, "offset_of", _SIZE)
+_text_of = _function(_short, "text_of", _SIZE)
 _faults_of = _function(_loaded, "faults_of", _SIZE, *_GIVEN, _BYTE, *_BYTES)
 _is_windows_device = _function(_short, "is_windows_device", ctypes.c_bool, *_BYTES)
 _suggest = _function(_short, "suggest", _SIZE, *_BYTES, *_BYTES)
 _sanitize = _function(_short, "sanitize", _SIZE, *_BYTES, *_BYTES)
-# (an object of ctypes is passed faster than an int)
-_NUMBERS = {kind.value: _NUMBER(number) for number, kind in enumerate(Kind)}
-_DEFAULT_FLAGS = _NUMBER(_DEFAULT)
+_NUMBERS = {kind.value: number for number, kind in enumerate(Kind)}
+_SIZES = [*map(_SIZE, range(256))]
 _KINDS = {kind.value: kind for kind in Kind}
 _FAULTS: List[Optional[Fault]] = [None, *Fault]
 _Text = ctypes.c_char * _TEXT_MAX
@@ -577,7 +578,13 @@ def _as_given(name: AnyStr, given: bytes, result: bytes) -> AnyStr:
     return result
 
 
-def _number_of(kind: KindName) -> ctypes.c_uint32:
+def _size_of(name: bytes) -> ctypes.c_size_t:
+    """The length of a name."""
+    length = len(name)
+    return _SIZES[length] if length < len(_SIZES) else _SIZE(length)
+
+
+def _number_of(kind: KindName) -> int:
     """The number of a kind."""
     try:
         return _NUMBERS[kind]
@@ -586,12 +593,10 @@ def _number_of(kind: KindName) -> ctypes.c_uint32:
         raise ValueError(f"{kind!r} is no kind of name: {kinds}") from None
 
 
-def _flags_of(protect: Protect) -> ctypes.c_uint32:
+def _flags_of(protect: Protect) -> int:
     """The flags of protections."""
-    if protect is _DEFAULT:
-        return _DEFAULT_FLAGS
     if isinstance(protect, Protect):
-        return _NUMBER(protect)
+        return protect
     raise TypeError(f"protect has to be a Protect, not {type(protect).__name__}")
 
 
@@ -602,8 +607,8 @@ def _number(name: Union[str, bytes], kind: KindName, protect: Protect) -> int:
         given = name.encode("utf-8", "surrogateescape")
     else:
         given = name if type(name) is bytes else _encoded(name)
-    flags = _DEFAULT_FLAGS if protect is _DEFAULT else _flags_of(protect)
-    number: int = _fault_of(_number_of(kind), given, len(given), flags)
+    flags = protect if protect is _DEFAULT else _flags_of(protect)
+    number: int = _fault_of(_number_of(kind), given, _size_of(given), flags)
     return number
 
 
@@ -618,7 +623,7 @@ def _text(name: Union[str, bytes], kind: KindName, protect: Protect) -> str:
     """The printed text of a name's fault."""
     given, text = _encoded(name), _Text()
     flags = _flags_of(protect)
-    _text_of(_number_of(kind), given, len(given), flags, text, _TEXT_MAX)
+    _text_of(_number_of(kind), given, _size_of(given), flags, text, _SIZE(_TEXT_MAX))
     return text.value.decode("ascii")
 
 

@@ -1,7 +1,20 @@
 """The header for C++, by each compiler that is there, in each version of C++."""
+import re
+
 import pytest
 
-from .tools import ARCHIVE, BINDINGS, CXX, ROWS, STRICT, need, output, rows, run
+from .tools import (
+    ARCHIVE,
+    BINDINGS,
+    CXX,
+    ROWS,
+    STRICT,
+    as_msvc,
+    need,
+    output,
+    rows,
+    run,
+)
 
 SOURCE = BINDINGS / "cpp/rows.cpp"
 WORDS = [*STRICT, "-Wshadow", f"-I{SOURCE.parent}"]
@@ -47,6 +60,19 @@ def test_the_rows_hold_with_sanitizers(tmp_path):
     words = ["-std=c++17", "-fsanitize=address,undefined", "-fno-sanitize-recover"]
     run(CXX, *words, *WORDS, "-o", program, SOURCE, ARCHIVE)
     assert output(program, ROWS) == f"{ALL_HOLD}\n"
+
+
+@pytest.mark.parametrize("version", ["17", "20"])
+def test_the_compiler_of_msvc_takes_the_header_and_warns_of_nothing(version):
+    # (with the headers of GCC's library, which expect these macros)
+    need(CXX, "clang")
+    said = run(CXX, "-E", "-v", "-x", "c++", "/dev/null").stderr
+    folders = re.findall(r"(?m)^ (/usr/include.*)$", said)
+    own = output("clang", "-print-resource-dir").strip() + "/include"
+    words = [f"-imsvc{it}" for it in [own, *folders]]
+    words += ["/EHsc", "-D_GNU_SOURCE", "-D__STRICT_ANSI__", f"/I{SOURCE.parent}"]
+    words += ["/Zs", f"/std:c++{version}", SOURCE]
+    assert run(*as_msvc("x86_64", *words)).stderr == ""
 
 
 def compiled(tmp_path, line, *words, status=0):

@@ -15,6 +15,7 @@ from .tools import (
     PORTABLE_MODULE,
     ROWS,
     STRICT,
+    as_msvc,
     need,
     output,
     rows,
@@ -64,10 +65,8 @@ def test_the_rows_hold_on_another_processor(processor, tmp_path):
     assert replayed(tmp_path, [compiler, "-O1"], "-static", by=[emulator]) == ALL_HOLD
 
 
-@pytest.mark.parametrize("convention", [[], ["-DGIX_VALIDATE_PORTABLE"]])
-def test_the_rows_hold_on_windows_by_either_convention(convention, tmp_path, wine):
-    words = ["-O0", f"-I{SOURCE.parent}/windows", *convention]
-    compiler = ["x86_64-w64-mingw32-gcc", *words]
+def test_the_rows_hold_on_windows(tmp_path, wine):
+    compiler = ["x86_64-w64-mingw32-gcc", "-O1", f"-I{SOURCE.parent}/windows"]
     assert replayed(tmp_path, compiler, by=["wine"], env=wine) == ALL_HOLD
 
 
@@ -76,18 +75,36 @@ def test_the_rows_hold_with_sanitizers(tmp_path):
     assert replayed(tmp_path, [CC, *flags]) == ALL_HOLD
 
 
+# Says that a name is longer than its memory.
+OVERREAD = """#include "gix_validate.h"
+#include <stdlib.h>
+int main(void) {
+  char *name = (char *)malloc(5);
+  memcpy(name, "a/b/c", 5);
+  return (int)gix_validate_tag(name, 64);
+}
+"""
+
+
+def test_address_sanitizer_sees_what_the_functions_read(tmp_path):
+    source, program = tmp_path / "overread.c", tmp_path / "overread"
+    source.write_text(OVERREAD)
+    words = ["-fsanitize=address", *STRICT, "-o", program, source, PORTABLE]
+    run(CC, *words)
+    said = run(program, status=1).stderr
+    assert "AddressSanitizer: heap-buffer-overflow" in said
+
+
 @pytest.mark.parametrize("processor", ["x86_64", "i686", "aarch64"])
+@pytest.mark.parametrize("version", [[], ["/std:c11"]], ids=["default", "c11"])
 def test_the_compiler_of_msvc_takes_the_functions_and_warns_of_nothing(
-    processor, tmp_path
+    version, processor, tmp_path
 ):
-    # (clang's mode for MSVC's options stands in for the compiler itself.)
     need("clang")
     for name, text in HEADERS.items():
         (tmp_path / name).write_text(text)
-    words = ["clang", "--driver-mode=cl", f"--target={processor}-pc-windows-msvc"]
-    words += ["/c", "/W4", "/WX", "-fmsc-version=1937", "/clang:-ffreestanding"]
-    words += [f"/I{tmp_path}", f"/I{HEADER.parent}", "/DGIX_VALIDATE_PORTABLE"]
-    run(*words, f"/Fo{tmp_path}/functions.obj", PORTABLE)
+    words = ["/c", *version, "/clang:-ffreestanding", f"/I{tmp_path}"]
+    run(*as_msvc(processor, *words), f"/Fo{tmp_path}/functions.obj", PORTABLE)
     assert (tmp_path / "functions.obj").stat().st_size > 10_000
 
 

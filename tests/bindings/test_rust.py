@@ -6,13 +6,25 @@ from pathlib import Path
 import pytest
 
 from .cargo import DEBIAN, SID, program, registry
-from .tools import BINDINGS, PORTABLE_RUST, need, run
+from .tools import ARCHIVE, BINDINGS, CC, HEADER, PORTABLE_RUST, need, output, run
 
 # (`--dist loadgroup` has one process run them all, which builds once.)
 pytestmark = pytest.mark.xdist_group("rust")
 EXPECTED = (BINDINGS / "rust/gix-validate/drop_in/expected").read_text()
 STANDARD_LIBRARY = "/usr/lib/rustlib"
 WASI = Path(__file__).parent / "wasi.mjs"
+
+
+# A library in Rust, and a program that calls it and the library for C.
+IN_RUST = """#[no_mangle]
+pub extern "C" fn is_valid_in_rust() -> bool {
+    git_names::tag("v1..2").is_ok()
+}
+"""
+IN_C = """#include "gix_validate.h"
+bool is_valid_in_rust(void);
+int main(void) { return is_valid_in_rust() || gix_validate_tag("v1..2", 5) != 4; }
+"""
 
 
 @pytest.fixture(scope="module")
@@ -97,3 +109,18 @@ def test_the_crate_passes_its_own_tests_on_a_target_without_machine_code():
     other = program("wasm32", default_features=False, by_debian=True, **runner)
     said = other.cargo(*BOTH, "--target", "wasm32-wasi", "--tests").stdout
     assert [it > 0 for it in passed(said)] == TESTS
+
+
+def test_a_program_links_the_crate_and_the_library_for_c(tmp_path):
+    need("rustc")
+    (tmp_path / "in_rust.rs").write_text(IN_RUST)
+    (tmp_path / "in_c.c").write_text(IN_C)
+    words = ["rustc", "--edition=2021", "--out-dir", tmp_path, "-L", tmp_path]
+    crate = ["--crate-type=rlib", "--crate-name=git_names"]
+    run(*words, *crate, "--cfg", 'feature="std"', BINDINGS / "rust/src/lib.rs")
+    library = ["--crate-type=staticlib", "--extern", "git_names"]
+    run(*words, *library, tmp_path / "in_rust.rs")
+    whole = ["-Wl,--whole-archive", ARCHIVE, "-Wl,--no-whole-archive"]
+    words = [CC, f"-I{HEADER.parent}", "-o", tmp_path / "both", tmp_path / "in_c.c"]
+    run(*words, *whole, tmp_path / "libin_rust.a", "-lpthread", "-ldl", "-lm")
+    assert output(tmp_path / "both") == ""

@@ -94,13 +94,11 @@ def folder(tmp_path_factory):
     run("wat2wasm", "--enable-all", "--debug-names", "text.wat", cwd=room)
     run("wasm2wat", "--enable-all", "text.wasm", "-o", "module.wat", cwd=room)
     declared = (
-        f"{C_TYPES[result]} {name}({', '.join(f'{C_TYPES[it]} {x}' for it, x in zip(params, 'ab'))}) GIX_VALIDATE_ABI;\n"
+        f"{C_TYPES[result]} {name}({', '.join(f'{C_TYPES[it]} {x}' for it, x in zip(params, 'ab'))});\n"
         for name, params, result, _ in CASES
     )
     includes = "#include <stdint.h>\n#include <stddef.h>\n#include <string.h>\n"
-    (room / "gix_validate.h").write_text(
-        f"{includes}#define GIX_VALIDATE_ABI\n{''.join(declared)}"
-    )
+    (room / "gix_validate.h").write_text(f"{includes}{''.join(declared)}")
     lines = [
         "import {readFileSync} from 'node:fs';\n",
         "const module = new WebAssembly.Module(readFileSync('node.wasm'));\n",

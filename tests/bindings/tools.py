@@ -35,6 +35,15 @@ STRICT = "-Wall -Wextra -Wpedantic -Wconversion -Werror".split() + [
 ]
 
 
+def as_msvc(processor, *words):
+    """The command by which clang compiles as MSVC's compiler does. It stands in for that
+    compiler, and has none of its headers."""
+    return [
+        *["clang", "--driver-mode=cl", f"--target={processor}-pc-windows-msvc"],
+        *["/W4", "/WX", "-fmsc-version=1937", f"/I{HEADER.parent}", *words],
+    ]
+
+
 def need(*things):
     """Skips the test if a command, or a file, isn't there."""
     missing = [

@@ -35,6 +35,33 @@ def test_pip_installs_the_package_and_it_passes_the_tests_of_the_module(
     assert tested.status == 0, tested.said
 
 
+# Builds the wheel as on a processor for which there is no machine code.
+ELSEWHERE = """
+import platform
+import build_gix_validate
+
+platform.machine = lambda: "riscv64"
+print(build_gix_validate.build_wheel("."))
+"""
+
+
+def test_the_source_archive_has_the_functions_for_processors_without_machine_code(
+    tree, room
+):
+    [package] = (tree / "python").glob("*.tar.gz")
+    words = ["--strip-components=1", "--no-same-owner"]
+    assert run("tar", "-C", room, "-xf", package, *words) == (0, "")
+    built = run(sys.executable, "-B", "-c", ELSEWHERE, cwd=room)
+    assert built.status == 0, built.said
+    wheel, unpacked = built.said.strip(), room / "unpacked"
+    words = ["-m", "zipfile", "-e", wheel, unpacked]
+    assert run(sys.executable, *words, cwd=room) == (0, "")
+    words = ["-B", "-m", "pytest", "-q", "--import-mode=importlib"]
+    test = "bindings/python/test_gix_validate.py"
+    tested = run(sys.executable, *words, test, cwd=ROOT, PYTHONPATH=unpacked)
+    assert tested.status == 0, tested.said
+
+
 @pytest.fixture(scope="module")
 def package(tree, session_room):
     """The folder of the npm package, installed."""

@@ -16,10 +16,27 @@ use alloc::vec::Vec;
     )
 ))]
 mod functions {
+    // The symbols are the crate's own, so that a program may link the library for C, too. (macOS has names with `_`.)
+    macro_rules! include_block {
+        ($file:literal $(, $options:ident($syntax:ident))?) => {
+            core::arch::global_asm!(
+                ".macro gix_validate_function name",
+                ".globl git_names_\\name, _git_names_\\name",
+                ".p2align 4",
+                "git_names_\\name:",
+                "_git_names_\\name:",
+                ".endm",
+                include_str!($file),
+                ".purgem gix_validate_function"
+                $(, $options($syntax))?
+            );
+        };
+    }
+
     #[cfg(target_arch = "x86_64")]
-    core::arch::global_asm!(include_str!("../native/x86_64.s"), options(att_syntax));
+    include_block!("../native/x86_64.s", options(att_syntax));
     #[cfg(target_arch = "aarch64")]
-    core::arch::global_asm!(include_str!("../native/aarch64.s"));
+    include_block!("../native/aarch64.s");
 
     #[allow(non_camel_case_types)]
     type size_t = usize;
@@ -27,8 +44,11 @@ mod functions {
     macro_rules! declare {
         ($abi:literal) => {
             extern $abi {
+                #[link_name = "git_names_fault_of"]
                 pub(super) fn gix_validate_fault_of(kind: u32, name: *const u8, len: size_t, flags: u32) -> u32;
+                #[link_name = "git_names_offset_of"]
                 pub(super) fn gix_validate_offset_of(kind: u32, name: *const u8, len: size_t, flags: u32) -> size_t;
+                #[link_name = "git_names_text_of"]
                 pub(super) fn gix_validate_text_of(
                     kind: u32,
                     name: *const u8,
@@ -37,19 +57,23 @@ mod functions {
                     text: *mut u8,
                     text_len: size_t,
                 ) -> size_t;
+                #[link_name = "git_names_sanitize_in_place"]
                 pub(super) fn gix_validate_sanitize_in_place(
                     buffer: *mut u8,
                     buffer_len: size_t,
                     name_len: size_t,
                 ) -> size_t;
+                #[link_name = "git_names_suggest"]
                 pub(super) fn gix_validate_suggest(
                     name: *const u8,
                     len: size_t,
                     buffer: *mut u8,
                     buffer_len: size_t,
                 ) -> size_t;
+                #[link_name = "git_names_is_windows_device"]
                 pub(super) fn gix_validate_is_windows_device(name: *const u8, len: size_t) -> bool;
                 #[cfg(test)]
+                #[link_name = "git_names_version"]
                 pub(super) fn gix_validate_version() -> u32;
             }
         };

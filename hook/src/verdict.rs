@@ -8,14 +8,14 @@ use crate::report::{each_line, Line};
 use std::io::ErrorKind;
 use std::ops::ControlFlow::{self, Break, Continue};
 
-/// The words with which `git rev-list` lists the trees of the ids on its standard input: every tree that these
-/// ids lead to and the server's references don't.
+/// The options with which `git rev-list` lists the trees of the ids on its standard input: every tree that
+/// these ids lead to, and the server's references don't.
 ///
 /// - `--objects` follows a commit to its parents and its tree, a tag to what it tags, and a tree to its
 ///   trees. Git has checked that nothing of this is missing before it starts the hook.
-/// - The two filters take away commits, tags and files, also those that are among the ids. They take
-///   away no tree, and Git still follows what they take away.
-/// - `OLD` takes away what a reference of the server leads to. The hook runs before any reference is
+/// - The two filters leave out commits, tags and files, even if they are among the ids. They leave out no
+///   tree, and Git still follows what they leave out.
+/// - `OLD` leaves out what a reference of the server leads to. The hook runs before any reference is
 ///   changed, so all of this was there before the push.
 /// - Nothing else hides history or shows another object: no grafts, no shallow borders of the pusher,
 ///   no replacements (`git.rs` has the environment), and no other option.
@@ -32,7 +32,7 @@ pub const LIST: [&str; 6] = [
 pub const OLD: [&str; 2] = ["--not", "--all"];
 /// What the references of other repositories lead to, from which the server borrows objects.
 pub const LENT: &str = "--alternate-refs";
-/// A tree also has one of its paths in its line. (A push can be made so that these are quadratic.)
+/// A line also has one of the tree's paths. (A push can be made so that these are quadratic.)
 pub const WITH_PATHS: &str = "--object-names";
 pub const WITHOUT_PATHS: &str = "--no-object-names";
 
@@ -43,7 +43,7 @@ pub struct Checked {
     pub submodules: Option<Report>,
 }
 
-/// What is known about all names. But for help, only `Clean` ends with status 0.
+/// What is known about all names. Apart from help, only `Clean` ends with status 0.
 pub enum Verdict {
     Clean(Evidence),
     Refused,
@@ -99,19 +99,17 @@ impl Report {
                 refused += 1;
                 Continue(())
             }
-            Ok(Says::Refused(Break(()))) => Break(Ok(())),
+            Ok(Says::Refused(Break(()))) => Break(Ok(Self(Read::Stopped))),
             Err(failure) => Break(Err(failure)),
         });
         match read {
             Ok(Break(stopped)) => {
-                drop(program); // (killed before its pipe is closed, so that it doesn't say that)
-                stopped.map(|()| Self(Read::Stopped))
+                drop(program); // (killed before its pipe is closed, so that it doesn't complain)
+                stopped
             }
             // (if its last line has no newline, the program died, and its status says how)
             Err(error) if error.kind() != ErrorKind::UnexpectedEof => {
-                let name = program.name;
-                drop(program);
-                Err(error).or_fail(format!("the report of {name} could not be read"))
+                Err(error).or_fail(format!("the report of {} could not be read", program.name))
             }
             read => {
                 let ended = program.end()?;
@@ -127,7 +125,7 @@ impl Report {
 
     /// With what the program was given: all of that has to have arrived, unless no more was wanted.
     ///
-    /// If one part fails, those before it fail since nobody reads what they write, and those after it
+    /// If one part fails, those before it fail because nobody reads what they write, and those after it
     /// miss the end of their input. So the first says why.
     pub fn of_all<const N: usize>(given: [Result<()>; N], report: Result<Self>) -> Result<Self> {
         match report {

@@ -58,7 +58,10 @@ def accept(name="NAME"):
 
 UNCHECKED = "push refused: the server could not check the names"
 FILE_SYSTEMS = "give windows, hfs or ntfs, separated by commas, or none"
-USAGE = "usage: scan [OPTION..] [DIRECTORY | REVISION..]; scan -h says more\n"
+USAGE = (
+    "usage: git scan-names [OPTION..] [DIRECTORY | REVISION..]; "
+    "git scan-names -h says more\n"
+)
 
 
 @dataclass(frozen=True)
@@ -128,8 +131,8 @@ def found(*lines):
 
 
 def scan_failed(reason):
-    return Result(2, f"scan failed: {reason}\n")
+    return Result(2, f"git scan-names: {reason}\n")
 
 
 def misused(reason):
-    return Result(2, f"scan: {reason}\n{USAGE}")
+    return Result(2, f"git scan-names: {reason}\n{USAGE}")

@@ -110,7 +110,7 @@ def test_a_git_that_may_run_commands_of_the_repository_copies_no_path(
     scan, hook, server, version
 ):
     """To fetch what a partial clone lacks."""
-    hook.stand_in("git version", f"echo version {version} >&2; exit 0")
+    hook.stand_in("git config", f"echo version {version} >&2; exit 1")
     assert scan("/", "--copy", server.path) == scan_failed(
         f"git version {version} may run commands of a repository that it copies from "
         "a path: use Git 2.45.1 or later, or the last of its series"

@@ -4,14 +4,13 @@ use crate::finding::{Finding, Group, Groups, Kind};
 use crate::messages::printable;
 use crate::places::Pushed;
 use crate::quoting::in_quotes;
-use std::ops::ControlFlow::{self, Break, Continue};
 
 /// How many lines of names are shown, how long a line may be, and how long a path in it.
 const MOST_LINES: usize = 10;
 const LONGEST_LINE: usize = 300;
 const LONGEST_PATH: usize = 120;
-/// How many refused names are read: a push can have millions.
-const MOST_READ: usize = 10_000;
+/// How many refused names are kept: a push can have millions.
+const MOST_KEPT: usize = 10_000;
 /// How much of a commit's id is shown.
 const ABBREVIATED: usize = 12;
 
@@ -29,12 +28,9 @@ impl Answer {
     }
 
     /// Adds what is refused, until it is too much.
-    pub fn add(&mut self, finding: Finding) -> ControlFlow<()> {
-        self.found.push(finding);
-        if self.found.len() < MOST_READ {
-            Continue(())
-        } else {
-            Break(())
+    pub fn add(&mut self, finding: Finding) {
+        if self.found.len() < MOST_KEPT {
+            self.found.push(finding);
         }
     }
 
@@ -59,7 +55,7 @@ impl Answer {
                 advice.push(it.into());
             }
         }
-        advice.extend(commits.iter().flatten().next().map(|it| change(pushed, it)));
+        advice.extend(commits.iter().flatten().next().map(|it| change(it)));
         let is_reference = |group: &Group| matches!(group.finding.kind, Kind::Reference);
         if shown.iter().zip(&commits).any(|(it, commit)| commit.is_none() && !is_reference(it)) {
             advice.push(OLD.into());
@@ -70,7 +66,7 @@ impl Answer {
     }
 
     fn count(&self, count: usize) -> String {
-        let least = if self.found.len() < MOST_READ { "" } else { "at least " };
+        let least = if self.found.len() < MOST_KEPT { "" } else { "at least " };
         let names = if count == 1 { "name is" } else { "names are" };
         let text = format!("push refused: {least}{count} {names} not allowed");
         if count <= MOST_LINES {
@@ -94,10 +90,9 @@ fn accepting<'a>(findings: impl Iterator<Item = &'a Finding>) -> Option<String> 
 }
 
 /// How to change the first commit that has something refused.
-fn change(pushed: &Pushed, commit: &str) -> String {
+fn change(commit: &str) -> String {
     let short = abbreviated(commit);
-    let from = if pushed.is_root(commit) { "--root".into() } else { format!("{short}~1") };
-    format!("To change commit {short}: git rebase -i {from}, and write \"edit\" in its line.")
+    format!("To change commit {short}: git rebase -i {short}~1 (or --root, if it has no parent), and write \"edit\" in its line.")
 }
 
 fn abbreviated(commit: &str) -> &str {

@@ -18,11 +18,10 @@ use crate::finding::{id, Finding, Id, Place};
 use crate::git::Git;
 use crate::report::Line;
 use crate::settings::Settings;
-use crate::verdict::{Report, Says, LIST};
+use crate::verdict::{Report, LIST};
 use std::collections::HashMap;
 use std::ffi::OsStr;
 use std::io;
-use std::ops::ControlFlow;
 use std::os::unix::io::AsFd;
 use std::os::unix::process::CommandExt;
 use std::path::PathBuf;
@@ -34,7 +33,7 @@ use std::thread;
 const TREES: &str = "--batch=%(objectname) %(objecttype) %(objectsize) %(rest)";
 const FILES: &str = "--batch=%(objectname) %(objecttype) %(objectsize)";
 /// The last line of a list.
-const END: &[u8] = b"..end\n";
+const END: &[u8] = b"..end";
 /// How much of the path of a `.gitmodules` file is kept.
 const LONGEST_PATH: usize = 300;
 
@@ -49,8 +48,8 @@ pub struct Pipeline {
     pub settings: Settings,
 }
 
-/// What is done with a finding. After `Break` no more are wanted.
-pub type OnFinding<'a> = &'a mut dyn FnMut(Finding) -> ControlFlow<()>;
+/// What is done with a finding.
+pub type OnFinding<'a> = &'a mut dyn FnMut(Finding);
 
 /// What `check_push refs` allows, and what of that is to be checked.
 #[derive(Default)]
@@ -91,8 +90,8 @@ impl Pipeline {
         thread::scope(|scope| {
             let writer = spawn(scope, move || write_all(to, lines))?;
             let report = Report::read(check, |line| match Finding::of_reference(line) {
-                Some(finding) => Ok(Says::Refused(found(finding))),
-                None => ids.add(line),
+                Some(finding) => Ok(refused(found, finding)),
+                None => ids.add(line).map(|()| false),
             });
             Ok((Report::of_all([join(writer)], report)?, ids))
         })
@@ -127,15 +126,15 @@ impl Pipeline {
                 let written = write_all(to, &lines);
                 // only if it has ended with 0 it has listed all
                 rev_list.succeed()?;
-                written.and_then(|()| write_all(end, END))
+                written.and_then(|()| write_all(end, &[END, b"\n"].concat()))
             })?;
             let check = Child::start(CHECK_TREES, command)?;
             let report = Report::read(check, |line| {
                 if let Some(rest) = line.front.strip_prefix(b"modules ") {
-                    return modules.add_file(rest, line);
+                    return modules.add_file(rest, line).map(|()| false);
                 }
                 let finding = Finding::of_entry(line).ok_or_else(|| malformed(CHECK_TREES))?;
-                Ok(Says::Refused(found(finding)))
+                Ok(refused(found, finding))
             });
             let given = [join(lister), cat_file.succeed()];
             Ok((Report::of_all(given, report)?, modules))
@@ -149,12 +148,8 @@ impl Pipeline {
             return Ok(None);
         }
         let mut list = Vec::new();
-        reserve(&mut list, modules.keys().map(|it| it.len() + 1).sum::<usize>() + END.len())?;
-        for blob in modules.keys() {
-            list.extend_from_slice(blob);
-            list.push(b'\n');
-        }
-        list.extend_from_slice(END);
+        modules.keys().try_for_each(|blob| push_line(&mut list, blob))?;
+        push_line(&mut list, END)?;
         let mut cat_file = self.cat_file(FILES)?;
         let to = cat_file.input()?;
         let mut command = self.check("submodules");
@@ -165,7 +160,7 @@ impl Pipeline {
             let report = Report::read(check, |line| {
                 let finding = Finding::of_submodule(line, |blob| modules.get(blob).cloned());
                 let finding = finding.ok_or_else(|| malformed(CHECK_SUBMODULES))?;
-                Ok(Says::Refused(found(finding)))
+                Ok(refused(found, finding))
             });
             let given = [join(lister), cat_file.succeed()];
             Report::of_all(given, report).map(Some)
@@ -195,28 +190,23 @@ impl Pipeline {
 impl Ids {
     /// Adds the id of a line `NEW` or `NEW "REF"`. If there is a name, it is a replacement's, and Git shows the
     /// blob NEW instead of another, which may be a `.gitmodules` file that was accepted.
-    fn add(&mut self, line: &Line) -> Result<Says> {
+    fn add(&mut self, line: &Line) -> Result<()> {
         let text = line.front.strip_suffix(b" ");
         let new = id(text.unwrap_or(line.front)).ok_or_else(|| malformed(CHECK_REFERENCES))?;
-        reserve(&mut self.lines, new.len() + 1)?;
-        self.lines.extend_from_slice(&new);
-        self.lines.push(b'\n');
+        push_line(&mut self.lines, &new)?;
         if text.is_some() {
             self.replacements.add(new, Place { path: line.name.clone(), tree: None })?;
         }
-        Ok(Says::Else)
+        Ok(())
     }
 }
 
 impl Modules {
     /// Adds the file of a line `modules BLOB TREE MODE "PATH"`.
-    fn add_file(&mut self, rest: &[u8], line: &Line) -> Result<Says> {
+    fn add_file(&mut self, rest: &[u8], line: &Line) -> Result<()> {
         let mut ids = rest.split(|byte| *byte == b' ').map(id);
         match (ids.next().flatten(), ids.next().flatten()) {
-            (Some(blob), tree @ Some(_)) => {
-                self.add(blob, Place { path: line.name.clone(), tree })?;
-                Ok(Says::Else)
-            }
+            (Some(blob), tree @ Some(_)) => self.add(blob, Place { path: line.name.clone(), tree }),
             _ => Err(malformed(CHECK_TREES)),
         }
     }
@@ -234,9 +224,18 @@ fn malformed(process: &str) -> Failure {
     Failure::Other(format!("{process} reported in another way"))
 }
 
-/// Makes room for more bytes.
-fn reserve(bytes: &mut Vec<u8>, more: usize) -> Result<()> {
-    bytes.try_reserve(more).or_else(|_| too_little_memory())
+/// Passes a finding on. The line is about a refused name.
+fn refused(found: OnFinding, finding: Finding) -> bool {
+    found(finding);
+    true
+}
+
+/// Adds a line to a list, which can be long.
+fn push_line(list: &mut Vec<u8>, line: &[u8]) -> Result<()> {
+    list.try_reserve(line.len() + 1).or_else(|_| too_little_memory())?;
+    list.extend_from_slice(line);
+    list.push(b'\n');
+    Ok(())
 }
 
 fn too_little_memory() -> Result<()> {

@@ -1,7 +1,7 @@
 //! Where in a refused push something is, for the answer to its author: the directory of a tree, and
 //! the first commit that has a path.
 
-use crate::child::{join, output_of, spawn, write_all, Child};
+use crate::child::{join, spawn, write_all, Child};
 use crate::failure::{OrFail, Result};
 use crate::finding::{split_once, Finding, Group, Id, Kind};
 use crate::git::Git;
@@ -100,13 +100,6 @@ impl Pushed<'_> {
             }
         }
         first
-    }
-
-    /// Whether a commit has no parent.
-    pub fn is_root(&self, commit: &str) -> bool {
-        let words = ["rev-list", "--no-walk", "--max-parents=0", commit];
-        let listed = output_of("git rev-list", self.git.command(&words));
-        listed.map_or(false, |output| !output.is_empty())
     }
 
     /// The changes to these paths by each new commit, the oldest first: the commit's id, and then change and

@@ -1,7 +1,6 @@
 //! The lines of the proved program's reports. Each has the form `FRONT "NAME" REST` or `FRONT`.
 
 use std::io::{self, BufRead, BufReader, ErrorKind, Read};
-use std::ops::ControlFlow;
 
 /// How much of a name is kept, because a push decides how long it is. (A file system allows no more.)
 pub const LONGEST_NAME: usize = 4096;
@@ -16,22 +15,22 @@ pub struct Line<'a> {
     pub rest: &'a [u8],
 }
 
-/// Reads the lines of a report until one breaks off. If the last line has no newline, the report was
+/// Reads the lines of a report, unless one can't be used. If the last line has no newline, the report was
 /// cut, which is an error.
-pub fn each_line<B>(
+pub fn each_line<E>(
     input: impl Read,
-    mut line_is: impl FnMut(&Line) -> ControlFlow<B>,
-) -> io::Result<ControlFlow<B>> {
+    mut use_line: impl FnMut(&Line) -> Result<(), E>,
+) -> io::Result<Result<(), E>> {
     let mut input = BufReader::with_capacity(1 << 16, input);
     let mut line = Vec::new();
     while input.read_until(b'\n', &mut line)? > 0 {
         let text = line.strip_suffix(b"\n").ok_or(ErrorKind::UnexpectedEof)?;
-        if let ControlFlow::Break(broken) = line_is(&Line::of(text)) {
-            return Ok(ControlFlow::Break(broken));
+        if let Err(error) = use_line(&Line::of(text)) {
+            return Ok(Err(error));
         }
         line.clear();
     }
-    Ok(ControlFlow::Continue(()))
+    Ok(Ok(()))
 }
 
 impl<'a> Line<'a> {
@@ -82,7 +81,6 @@ fn digit(byte: u8) -> u8 {
 mod tests {
     use super::{each_line, LONGEST_NAME};
     use std::io;
-    use std::ops::ControlFlow::Continue;
 
     type Parts = (String, Vec<u8>, String);
 
@@ -91,7 +89,7 @@ mod tests {
         let text = |bytes: &[u8]| String::from_utf8(bytes.to_vec()).unwrap();
         let read = each_line(report, |line| {
             all.push((text(line.front), line.name.clone(), text(line.rest)));
-            Continue::<()>(())
+            Ok::<(), ()>(())
         });
         read.map(|_| all)
     }

@@ -6,19 +6,18 @@ mod list;
 mod options;
 
 use crate::child::{output_of, run as run_to_end};
-use crate::failure::{failed, Failure, Result};
+use crate::failure::{failed, Failure, OrFail, Result};
 use crate::finding::{id, Finding, Groups};
 use crate::git::Git;
 use crate::messages::{printable, say, say_failure};
 use crate::pipeline::{Ids, OnFinding, Pipeline};
-use crate::settings::{Printed, Settings};
+use crate::settings::{read_config, start_config, Settings};
 use crate::verdict::{Checked, Report, Verdict, WITH_PATHS};
 use copy::Copy;
 use options::{misused, Asked, Options};
 use std::env;
 use std::ffi::{OsStr, OsString};
 use std::fs;
-use std::ops::ControlFlow::Continue;
 use std::os::unix::ffi::OsStrExt;
 use std::path::{Path, PathBuf};
 
@@ -52,35 +51,19 @@ fn find_and_scan(program: PathBuf, mut options: Options) -> Result<Outcome> {
     let mut git = Git::find()?;
     let mut copy = None;
     if let Some(source) = &options.copy {
-        let (_, version) = Printed::read(Printed::start(&git)?)?;
+        let (_, version) = read_config(start_config(&git)?)?;
         git = copy.insert(Copy::of(git, source, &version)?).git.clone();
         say(NOT_COPIED);
     } else {
-        enter_directory(&git, &mut options.words)?;
+        if matches!(&options.words[..], [word] if Path::new(word).is_dir()) {
+            let entered = options.words.drain(..).try_for_each(env::set_current_dir);
+            entered.or_fail("the directory could not be entered")?;
+        }
         check_repository(&git)?;
     }
-    let (printed, _) = Printed::read(Printed::start(&git)?)?;
+    let (printed, _) = read_config(start_config(&git)?)?;
     let settings = settings(&printed, &options)?;
     scan(&Pipeline { program, git: git.with_whole_history(), settings }, &options)
-}
-
-/// Enters the directory that the only word may be, and takes that word away.
-fn enter_directory(git: &Git, words: &mut Vec<OsString>) -> Result<()> {
-    let directory = match &words[..] {
-        [word] if Path::new(word).is_dir() => word,
-        _ => return Ok(()),
-    };
-    let mut command = git.command(&["rev-parse", "--quiet", "--verify"]);
-    command.arg(directory);
-    if output_of("git rev-parse", command).is_ok() {
-        let shown = printable(directory.as_bytes());
-        return misused(format!(
-            "\"{shown}\" is a revision and a directory: write ./{shown} or its id"
-        ));
-    }
-    let entered = env::set_current_dir(directory);
-    words.clear();
-    entered.or_else(|error| failed(format!("the directory could not be entered: {error}")))
 }
 
 /// Fails if Git finds no repository here, or one that it refuses since another owns it.
@@ -90,7 +73,7 @@ fn check_repository(git: &Git) -> Result<()> {
 }
 
 /// By which rules names are checked: those of the options, and of the settings if they are to be read.
-fn settings(printed: &Printed, options: &Options) -> Result<Settings> {
+fn settings(printed: &[u8], options: &Options) -> Result<Settings> {
     let mut settings = Settings::default();
     if options.settings {
         (settings, _) = Settings::of(printed)?;
@@ -112,7 +95,6 @@ fn scan(pipeline: &Pipeline, options: &Options) -> Result<Outcome> {
     let mut found = |mut finding: Finding| {
         finding.place.tree = None; // (the list has paths)
         groups.add(finding.line(usize::MAX), &finding);
-        Continue(())
     };
     let verdict = match (options.index, options.words.is_empty()) {
         (true, true) => check_index(pipeline, &mut found),

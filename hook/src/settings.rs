@@ -42,28 +42,24 @@ impl Default for Settings {
     }
 }
 
-/// What `git config` printed: each setting as its scope, a NUL, its key, perhaps a newline and a value,
-/// and a NUL.
-pub struct Printed(Vec<u8>);
+/// Starts `git config`, which prints each setting as its scope, a NUL, its key, perhaps a newline and a
+/// value, and a NUL.
+pub fn start_config(git: &Git) -> Result<Child> {
+    let words = ["config", "--null", "--show-scope", "--get-regexp", "^names\\."];
+    git.start_traced("git config", &words)
+}
 
-impl Printed {
-    pub fn start(git: &Git) -> Result<Child> {
-        let words = ["config", "--null", "--show-scope", "--get-regexp", "^names\\."];
-        git.start_traced("git config", &words)
+/// What it prints, and Git's version.
+pub fn read_config(config: Child) -> Result<(Vec<u8>, Version)> {
+    let (mut ended, output) = config.finish()?;
+    // (its status is 1 if there is no such setting)
+    if ended.how == How::Status(0) || ended.how == How::Status(1) && output.is_empty() {
+        return Ok((output, version_in(&ended.said)?));
     }
-
-    /// Reads what Git prints, and its version.
-    pub fn read(config: Child) -> Result<(Self, Version)> {
-        let (mut ended, output) = config.finish()?;
-        // (its status is 1 if there is no such setting)
-        if ended.how == How::Status(0) || ended.how == How::Status(1) && output.is_empty() {
-            return Ok((Self(output), version_in(&ended.said)?));
-        }
-        let lines = ended.said.split_inclusive(|byte| *byte == b'\n');
-        let is_message = |it: &&[u8]| it.starts_with(b"fatal: ") || it.starts_with(b"error: ");
-        ended.said = lines.filter(is_message).collect::<Vec<_>>().concat();
-        Err(Failure::Ended(ended))
-    }
+    let lines = ended.said.split_inclusive(|byte| *byte == b'\n');
+    let is_message = |it: &&[u8]| it.starts_with(b"fatal: ") || it.starts_with(b"error: ");
+    ended.said = lines.filter(is_message).collect::<Vec<_>>().concat();
+    Err(Failure::Ended(ended))
 }
 
 impl Settings {
@@ -72,9 +68,9 @@ impl Settings {
         OLD.into_iter().chain(self.alternate_refs.then_some(LENT)).collect()
     }
 
-    /// Reads what Git printed, and says what is ignored of it. A setting that is unknown may be misspelled,
-    /// and so is a failure.
-    pub fn of(Printed(output): &Printed) -> Result<(Self, Vec<String>)> {
+    /// Reads what `git config` printed, and says what is ignored of it. A setting that is unknown may be
+    /// misspelled, and so is a failure.
+    pub fn of(output: &[u8]) -> Result<(Self, Vec<String>)> {
         let (mut settings, mut ignored) = (Self::default(), Vec::new());
         if !matches!(output.last(), None | Some(0)) {
             return failed("the output of git config was cut");

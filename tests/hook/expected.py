@@ -40,12 +40,11 @@ IT_MAY_BE_OLD = (
 )
 
 
-def change(commit, is_root=False):
+def change(commit):
     short = commit[:12]
-    start = "--root" if is_root else f"{short}~1"
     return (
-        f"To change commit {short}: git rebase -i {start}, "
-        'and write "edit" in its line.\n'
+        f"To change commit {short}: git rebase -i {short}~1 "
+        '(or --root, if it has no parent), and write "edit" in its line.\n'
     )
 
 

@@ -514,7 +514,7 @@ def test_of_very_many_refused_names_the_first_are_read(source, measured):
         + "push refused: at least 10000 names are not allowed (10 of them shown)\n"
         + "This lists all in your clone: git scan-names origin/main..HEAD\n"
         + RENAME_THE_FILE
-        + change(commit, is_root=True)
+        + change(commit)
         + accept(),
     )
     assert megabytes < 192
@@ -536,7 +536,7 @@ def test_of_very_many_refused_submodules_the_first_are_read(source, measured):
         )
         + "push refused: at least 1 name is not allowed\n"
         + RENAME_THE_SUBMODULE
-        + change(commit, is_root=True),
+        + change(commit),
     )
     assert megabytes < 96
     assert seconds < 10
@@ -551,5 +551,5 @@ def test_a_file_of_some_hundred_megabytes_is_not_read_into_memory(source, measur
     line = bad_name(
         ".gitmodules", "the file is larger than 16777216 bytes", None, commit
     )
-    assert result == refused(line, CORRECT_THE_FILE, change(commit, is_root=True))
+    assert result == refused(line, CORRECT_THE_FILE, change(commit))
     assert megabytes < 96

@@ -163,7 +163,7 @@ def test_a_name_of_2_MB_is_cut_and_takes_no_minutes(hook, source):
         commit,
     )
     result = hook.run(source.push_of(commit), through=["timeout", "20"])
-    assert result == refused(line, RENAME_THE_SUBMODULE, change(commit, is_root=True))
+    assert result == refused(line, RENAME_THE_SUBMODULE, change(commit))
 
 
 def test_a_name_deep_in_a_middle_commit_is_refused_with_its_directory(server, source):
@@ -358,7 +358,7 @@ def test_a_refused_reference_hides_nothing_of_its_files(server, source):
         + "push refused: 2 names are not allowed\n"
         + RENAME_THE_REF
         + RENAME_THE_FILE
-        + change(source.device, is_root=True)
+        + change(source.device)
         + accept("aux.c"),
     )
 

@@ -87,12 +87,12 @@ def test_a_directory_is_entered(scan, server, hostile, room):
     assert scan(room, "server/objects") == hostile.all
 
 
-def test_a_directory_that_is_also_a_revision_is_a_misuse(scan, work, source):
-    work.git("update-ref", "refs/heads/sub", source.device)
-    why = '"sub" is a revision and a directory: write ./sub or its id'
-    assert scan(work, "sub") == misused(why)
-    assert scan(work, "./sub") == found(AUX)
-    assert scan(work, "refs/heads/sub") == found(AUX)
+def test_a_word_that_is_a_directory_and_a_revision_is_the_directory(scan, work, source):
+    """The whole repository is scanned then, so nothing is missed."""
+    work.git("update-ref", "refs/heads/sub", source.clean)
+    work.git("update-ref", "refs/heads/other", source.device)
+    assert scan(work, "sub") == found(AUX)
+    assert scan(work, "refs/heads/sub") == ALL_IS_WELL
 
 
 def test_without_a_repository_the_scan_fails_and_says_what_helps(scan, room):

@@ -26,7 +26,7 @@ pytestmark = pytest.mark.one_format
 
 def refused_name(name, fault, commit):
     line = bad_name(name, fault, None, commit)
-    return refused(line, RENAME_THE_FILE, change(commit, is_root=True))
+    return refused(line, RENAME_THE_FILE, change(commit))
 
 
 def push_of_clean_branches(server):
@@ -170,7 +170,7 @@ def result_for(names, commit):
     count = "1 name is" if len(names) == 1 else f"{len(names)} names are"
     said = "".join(lines[name] for name in names)
     said += f"push refused: {count} not allowed\n{RENAME_THE_FILE}"
-    said += change(commit, is_root=True)
+    said += change(commit)
     return Result(1, said + (accept("aux.c") if DEVICE_NAME in names else ""))
 
 

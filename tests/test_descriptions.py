@@ -31,7 +31,7 @@ def help_of(name):
     """The help that a program prints, from its source."""
     if name == "git-scan-names":
         source = (ROOT / "hook/src/scan/options.rs").read_text("utf-8")
-        return re.search(r'(?s)\nconst HELP: &str = "\\\n(.*?)";\n', source)[1]
+        return re.search(r'(?s)\npub const HELP: &str = "\\\n(.*?)";\n', source)[1]
     command = [ROOT / "scripts/program", *name.replace("-", "_").split(), "--help"]
     return subprocess.check_output(command, text=True)
 
@@ -87,7 +87,7 @@ def test_a_default_that_a_program_and_the_hook_share_is_described_alike(name):
 
 def test_the_settings_of_the_hook_are_those_that_its_source_reads():
     source = (ROOT / "hook/src/settings.rs").read_text("utf-8")
-    read = {*re.findall(r'b"(names\.\w+)"', source)}
+    read = {*re.findall(r'"(names\.\w+)"', source)}
     assert read == {it["name"].lower() for it in HOOK["settings"]}
 
 

@@ -1,19 +1,19 @@
 //! Child processes.
 //!
 //! Each is started by an absolute path, and without code between fork and exec. So the standard library
-//! calls `posix_spawn`, which gives no file that isn't a program to a shell, as `execvp` would.
+//! calls `posix_spawn`, which doesn't give a file that isn't a program to a shell, as `execvp` would.
 
 use crate::failure::{failed, Ended, Failure, How, OrFail, Result};
-use std::io::Read;
+use std::io::{Read, Write};
 use std::os::unix::process::ExitStatusExt;
 use std::process::{self, ChildStderr, ChildStdin, ChildStdout, Command, Stdio};
 use std::sync::mpsc::{channel, Receiver};
 use std::thread::{self, Scope, ScopedJoinHandle};
 use std::time::Duration;
 
-/// How much of what a process writes to standard error is kept: at most its last so many bytes.
+/// How much of what a process writes to standard error is kept: the last so many bytes.
 const KEPT: usize = 4000;
-/// How long this waits for the rest of it when the process has ended: another one may keep it open.
+/// How long we wait for the rest of it when the process has ended: another one may keep it open.
 const PATIENCE: Duration = Duration::from_secs(1);
 
 /// A child. If nobody waits for it, it is killed.
@@ -65,9 +65,23 @@ impl Child {
 
     /// Waits until it has ended. Any status but 0 is a failure.
     pub fn succeed(self) -> Result<()> {
-        match self.end()? {
-            ended if ended.how == How::Status(0) => Ok(()),
-            ended => Err(Failure::Ended(ended)),
+        self.end()?.succeeded().map(drop)
+    }
+
+    /// Reads all that it prints, and waits until it has ended.
+    pub fn finish(mut self) -> Result<(Ended, Vec<u8>)> {
+        let mut output = Vec::new();
+        let read = self.output()?.read_to_end(&mut output);
+        read.or_fail(format!("the output of {} could not be read", self.name))?;
+        Ok((self.end()?, output))
+    }
+}
+
+impl Ended {
+    pub fn succeeded(self) -> Result<Self> {
+        match self.how {
+            How::Status(0) => Ok(self),
+            _ => Err(Failure::Ended(self)),
         }
     }
 }
@@ -93,28 +107,31 @@ fn end_of(mut pipe: ChildStderr) -> Vec<u8> {
 /// Runs a short command. Returns how it ended, and all that it printed.
 pub fn run(name: &'static str, mut command: Command) -> Result<(Ended, Vec<u8>)> {
     command.stdout(Stdio::piped());
-    output_of(Child::start(name, command)?)
+    Child::start(name, command)?.finish()
 }
 
-/// The same of one that runs already.
-pub fn output_of(mut child: Child) -> Result<(Ended, Vec<u8>)> {
-    let mut output = Vec::new();
-    let read = child.output()?.read_to_end(&mut output);
-    read.or_fail(format!("the output of {} could not be read", child.name))?;
-    Ok((child.end()?, output))
+/// The same of a command that has to end with 0.
+pub fn output_of(name: &'static str, command: Command) -> Result<Vec<u8>> {
+    let (ended, output) = run(name, command)?;
+    ended.succeeded().map(|_| output)
 }
 
 const NO_THREAD: &str = "no thread could be started";
 
-/// Starts a thread. (`thread::spawn` panics if there can't be another.)
+/// Starts a thread. (`Scope::spawn` panics if there can't be another.)
 pub fn spawn<'scope, T: Send + 'scope>(
     scope: &'scope Scope<'scope, '_>,
-    task: impl FnOnce() -> T + Send + 'scope,
-) -> Result<ScopedJoinHandle<'scope, T>> {
+    task: impl FnOnce() -> Result<T> + Send + 'scope,
+) -> Result<ScopedJoinHandle<'scope, Result<T>>> {
     thread::Builder::new().spawn_scoped(scope, task).or_fail(NO_THREAD)
 }
 
 /// What a thread returned.
 pub fn join<T>(thread: ScopedJoinHandle<Result<T>>) -> Result<T> {
     thread.join().unwrap_or_else(|_| failed("a thread panicked"))
+}
+
+/// Writes all that a process reads, and closes the pipe.
+pub fn write_all(mut to: ChildStdin, bytes: &[u8]) -> Result<()> {
+    to.write_all(bytes).or_fail("a process did not read all of its input")
 }

@@ -4,19 +4,13 @@ use std::io;
 
 #[derive(Debug)]
 pub enum Failure {
-    /// A process ended in another way than it may.
+    /// A process ended in a way that it may not.
     Ended(Ended),
     /// Something could not be done, for the reason that the system gives.
     System(String, io::Error),
-    /// Something wasn't read to its end, most likely since what reads it had failed.
-    Unread(&'static str),
-    /// This process itself has used up its memory.
-    Memory,
-    /// Something else, which this says.
+    /// Anything else.
     Other(String),
-    /// The scan was called with wrong arguments.
-    Misused(String),
-    /// A failure, with what may help.
+    /// A failure, and what may help.
     Helped(Box<Failure>, &'static str),
 }
 
@@ -37,17 +31,17 @@ pub enum How {
 const SIGPIPE: i32 = 13;
 
 impl Failure {
-    /// Whether it most likely comes from the failure of another process.
+    /// Whether it most likely comes from the failure of a process that should have read on.
     fn is_secondary(&self) -> bool {
         match self {
-            Self::Unread(_) => true,
+            Self::System(_, error) => error.kind() == io::ErrorKind::BrokenPipe,
             Self::Ended(ended) => ended.how == How::Signal(SIGPIPE),
             _ => false,
         }
     }
 }
 
-/// Of several failures, the first that doesn't come from another.
+/// The first of several failures that doesn't come from another.
 pub fn first_of(failures: impl IntoIterator<Item = Option<Failure>>) -> Failure {
     let failures = failures.into_iter().flatten();
     let (secondary, first): (Vec<_>, Vec<_>) = failures.partition(Failure::is_secondary);
@@ -64,38 +58,10 @@ pub fn failed<T>(what: impl Into<String>) -> Result<T> {
 /// Says what could not be done.
 pub trait OrFail<T> {
     fn or_fail(self, what: impl Into<String>) -> Result<T>;
-    fn or_unread(self, what: &'static str) -> Result<T>;
 }
 
 impl<T> OrFail<T> for io::Result<T> {
     fn or_fail(self, what: impl Into<String>) -> Result<T> {
         self.map_err(|error| Failure::System(what.into(), error))
-    }
-
-    /// Of something that another process reads.
-    fn or_unread(self, what: &'static str) -> Result<T> {
-        self.map_err(|error| match error.kind() {
-            io::ErrorKind::BrokenPipe => Failure::Unread(what),
-            _ => Failure::System(what.into(), error),
-        })
-    }
-}
-
-#[cfg(test)]
-mod tests {
-    use super::{first_of, Ended, Failure, How};
-
-    fn ended(process: &'static str, how: How) -> Failure {
-        let said = Vec::new();
-        Failure::Ended(Ended { process, how, said })
-    }
-
-    #[test]
-    fn the_first_failure_is_the_one_that_does_not_come_from_another() {
-        let by_a_pipe = || Some(ended("a", How::Signal(13)));
-        let failures = [by_a_pipe(), None, Some(ended("b", How::Status(2)))];
-        assert!(matches!(first_of(failures), Failure::Ended(it) if it.process == "b"));
-        let failures = [Some(Failure::Unread("c")), by_a_pipe()];
-        assert!(matches!(first_of(failures), Failure::Unread("c")));
     }
 }

@@ -1,8 +1,11 @@
-//! What is refused, as the proved program's lines say it.
+//! What is refused, as the proved program's lines say it, and the line that people read about it.
 
-use crate::report::Line;
+use crate::messages::printable;
+use crate::quoting::{in_quotes, quoted};
+use crate::report::{self, Line};
+use std::collections::HashMap;
 
-/// An id of an object, of 40 or 64 digits.
+/// An object's id, of 40 or 64 digits.
 pub type Id = Box<[u8]>;
 
 /// A name that is refused, or a `.gitmodules` file that can't be read.
@@ -32,39 +35,33 @@ pub enum Kind {
 /// Where it is: the reference, the entry, or the `.gitmodules` file.
 #[derive(Clone)]
 pub struct Place {
-    /// The name of a reference or a path. If it is long, its beginning.
+    /// A reference's name, or a path. If it is long, its beginning.
     pub path: Vec<u8>,
     /// The tree in which the path begins, if that isn't known to be the root.
     pub tree: Option<Id>,
 }
 
-impl Place {
-    /// That of a line, whose path begins in this tree.
-    pub fn of(line: &Line, tree: Option<Id>) -> Self {
-        Self { path: line.name.clone(), tree }
-    }
-
-    /// That in a directory of the root.
-    pub fn below(&self, directory: &[u8]) -> Self {
-        let slash = if directory.is_empty() { b"".as_slice() } else { b"/" };
-        Self { path: [directory, slash, &self.path].concat(), tree: None }
-    }
-}
+/// The reasons about which more is said, or how they begin.
+const DEVICE: &[u8] = b"Windows device-names may have side-effects and are not allowed";
+const ILLEGAL: &[u8] = b"Trailing spaces or dots, and the following characters anywhere, are forbidden in Windows paths";
+const PREFIX: &[u8] = b"Windows path prefixes are not allowed";
+const SEPARATOR: &[u8] = b"Path separators like / or \\ are not allowed";
+const SYMLINK: &[u8] = b"The .gitmodules file must not be a symlink";
+const REPLACEMENT: &[u8] = b"replacement references are not allowed";
 
 impl Finding {
-    /// A reference that a line of `check_push refs` says: `ref "REF" REASON`.
+    /// The reference of a line `ref "REF" REASON`.
     pub fn of_reference(line: &Line) -> Option<Self> {
-        let place = Place::of(line, None);
+        let place = Place { path: line.name.clone(), tree: None };
         let reason = line.rest.into();
         (line.front == b"ref ").then_some(Self { kind: Kind::Reference, place, reason })
     }
 
-    /// An entry that a line of `check_push trees` says: `TREE MODE "PATH" REASON`, perhaps after
-    /// `windows `.
+    /// The entry of a line `TREE MODE "PATH" REASON`, perhaps after `windows `.
     pub fn of_entry(line: &Line) -> Option<Self> {
         let without = line.front.strip_prefix(b"windows ");
         let (tree, mode) = split_once(without.unwrap_or(line.front), b' ')?;
-        let place = Place::of(line, Some(id(tree)?));
+        let place = Place { path: line.name.clone(), tree: Some(id(tree)?) };
         let mode = std::str::from_utf8(mode).ok()?.trim_end();
         // (a mode may have hundreds of digits, and is none of Git's then)
         let mode = u32::from_str_radix(mode, 8).unwrap_or_default();
@@ -72,23 +69,128 @@ impl Finding {
         Some(Self { kind, place, reason: line.rest.into() })
     }
 
-    /// A submodule that a line of `check_push submodules` says: `BLOB OFFSET "NAME" REASON`, or without a
-    /// name `BLOB OFFSET REASON` or `BLOB REASON`. `place_of` knows where the blob is.
+    /// The submodule of a line `BLOB OFFSET "NAME" REASON`, or without a name `BLOB OFFSET REASON` or
+    /// `BLOB REASON`. `place_of` knows where the blob is.
     pub fn of_submodule(line: &Line, place_of: impl Fn(&[u8]) -> Option<Place>) -> Option<Self> {
         let (blob, rest) = split_once(line.front, b' ')?;
-        let place = place_of(blob)?;
-        let blob = id(blob)?;
         let (name, reason) = if rest.ends_with(b" ") {
             (Some(line.name.clone()), line.rest.into())
         } else {
-            (None, without_offset(rest))
+            (None, with_offset_last(rest))
         };
-        Some(Self { kind: Kind::Submodule { blob, name }, place, reason })
+        let kind = Kind::Submodule { blob: id(blob)?, name };
+        Some(Self { kind, place: place_of(blob)?, reason })
+    }
+
+    /// The line about it, without a newline: first where it is, then why. A path has at most so many
+    /// characters, and a submodule's name a third of them.
+    ///
+    /// ```text
+    /// src/aux.h: Windows device-names may have side-effects and are not allowed
+    /// .gitmodules: submodule "../x": Submodules names must not contains '..'
+    /// refs/heads/HEAD: Reference name is reserved and cannot be used: "refs/heads/HEAD"
+    /// ```
+    pub fn line(&self, longest: usize) -> String {
+        let reason = printable(&self.reason);
+        let mut place = quoted(&self.place.path, longest);
+        if let Some(tree) = &self.place.tree {
+            place = format!("{place} (in the tree {})", printable(tree));
+        }
+        match &self.kind {
+            Kind::Submodule { name: Some(name), .. } => {
+                format!("{place}: submodule {}: {reason}", in_quotes(name, longest / 3))
+            }
+            _ => format!("{place}: {reason}"),
+        }
+    }
+
+    /// The entry's name.
+    pub fn name(&self) -> &[u8] {
+        self.place.path.rsplit(|byte| *byte == b'/').next().unwrap_or_default()
+    }
+
+    /// The part of the name that offends, if it is a part: the device, the drive, or a character.
+    pub fn offender(&self) -> Option<&[u8]> {
+        let name = self.name();
+        let first = |bytes: &[u8]| name.iter().position(|byte| bytes.contains(byte));
+        let is_illegal = |byte: &u8| *byte < b' ' || b"<>:\"|?*".contains(byte);
+        match &self.reason[..] {
+            DEVICE => Some(&name[..first(b".: ").unwrap_or(name.len())]),
+            PREFIX => Some(&name[..=first(b":")?]),
+            SEPARATOR => first(b"\\").map(|at| &name[at..=at]),
+            reason if reason.starts_with(ILLEGAL) => {
+                let at = name.iter().position(is_illegal).unwrap_or(name.len().checked_sub(1)?);
+                Some(&name[at..=at])
+            }
+            _ => None,
+        }
+    }
+
+    /// Whether an administrator may well accept the name, and a setting can have it. (A name with a
+    /// backslash is a path to Windows.)
+    pub fn can_be_accepted(&self) -> bool {
+        let is_windows = matches!(self.kind, Kind::Entry { is_windows: true, .. });
+        let is_whole = self.place.path.len() <= report::LONGEST_NAME;
+        let name = std::str::from_utf8(self.name());
+        is_windows && is_whole && name.map_or(false, |name| !name.contains(['\\', '\n']))
+    }
+
+    /// What the author of a push can do about it.
+    pub fn advice(&self) -> &'static str {
+        match (&self.kind, &self.reason[..]) {
+            (Kind::Reference, REPLACEMENT) => {
+                "An administrator can allow refs/replace/: git config names.replace true"
+            }
+            (Kind::Reference, _) => {
+                "Push a refused reference under another name: git push origin HEAD:refs/heads/OTHER"
+            }
+            (Kind::Entry { .. }, SYMLINK) => {
+                "Make .gitmodules a file, not a symlink, in the commit that changes it."
+            }
+            (Kind::Entry { .. }, _) => {
+                "Rename a refused file or directory in the commit that adds it, not in a later one."
+            }
+            (Kind::Submodule { name: Some(_), .. }, _) => {
+                "Give a refused submodule another name in the commit that changes its .gitmodules file."
+            }
+            (Kind::Submodule { name: None, .. }, _) => {
+                "Correct a .gitmodules file in the commit that changes it."
+            }
+        }
     }
 }
 
-/// A reason, with the offset that is before it at its end.
-fn without_offset(text: &[u8]) -> Vec<u8> {
+/// Findings that have one line, such as a name that is in many versions of its directory.
+pub struct Group {
+    /// The first of them.
+    pub finding: Finding,
+    pub count: u64,
+    /// The `.gitmodules` files.
+    pub blobs: Vec<Id>,
+}
+
+/// All findings, in the order in which they were found.
+#[derive(Default)]
+pub struct Groups {
+    pub all: Vec<Group>,
+    places: HashMap<String, usize>,
+}
+
+impl Groups {
+    pub fn add(&mut self, line: String, finding: &Finding) {
+        let place = *self.places.entry(line).or_insert(self.all.len());
+        if place == self.all.len() {
+            self.all.push(Group { finding: finding.clone(), count: 0, blobs: Vec::new() });
+        }
+        self.all[place].count += 1;
+        if let Kind::Submodule { blob, .. } = &finding.kind {
+            self.all[place].blobs.push(blob.clone());
+        }
+    }
+}
+
+/// A reason that has an offset before it, with the offset at its end.
+fn with_offset_last(text: &[u8]) -> Vec<u8> {
     match split_once(text, b' ') {
         Some((offset, reason)) if offset.iter().all(u8::is_ascii_digit) => {
             [reason, b" (at byte ", offset, b")"].concat()
@@ -107,59 +209,4 @@ pub fn id(text: &[u8]) -> Option<Id> {
 pub fn split_once(text: &[u8], byte: u8) -> Option<(&[u8], &[u8])> {
     let at = text.iter().position(|it| *it == byte)?;
     Some((&text[..at], &text[at + 1..]))
-}
-
-#[cfg(test)]
-mod tests {
-    use super::{id, split_once, Finding, Kind, Place};
-    use crate::report::Line;
-
-    fn line<'a>(front: &'a str, name: &[u8], rest: &'a str) -> Line<'a> {
-        Line { front: front.as_bytes(), name: name.into(), rest: rest.as_bytes() }
-    }
-
-    #[test]
-    fn an_id_has_40_or_64_lower_case_digits() {
-        assert!(id(&[b'a'; 40]).is_some() && id(&[b'0'; 64]).is_some());
-        assert!(id(&[b'a'; 41]).is_none() && id(&[b'A'; 40]).is_none() && id(b"").is_none());
-        assert!(id(&[b"^".as_slice(), &[b'a'; 39]].concat()).is_none());
-    }
-
-    #[test]
-    fn a_text_is_split_at_the_first_byte() {
-        let parts = (b"a".as_slice(), b"b c".as_slice());
-        assert_eq!(split_once(b"a b c", b' '), Some(parts));
-        assert_eq!(split_once(b"abc", b' '), None);
-    }
-
-    #[test]
-    fn an_entry_may_be_one_that_windows_alone_forbids() {
-        let tree = "a".repeat(40);
-        for (front, expected) in [("", false), ("windows ", true)] {
-            let front = format!("{front}{tree} 100644 ");
-            let found = Finding::of_entry(&line(&front, b"src/aux.h", "no")).unwrap();
-            let is_entry = matches!(found.kind,
-                Kind::Entry { mode: 0o100_644, is_windows } if is_windows == expected);
-            assert!(is_entry && found.place.path == b"src/aux.h" && found.reason == b"no");
-        }
-        assert!(Finding::of_entry(&line("windows 100644 ", b"a", "no")).is_none());
-        assert!(Finding::of_entry(&line("linux ", b"a", "no")).is_none());
-    }
-
-    #[test]
-    fn a_submodule_is_in_a_file_and_what_can_not_be_read_has_an_offset() {
-        let blob = "b".repeat(40);
-        let file = Place { path: b"file".to_vec(), tree: None };
-        let place_of = |id: &[u8]| (id == blob.as_bytes()).then(|| file.clone());
-        let found = |line: Line| Finding::of_submodule(&line, place_of);
-        let front = format!("{blob} 20 ");
-        let named = found(line(&front, b"../x", "no")).unwrap();
-        assert!(matches!(named.kind, Kind::Submodule { name: Some(name), .. } if name == b"../x"));
-        assert!(named.place.path == b"file" && named.reason == b"no");
-        let front = format!("{blob} 20 a section");
-        let section = found(line(&front, b"", "")).unwrap();
-        assert!(matches!(section.kind, Kind::Submodule { name: None, .. }));
-        assert_eq!(section.reason, b"a section (at byte 20)");
-        assert!(found(line("c 20 ", b"../x", "no")).is_none());
-    }
 }

@@ -1,10 +1,11 @@
 //! Git: which program it is, the environment in which it runs, and its version.
 
-use crate::child::{output_of, Child};
-use crate::failure::{failed, Ended, Failure, How, Result};
+use crate::child::Child;
+use crate::failure::{failed, Result};
 use crate::messages::printable;
 use std::env;
 use std::ffi::OsString;
+use std::os::unix::ffi::OsStrExt;
 use std::os::unix::fs::PermissionsExt;
 use std::path::PathBuf;
 use std::process::{Command, Stdio};
@@ -19,6 +20,15 @@ pub struct Git {
 /// What a push needs of the caller's environment. Without HOME, Git would fail at a path such as
 /// `~/attributes` in the server's settings.
 const OF_A_PUSH: [&str; 3] = ["HOME", "GIT_OBJECT_DIRECTORY", "GIT_ALTERNATE_OBJECT_DIRECTORIES"];
+/// By these variables, or some that begin so, an account has settings.
+const OF_AN_ACCOUNT: [&str; 6] = [
+    "GIT_CONFIG_GLOBAL",
+    "GIT_CONFIG_PARAMETERS",
+    "GIT_CONFIG_COUNT",
+    "GIT_CONFIG_KEY_",
+    "GIT_CONFIG_VALUE_",
+    "XDG_CONFIG_HOME",
+];
 
 impl Git {
     /// The first `git` in the absolute directories of PATH that can be executed, as for `execvp`, with the
@@ -34,13 +44,13 @@ impl Git {
             Some(program) => Self { program, environment: env::vars_os().collect() },
             None => return failed("there is no git on the PATH"),
         };
-        // (the objects as they are, not what refs/replace/ shows in their place)
+        // (the objects as they are, not what refs/replace/ shows instead)
         Ok(git.with("GIT_NO_REPLACE_OBJECTS", "1"))
     }
 
-    /// Which fails where grafts or the borders of a shallow clone would hide history.
+    /// This fails if grafts or the borders of a shallow clone would hide history.
     pub fn with_whole_history(&self) -> Self {
-        // (a file that is there would be called deprecated)
+        // (Git would call a file that is there deprecated)
         let git = self.with("GIT_GRAFT_FILE", "/dev/null/none");
         git.with("GIT_SHALLOW_FILE", "")
     }
@@ -54,20 +64,15 @@ impl Git {
         git.environment.retain(|(name, _)| OF_A_PUSH.iter().any(|it| name == it));
         let directory = env::var_os("GIT_DIR").unwrap_or_else(|| ".".into());
         let git = git.with("GIT_DIR", directory).with("GIT_NO_REPLACE_OBJECTS", "1");
-        // (of a partial clone a missing object is missing)
+        // (in a partial clone, too, an object that is missing is missing)
         Ok(git.with("GIT_NO_LAZY_FETCH", "1").with("GIT_CONFIG_GLOBAL", "/dev/null"))
     }
 
-    /// With the settings that the caller's account and environment have, of which Git then says the scope.
+    /// With the settings of the caller's account and environment. (Git says their scope.)
     pub fn with_all_settings(&self) -> Self {
         let mut git = self.without("GIT_CONFIG_GLOBAL");
         git.environment.extend(env::vars_os().filter(|(name, _)| {
-            let name = name.to_string_lossy();
-            let starts = ["GIT_CONFIG_KEY_", "GIT_CONFIG_VALUE_"];
-            let names = ["GIT_CONFIG_GLOBAL", "GIT_CONFIG_PARAMETERS", "GIT_CONFIG_COUNT"];
-            starts.iter().any(|it| name.starts_with(it))
-                || names.contains(&&*name)
-                || name == "XDG_CONFIG_HOME"
+            OF_AN_ACCOUNT.iter().any(|it| name.as_bytes().starts_with(it.as_bytes()))
         }));
         git
     }
@@ -93,73 +98,31 @@ impl Git {
         command
     }
 
-    /// Starts a short command that also says Git's version, for `with_version`.
-    pub fn start_with_version(&self, name: &'static str, words: &[&str]) -> Result<Child> {
-        let traced = self.with("GIT_TRACE2", "1").with("GIT_TRACE2_BRIEF", "1");
-        let mut command = traced.command(words);
+    /// Starts a short command that writes Git's version to standard error, for `version_in`. (That takes
+    /// one process less than `git version`.)
+    pub fn start_traced(&self, name: &'static str, words: &[&str]) -> Result<Child> {
+        let git = self.with("GIT_TRACE2", "1").with("GIT_TRACE2_BRIEF", "1");
+        let mut command = git.command(words);
         command.stdout(Stdio::piped());
         Child::start(name, command)
     }
 }
 
-/// The numbers of a version.
-pub type Version = (u32, u32, u32);
+/// The numbers that a version begins with.
+pub type Version = Vec<u32>;
 
-/// Of such a command: what it printed if it ended with 0, or printed nothing and ended with 1, and
-/// Git's version.
-pub fn with_version(child: Child) -> Result<(Vec<u8>, Version)> {
-    let (mut ended, output) = output_of(child)?;
-    let is_well = match ended.how {
-        How::Status(0) => true,
-        How::Status(1) => output.is_empty(),
-        How::Status(_) | How::Signal(_) => false,
-    };
-    match (is_well, version_in(&ended)?) {
-        (true, Some(version)) => Ok((output, version)),
-        (true, None) => failed("Git does not trace its version: it has to be 2.39 or later"),
-        (false, _) => {
-            let lines = ended.said.split_inclusive(|byte| *byte == b'\n');
-            let is_message = |it: &&[u8]| it.starts_with(b"fatal: ") || it.starts_with(b"error: ");
-            ended.said = lines.filter(is_message).collect::<Vec<_>>().concat();
-            Err(Failure::Ended(ended))
-        }
-    }
-}
-
-/// The version in a line `version 2.39.5` of what Git traced. Fails if it is too old: before 2.39
-/// Git can believe a tag that calls a commit a blob, and then lists no tree of it.
-fn version_in(traced: &Ended) -> Result<Option<Version>> {
-    let mut lines = traced.said.split(|byte| *byte == b'\n');
+/// The version in a line `version 2.39.5` that Git traced. Fails if it is too old: before 2.39 Git can
+/// believe a tag that calls a commit a blob, and then lists no tree of it.
+pub fn version_in(traced: &[u8]) -> Result<Version> {
+    let mut lines = traced.split(|byte| *byte == b'\n');
     let version = match lines.find_map(|line| line.strip_prefix(b"version ")) {
         Some(version) => printable(version),
-        None => return Ok(None),
+        None => return failed("Git does not trace its version: it has to be 2.39 or later"),
     };
-    match numbers(&version) {
-        Some(numbers) if numbers >= (2, 39, 0) => Ok(Some(numbers)),
-        Some(_) => failed(format!("git version {version} is too old: it has to be 2.39 or later")),
-        None => failed(format!("git version {version} is unknown")),
+    let numbers = version.split(|it: char| !it.is_ascii_digit());
+    let numbers: Version = numbers.map_while(|it| it.parse().ok()).collect();
+    if numbers < vec![2, 39] {
+        return failed(format!("git version {version} is too old: it has to be 2.39 or later"));
     }
-}
-
-/// The first three numbers of a version. The last may be missing.
-fn numbers(version: &str) -> Option<Version> {
-    let mut parts = version.splitn(3, '.').map(|part| {
-        let end = part.find(|it: char| !it.is_ascii_digit());
-        part[..end.unwrap_or(part.len())].parse().ok()
-    });
-    Some((parts.next()??, parts.next()??, parts.next().flatten().unwrap_or(0)))
-}
-
-#[cfg(test)]
-mod tests {
-    use super::numbers;
-
-    #[test]
-    fn a_version_begins_with_two_or_three_numbers() {
-        assert_eq!(numbers("2.39.5 (Apple Git-154)"), Some((2, 39, 5)));
-        assert_eq!(numbers("2.39.0.rc1"), Some((2, 39, 0)));
-        assert_eq!(numbers("3.0"), Some((3, 0, 0)));
-        assert_eq!(numbers("2"), None);
-        assert_eq!(numbers("99999999999.1"), None);
-    }
+    Ok(numbers)
 }

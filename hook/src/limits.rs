@@ -1,8 +1,7 @@
-//! The limits of time and memory, and all unsafe code: the standard library can't set them.
+//! The limits of time and memory. The standard library can't set them, so the one unsafe line is here.
 //!
 //! (The call is as unsafe in the crate libc. That would have to be installed in the one version that
 //! `Cargo.lock` names, and each release would carry its licence.)
-#![allow(unsafe_code)]
 
 use std::io;
 use std::os::raw::{c_int, c_uint};
@@ -11,7 +10,13 @@ use std::os::raw::{c_int, c_uint};
 compile_error!("the declarations below are those of 64-bit Linux");
 
 extern "C" {
-    fn prlimit(process: c_int, resource: c_uint, new: *const Limit, old: *mut Limit) -> c_int;
+    /// A reference that may be missing is a pointer that may be null.
+    fn prlimit(
+        process: c_int,
+        resource: c_uint,
+        new: Option<&Limit>,
+        old: Option<&mut Limit>,
+    ) -> c_int;
 }
 
 /// `struct rlimit`.
@@ -45,17 +50,16 @@ impl Limits {
 /// Sets the soft limit, which can be raised again, and ends a process by a signal that says why. A hard
 /// limit that is lower stays.
 fn set(resource: c_uint, limit: u64) -> io::Result<()> {
-    let (mut old, no) = (Limit { soft: 0, hard: 0 }, std::ptr::null_mut());
-    // SAFETY: each pointer is null, or that of a value that is alive and has the layout of struct rlimit.
-    let mut done = unsafe { prlimit(0, resource, no, &mut old) };
-    let new = Limit { soft: limit.min(old.hard), ..old };
-    if done == 0 {
-        // SAFETY: as above.
-        done = unsafe { prlimit(0, resource, &new, no) };
-    }
-    if done == 0 {
-        Ok(())
-    } else {
-        Err(io::Error::last_os_error())
+    let mut old = Limit { soft: 0, hard: 0 };
+    call(resource, None, Some(&mut old))?;
+    call(resource, Some(&Limit { soft: limit.min(old.hard), ..old }), None)
+}
+
+#[allow(unsafe_code)]
+fn call(resource: c_uint, new: Option<&Limit>, old: Option<&mut Limit>) -> io::Result<()> {
+    // SAFETY: both have the layout of struct rlimit, and the call keeps neither.
+    match unsafe { prlimit(0, resource, new, old) } {
+        0 => Ok(()),
+        _ => Err(io::Error::last_os_error()),
     }
 }

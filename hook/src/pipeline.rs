@@ -12,35 +12,34 @@
 //! `--end`: its status is 2 unless that is the last line, and no object is missing. So it sees whether
 //! what it reads is whole.
 
-use crate::child::{join, spawn, Child};
+use crate::child::{join, spawn, write_all, Child};
 use crate::failure::{Failure, OrFail, Result};
 use crate::finding::{id, Finding, Id, Place};
 use crate::git::Git;
 use crate::report::Line;
-use crate::settings::{arguments, Settings};
-use crate::verdict::{Report, Says, LIST};
+use crate::settings::Settings;
+use crate::verdict::{Report, LIST};
 use std::collections::HashMap;
 use std::ffi::OsStr;
-use std::io::Write;
-use std::ops::ControlFlow;
+use std::io;
 use std::os::unix::io::AsFd;
 use std::os::unix::process::CommandExt;
 use std::path::PathBuf;
 use std::process::{ChildStdin, Command, Stdio};
 use std::thread;
 
-/// What `git cat-file` prints of an object, before its content. At the end is what follows its id: of
-/// a tree the path, if the list has paths.
+/// What `git cat-file` prints of an object, before its content. Last comes what follows the id in the
+/// list: a tree's path, if the list has paths.
 const TREES: &str = "--batch=%(objectname) %(objecttype) %(objectsize) %(rest)";
 const FILES: &str = "--batch=%(objectname) %(objecttype) %(objectsize)";
+/// The last line of a list.
+const END: &[u8] = b"..end";
 /// How much of the path of a `.gitmodules` file is kept.
 const LONGEST_PATH: usize = 300;
 
-const PROGRAM: &str = "check_push";
 const CHECK_REFERENCES: &str = "check_push refs";
 const CHECK_TREES: &str = "check_push trees";
 const CHECK_SUBMODULES: &str = "check_push submodules";
-const UNREAD_IDS: &str = "git cat-file did not read all ids";
 
 pub struct Pipeline {
     /// The proved program.
@@ -49,15 +48,15 @@ pub struct Pipeline {
     pub settings: Settings,
 }
 
-/// What is done with a finding. After `Break` no more are wanted.
-pub type OnFinding<'a> = &'a mut dyn FnMut(Finding) -> ControlFlow<()>;
+/// What is done with a finding.
+pub type OnFinding<'a> = &'a mut dyn FnMut(Finding);
 
-/// What `check_push refs` allows, and what is to be checked of that.
+/// What `check_push refs` allows, and what of that is to be checked.
 #[derive(Default)]
 pub struct Ids {
     /// The ids of the references, each on a line.
     pub lines: Vec<u8>,
-    replacements: Modules,
+    pub replacements: Modules,
 }
 
 /// The blobs that are read as `.gitmodules`, and one place of each. Only a check of references or of trees
@@ -66,7 +65,7 @@ pub struct Ids {
 #[must_use]
 pub struct Modules(HashMap<Id, Place>);
 
-/// `git rev-list` and the `git cat-file` that prints the trees which it lists. Both wait for ids: so
+/// `git rev-list` and the `git cat-file` that prints the trees which it lists. Both wait for ids, so
 /// they can be started before these are known, and are ready then.
 pub struct TreeList {
     rev_list: Child,
@@ -76,31 +75,25 @@ pub struct TreeList {
 }
 
 impl Pipeline {
-    /// Checks the names of references, in lines `OLD NEW REF` that `write` writes. Also returns what
-    /// that returns, and what is to be checked of the references that are allowed.
-    pub fn references<T: Send>(
-        &self,
-        write: impl FnOnce(ChildStdin) -> Result<T> + Send,
-        found: OnFinding,
-    ) -> Result<(Report, Ids, Option<T>)> {
+    /// Starts the check of references, which waits for lines.
+    pub fn start_references(&self) -> Result<Child> {
         let mut command = self.check("refs");
-        command.arg("--ids");
-        command.args(self.settings.replace.then_some("--replace"));
-        command.stdin(Stdio::piped());
-        let mut check = Child::start(CHECK_REFERENCES, command)?;
+        command.arg("--ids").args(self.settings.replace.then_some("--replace"));
+        Child::start(CHECK_REFERENCES, command)
+    }
+
+    /// Checks the names of references in these lines `OLD NEW REF`. Also returns what is to be checked of
+    /// those that are allowed.
+    pub fn references(mut check: Child, lines: &[u8], found: OnFinding) -> Result<(Report, Ids)> {
         let to = check.input()?;
         let mut ids = Ids::default();
         thread::scope(|scope| {
-            let writer = spawn(scope, move || write(to))?;
+            let writer = spawn(scope, move || write_all(to, lines))?;
             let report = Report::read(check, |line| match Finding::of_reference(line) {
-                Some(finding) => Ok(Says::Refused(found(finding))),
-                None => ids.add(line),
+                Some(finding) => Ok(refused(found, finding)),
+                None => ids.add(line).map(|()| false),
             });
-            let (written, other) = match join(writer) {
-                Ok(other) => (Ok(()), Some(other)),
-                Err(failure) => (Err(failure), None),
-            };
-            Ok((Report::of_all([written], report)?, ids, other))
+            Ok((Report::of_all([join(writer)], report)?, ids))
         })
     }
 
@@ -110,39 +103,38 @@ impl Pipeline {
         let end = cat_file.input()?;
         let copy = end.as_fd().try_clone_to_owned();
         let mut command = self.git.command(&LIST);
-        command.args(words);
-        command.stdin(Stdio::piped());
+        command.args(words).stdin(Stdio::piped());
         command.stdout(copy.or_fail("a pipe could not be copied")?);
         Ok(TreeList { rev_list: Child::start("git rev-list", command)?, cat_file, end })
     }
 
     /// Checks the names in the trees of a list, which gets these ids. Also returns the blobs that a
     /// checkout reads as `.gitmodules`.
-    pub fn trees(
-        &self,
-        mut list: TreeList,
-        ids: Ids,
-        found: OnFinding,
-    ) -> Result<(Report, Modules)> {
+    pub fn trees(&self, list: TreeList, ids: Ids, found: OnFinding) -> Result<(Report, Modules)> {
+        let TreeList { mut rev_list, mut cat_file, end } = list;
+        let Ids { lines, replacements: mut modules } = ids;
         let mut command = self.check("trees");
-        command.args(["--end", "--modules", "--protect"]);
-        command.arg(&self.settings.protect);
-        for names in arguments(&self.settings.accept)? {
+        command.args(["--end", "--modules", "--protect"]).arg(&self.settings.protect);
+        for names in &self.settings.accept {
             command.arg("--accept").arg(names);
         }
-        command.stdin(list.cat_file.output()?);
-        let Ids { lines, replacements: mut modules } = ids;
-        let TreeList { rev_list, cat_file, end } = list;
+        command.stdin(cat_file.output()?);
+        let to = rev_list.input()?;
         thread::scope(|scope| {
             // (while that reads its ids, the other program starts)
-            let lister = spawn(scope, move || finish_list(rev_list, &lines, end))?;
+            let lister = spawn(scope, move || {
+                let written = write_all(to, &lines);
+                // only if it has ended with 0 it has listed all
+                rev_list.succeed()?;
+                written.and_then(|()| write_all(end, &[END, b"\n"].concat()))
+            })?;
             let check = Child::start(CHECK_TREES, command)?;
             let report = Report::read(check, |line| {
                 if let Some(rest) = line.front.strip_prefix(b"modules ") {
-                    return modules.add_file(rest, line);
+                    return modules.add_file(rest, line).map(|()| false);
                 }
                 let finding = Finding::of_entry(line).ok_or_else(|| malformed(CHECK_TREES))?;
-                Ok(Says::Refused(found(finding)))
+                Ok(refused(found, finding))
             });
             let given = [join(lister), cat_file.succeed()];
             Ok((Report::of_all(given, report)?, modules))
@@ -155,24 +147,20 @@ impl Pipeline {
         if modules.is_empty() {
             return Ok(None);
         }
+        let mut list = Vec::new();
+        modules.keys().try_for_each(|blob| push_line(&mut list, blob))?;
+        push_line(&mut list, END)?;
         let mut cat_file = self.cat_file(FILES)?;
         let to = cat_file.input()?;
         let mut command = self.check("submodules");
         command.arg("--end").stdin(cat_file.output()?);
         let check = Child::start(CHECK_SUBMODULES, command)?;
-        let mut ids = Vec::new();
-        reserve(&mut ids, modules.keys().map(|it| it.len() + 1).sum())?;
-        for blob in modules.keys() {
-            ids.extend_from_slice(blob);
-            ids.push(b'\n');
-        }
         thread::scope(|scope| {
-            let lister = spawn(scope, move || write_end(&ids, to))?;
+            let lister = spawn(scope, || write_all(to, &list))?;
             let report = Report::read(check, |line| {
-                let place_of = |blob: &[u8]| modules.get(blob).cloned();
-                let finding = Finding::of_submodule(line, place_of);
+                let finding = Finding::of_submodule(line, |blob| modules.get(blob).cloned());
                 let finding = finding.ok_or_else(|| malformed(CHECK_SUBMODULES))?;
-                Ok(Says::Refused(found(finding)))
+                Ok(refused(found, finding))
             });
             let given = [join(lister), cat_file.succeed()];
             Report::of_all(given, report).map(Some)
@@ -183,13 +171,13 @@ impl Pipeline {
     fn check(&self, subcommand: &str) -> Command {
         let mut command = Command::new(&self.program);
         // (a word that isn't UTF-8, such as a path, is a wrong argument to it)
-        command.env_clear().arg0(PROGRAM).arg(subcommand);
-        command.stdout(Stdio::piped());
+        command.env_clear().arg0("check_push").arg(subcommand);
+        command.stdin(Stdio::piped()).stdout(Stdio::piped());
         command
     }
 
     /// Starts to print the objects whose ids it gets. (A push can be made so that Git applies chains of
-    /// deltas again and again unless it keeps what they have made.)
+    /// deltas again and again, unless it keeps what they have made.)
     fn cat_file(&self, format: &str) -> Result<Child> {
         let megabytes = self.settings.limits.megabytes / 2;
         let cache = format!("core.deltaBaseCacheLimit={megabytes}m");
@@ -200,41 +188,32 @@ impl Pipeline {
 }
 
 impl Ids {
-    /// What is left to check if there are no ids, and so no trees.
-    pub fn replacements(self) -> Modules {
-        self.replacements
-    }
-
-    /// Adds the id of a line `NEW` or `NEW "REF"`. If it has a name, that is of a replacement, and Git shows the
-    /// blob NEW in place of another, which may be a `.gitmodules` that was accepted.
-    fn add(&mut self, line: &Line) -> Result<Says> {
-        let is_replacement = line.front.ends_with(b" ");
-        let text = line.front.strip_suffix(b" ").unwrap_or(line.front);
-        let new = id(text).ok_or_else(|| malformed(CHECK_REFERENCES))?;
-        reserve(&mut self.lines, new.len() + 1)?;
-        self.lines.extend_from_slice(&new);
-        self.lines.push(b'\n');
-        if is_replacement {
-            self.replacements.add(new, Place::of(line, None))?;
+    /// Adds the id of a line `NEW` or `NEW "REF"`. If there is a name, it is a replacement's, and Git shows the
+    /// blob NEW instead of another, which may be a `.gitmodules` file that was accepted.
+    fn add(&mut self, line: &Line) -> Result<()> {
+        let text = line.front.strip_suffix(b" ");
+        let new = id(text.unwrap_or(line.front)).ok_or_else(|| malformed(CHECK_REFERENCES))?;
+        push_line(&mut self.lines, &new)?;
+        if text.is_some() {
+            self.replacements.add(new, Place { path: line.name.clone(), tree: None })?;
         }
-        Ok(Says::Else)
+        Ok(())
     }
 }
 
 impl Modules {
     /// Adds the file of a line `modules BLOB TREE MODE "PATH"`.
-    fn add_file(&mut self, rest: &[u8], line: &Line) -> Result<Says> {
+    fn add_file(&mut self, rest: &[u8], line: &Line) -> Result<()> {
         let mut ids = rest.split(|byte| *byte == b' ').map(id);
         match (ids.next().flatten(), ids.next().flatten()) {
-            (Some(blob), tree @ Some(_)) => self.add(blob, Place::of(line, tree))?,
-            _ => return Err(malformed(CHECK_TREES)),
+            (Some(blob), tree @ Some(_)) => self.add(blob, Place { path: line.name.clone(), tree }),
+            _ => Err(malformed(CHECK_TREES)),
         }
-        Ok(Says::Else)
     }
 
     /// Adds a blob and where it is, unless it is there already.
     fn add(&mut self, blob: Id, mut place: Place) -> Result<()> {
-        self.0.try_reserve(1).map_err(|_| Failure::Memory)?;
+        self.0.try_reserve(1).or_else(|_| too_little_memory())?;
         place.path.truncate(LONGEST_PATH);
         self.0.entry(blob).or_insert(place);
         Ok(())
@@ -245,22 +224,20 @@ fn malformed(process: &str) -> Failure {
     Failure::Other(format!("{process} reported in another way"))
 }
 
-/// Makes room for more bytes.
-pub fn reserve(bytes: &mut Vec<u8>, more: usize) -> Result<()> {
-    bytes.try_reserve(more).map_err(|_| Failure::Memory)
+/// Passes a finding on. The line is about a refused name.
+fn refused(found: OnFinding, finding: Finding) -> bool {
+    found(finding);
+    true
 }
 
-/// Gives `git rev-list` its ids. When it has ended with 0, and so has listed all, it writes the end into the
-/// same pipe.
-fn finish_list(mut rev_list: Child, ids: &[u8], end: ChildStdin) -> Result<()> {
-    let written = rev_list.input()?.write_all(ids);
-    rev_list.succeed()?;
-    written.or_unread("git rev-list did not read all ids")?;
-    write_end(b"", end)
+/// Adds a line to a list, which can be long.
+fn push_line(list: &mut Vec<u8>, line: &[u8]) -> Result<()> {
+    list.try_reserve(line.len() + 1).or_else(|_| too_little_memory())?;
+    list.extend_from_slice(line);
+    list.push(b'\n');
+    Ok(())
 }
 
-/// Writes ids and the end of the list, and closes the pipe.
-fn write_end(ids: &[u8], mut to: ChildStdin) -> Result<()> {
-    let written = to.write_all(ids).and_then(|()| to.write_all(b"..end\n"));
-    written.or_unread(UNREAD_IDS)
+fn too_little_memory() -> Result<()> {
+    Err(io::Error::from(io::ErrorKind::OutOfMemory)).or_fail("the lists are too long")
 }

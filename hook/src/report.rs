@@ -1,37 +1,36 @@
-//! The lines of the proved program's reports. All have one form: `FRONT "NAME" REST`, or `FRONT`.
+//! The lines of the proved program's reports. Each has the form `FRONT "NAME" REST` or `FRONT`.
 
 use std::io::{self, BufRead, BufReader, ErrorKind, Read};
-use std::ops::ControlFlow;
 
-/// How much of a name is kept: a push decides how long it is. (A file system allows no more.)
+/// How much of a name is kept, because a push decides how long it is. (A file system allows no more.)
 pub const LONGEST_NAME: usize = 4096;
 
 /// A line, without its newline.
 pub struct Line<'a> {
-    /// What is before the first double quote, and so the whole line if there is none.
+    /// What is before the first double quote, or the whole line if there is none.
     pub front: &'a [u8],
-    /// The name between the quotes, without its escapes. If it is long, its beginning and dots.
+    /// The name between the quotes, without its escapes. If it is long, its beginning and three dots.
     pub name: Vec<u8>,
     /// What is after the quote that ends the name, and a space.
     pub rest: &'a [u8],
 }
 
-/// Reads all lines of a report, until one breaks off. If the last line has no newline, the report was
+/// Reads the lines of a report, unless one can't be used. If the last line has no newline, the report was
 /// cut, which is an error.
-pub fn each_line<B>(
+pub fn each_line<E>(
     input: impl Read,
-    mut line_is: impl FnMut(&Line) -> ControlFlow<B>,
-) -> io::Result<ControlFlow<B>> {
+    mut use_line: impl FnMut(&Line) -> Result<(), E>,
+) -> io::Result<Result<(), E>> {
     let mut input = BufReader::with_capacity(1 << 16, input);
     let mut line = Vec::new();
     while input.read_until(b'\n', &mut line)? > 0 {
         let text = line.strip_suffix(b"\n").ok_or(ErrorKind::UnexpectedEof)?;
-        if let ControlFlow::Break(broken) = line_is(&Line::of(text)) {
-            return Ok(ControlFlow::Break(broken));
+        if let Err(error) = use_line(&Line::of(text)) {
+            return Ok(Err(error));
         }
         line.clear();
     }
-    Ok(ControlFlow::Continue(()))
+    Ok(Ok(()))
 }
 
 impl<'a> Line<'a> {
@@ -80,19 +79,19 @@ fn digit(byte: u8) -> u8 {
 
 #[cfg(test)]
 mod tests {
-    use super::{each_line, Line, LONGEST_NAME};
+    use super::{each_line, LONGEST_NAME};
     use std::io;
-    use std::ops::ControlFlow;
 
-    type Parts = (Vec<u8>, Vec<u8>, Vec<u8>);
+    type Parts = (String, Vec<u8>, String);
 
     fn lines(report: &[u8]) -> io::Result<Vec<Parts>> {
         let mut all = Vec::new();
-        let keep = |line: &Line| {
-            all.push((line.front.into(), line.name.clone(), line.rest.into()));
-            ControlFlow::<()>::Continue(())
-        };
-        each_line(report, keep).map(|_| all)
+        let text = |bytes: &[u8]| String::from_utf8(bytes.to_vec()).unwrap();
+        let read = each_line(report, |line| {
+            all.push((text(line.front), line.name.clone(), text(line.rest)));
+            Ok::<(), ()>(())
+        });
+        read.map(|_| all)
     }
 
     fn line(front: &str, name: &[u8], rest: &str) -> Parts {
@@ -100,20 +99,14 @@ mod tests {
     }
 
     #[test]
-    fn a_line_is_taken_apart_at_the_quotes_of_its_name() {
-        let report = b"1f 100644 \"a\\\"\\\\ \\x00\\xff\\n\" \"no\" (in \"b\")\n\"a\"\n";
+    fn a_line_is_split_at_the_quotes_of_its_name_and_may_have_none() {
+        let report = b"1f 100644 \"a\\\"\\\\ \\x00\\xff\\n\" \"no\" (in \"b\")\nabc\n\n";
         let first = line("1f 100644 ", b"a\"\\ \x00\xff\n", "\"no\" (in \"b\")");
-        assert_eq!(lines(report).unwrap(), [first, line("", b"a", "")]);
+        assert_eq!(lines(report).unwrap(), [first, line("abc", b"", ""), line("", b"", "")]);
     }
 
     #[test]
-    fn a_line_may_have_no_name_or_be_empty() {
-        let expected = [line("abc", b"", ""), line("", b"", "")];
-        assert_eq!(lines(b"abc\n\n").unwrap(), expected);
-    }
-
-    #[test]
-    fn of_a_long_name_the_beginning_is_kept() {
+    fn the_beginning_of_a_long_name_is_kept() {
         let long = [b"a \"".as_slice(), &[b'x'; 9999], b"\" no\nb\n"].concat();
         let name = [[b'x'; LONGEST_NAME].as_slice(), b"..."].concat();
         let expected = [line("a ", &name, "no"), line("b", b"", "")];

@@ -1,31 +1,27 @@
 //! The scan: checks the names in a repository of one's own, by the pipeline of a push. Git runs there
-//! as usual. One that nobody has to trust is copied first.
+//! as usual. A repository that one doesn't trust is copied first.
 
 mod copy;
 mod list;
 mod options;
 
-use crate::child::{run as output_of, Child};
-use crate::failure::{failed, Ended, Failure, How, OrFail, Result};
-use crate::finding::{id, Finding};
-use crate::git::{with_version, Git};
-use crate::messages::{of_failure, printable, say};
-use crate::pipeline::{Ids, Pipeline};
-use crate::settings::{self, Settings};
+use crate::child::{output_of, run as run_to_end};
+use crate::failure::{failed, Failure, OrFail, Result};
+use crate::finding::{id, Finding, Groups};
+use crate::git::Git;
+use crate::messages::{printable, say, say_failure};
+use crate::pipeline::{Ids, OnFinding, Pipeline};
+use crate::settings::{read_config, start_config, Settings};
 use crate::verdict::{Checked, Report, Verdict, WITH_PATHS};
 use copy::Copy;
-use list::List;
 use options::{misused, Asked, Options};
 use std::env;
 use std::ffi::{OsStr, OsString};
 use std::fs;
-use std::io::{self, Read, Write};
-use std::ops::ControlFlow::{self, Continue};
 use std::os::unix::ffi::OsStrExt;
 use std::path::{Path, PathBuf};
-use std::process::{ChildStdin, Stdio};
 
-/// How the scan ended.
+/// How the hook or the scan ended.
 pub enum Outcome {
     Checked(Verdict),
     /// It printed what was asked for: the help, or a command for each refused name.
@@ -33,157 +29,140 @@ pub enum Outcome {
     Failed,
 }
 
-/// Scans, unless it is only to print its help.
-pub fn run(program: PathBuf) -> Outcome {
-    match try_to_run(program) {
-        Ok(outcome) => outcome,
-        Err(Failure::Misused(what)) => {
-            what.lines().for_each(say);
-            Outcome::Failed
-        }
-        Err(failure) => {
-            let (what, help) = of_failure(&failure, None);
-            say(&format!("scan failed: {what}"));
-            if let Some(help) = help {
-                say(&help);
-            }
-            Outcome::Failed
-        }
-    }
-}
-
-fn try_to_run(program: PathBuf) -> Result<Outcome> {
-    let mut options = match options::parse(env::args_os().skip(1))? {
-        Asked::Scan(options) => options,
-        Asked::Help => {
-            let printed = io::stdout().write_all(options::help().as_bytes());
-            return printed.or_fail("the help could not be printed").map(|()| Outcome::Printed);
-        }
-    };
-    let git = Git::find()?;
-    let (_, version) = with_version(git.start_with_version("git version", &["version"])?)?;
-    if let Some(source) = &options.copy {
-        let copy = Copy::of(git, source, version)?;
-        say(NOT_COPIED);
-        return scan(program, &copy.git, &options);
-    }
-    enter_directory(&git, &mut options.words)?;
-    scan(program, &git, &options)
-}
-
 const NOT_COPIED: &str = "A copy lacks what Git doesn't serve: the index, the HEADs of other worktrees, and references that Git calls broken.";
 const COPY_IT: &str =
     "To scan a copy of a repository that you don't own or trust: git scan-names --copy PATH";
 
-/// Enters the directory that the only word may be, and takes that word away.
-fn enter_directory(git: &Git, words: &mut Vec<OsString>) -> Result<()> {
-    let directory = match &words[..] {
-        [word] if Path::new(word).is_dir() => word,
-        _ => return Ok(()),
+/// Scans, or prints the help.
+pub fn run(program: PathBuf) -> Outcome {
+    let outcome = match options::parse(env::args_os().skip(1)) {
+        Ok(Asked::Help) => list::write(options::HELP).map(|()| Outcome::Printed),
+        Ok(Asked::Scan(options)) => find_and_scan(program, options),
+        Err(failure) => Err(failure),
     };
-    let mut command = git.command(&["rev-parse", "--quiet", "--verify"]);
-    command.arg(directory);
-    if output_of("git rev-parse", command)?.0.how == How::Status(0) {
-        let shown = printable(directory.as_bytes());
-        return misused(format!(
-            "\"{shown}\" is a revision and a directory: write ./{shown} or its id"
-        ));
+    outcome.unwrap_or_else(|failure| {
+        say_failure("git scan-names", &failure, None);
+        Outcome::Failed
+    })
+}
+
+/// Finds the repository, or copies it, and scans it.
+fn find_and_scan(program: PathBuf, mut options: Options) -> Result<Outcome> {
+    let mut git = Git::find()?;
+    let mut copy = None;
+    if let Some(source) = &options.copy {
+        let (_, version) = read_config(start_config(&git)?)?;
+        git = copy.insert(Copy::of(git, source, &version)?).git.clone();
+        say(NOT_COPIED);
+    } else {
+        if matches!(&options.words[..], [word] if Path::new(word).is_dir()) {
+            let entered = options.words.drain(..).try_for_each(env::set_current_dir);
+            entered.or_fail("the directory could not be entered")?;
+        }
+        check_repository(&git)?;
     }
-    let entered = env::set_current_dir(directory);
-    words.clear();
-    entered.or_fail("the directory could not be entered")
+    let (printed, _) = read_config(start_config(&git)?)?;
+    let settings = settings(&printed, &options)?;
+    scan(&Pipeline { program, git: git.with_whole_history(), settings }, &options)
+}
+
+/// Fails if Git finds no repository here, or one that it refuses since another owns it.
+fn check_repository(git: &Git) -> Result<()> {
+    let found = output_of("git rev-parse", git.command(&["rev-parse", "--git-dir"]));
+    found.map(drop).map_err(|failure| Failure::Helped(Box::new(failure), COPY_IT))
+}
+
+/// By which rules names are checked: those of the options, and of the settings if they are to be read.
+fn settings(printed: &[u8], options: &Options) -> Result<Settings> {
+    let mut settings = Settings::default();
+    if options.settings {
+        (settings, _) = Settings::of(printed)?;
+    }
+    if let Some(protect) = &options.protect {
+        settings.protect.clone_from(protect);
+    }
+    for names in &options.accept {
+        settings.accept(names).or_else(|what| failed(format!("--accept {what}")))?;
+    }
+    // (a replacement is a name like any other here: Git shows the objects as they are)
+    settings.replace = true;
+    Ok(settings)
 }
 
 /// Scans the repository in which Git is, and prints what is refused.
-fn scan(program: PathBuf, git: &Git, options: &Options) -> Result<Outcome> {
-    check_repository(git)?;
-    let settings = settings(git, options)?;
-    let pipeline = Pipeline { program, git: git.with_whole_history(), settings };
-    let mut list = List::default();
+fn scan(pipeline: &Pipeline, options: &Options) -> Result<Outcome> {
+    let mut groups = Groups::default();
     let mut found = |mut finding: Finding| {
         finding.place.tree = None; // (the list has paths)
-        list.add(finding);
-        Continue(())
+        groups.add(finding.line(usize::MAX), &finding);
     };
     let verdict = match (options.index, options.words.is_empty()) {
-        (true, true) => check_index(&pipeline, &mut found),
+        (true, true) => check_index(pipeline, &mut found),
         (true, false) => misused("--index accepts no revisions"),
-        (false, true) => check_all(&pipeline, &mut found),
-        (false, false) => check_revisions(&pipeline, &options.words, &mut found),
+        (false, true) => check_all(pipeline, &mut found),
+        (false, false) => check_revisions(pipeline, &options.words, &mut found),
     };
     // (what was found before a failure is shown, too)
-    let printed = list.print(&options.form);
-    match (verdict?, printed?) {
-        (Verdict::Refused, true) => Ok(Outcome::Printed),
-        (verdict, _) => {
-            if matches!(verdict, Verdict::Clean(_)) && is_terminal(1) {
-                say("names only: all are allowed. What files contain, hooks and settings were not checked.");
-            }
-            Ok(Outcome::Checked(verdict))
-        }
+    let has_commands = list::print(&groups.all, options.to_accept)?;
+    let verdict = verdict?;
+    if has_commands && matches!(verdict, Verdict::Refused) {
+        return Ok(Outcome::Printed);
     }
+    if matches!(verdict, Verdict::Clean(_)) && is_terminal(1) {
+        say(
+            "names only: all are allowed. What files contain, hooks and settings were not checked.",
+        );
+    }
+    Ok(Outcome::Checked(verdict))
 }
 
-type Found<'a> = &'a mut dyn FnMut(Finding) -> ControlFlow<()>;
-
-/// All references, and all that they and the HEADs of all worktrees lead to.
-fn check_all(pipeline: &Pipeline, found: Found) -> Result<Verdict> {
+/// Checks all references, and all that they and the HEADs of all worktrees lead to.
+fn check_all(pipeline: &Pipeline, found: OnFinding) -> Result<Verdict> {
     let format = "--format=%(objectname) %(objectname) %(refname)";
-    let command = pipeline.git.command(&["for-each-ref", format]);
-    let (listed, lines) = succeeded(output_of("git for-each-ref", command)?)?;
-    if !listed.said.is_empty() {
-        // (it leaves out what it calls broken, and warns)
-        return failed(format!("references are broken: {}", printable(&listed.said)));
-    }
+    // (Git leaves out references that it calls broken, and warns)
+    let lines =
+        output_without_warning(&pipeline.git, "git for-each-ref", &["for-each-ref", format])?;
     let (references, mut ids) = if lines.is_empty() {
         (None, Ids::default())
     } else {
-        let write = |mut to: ChildStdin| to.write_all(&lines).or_unread("check_push refs");
-        let (report, ids, _) = pipeline.references(write, found)?;
+        let check = pipeline.start_references()?;
+        let (report, ids) = Pipeline::references(check, &lines, found)?;
         (Some(report), ids)
     };
-    let words = ["--all".into(), "--".into()];
-    if selects_some(&pipeline.git, &words)? {
-        ids.lines.clear(); // (the words select all of them)
-        return check_trees(pipeline, &words, references, ids, found);
+    if selects_some(&pipeline.git, &["--all".into()])? {
+        ids.lines.clear(); // (--all selects them)
+        return check_trees(pipeline, &["--all".into()], references, ids, found);
     }
     say("the repository is empty");
     Ok(Verdict::of(Checked { references, trees: None, submodules: None }))
 }
 
-/// What these revisions select.
-fn check_revisions(pipeline: &Pipeline, revisions: &[OsString], found: Found) -> Result<Verdict> {
-    check_patterns(&pipeline.git, revisions)?;
-    let words = [revisions, &["--".into()]].concat();
-    if !selects_some(&pipeline.git, &words)? {
+/// Checks what these revisions select.
+fn check_revisions(pipeline: &Pipeline, words: &[OsString], found: OnFinding) -> Result<Verdict> {
+    check_patterns(&pipeline.git, words)?;
+    if !selects_some(&pipeline.git, words)? {
         return failed("the revisions select no commit, so nothing was checked");
     }
-    check_trees(pipeline, &words, None, Ids::default(), found)
+    check_trees(pipeline, words, None, Ids::default(), found)
 }
 
-/// What `git commit` would commit.
-fn check_index(pipeline: &Pipeline, found: Found) -> Result<Verdict> {
+/// Checks what `git commit` would commit.
+fn check_index(pipeline: &Pipeline, found: OnFinding) -> Result<Verdict> {
     let git = &pipeline.git;
     let unmerged = git.command(&["ls-files", "--unmerged", "--", ":/"]);
-    let (_, unmerged) = succeeded(output_of("git ls-files", unmerged)?)?;
-    if !unmerged.is_empty() {
+    if !output_of("git ls-files", unmerged)?.is_empty() {
         return failed("the index has a conflict: resolve it first");
     }
-    let write_tree = output_of("git write-tree", git.command(&["write-tree"]))?;
-    let (ended, tree) = succeeded(write_tree)?;
-    if !ended.said.is_empty() {
-        // (of a sparse index Git 2.39 leaves out directories, with a message and status 0)
-        return Err(Failure::Ended(ended));
-    }
-    let tree = tree.strip_suffix(b"\n").and_then(id);
-    let tree = tree.ok_or_else(|| Failure::Other("git write-tree printed no id".into()))?;
-    if EMPTY_TREES.iter().any(|it| it.as_bytes() == &*tree)
-        && selects_some(git, &["--all".into(), "--".into()])?
-    {
+    // (Git 2.39 leaves out directories of a sparse index, with a message and status 0)
+    let tree = output_without_warning(git, "git write-tree", &["write-tree"])?;
+    let tree = match tree.strip_suffix(b"\n").and_then(id) {
+        Some(tree) => OsStr::from_bytes(&tree).to_owned(),
+        None => return failed("git write-tree printed no id"),
+    };
+    if EMPTY_TREES.iter().any(|it| tree == *it) && selects_some(git, &["--all".into()])? {
         return failed("the index is empty, so nothing was checked");
     }
-    let words = [OsStr::from_bytes(&tree).to_owned(), "--".into()];
-    check_trees(pipeline, &words, None, Ids::default(), found)
+    check_trees(pipeline, &[tree], None, Ids::default(), found)
 }
 
 /// The ids of the tree without entries.
@@ -192,16 +171,15 @@ const EMPTY_TREES: [&str; 2] = [
     "6ef19b41225c5369f1c104d45d8d85efa9b057b53b14b4b9b939dd74decc5321",
 ];
 
-/// The trees that these words of `git rev-list` select, and what a checkout reads as `.gitmodules`.
+/// Checks the trees that these words of `git rev-list` select, and what a checkout reads as `.gitmodules`.
 fn check_trees(
     pipeline: &Pipeline,
     words: &[OsString],
     references: Option<Report>,
     ids: Ids,
-    found: Found,
+    found: OnFinding,
 ) -> Result<Verdict> {
-    let words = [&[WITH_PATHS.into()], words].concat();
-    let list = pipeline.start_list(&words)?;
+    let list = pipeline.start_list(&[&[WITH_PATHS.into()], words, &["--".into()]].concat())?;
     let (trees, modules) = pipeline.trees(list, ids, found)?;
     let submodules = pipeline.submodules(modules, found)?;
     Ok(Verdict::of(Checked { references, trees: Some(trees), submodules }))
@@ -209,70 +187,38 @@ fn check_trees(
 
 /// Whether these words of `git rev-list` select an object.
 fn selects_some(git: &Git, words: &[OsString]) -> Result<bool> {
-    let mut command = git.command(&["rev-list", "--objects", "--max-count=1"]);
-    command.args(words).stdout(Stdio::piped());
-    let mut list = Child::start("git rev-list", command)?;
-    let read = list.output()?.read(&mut [0]).or_fail("git rev-list could not be read")?;
-    if read > 0 {
-        return Ok(true); // (this kills it)
-    }
-    list.succeed().map(|()| false)
+    let mut command = git.command(&["rev-list", "--objects", "--filter=tree:0", "--max-count=1"]);
+    command.args(words).arg("--");
+    Ok(!output_of("git rev-list", command)?.is_empty())
 }
 
 /// Fails for a pattern that matches no reference. (Git takes it for an empty selection.)
-fn check_patterns(git: &Git, revisions: &[OsString]) -> Result<()> {
+fn check_patterns(git: &Git, words: &[OsString]) -> Result<()> {
     let patterns = ["--branches", "--tags", "--remotes", "--glob", "--all"];
     let is_pattern =
         |word: &&OsString| patterns.iter().any(|it| word.as_bytes().starts_with(it.as_bytes()));
-    for pattern in revisions.iter().filter(is_pattern) {
+    for pattern in words.iter().filter(is_pattern) {
         let mut command = git.command(&["rev-parse"]);
         command.arg(pattern);
-        let (_, matched) = succeeded(output_of("git rev-parse", command)?)?;
-        if matched.is_empty() {
+        if output_of("git rev-parse", command)?.is_empty() {
             return failed(format!("{} matches no reference", printable(pattern.as_bytes())));
         }
     }
     Ok(())
 }
 
-/// Fails if Git finds no repository here, or one that it refuses since another owns it.
-fn check_repository(git: &Git) -> Result<()> {
-    let (ended, _) = output_of("git rev-parse", git.command(&["rev-parse", "--git-dir"]))?;
-    if ended.how != How::Status(0) {
-        let failure = Box::new(Failure::Ended(ended));
-        return Err(Failure::Helped(failure, COPY_IT));
-    }
-    Ok(())
-}
-
-/// By which rules names are checked: those of the options, and of the settings if they are to be read.
-fn settings(git: &Git, options: &Options) -> Result<Settings> {
-    let mut settings = Settings::default();
-    if options.settings {
-        let git_config = git.start_with_version("git config", &settings::WORDS)?;
-        settings = Settings::read(&with_version(git_config)?.0)?;
-    }
-    if let Some(protect) = &options.protect {
-        settings.protect.clone_from(protect);
-    }
-    settings.accept.extend_from_slice(&options.accept);
-    // (a replacement is a name like any other here: Git shows the objects as they are)
-    settings.replace = true;
-    Ok(settings)
-}
-
-/// What a short command printed, which has to end with 0.
-fn succeeded((ended, output): (Ended, Vec<u8>)) -> Result<(Ended, Vec<u8>)> {
-    match ended.how {
-        How::Status(0) => Ok((ended, output)),
-        _ => Err(Failure::Ended(ended)),
+/// What a command of Git prints, which may not even warn.
+fn output_without_warning(git: &Git, name: &'static str, words: &[&str]) -> Result<Vec<u8>> {
+    let (ended, output) = run_to_end(name, git.command(words))?;
+    match ended.succeeded()? {
+        ended if ended.said.is_empty() => Ok(output),
+        ended => Err(Failure::Ended(ended)),
     }
 }
 
 /// Whether this stream is a terminal.
 fn is_terminal(stream: u32) -> bool {
     let file = fs::read_link(format!("/proc/self/fd/{stream}")).unwrap_or_default();
-    let file = file.to_string_lossy();
     let terminals = ["/dev/pts/", "/dev/tty", "/dev/console"];
-    terminals.iter().any(|it| file.starts_with(it))
+    terminals.iter().any(|it| file.to_string_lossy().starts_with(it))
 }

@@ -6,16 +6,15 @@ use crate::child::Child;
 use crate::failure::{first_of, Failure, How, OrFail, Result};
 use crate::report::{each_line, Line};
 use std::io::ErrorKind;
-use std::ops::ControlFlow::{self, Break, Continue};
 
-/// The words with which `git rev-list` lists the trees of the ids on its standard input: every tree that these
-/// ids lead to and the server's references don't.
+/// The options with which `git rev-list` lists the trees of the ids on its standard input: every tree that
+/// these ids lead to, and the server's references don't.
 ///
 /// - `--objects` follows a commit to its parents and its tree, a tag to what it tags, and a tree to its
 ///   trees. Git has checked that nothing of this is missing before it starts the hook.
-/// - The two filters take away commits, tags and files, also those that are among the ids. They take
-///   away no tree, and Git still follows what they take away.
-/// - `OLD` takes away what a reference of the server leads to. The hook runs before any reference is
+/// - The two filters leave out commits, tags and files, even if they are among the ids. They leave out no
+///   tree, and Git still follows what they leave out.
+/// - `OLD` leaves out what a reference of the server leads to. The hook runs before any reference is
 ///   changed, so all of this was there before the push.
 /// - Nothing else hides history or shows another object: no grafts, no shallow borders of the pusher,
 ///   no replacements (`git.rs` has the environment), and no other option.
@@ -32,7 +31,7 @@ pub const LIST: [&str; 6] = [
 pub const OLD: [&str; 2] = ["--not", "--all"];
 /// What the references of other repositories lead to, from which the server borrows objects.
 pub const LENT: &str = "--alternate-refs";
-/// A tree also has one of its paths in its line. (A push can be made so that these are quadratic.)
+/// A line also has one of the tree's paths. (A push can be made so that these are quadratic.)
 pub const WITH_PATHS: &str = "--object-names";
 pub const WITHOUT_PATHS: &str = "--no-object-names";
 
@@ -43,7 +42,7 @@ pub struct Checked {
     pub submodules: Option<Report>,
 }
 
-/// What is known about all names. But for help, only `Clean` ends with status 0.
+/// What is known about all names. Apart from help, only `Clean` ends with status 0.
 pub enum Verdict {
     Clean(Evidence),
     Refused,
@@ -56,8 +55,7 @@ impl Verdict {
     /// `Clean` is made here alone: if each report was read to its end, and refuses nothing.
     pub fn of(checked: Checked) -> Self {
         let reports = [checked.references, checked.trees, checked.submodules];
-        let is_clean = |report: &Report| report.0 == Read::Whole { refused: 0 };
-        if reports.iter().flatten().all(is_clean) {
+        if reports.iter().flatten().all(|report| report.refused == 0) {
             Self::Clean(Evidence(()))
         } else {
             Self::Refused
@@ -65,59 +63,39 @@ impl Verdict {
     }
 }
 
-/// The report of a program that checks names.
+/// The report of a program that checks names. It was read to its end, and the program's status agrees: 0
+/// without a refused name, 1 with one.
 #[must_use]
-pub struct Report(Read);
-
-#[derive(PartialEq, Eq)]
-enum Read {
-    /// It was read to its end, and the program's status agrees: 0 without a refused name, 1 with one.
-    Whole { refused: u64 },
-    /// It has a refused name, and no more were wanted.
-    Stopped,
-}
-
-/// What a line of a report says.
-pub enum Says {
-    /// This name is refused. After `Break` no more lines are wanted.
-    Refused(ControlFlow<()>),
-    /// Something else, such as an id.
-    Else,
+pub struct Report {
+    refused: u64,
 }
 
 impl Report {
-    /// Reads the report of a program to its end, and waits for the program.
+    /// Reads the report of a program to its end, and waits for the program. `is_refused` says whether a line
+    /// is about a refused name, or about something else, such as an id.
     pub fn read(
         mut program: Child,
-        mut line_is: impl FnMut(&Line) -> Result<Says>,
+        mut is_refused: impl FnMut(&Line) -> Result<bool>,
     ) -> Result<Self> {
         let mut refused = 0;
         let mut output = program.output()?;
-        let read = each_line(&mut output, |line| match line_is(line) {
-            Ok(Says::Else) => Continue(()),
-            Ok(Says::Refused(Continue(()))) => {
-                refused += 1;
-                Continue(())
-            }
-            Ok(Says::Refused(Break(()))) => Break(Ok(())),
-            Err(failure) => Break(Err(failure)),
+        let read = each_line(&mut output, |line| {
+            is_refused(line).map(|is_refused| refused += u64::from(is_refused))
         });
         match read {
-            Ok(Break(stopped)) => {
-                drop(program); // (killed before its pipe is closed, so that it doesn't say that)
-                stopped.map(|()| Self(Read::Stopped))
+            Ok(Err(failure)) => {
+                drop(program); // (killed before its pipe is closed, so that it doesn't complain)
+                Err(failure)
             }
             // (if its last line has no newline, the program died, and its status says how)
             Err(error) if error.kind() != ErrorKind::UnexpectedEof => {
-                let name = program.name;
-                drop(program);
-                Err(error).or_fail(format!("the report of {name} could not be read"))
+                Err(error).or_fail(format!("the report of {} could not be read", program.name))
             }
             read => {
                 let ended = program.end()?;
                 match (ended.how, refused, read) {
                     (How::Status(0), 0, Ok(_)) | (How::Status(1), 1.., Ok(_)) => {
-                        Ok(Self(Read::Whole { refused }))
+                        Ok(Self { refused })
                     }
                     _ => Err(Failure::Ended(ended)),
                 }
@@ -125,13 +103,12 @@ impl Report {
         }
     }
 
-    /// With what the program was given: all of that has to have arrived, unless no more was wanted.
+    /// With what the program was given: all of that has to have arrived.
     ///
-    /// If one part fails, those before it fail since nobody reads what they write, and those after it
+    /// If one part fails, those before it fail because nobody reads what they write, and those after it
     /// miss the end of their input. So the first says why.
     pub fn of_all<const N: usize>(given: [Result<()>; N], report: Result<Self>) -> Result<Self> {
         match report {
-            Ok(Self(Read::Stopped)) => report,
             Ok(_) if given.iter().all(Result::is_ok) => report,
             _ => {
                 let failures = given.into_iter().map(Result::err);

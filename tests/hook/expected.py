@@ -40,12 +40,11 @@ IT_MAY_BE_OLD = (
 )
 
 
-def change(commit, is_root=False):
+def change(commit):
     short = commit[:12]
-    start = "--root" if is_root else f"{short}~1"
     return (
-        f"To change commit {short}: git rebase -i {start}, "
-        'and write "edit" in its line.\n'
+        f"To change commit {short}: git rebase -i {short}~1 "
+        '(or --root, if it has no parent), and write "edit" in its line.\n'
     )
 
 
@@ -58,7 +57,10 @@ def accept(name="NAME"):
 
 UNCHECKED = "push refused: the server could not check the names"
 FILE_SYSTEMS = "give windows, hfs or ntfs, separated by commas, or none"
-USAGE = "usage: scan [OPTION..] [DIRECTORY | REVISION..]; scan -h says more\n"
+USAGE = (
+    "usage: git scan-names [OPTION..] [DIRECTORY | REVISION..]; "
+    "git scan-names -h says more\n"
+)
 
 
 @dataclass(frozen=True)
@@ -128,8 +130,8 @@ def found(*lines):
 
 
 def scan_failed(reason):
-    return Result(2, f"scan failed: {reason}\n")
+    return Result(2, f"git scan-names: {reason}\n")
 
 
 def misused(reason):
-    return Result(2, f"scan: {reason}\n{USAGE}")
+    return Result(2, f"git scan-names: {reason}\n{USAGE}")

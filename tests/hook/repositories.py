@@ -47,7 +47,7 @@ class Source(Repository):
         self.submodule_refused = refused(
             bad_submodule(commit=self.bad_submodule),
             RENAME_THE_SUBMODULE,
-            change(self.bad_submodule, is_root=True),
+            change(self.bad_submodule),
         )
         trees = "".join(f"100644 blob {self.text}\t{n}\n\n" for n in range(1000, 2000))
         self.thousand_trees = self.git("mktree", "--batch", stdin=trees).split()
@@ -63,13 +63,13 @@ class Source(Repository):
             ),
         }
 
-    def refused_device(self, commit=None, path="aux.c", is_root=True):
+    def refused_device(self, commit=None, path="aux.c"):
         """How a push is refused that has a device first in this commit."""
         commit, name = commit or self.device, path.rpartition("/")[2]
         return refused(
             bad_name(path, DEVICE, name.partition(".")[0], commit),
             RENAME_THE_FILE,
-            change(commit, is_root),
+            change(commit),
             accept(name),
         )
 

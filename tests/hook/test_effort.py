@@ -138,15 +138,63 @@ def test_all_names_in_namespaces_are_checked_however_long_they_are(hook, source)
     assert result.said.startswith(f"{last}: Reference name is reserved")
 
 
+@pytest.mark.parametrize(
+    "count, start",
+    [(1_000_000, "refs/heads/"), (250_000, "refs/namespaces/z/refs/heads/")],
+)
 @pytest.mark.one_format
-def test_a_million_references_are_checked(hook, source):
-    names = [f"refs/heads/{n}" for n in range(1_000_000)]
-    lines = [source.push_of(source.clean, it) for it in names]
+def test_a_million_references_and_many_in_a_namespace_are_checked(
+    hook, source, count, start
+):
+    lines = [source.push_of(source.clean, f"{start}{n}") for n in range(count)]
     assert hook.run("".join(lines)) == ACCEPTED
     lines.append(source.push_of(source.clean, "refs/heads/HEAD"))
     result = hook.run("".join(lines))
     assert result.status == 1
     assert result.said.startswith(bad_ref("refs/heads/HEAD"))
+
+
+@pytest.mark.one_format
+def test_with_100000_replacements_each_file_is_read(server, source):
+    """There is a file for each, and the last has a hostile submodule."""
+    server.configure("replace = true")
+    texts = [f'[submodule "{n}"]\n' for n in range(100_000)] + ['[submodule ".."]\n']
+    files = "".join(
+        f"blob\nmark :{n}\ndata {len(it)}\n{it}\n" for n, it in enumerate(texts, 1)
+    )
+    marks = server.path / "marks"
+    server.git("fast-import", "--quiet", f"--export-marks={marks}", stdin=files)
+    ids = [line.split()[1] for line in marks.read_text().splitlines()]
+    lines = [source.push_of(it, f"refs/replace/{it}") for it in ids]
+    result = server.hook.run("".join(lines), cwd=server.path)
+    assert result.status == 1
+    assert "push refused: 1 name is not allowed\n" in result.said
+
+
+@pytest.mark.one_format
+def test_a_server_with_loose_references_to_long_messages_and_many_objects_is_not_locked_out(
+    server, source, measured
+):
+    """A fifth of a server that was locked out once: 100,000 references that are in no
+    pack, each to a commit with a message of 1,500 bytes, and 400,000 objects."""
+    count, message = 20_000, "m" * 1500
+    history = []
+    for n in range(1, count + 1):
+        history.append(
+            f"commit refs/heads/{n}\ncommitter a <a@b> {n} +0000\n"
+            f"data {len(message)}\n{message}\n"
+            f"M 100644 inline d/{n}\ndata 9\n{n:09}\n"
+        )
+    server.git("fast-import", "--quiet", stdin="".join(history))
+    objects = server.git("count-objects", "-v")
+    assert int(re.search("in-pack: (.*)", objects)[1]) == 4 * count
+    assert not (server.path / "packed-refs").exists()
+    lines = source.push_of(source.clean)
+    env = {"GIT_ALTERNATE_OBJECT_DIRECTORIES": source.path / "objects"}
+    result, megabytes, _ = measured(lines, cwd=server.path, **env)
+    assert result == ACCEPTED
+    # (so a process of the whole server has less than half of what it may take)
+    assert megabytes < 1024 / 2 / 5
 
 
 # What a process may take. It writes its limits into a file, after what it reads has come.
@@ -212,6 +260,15 @@ def test_objects_in_files_of_their_own_count_too(limits, objects):
     for n in range(4_000):
         (objects / f"incoming/ab/{n}").touch()
     assert limits("git -c core.warn*rev-list") == (61, 1024)
+
+
+@pytest.mark.one_format
+def test_what_a_wrapper_called_git_starts_has_the_same_limits(hook, source, room):
+    """Also in the background, after a fork."""
+    write = f"""(echo "$(ulimit -t) $(ulimit -d)" > '{room}/limits') & wait"""
+    hook.stand_in("git -c core.warn*rev-list", write)
+    assert hook.run(source.push_of(source.clean)) == ACCEPTED
+    assert (room / "limits").read_text() == f"60 {1024 * 1024}\n"
 
 
 @pytest.mark.one_format
@@ -514,7 +571,7 @@ def test_of_very_many_refused_names_the_first_are_read(source, measured):
         + "push refused: at least 10000 names are not allowed (10 of them shown)\n"
         + "This lists all in your clone: git scan-names origin/main..HEAD\n"
         + RENAME_THE_FILE
-        + change(commit, is_root=True)
+        + change(commit)
         + accept(),
     )
     assert megabytes < 192
@@ -536,7 +593,7 @@ def test_of_very_many_refused_submodules_the_first_are_read(source, measured):
         )
         + "push refused: at least 1 name is not allowed\n"
         + RENAME_THE_SUBMODULE
-        + change(commit, is_root=True),
+        + change(commit),
     )
     assert megabytes < 96
     assert seconds < 10
@@ -551,5 +608,5 @@ def test_a_file_of_some_hundred_megabytes_is_not_read_into_memory(source, measur
     line = bad_name(
         ".gitmodules", "the file is larger than 16777216 bytes", None, commit
     )
-    assert result == refused(line, CORRECT_THE_FILE, change(commit, is_root=True))
+    assert result == refused(line, CORRECT_THE_FILE, change(commit))
     assert megabytes < 96

@@ -19,8 +19,7 @@ REASONS = {
     "check_push submodules": "check_push submodules failed (status 9)",
 }
 # What the scan runs.
-OF_THE_SCAN = ["git version", "git rev-parse", "git for-each-ref", *REASONS]
-OF_THE_SCAN.remove("git config")
+OF_THE_SCAN = ["git rev-parse", "git for-each-ref", *REASONS]
 
 # The ways in which a part fails. "$real" "$@" is the part itself, and $grand the parent
 # of its parent.
@@ -92,7 +91,7 @@ def test_the_scan_finds_no_hostile_repository_clean_if_a_part(
     result = scan(server)
     assert result.status != 0
     if way.endswith("exit 9"):
-        assert "scan failed: " in result.said
+        assert "git scan-names: " in result.said
 
 
 @pytest.mark.parametrize("part", REASONS)

@@ -1,5 +1,7 @@
 """Which names the hook refuses, wherever a push has them, and what it says of them."""
 import re
+import shutil
+import subprocess
 
 import pytest
 
@@ -24,10 +26,19 @@ from tests.hook.expected import (
     bad_ref,
     bad_submodule,
     change,
+    found,
     not_checked,
     refused,
 )
-from tests.hook.git import Repository, file, folder, program, submodule, symlink
+from tests.hook.git import (
+    ENVIRONMENT,
+    Repository,
+    file,
+    folder,
+    program,
+    submodule,
+    symlink,
+)
 
 NARROW = "\u200c"  # a joiner of width zero, which HFS+ ignores
 
@@ -163,7 +174,7 @@ def test_a_name_of_2_MB_is_cut_and_takes_no_minutes(hook, source):
         commit,
     )
     result = hook.run(source.push_of(commit), through=["timeout", "20"])
-    assert result == refused(line, RENAME_THE_SUBMODULE, change(commit, is_root=True))
+    assert result == refused(line, RENAME_THE_SUBMODULE, change(commit))
 
 
 def test_a_name_deep_in_a_middle_commit_is_refused_with_its_directory(server, source):
@@ -358,7 +369,7 @@ def test_a_refused_reference_hides_nothing_of_its_files(server, source):
         + "push refused: 2 names are not allowed\n"
         + RENAME_THE_REF
         + RENAME_THE_FILE
-        + change(source.device, is_root=True)
+        + change(source.device)
         + accept("aux.c"),
     )
 
@@ -405,6 +416,36 @@ def test_a_shallow_push_that_leaves_out_commits_is_refused_with_what_helps(
     [reason, help] = result.said.splitlines(keepends=True)
     assert is_broken(Result(result.status, reason), missing)
     assert help == FULL_CLONE
+
+
+# References in reftables, which Git has since 2.45.
+@pytest.fixture
+def with_reftables(server):
+    """A server that has them, with the same objects and settings."""
+    words = "git", "init", "-q", "--bare", "--ref-format=reftable"
+    new = server.path.with_name("reftable")
+    command = [*words, f"--object-format={server.object_format}", new]
+    if subprocess.run(command, env=ENVIRONMENT, stderr=subprocess.DEVNULL).returncode:
+        pytest.skip("needs Git 2.45 or later, which has reftables")
+    shutil.rmtree(new / "hooks")
+    shutil.copytree(server.path / "hooks", new / "hooks")
+    shutil.rmtree(server.path)
+    new.rename(server.path)
+    return server
+
+
+def test_a_server_with_reftables_is_checked_and_what_it_has_is_old(
+    with_reftables, scan, source
+):
+    server = with_reftables
+    device = source.device
+    server.already_has(*(f"{device}:refs/heads/{n}" for n in range(2000)))
+    assert server.push(source.commit_of("a", on=[device])) == ACCEPTED
+    con = source.commit_of("con", on=[device])
+    assert server.push(con).said.startswith(bad_name("con", DEVICE, "con", con))
+    assert scan(server) == found(bad_name("aux.c", DEVICE))
+    copied = scan("/", "--copy", server.path)
+    assert copied.status == 1 and copied.said.endswith(bad_name("aux.c", DEVICE))
 
 
 # A fork that borrows the objects of another repository.

@@ -87,12 +87,12 @@ def test_a_directory_is_entered(scan, server, hostile, room):
     assert scan(room, "server/objects") == hostile.all
 
 
-def test_a_directory_that_is_also_a_revision_is_a_misuse(scan, work, source):
-    work.git("update-ref", "refs/heads/sub", source.device)
-    why = '"sub" is a revision and a directory: write ./sub or its id'
-    assert scan(work, "sub") == misused(why)
-    assert scan(work, "./sub") == found(AUX)
-    assert scan(work, "refs/heads/sub") == found(AUX)
+def test_a_word_that_is_a_directory_and_a_revision_is_the_directory(scan, work, source):
+    """The whole repository is scanned then, so nothing is missed."""
+    work.git("update-ref", "refs/heads/sub", source.clean)
+    work.git("update-ref", "refs/heads/other", source.device)
+    assert scan(work, "sub") == found(AUX)
+    assert scan(work, "refs/heads/sub") == ALL_IS_WELL
 
 
 def test_without_a_repository_the_scan_fails_and_says_what_helps(scan, room):
@@ -135,6 +135,11 @@ def test_the_option_protect_wins_over_the_settings(scan, server, hostile):
     )
 
 
+def test_an_option_may_be_after_the_revisions(scan, server, hostile):
+    words = "refs/heads/HEAD", "--protect=none", "--not", "refs/heads/HEAD^^"
+    assert scan(server, *words) == found(hostile.link, hostile.submodule)
+
+
 def test_windows_means_windows_as_it_is(scan, server, source):
     """With NTFS."""
     commit = source.commit_of("aux.c", "git~1")
@@ -170,9 +175,8 @@ def test_other_options_of_git_rev_list_are_refused(scan, server, word):
     "words, why",
     [
         (["--index", "--protect"], f"--protect needs a list: {FILE_SYSTEMS}"),
-        (["--protect="], f'--protect "": {FILE_SYSTEMS}'),
+        (["--protect="], f"--protect needs a list: {FILE_SYSTEMS}"),
         (["--protect=hsf"], f'--protect "hsf": {FILE_SYSTEMS}'),
-        (["first", "--protect", "hfs"], "--protect has to come before the revisions"),
         (["--accept"], "--accept needs names"),
         (["--accept="], "--accept needs names"),
         ([b"--accept=\xff"], "--accept: a name that is accepted has to be UTF-8"),
@@ -296,7 +300,7 @@ def test_a_reference_with_a_broken_name_is_a_failure(scan, work, source):
     """Git leaves it out of lists, but not of what it serves."""
     (work.folder / "refs/heads/a..b").write_text(f"{source.clean}\n")
     warning = "warning: ignoring ref with broken name refs/heads/a..b"
-    assert scan(work) == scan_failed(f"references are broken: {warning}")
+    assert scan(work) == scan_failed(f"git for-each-ref: {warning}")
 
 
 @pytest.mark.parametrize("content", ["garbage", "0" * 40, "^1", "--not"])
@@ -304,7 +308,7 @@ def test_a_reference_without_an_id_is_a_failure(scan, work, source, content):
     work.git("update-ref", "refs/heads/evil", source.device)
     (work.folder / "refs/heads/a").write_text(f"{content}\n")
     warning = "warning: ignoring broken ref refs/heads/a"
-    assert scan(work) == scan_failed(f"references are broken: {warning}")
+    assert scan(work) == scan_failed(f"git for-each-ref: {warning}")
 
 
 def test_a_reference_to_a_missing_object_is_a_failure(scan, work, source):
@@ -351,14 +355,6 @@ def test_a_name_of_many_versions_has_one_line(scan, server, source):
     server.already_has(f"{commits[-1]}:refs/heads/main")
     line = f"src/{AUX}".rstrip("\n")
     assert scan(server) == found(f"{line} (in 20 versions of its directory)\n")
-
-
-def test_a_summary_has_a_line_for_each_reason(scan, server, source):
-    commit = source.commit_of("aux.c", "con", "x?y", ".GIT")
-    server.already_has(f"{commit}:refs/heads/main")
-    assert scan(server, "--summary") == found(
-        f"1 {DOT_GIT}\n", f"1 {ILLEGAL}\n", f"2 {DEVICE}\n"
-    )
 
 
 def test_the_path_of_a_directory_is_cut_and_the_name_is_whole(scan, server, source):

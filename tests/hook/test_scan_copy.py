@@ -14,6 +14,7 @@ from tests.hook.expected import (
     bad_name,
     bad_ref,
     bad_submodule,
+    found,
     scan_failed,
 )
 from tests.hook.git import folder
@@ -110,7 +111,7 @@ def test_a_git_that_may_run_commands_of_the_repository_copies_no_path(
     scan, hook, server, version
 ):
     """To fetch what a partial clone lacks."""
-    hook.stand_in("git version", f"echo version {version} >&2; exit 0")
+    hook.stand_in("git config", f"echo version {version} >&2; exit 1")
     assert scan("/", "--copy", server.path) == scan_failed(
         f"git version {version} may run commands of a repository that it copies from "
         "a path: use Git 2.45.1 or later, or the last of its series"
@@ -267,6 +268,17 @@ def test_a_commit_graph_that_lies_hides_nothing(scan, server, source, copies):
     assert source.tree_with_device not in server.git("rev-list", "--objects", "--all")
     result = scan("/", "--copy", server.path, TMPDIR=copies)
     assert result.status == 2 or AUX in result.said
+
+
+@pytest.mark.parametrize("name", ["objects/info", "objects", "refs"])
+def test_a_linked_directory_of_the_repository_hides_nothing(
+    scan, work, source, copies, room, name
+):
+    work.git("update-ref", "refs/heads/main", source.device)
+    (work.folder / name).rename(room / "elsewhere")
+    (work.folder / name).symlink_to(room / "elsewhere")
+    assert scan("/", "--copy", work.path, TMPDIR=copies) == of_copy(AUX)
+    assert scan(work) == found(AUX)
 
 
 # It leaves nothing behind.

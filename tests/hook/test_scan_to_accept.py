@@ -13,7 +13,7 @@ def test_after_the_printed_commands_the_names_are_accepted(scan, server, source)
     assert commands == Result(
         0,
         r"""git config --add names.accept "$(printf -- 'HEA?')"
-git config --add names.accept "$(printf -- 'aux.\042\047\045s\t\001\303\251 ')"
+git config --add names.accept "$(printf -- 'aux.\042\047\045s\011\001\303\251 ')"
 git config --add names.accept aux.c
 git config --add names.accept "$(printf -- 'con .h')"
 """,

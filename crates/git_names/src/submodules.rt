@@ -82,6 +82,7 @@ impl Error for SubmoduleError {}
 /// The error of `gix_validate::submodule::name` if there is one, otherwise that of [`path`], and
 /// otherwise `Disguised`.
 #[tactic(auto, using(crate::proofs::SubmoduleLemmas::submodule_laws), unfolding(crate::specs::Submodules::fault_of))]
+#[inline(always)]
 pub fn submodule<'a>(name: BStr<'a>, options: ComponentOptions) -> Result<BStr<'a>, SubmoduleError>
     ensures answer { Validates (fault_of options) (bstr_bytes name.entry) result }
     ensures grammar { IsOk result ↔ IsTrue (is_submodule options (bstr_bytes name.entry)) }

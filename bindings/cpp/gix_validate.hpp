@@ -8,14 +8,15 @@
  *       std::cerr << error->message(name) << '\n';
  *
  * All of it is inline, over the functions of gix_validate.h, which has to be
- * next to this file or on the include path. What that header says of memory,
+ * next to this file or on the include path. What that header says about memory,
  * threads and linking holds here, too. The rules are those of docs/RULES.md.
  *
  *  - A name is a std::string_view: any bytes, which need not be UTF-8. A C
  *    string ends at its first NUL, as always.
- *  - What is noexcept doesn't allocate. Of the rest only allocation throws.
- *  - Functions with a parameter for protections protect all systems by default:
- *    rather a harmless name is invalid than a hostile one valid.
+ *  - Functions that are noexcept don't allocate. The others throw only if an
+ *    allocation fails.
+ *  - Functions with a parameter for protections protect all systems by default,
+ *    because refusing a harmless name is better than accepting a hostile one.
  *
  * Later versions of C++ add: operator<=>, spans and u8"" (C++20), and
  * std::expected (C++23).
@@ -54,8 +55,8 @@
 
 namespace gix_validate {
 
-/// The kinds of names. For each there is a function `check_KIND`, which says
-/// what the kind is.
+/// The kinds of names. For each there is a function `check_KIND`, whose comment
+/// says what the kind is.
 enum class kind : std::uint32_t {
   branch = GIX_VALIDATE_KIND_BRANCH,
   branch_ref = GIX_VALIDATE_KIND_BRANCH_REF,
@@ -123,7 +124,7 @@ enum class protect : std::uint32_t {
   return protect(std::uint32_t(left) & std::uint32_t(right));
 }
 
-/// The name of a fault, as "RepeatedDot".
+/// The name of a fault, such as "RepeatedDot".
 [[nodiscard]] inline std::string_view name_of(fault it) noexcept {
   return gix_validate_fault_name(std::uint32_t(it));
 }
@@ -134,22 +135,22 @@ enum class protect : std::uint32_t {
   return gix_validate_fault_text(std::uint32_t(it));
 }
 
-/// What is wrong with a name, and where. It doesn't keep the name: functions
-/// that print it want it again.
+/// What is wrong with a name, and where. It doesn't keep the name, so pass the
+/// name again to functions that print it.
 struct error {
   gix_validate::kind kind;
   gix_validate::protect protect;
   /// Why the name is invalid; never `ok`.
   gix_validate::fault fault;
-  /// Where that is, in bytes: at most the length of the name, which it is if
-  /// something is missing at the end.
+  /// Where that is, in bytes. It is the length of the name if something is
+  /// missing at the end.
   std::size_t offset;
 
-  /// The printed text of the fault, as "Reference name cannot contain repeated
-  /// dots".
+  /// The printed text of the fault, such as "Reference name cannot contain
+  /// repeated dots".
   [[nodiscard]] std::string text(std::string_view name) const;
 
-  /// The text with what is at the offset, in one line: "Reference name cannot
+  /// The text and what is at the offset, on one line: "Reference name cannot
   /// start with a dot ('.' at byte 8, in ".hidden")".
   [[nodiscard]] std::string message(std::string_view name) const;
 
@@ -164,8 +165,8 @@ struct error {
   }
 };
 
-/// Validates a name of a kind that is known only when the program runs. Returns
-/// nothing if it is valid.
+/// Validates a name of a kind that is known only at run time. Returns nothing
+/// if it is valid.
 [[nodiscard]] inline std::optional<error>
 check(kind of, std::string_view name, protect under = protect::all) noexcept {
   const auto number = gix_validate_fault_of(std::uint32_t(of), name.data(),
@@ -178,42 +179,43 @@ check(kind of, std::string_view name, protect under = protect::all) noexcept {
                                       name.size(), std::uint32_t(under))};
 }
 
-/// A branch as people write it, as `main`: with `refs/heads/` before it it is a
-/// full branch name, and it doesn't start with a dash.
+/// A branch as people write it, such as `main`: `refs/heads/` followed by it is
+/// a full branch name, and it doesn't start with a dash.
 [[nodiscard]] inline std::optional<error>
 check_branch(std::string_view name) noexcept {
   return check(kind::branch, name);
 }
 
-/// A full branch name, as `refs/heads/main`: a full reference name other than
-/// `refs/heads/HEAD`. `HEAD` and `refs/tags/v1` pass too, and `main` doesn't.
+/// A full branch name, such as `refs/heads/main`: a full reference name other
+/// than `refs/heads/HEAD`. `HEAD` and `refs/tags/v1` pass too, and `main`
+/// doesn't.
 [[nodiscard]] inline std::optional<error>
 check_branch_ref(std::string_view name) noexcept {
   return check(kind::branch_ref, name);
 }
 
-/// A tag as people write it, as `v1.2.3`: with `refs/tags/` before it it is a
+/// A tag as people write it, such as `v1.2.3`: `refs/tags/` followed by it is a
 /// full reference name. It doesn't start with a dash, and isn't `HEAD`.
 [[nodiscard]] inline std::optional<error>
 check_tag(std::string_view name) noexcept {
   return check(kind::tag, name);
 }
 
-/// A full reference name: a partial name that has a slash, as
-/// `refs/heads/main`, or no byte but `A` to `Z` and `_`, as `HEAD`.
+/// A full reference name: a partial name that has a slash, such as
+/// `refs/heads/main`, or no byte but `A` to `Z` and `_`, such as `HEAD`.
 [[nodiscard]] inline std::optional<error>
 check_ref(std::string_view name) noexcept {
   return check(kind::ref, name);
 }
 
-/// A partial reference name, as `main` or `heads/main`: a tag name other than
-/// `@`.
+/// A partial reference name, such as `main` or `heads/main`: a tag name other
+/// than `@`.
 [[nodiscard]] inline std::optional<error>
 check_partial(std::string_view name) noexcept {
   return check(kind::partial, name);
 }
 
-/// A tag name as the Rust crate gix-validate has it. `HEAD` and `-d` pass,
+/// A tag name by the rule of the Rust crate gix-validate. `HEAD` and `-d` pass,
 /// which Git refuses: `check_tag` is for what people write.
 [[nodiscard]] inline std::optional<error>
 check_tag_name(std::string_view name) noexcept {
@@ -228,9 +230,9 @@ check_safe_ref(std::string_view name, protect under = protect::all) noexcept {
   return check(kind::safe_ref, name, under);
 }
 
-/// A path, as `src/main.rs`: each part between slashes is a component, and
-/// there is no NUL. A slash at the end is invalid: cut off that of an archive's
-/// directory, as `dir/`.
+/// A path, such as `src/main.rs`: each part between slashes is a component, and
+/// there is no NUL. A slash at the end is invalid, so cut off that of an
+/// archive's directory, such as `dir/`.
 [[nodiscard]] inline std::optional<error>
 check_path(std::string_view path, protect under = protect::all) noexcept {
   return check(kind::path, path, under);
@@ -243,11 +245,11 @@ check_symlink_path(std::string_view path,
   return check(kind::symlink_path, path, under);
 }
 
-/// A component of a path, as `src`: one name in a directory.
+/// A component of a path, such as `src`: one name in a directory.
 ///
-/// A valid component may hold NUL unless Windows and NTFS are both protected,
-/// as they are by default. open() ends a name at its first NUL: for `.git`, a
-/// NUL and `x` it opens `.git`. `check_path` accepts no NUL at all.
+/// A valid component may contain a NUL unless Windows and NTFS are both
+/// protected, as they are by default. open() ends a name at its first NUL: for
+/// `.git`, a NUL and `x` it opens `.git`. `check_path` accepts no NUL at all.
 [[nodiscard]] inline std::optional<error>
 check_component(std::string_view name, protect under = protect::all) noexcept {
   return check(kind::component, name, under);
@@ -259,17 +261,17 @@ check_symlink(std::string_view name, protect under = protect::all) noexcept {
   return check(kind::symlink, name, under);
 }
 
-/// A submodule name, as `vendor/package`: it isn't empty, and no part between
-/// its slashes and backslashes is `..`. Unless `protect` is `none`, it is also
-/// a path, and no part is one that some system reads as `.` or `..`.
+/// A submodule name, such as `vendor/package`: it isn't empty, and no part
+/// between its slashes and backslashes is `..`. Unless `protect` is `none`, it
+/// is also a path, and no part is one that some system reads as `.` or `..`.
 ///
-/// With `none` a valid name may hold NUL, at which open() ends it.
+/// With `none` a valid name may contain a NUL, at which open() ends it.
 [[nodiscard]] inline std::optional<error>
 check_submodule(std::string_view name, protect under = protect::all) noexcept {
   return check(kind::submodule, name, under);
 }
 
-/// Whether Windows takes the name for a device, as `NUL`, `com1.txt` or
+/// Whether Windows takes the name for a device, such as `NUL`, `com1.txt` or
 /// `CONIN$`.
 [[nodiscard]] inline bool is_windows_device(std::string_view name) noexcept {
   return gix_validate_is_windows_device(name.data(), name.size());
@@ -281,8 +283,8 @@ check_submodule(std::string_view name, protect under = protect::all) noexcept {
   return gix_validate_version();
 }
 
-/// The fault of each of the names, or `ok`: `names` is a range of what is a
-/// std::string_view, as a std::vector<std::string>.
+/// The fault of each of the names, or `ok`: `names` is a range whose elements
+/// convert to std::string_view, such as a std::vector<std::string>.
 template <class Names>
 [[nodiscard]] std::vector<fault> check_all(kind of, const Names &names,
                                            protect under = protect::all) {
@@ -298,7 +300,7 @@ template <class Names>
 /// or `ok`. What follows the last such byte is a name too, unless it is empty.
 ///
 /// If you join names for this call, compare the size of the result with how
-/// many you joined: a hostile name may hold the byte that ends names.
+/// many you joined: a hostile name may contain the byte that ends names.
 [[nodiscard]] inline std::vector<fault>
 check_joined(kind of, std::string_view names, char end,
              protect under = protect::all) {
@@ -315,7 +317,7 @@ check_joined(kind of, std::string_view names, char end,
 
 #if defined(__cpp_lib_span)
 /// Writes the fault of each of the names, or `ok`, to `faults`, as many as both
-/// have, and returns how many that are.
+/// have, and returns how many it wrote.
 inline std::size_t check_all(kind of, std::span<const std::string_view> names,
                              std::span<fault> faults,
                              protect under = protect::all) noexcept {
@@ -342,8 +344,8 @@ inline std::size_t check_all(kind of, std::span<const std::string_view> names,
 ///     std::optional<branch_name> name = branch_name::parse(typed);
 ///
 /// It owns its text. With a std::string_view as `Text` it is a view, which is
-/// valid as long as the bytes stay as they are. Only the text of one that was
-/// moved from may be invalid.
+/// valid as long as the bytes don't change. Only the text of one that was moved
+/// from may be invalid.
 template <kind Kind, protect Protect = protect::all, class Text = std::string>
 class valid {
 public:
@@ -427,8 +429,8 @@ private:
   Text text_;
 };
 
-/// The type `KIND_name` is of valid names of that kind, under all protections.
-/// (Those of `kind::tag_name` are of `valid<kind::tag_name>`.)
+/// The type `KIND_name` has the valid names of that kind, under all
+/// protections. (For `kind::tag_name` it is `valid<kind::tag_name>`.)
 using branch_name = valid<kind::branch>;
 using branch_ref_name = valid<kind::branch_ref>;
 using tag_name = valid<kind::tag>;
@@ -441,9 +443,9 @@ using component_name = valid<kind::component>;
 using symlink_name = valid<kind::symlink>;
 using submodule_name = valid<kind::submodule>;
 
-/// Suggests a branch for a name that a person typed, as `Fix-it's-done` for
-/// `Fix: it's done..`. A valid name is its own suggestion. There may be none,
-/// as for `...`.
+/// Suggests a branch for a name that a person typed, such as `Fix-it's-done`
+/// for `Fix: it's done..`. A valid name is its own suggestion. There may be
+/// none, as for `...`.
 [[nodiscard]] inline std::optional<branch_name> suggest(std::string_view name) {
   std::string text(name.size(), '\0');
   text.resize(gix_validate_suggest(

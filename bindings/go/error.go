@@ -6,7 +6,8 @@ import (
 	"unicode/utf8"
 )
 
-// An Error says why a name is invalid. The text and the offset are found when you ask.
+// An Error says why a name is invalid. The text and the offset are computed when you call Error or
+// Offset.
 type Error struct {
 	// Kind is what the name was checked as.
 	Kind Kind
@@ -20,8 +21,8 @@ type Error struct {
 	Name string
 }
 
-// Error is one line: why the name is invalid, and, unless it is empty, which byte is at
-// fault. If the name has slashes, what is between those around the byte follows.
+// Error is one line: why the name is invalid, and, unless it is empty, at which byte. If the name
+// has slashes, the part between them follows that has the byte.
 func (e *Error) Error() string {
 	text := append(make([]byte, 0, 256), "gitnames: "...)
 	text = appendText(text, e.Kind, e.Name, e.protect)

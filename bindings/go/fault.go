@@ -2,8 +2,8 @@ package gitnames
 
 import "strconv"
 
-// A Fault is why a name is invalid, or [Valid]. The numbers are stable. It is no error: see
-// [Error], and variables such as [ErrRepeatedDot].
+// A Fault is the reason why a name is invalid, or [Valid]. The numbers are stable. A Fault isn't an
+// error: see [Error], and variables such as [ErrRepeatedDot].
 type Fault uint8
 
 // Valid is not a fault: the name is valid.
@@ -85,7 +85,8 @@ var (
 	ErrDisguised               error = faultError(Disguised)
 )
 
-// A faultError is what errors.Is compares with. (A Fault is no error, since Valid would be one.)
+// A faultError is what errors.Is compares with. (A Fault isn't an error, because Valid would be
+// one.)
 type faultError Fault
 
 // Error has the fault's name.

@@ -22,8 +22,8 @@ import (
 // own copy of a []byte.
 type Name interface{ ~string | ~[]byte }
 
-// Protections say which systems a path, a component, a submodule name or a safe reference
-// name has to be harmless for.
+// Protections say on which systems a path, a component, a submodule name or a safe reference name
+// has to be harmless.
 //
 // A server passes [ProtectAll], because it doesn't know where a name will be checked out.
 // Devices, such as NUL and aux.c, and what Windows forbids in a name, such as a dot at its
@@ -76,16 +76,16 @@ func CheckTagName[T Name](name T) error {
 	return check(TagName, name, 0)
 }
 
-// CheckSafeRef checks a full reference name that a store may use as the path of a file: it is
-// below refs/, or has no byte but A to Z and _. What is between its slashes is a component
-// under the protections.
+// CheckSafeRef checks a full reference name that a store may use as the path of a file: it is below
+// refs/, or has no byte but A to Z and _, and each part between slashes is a component under the
+// protections.
 func CheckSafeRef[T Name](name T, protect Protections) error {
 	return check(SafeRef, name, protect)
 }
 
-// CheckPath checks a whole path, such as src/main.rs: what is between its slashes is a
-// component. A slash at the end is refused: cut off that of a directory in an archive. So is
-// a NUL byte.
+// CheckPath checks a whole path, such as src/main.rs: each part between slashes is a component. A
+// slash at the end is refused, so cut off that of a directory in an archive. A NUL byte is refused,
+// too.
 func CheckPath[T Name](name T, protect Protections) error {
 	return check(Path, name, protect)
 }
@@ -96,14 +96,13 @@ func CheckSymlinkPath[T Name](name T, protect Protections) error {
 	return check(SymlinkPath, name, protect)
 }
 
-// CheckComponent checks one component of a path, such as src: what is between two slashes.
-// A valid one may have a NUL byte, unless [ProtectWindows] and [ProtectNTFS] are both set.
+// CheckComponent checks one component of a path, such as src: the part between two slashes. A valid
+// one may have a NUL byte, unless [ProtectWindows] and [ProtectNTFS] are both set.
 func CheckComponent[T Name](name T, protect Protections) error {
 	return check(Component, name, protect)
 }
 
-// CheckSymlink checks a component that is to be a symbolic link: it can't be .gitmodules
-// either.
+// CheckSymlink checks the name of a symbolic link: a component that isn't .gitmodules either.
 func CheckSymlink[T Name](name T, protect Protections) error {
 	return check(Symlink, name, protect)
 }
@@ -121,9 +120,9 @@ func IsWindowsDevice[T Name](name T) bool {
 	return isWindowsDevice(view(name))
 }
 
-// SuggestBranch returns a branch name for one that a person typed, such as Fix-it's-done for
-// "Fix: it's done..". It returns a valid name as it is. For any other it allocates once, and
-// returns false if there is no suggestion, as for "..." and HEAD.
+// SuggestBranch returns a branch name for one that a person typed, such as Fix-it's-done for "Fix:
+// it's done..". It returns a valid name unchanged. For any other it allocates once, and returns
+// false if there is no suggestion, as for "..." and HEAD.
 func SuggestBranch[T Name](name T) (suggestion T, ok bool) {
 	typed := view(name)
 	if faultOf(Branch, typed, 0) == Valid {
@@ -135,8 +134,8 @@ func SuggestBranch[T Name](name T) (suggestion T, ok bool) {
 }
 
 // Sanitize repairs any bytes to a name that [CheckPartialRef] accepts. That needn't be a valid
-// branch: use [SuggestBranch] for one. It returns a valid name as it is, and otherwise
-// allocates once.
+// branch: use [SuggestBranch] for one. It returns a valid name unchanged, and otherwise allocates
+// once.
 func Sanitize[T Name](name T) T {
 	given := view(name)
 	if faultOf(PartialRef, given, 0) == Valid {

@@ -61,17 +61,17 @@ export interface InvalidName {
 
 /**
  * The systems against whose special names a path is protected. By default all
- * are true, as is right for a server, and wherever it isn't known where a name
- * will be checked out.
+ * are true, which is right for a server, and whenever it isn't known where a
+ * name will be checked out.
  */
 export interface Protections {
-  /** What Windows reads otherwise than Git, as "a\b" and "c:". */
+  /** What Windows reads differently from Git, such as "a\b" and "c:". */
   readonly windows?: boolean|undefined;
-  /** What HFS+ of macOS takes for ".git", as ".g\u200cit". */
+  /** What HFS+ of macOS takes for ".git", such as ".g\u200cit". */
   readonly hfs?: boolean|undefined;
   /**
-   * What NTFS takes for ".git", as "git~1". Devices, as "NUL", and what Windows
-   * forbids, as a dot at the end, need `windows` and `ntfs`.
+   * What NTFS takes for ".git", such as "git~1". Devices, such as "NUL", and
+   * what Windows forbids, such as a dot at the end, need `windows` and `ntfs`.
    */
   readonly ntfs?: boolean|undefined;
 }
@@ -102,8 +102,8 @@ export function checkBranch(name: Name): InvalidName|null;
 /**
  * Checks the full name of a branch, such as "refs/heads/main".
  *
- * It is `checkRef`, but that "refs/heads/HEAD" is invalid. "HEAD" and
- * "refs/tags/v1" are valid, since a branch may stand there, and "main" isn't.
+ * This is `checkRef`, except that "refs/heads/HEAD" is invalid. So "HEAD" and
+ * "refs/tags/v1" are valid, and "main" isn't.
  *
  * @param name A string, or bytes of UTF-8.
  * @returns null if the name is valid, and otherwise what is wrong with it.
@@ -132,7 +132,8 @@ export function checkTag(name: Name): InvalidName|null;
 /**
  * Checks the full name of a reference, such as "refs/remotes/origin/main".
  *
- * Without a slash, a valid name has no character but A to Z and _, as "HEAD".
+ * Without a slash, a valid name has no character but A to Z and _, such as
+ * "HEAD".
  *
  * @param name A string, or bytes of UTF-8.
  * @returns null if the name is valid, and otherwise what is wrong with it.
@@ -147,8 +148,8 @@ export function checkRef(name: Name): InvalidName|null;
 /**
  * Checks a part of a reference name, such as "main" or "origin/main".
  *
- * The rules are those of `checkRef`, but that a name without a slash may have
- * any letters.
+ * The rules are those of `checkRef`, except that a name without a slash may
+ * have any letters.
  *
  * @param name A string, or bytes of UTF-8.
  * @returns null if the name is valid, and otherwise what is wrong with it.
@@ -161,8 +162,8 @@ export function checkPartialRef(name: Name): InvalidName|null;
 /**
  * Checks a tag name by the rule of the Rust crate gix-validate.
  *
- * It is `checkPartialRef`, but that "@" is valid. Unlike `checkTag` it accepts
- * "-d" and "HEAD", which Git doesn't accept for a tag.
+ * This is `checkPartialRef`, except that "@" is valid. Unlike `checkTag` it
+ * accepts "-d" and "HEAD", which Git doesn't accept for a tag.
  *
  * @param name A string, or bytes of UTF-8.
  * @returns null if the name is valid, and otherwise what is wrong with it.
@@ -211,8 +212,8 @@ export function checkPath(path: Name, protections?: Protections): InvalidName|
     null;
 
 /**
- * Checks the path of a symbolic link: as `checkPath`, but the last part may not
- * be ".gitmodules", or what a system takes for it.
+ * Checks the path of a symbolic link, as `checkPath` does, but the last part
+ * may not be ".gitmodules" either, or what a system takes for it.
  *
  * @param path A string, or bytes of UTF-8.
  * @param protections The systems to protect against, by default all.
@@ -239,8 +240,8 @@ export function checkComponent(
     name: Name, protections?: Protections): InvalidName|null;
 
 /**
- * Checks the name of a symbolic link: as `checkComponent`, but it may not be
- * ".gitmodules", or what a system takes for it.
+ * Checks the name of a symbolic link, as `checkComponent` does, but it may not
+ * be ".gitmodules" either, or what a system takes for it.
  *
  * @param name A string, or bytes of UTF-8.
  * @param protections The systems to protect against, by default all.
@@ -313,8 +314,8 @@ export function faultNumbers(
 /**
  * Suggests a branch name for one that a person typed.
  *
- * A valid name is returned as it is. Of any other name, what a branch name may
- * not have becomes a dash or goes.
+ * A valid name is returned unchanged. In any other name, what a branch name may
+ * not have becomes a dash or is removed.
  *
  * @param name A string, or bytes of UTF-8.
  * @returns A name that `checkBranch` accepts, not longer than the name, or null
@@ -332,7 +333,7 @@ export function suggestBranch(name: Name): Name|null;
  * Repairs a part of a reference name, by the rule of the Rust crate
  * gix-validate. For a branch, use `suggestBranch`.
  *
- * A valid name is returned as it is.
+ * A valid name is returned unchanged.
  *
  * @param name A string, or bytes of UTF-8.
  * @returns A name that `checkPartialRef` accepts.
@@ -353,7 +354,7 @@ export function sanitize(name: Name): Name;
 export function isWindowsDevice(name: Name): boolean;
 
 /**
- * Makes the WebAssembly module, unless it is there already. No call needs it
+ * Makes the WebAssembly module, unless it is there already. It isn't needed
  * where WebAssembly may be compiled at once, as in Node and in workers.
  *
  * @param module A WebAssembly.Module of gix_validate.wasm, for platforms that

@@ -11,7 +11,7 @@ const TEXT_MAX: usize = 134;
 
 /// What is wrong with a name, and where.
 ///
-/// It prints why the name is refused, which byte is at fault, and, if the name has slashes, between which of them:
+/// It prints why the name is refused, at which byte, and, if the name has slashes, in which part between them:
 ///
 /// ```
 /// let error = git_names::branch("feature/.hidden").unwrap_err();
@@ -46,7 +46,7 @@ impl Error {
         self.fault
     }
 
-    /// Where in the name that is, in bytes. It is never more than the length of the name.
+    /// Where in the name that is, in bytes. The offset is never more than the length of the name.
     pub fn offset(&self) -> usize {
         self.offset
     }
@@ -61,7 +61,7 @@ impl Error {
         self.name.get(self.offset).copied()
     }
 
-    /// What stands between the slashes around the offset: all of a name that has no slash.
+    /// The part between the slashes around the offset, or the whole name if it has no slash.
     pub fn piece(&self) -> &[u8] {
         let is_slash = |byte: &u8| *byte == b'/';
         let (before, after) = self.name.split_at(self.offset);

@@ -5,7 +5,7 @@ use crate::{Error, Fault};
 
 /// A kind of names.
 ///
-/// A function of this crate checks one kind. This is for programs that get to know the kind only when they run:
+/// A function of this crate checks one kind. This is for programs that learn the kind only at run time:
 ///
 /// ```
 /// use git_names::{Fault, Kind, Protections};
@@ -16,17 +16,17 @@ use crate::{Error, Fault};
 #[derive(Debug, Clone, Copy, PartialEq, Eq, Hash)]
 #[non_exhaustive]
 pub enum Kind {
-    /// A branch, as `main`: [`branch`](crate::branch).
+    /// A branch, such as `main`: [`branch`](crate::branch).
     Branch,
-    /// A full branch name, as `refs/heads/main`: [`branch_ref`](crate::branch_ref).
+    /// A full branch name, such as `refs/heads/main`: [`branch_ref`](crate::branch_ref).
     BranchRef,
-    /// A tag, as `v1.2.3`: [`tag`](crate::tag).
+    /// A tag, such as `v1.2.3`: [`tag`](crate::tag).
     Tag,
     /// A full reference name: [`reference`](crate::reference).
     Reference,
     /// The end of a reference name: [`partial`](crate::partial).
     Partial,
-    /// A tag name as gix-validate has it: [`tag_name`](crate::tag_name).
+    /// A tag name by gix-validate's rule: [`tag_name`](crate::tag_name).
     TagName,
     /// A full reference name that may be used as a path: [`safe_ref`](crate::safe_ref).
     SafeRef,
@@ -81,9 +81,9 @@ impl Kind {
 
 /// What a path, a component, a submodule name or a safe reference name is protected against.
 ///
-/// A server passes [`ALL`](Protections::ALL), because it doesn't know where a name will be checked out. Devices, as
-/// `NUL` and `aux.c`, and what Windows forbids in a name, as a dot at its end, are refused only if `windows` and `ntfs`
-/// are both set.
+/// A server passes [`ALL`](Protections::ALL), because it doesn't know where a name will be checked out. Devices, such
+/// as `NUL` and `aux.c`, and what Windows forbids in a name, such as a dot at its end, are refused only if `windows`
+/// and `ntfs` are both set.
 #[derive(Debug, Clone, Copy, PartialEq, Eq, Hash)]
 pub struct Protections {
     /// Refuse what Windows reads otherwise: backslashes, prefixes as `C:`, and, together with `ntfs`, devices and

@@ -63,7 +63,7 @@ pub fn suggest_branch<N: AsRef<[u8]> + ?Sized>(name: &N) -> Option<Vec<u8>> {
     block::suggestion(name.as_ref())
 }
 
-/// Repairs any bytes to a name that [`partial`] accepts, as gix-validate does. A valid name stays as it is, and the empty
+/// Repairs any bytes to a name that [`partial`] accepts, as gix-validate does. A valid name is unchanged, and the empty
 /// name becomes `-`.
 ///
 /// ```
@@ -95,7 +95,7 @@ pub fn sanitize_in_place(buffer: &mut [u8], len: usize) -> Option<usize> {
     }
 }
 
-/// Whether Windows takes the name for a device, as `NUL` or `com1.txt`, in any ASCII letter case.
+/// Whether Windows takes the name for a device, such as `NUL` or `com1.txt`, in any ASCII letter case.
 ///
 /// ```
 /// assert!(git_names::is_windows_device("nul.txt"));

@@ -96,9 +96,9 @@ macro_rules! protected_names {
 }
 
 names! {
-    /// A branch as people write it, as `main`: see [`branch`].
+    /// A branch as people write it, such as `main`: see [`branch`].
     Branch;
-    /// Checks a branch as people write it, as `main`.
+    /// Checks a branch as people write it, such as `main`.
     ///
     /// With `refs/heads/` before it, it is a full branch name, and it doesn't start with a dash.
     ///
@@ -113,24 +113,25 @@ names! {
     /// ```
     branch;
 
-    /// A full branch name, as `refs/heads/main`: see [`branch_ref`].
+    /// A full branch name, such as `refs/heads/main`: see [`branch_ref`].
     BranchRef;
-    /// Checks a full branch name, as `refs/heads/main`.
+    /// Checks a full branch name, such as `refs/heads/main`.
     ///
     /// It is any full reference name other than `refs/heads/HEAD`, so `HEAD` and `refs/tags/v1` pass too, and `main`
     /// doesn't.
     branch_ref;
 
-    /// A tag as people write it, as `v1.2.3`: see [`tag`].
+    /// A tag as people write it, such as `v1.2.3`: see [`tag`].
     Tag;
-    /// Checks a tag as people write it, as `v1.2.3`.
+    /// Checks a tag as people write it, such as `v1.2.3`.
     ///
     /// With `refs/tags/` before it, it is a full reference name. It doesn't start with a dash, and isn't `HEAD`.
     tag;
 
-    /// A full reference name, as `refs/heads/main` or `HEAD`: see [`reference`].
+    /// A full reference name, such as `refs/heads/main` or `HEAD`: see [`reference`].
     Reference;
-    /// Checks a full reference name. It has a slash, as `refs/heads/main`, or no byte but `A` to `Z` and `_`, as `HEAD`.
+    /// Checks a full reference name. It has a slash, such as `refs/heads/main`, or no byte but `A` to `Z` and `_`, such
+    /// as `HEAD`.
     ///
     /// ```
     /// assert!(git_names::reference("HEAD").is_ok());
@@ -138,9 +139,9 @@ names! {
     /// ```
     reference;
 
-    /// The end of a reference name, as `heads/main`: see [`partial`].
+    /// The end of a reference name, such as `heads/main`: see [`partial`].
     Partial;
-    /// Checks a name that may be the end of a reference name, as `main` or `heads/main`.
+    /// Checks a name that may be the end of a reference name, such as `main` or `heads/main`.
     partial;
 
     /// A tag name as gix-validate has it: see [`tag_name`].
@@ -164,9 +165,9 @@ protected_names! {
     /// ```
     safe_ref;
 
-    /// A path, as `src/main.rs`: see [`path`].
+    /// A path, such as `src/main.rs`: see [`path`].
     Path;
-    /// Checks a path, as `src/main.rs`: what stands between its slashes is a component.
+    /// Checks a path, such as `src/main.rs`: each part between slashes is a component.
     ///
     /// A slash at the end is refused, so cut off that of an archive's directory. A NUL is refused under all protections.
     ///
@@ -184,9 +185,9 @@ protected_names! {
     /// Checks the path of a symbolic link. Its last component may not be `.gitmodules`.
     symlink_path;
 
-    /// A component of a path, as `src`: see [`component`].
+    /// A component of a path, such as `src`: see [`component`].
     Component;
-    /// Checks a component of a path, as `src`: what stands between two slashes.
+    /// Checks a component of a path, such as `src`: the part between two slashes.
     ///
     /// A valid component may have a NUL unless Windows and NTFS are protected, and the functions of C end a name there.
     /// [`path`] refuses a NUL.
@@ -197,9 +198,9 @@ protected_names! {
     /// Checks a component that is a symbolic link. It may not be `.gitmodules`.
     symlink;
 
-    /// A submodule name, as `vendor/lib`: see [`submodule`].
+    /// A submodule name, such as `vendor/lib`: see [`submodule`].
     Submodule;
-    /// Checks a submodule name, as `vendor/lib`.
+    /// Checks a submodule name, such as `vendor/lib`.
     ///
     /// It isn't empty, and no part between its slashes and backslashes is `..`. Under protections it is also a path,
     /// and no part may be taken for `.` or `..`.

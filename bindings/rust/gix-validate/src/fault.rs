@@ -52,7 +52,7 @@ macro_rules! faults {
 }
 pub(crate) use faults;
 
-/// The byte that makes a name of a tag or reference invalid. It is the same for each kind of them.
+/// The byte that makes a tag or reference name invalid, which is the same for each kind.
 pub(crate) fn byte(name: &BStr) -> BString {
     let error = Kind::TagName.check(name, Protections::NONE);
     let byte = error.err().and_then(|error| error.byte());

@@ -1,4 +1,4 @@
-//! Names of references.
+//! Reference names.
 
 use bstr::{BStr, BString};
 use git_names::{Kind, Protections};
@@ -29,8 +29,8 @@ pub mod name {
     }
 }
 
-/// Returns `path` if it is a valid full name, otherwise its first fault. A full name has a slash, as
-/// `refs/heads/main`, or has no byte but `A` to `Z` and `_`, as `HEAD`.
+/// Returns `path` if it is a valid full name, otherwise its first fault. A full name has a slash, such as
+/// `refs/heads/main`, or has no byte but `A` to `Z` and `_`, such as `HEAD`.
 ///
 /// ```
 /// use bstr::ByteSlice;
@@ -57,7 +57,7 @@ pub fn branch_name(path: &BStr) -> Result<&BStr, name::Error> {
     checked(Kind::BranchRef, path, Protections::NONE, name::Error::of)
 }
 
-/// The partial name that `path` is repaired to: `path` itself where it is one, and at least `-`.
+/// The partial name that `path` is repaired to: `path` itself if it is one, and at least `-`.
 ///
 /// ```
 /// use bstr::ByteSlice;

@@ -1,4 +1,4 @@
-//! Names of submodules.
+//! Submodule names.
 
 use bstr::BStr;
 use git_names::{Kind, Protections};
@@ -10,8 +10,8 @@ pub mod name {
     pub use crate::errors::submodule::Error;
 }
 
-/// Returns `name` if it is a valid name of a submodule, otherwise its fault. It may be neither empty nor have a
-/// part `..` between its slashes and backslashes.
+/// Returns `name` if it is a valid submodule name, otherwise its fault. A valid name isn't empty, and has no part `..`
+/// between slashes or backslashes.
 ///
 /// ```
 /// use bstr::ByteSlice;

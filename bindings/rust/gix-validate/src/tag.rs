@@ -1,4 +1,4 @@
-//! Names of tags.
+//! Tag names.
 
 use bstr::BStr;
 use git_names::{Kind, Protections};
@@ -10,7 +10,7 @@ pub mod name {
     pub use crate::errors::tag::Error;
 }
 
-/// Returns `input` if it is a valid name of a tag, otherwise its first fault. It may hold slashes.
+/// Returns `input` if it is a valid tag name, otherwise its first fault. A tag name may contain slashes.
 ///
 /// ```
 /// use bstr::ByteSlice;

@@ -272,7 +272,9 @@ def _version_of(library: ctypes.CDLL) -> Tuple[int, int, int]:
 
 def _function(library: ctypes.CDLL, name: str, result: Any, *types: Any) -> Any:
     function = library[f"gix_validate_{name}"]
-    function.argtypes, function.restype = types or None, result
+    function.restype = result
+    if types:
+        function.argtypes = types
     return function
 
 

@@ -11,7 +11,7 @@ ghost use Rattle.gix_validate.specs.Pieces.{pieces};
 ghost use Rattle.gix_validate.specs.Printed.{printed};
 ghost use Rattle.gix_validate.specs.Submodule.{is_submodule_name};
 ghost use Rattle.git_names.specs.Submodules.{disguised_from, fault_of, is_disguised, is_protected};
-ghost use Rattle.git_names.specs.Submodules.{is_submodule, protected_fault_of, text_of};
+ghost use Rattle.git_names.specs.Submodules.{is_submodule, text_of};
 
 mod hfs;
 
@@ -82,7 +82,6 @@ impl Error for SubmoduleError {}
 /// The error of `gix_validate::submodule::name` if there is one, otherwise that of [`path`], and
 /// otherwise `Disguised`.
 #[tactic(auto, using(crate::proofs::SubmoduleLemmas::submodule_laws), unfolding(crate::specs::Submodules::fault_of))]
-#[inline(always)]
 pub fn submodule<'a>(name: BStr<'a>, options: ComponentOptions) -> Result<BStr<'a>, SubmoduleError>
     ensures answer { Validates (fault_of options) (bstr_bytes name.entry) result }
     ensures grammar { IsOk result ↔ IsTrue (is_submodule options (bstr_bytes name.entry)) }
@@ -92,20 +91,9 @@ pub fn submodule<'a>(name: BStr<'a>, options: ComponentOptions) -> Result<BStr<'
     if let Err(fault) = submodule::name(name) {
         return Err(SubmoduleError::Name(fault));
     }
-    if is_protected(options) {
-        protected(name, options)
-    } else {
-        Ok(name)
+    if !is_protected(options) {
+        return Ok(name);
     }
-}
-
-/// What the name must be under an option. (It isn't inlined, because a name without options would pay
-/// for its frame.)
-#[inline(never)]
-fn protected(name: BStr<'_>, options: ComponentOptions) -> Result<BStr<'_>, SubmoduleError>
-    ensures answer { Validates (protected_fault_of options) (bstr_bytes name.entry) result }
-    ensures same { IfOk result (λ kept. kept ≡ name.entry) }
-{
     if let Err(fault) = path(name, None, options) {
         return Err(SubmoduleError::Part(fault));
     }

@@ -34,6 +34,7 @@ use crate::flags::options_of;
 use bstr::BStr;
 use git_names::Kind;
 use gix_validate::path::{ComponentMode, component_is_windows_device};
+use gix_validate::submodule;
 
 /// Returns 0 if the name is a valid name of this kind, and otherwise the number of its fault. 255
 /// means that there is no such kind.
@@ -251,9 +252,25 @@ fn symlink(name: BStr<'_>, flags: u32) -> u32
     code(git_names::symlink(name, options_of(flags))).into()
 }
 
-/// The number of the name's fault as a submodule name.
+/// The number of the name's fault as a submodule name. Most names are checked without flags, which
+/// takes no frame.
 #[inline(never)]
+#[tactic(auto, unfolding(git_names::specs::Submodules::fault_of, git_names::specs::Submodules::is_submodule))]
 fn submodule(name: BStr<'_>, flags: u32) -> u32
+    ensures number { result ≡ number_by (Some kind.Submodule) flags (bstr_bytes name.entry) }
+    ensures grammar { (result ≡ 0) ↔ IsTrue (is_of_kind (Some kind.Submodule) flags (bstr_bytes name.entry)) }
+    ensures range { result ≤ 26 }
+{
+    let options = options_of(flags);
+    if options.protect_windows || options.protect_hfs || options.protect_ntfs {
+        return protected_submodule(name, flags);
+    }
+    code(submodule::name(name)).into()
+}
+
+/// The number of the name's fault as a submodule name under any flags.
+#[inline(never)]
+fn protected_submodule(name: BStr<'_>, flags: u32) -> u32
     ensures number { result ≡ number_by (Some kind.Submodule) flags (bstr_bytes name.entry) }
     ensures grammar { (result ≡ 0) ↔ IsTrue (is_of_kind (Some kind.Submodule) flags (bstr_bytes name.entry)) }
     ensures range { result ≤ 26 }

@@ -2,7 +2,7 @@
 //! checks and what it doesn't.
 
 use crate::answer::Answer;
-use crate::child::Child;
+use crate::child::{join, spawn, Child};
 use crate::failure::{OrFail, Result};
 use crate::finding::id;
 use crate::git::Git;
@@ -17,6 +17,7 @@ use std::ffi::OsStr;
 use std::fs::{self, File};
 use std::io::{self, Read, Write};
 use std::path::{Path, PathBuf};
+use std::thread;
 
 /// For so many objects of a push each process has a second more.
 const STEP: u64 = 4_000;
@@ -88,8 +89,11 @@ impl Push {
         set(self.limits, objects)?;
         let git = Git::in_push()?;
         let mut pipeline = Pipeline { program, git, settings: Settings::default() };
-        let config = start_config(&pipeline.git.with_all_settings())?;
-        let mut started = start(&pipeline)?;
+        let (config, mut started) = thread::scope(|scope| {
+            let config = spawn(scope, || start_config(&pipeline.git.with_all_settings()))?;
+            let started = start(&pipeline)?;
+            Ok((join(config)?, started))
+        })?;
         let (printed, _) = read_config(config)?;
         let (settings, ignored) = Settings::of(&printed)?;
         self.ignored = ignored;
@@ -113,10 +117,14 @@ fn set(limits: Limits, objects: u64) -> Result<()> {
     limits.set().or_fail("time and memory could not be limited")
 }
 
+/// Starts the programs that wait for the push. (A process takes some time to start, in which a thread waits.)
 fn start(pipeline: &Pipeline) -> Result<(Child, TreeList)> {
     let words = [&[WITHOUT_PATHS, "--stdin"][..], &pipeline.settings.old()].concat();
-    let list = pipeline.start_list(&words)?;
-    Ok((pipeline.start_references()?, list))
+    thread::scope(|scope| {
+        let references = spawn(scope, || pipeline.start_references())?;
+        let list = pipeline.start_list(&words)?;
+        Ok((join(references)?, list))
+    })
 }
 
 /// The new ids in these lines `OLD NEW REF`, each on a line. (That of a deleted reference has only zeros.)

@@ -62,9 +62,9 @@ function noteOf(kind, name, invalid, hasRepair) {
   return invalid && !hasRepair ?
       "It can't be repaired: choose another name." :
       invalid ?
-      "This is its first fault. The repair removes all faults." :
+      "This is only the first fault. The repair removes all of them." :
       kind === "path" ?
-      "These are Git's rules. A file system may refuse more, as a long name." :
+      "These are Git's rules. A file system may refuse more, such as a long name." :
       kind === "branch" ? `Git stores it as refs/heads/${printable(name)}.` :
       kind === "tag" ? `Git stores it as refs/tags/${printable(name)}.` :
                        "";

@@ -1,7 +1,7 @@
 /*
  * hand VALID INVALID: nanoseconds of a call on the names of each file, one on a
- * line, in the best pass: by the library, and by a check that is written by
- * hand. Both say what is wrong with a full reference name, and where.
+ * line, in the best pass: by the library, by the library with the offset of
+ * what is wrong, and by a check that is written by hand, which always has it.
  */
 #include "gix_validate.h"
 #include <stdio.h>
@@ -79,6 +79,10 @@ static bool is_valid_by_hand(gix_validate_name it) {
 }
 
 static bool is_valid(gix_validate_name it) {
+  return gix_validate_ref(it.name, it.len) == GIX_VALIDATE_OK;
+}
+
+static bool is_valid_with_offset(gix_validate_name it) {
   gix_validate_result result;
   return gix_validate_check(GIX_VALIDATE_KIND_REF, it.name, it.len, 0,
                             &result) == GIX_VALIDATE_OK;
@@ -131,7 +135,8 @@ int main(int count, char **arguments) {
   }
   for (int i = 1; i < count; i++) {
     size_t read = read_names(arguments[i]), wanted = i == 1 ? read : 0;
-    printf("%.1f %.1f\n", best(is_valid, read, wanted),
+    printf("%.1f %.1f %.1f\n", best(is_valid, read, wanted),
+           best(is_valid_with_offset, read, wanted),
            best(is_valid_by_hand, read, wanted));
   }
   return 0;

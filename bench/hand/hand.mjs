@@ -67,6 +67,7 @@ function best(names, isValid, call) {
 
 for (const [at, file] of process.argv.slice(2).entries()) {
   const names = readFileSync(file, "latin1").trimEnd().split("\n");
-  console.log(
-      best(names, at === 0, checkRef), best(names, at === 0, refByHand));
+  // (The object that says what is wrong always has the index.)
+  const here = best(names, at === 0, checkRef);
+  console.log(here, here, best(names, at === 0, refByHand));
 }

@@ -66,9 +66,12 @@ fn main() {
         let text = std::fs::read_to_string(file).unwrap();
         let names: Vec<_> = text.lines().collect();
         let here = best(&names, is_valid, |it| {
+            git_names::reference(it).err().map(|_| 0)
+        });
+        let with_offset = best(&names, is_valid, |it| {
             Some(git_names::reference(it).err()?.offset())
         });
         let by_hand = best(&names, is_valid, |it| Some(ref_by_hand(it).err()?.offset));
-        println!("{here:.1} {by_hand:.1}");
+        println!("{here:.1} {with_offset:.1} {by_hand:.1}");
     }
 }

@@ -46,6 +46,15 @@ func BenchmarkCheckRefOfAnInvalidName(b *testing.B) {
 	}
 }
 
+func BenchmarkCheckRefAndItsOffset(b *testing.B) {
+	b.ReportAllocs()
+	for i := 0; i < b.N; i++ {
+		if err := CheckRef(invalidRef); err.(*Error).Offset() != 17 {
+			b.Fatal("it is elsewhere")
+		}
+	}
+}
+
 func BenchmarkCheckRefOfInvalidBytes(b *testing.B) {
 	b.ReportAllocs()
 	name := []byte(invalidRef)

@@ -56,6 +56,8 @@ CALL_COLUMNS += ["Dihareku, instructions", "Crate, instructions"]
 PROGRAM_COLUMNS = ["What a program reads", "Seconds", "MB of memory"]
 LANGUAGE_COLUMNS = ["Language", "The loop alone", "A short branch name"]
 LANGUAGE_COLUMNS += ["A path of three parts", "Its parts, a call for each"]
+HAND_COLUMNS = ["Language", "Valid", "By hand", "Invalid", "Invalid, and its offset"]
+HAND_COLUMNS += ["By hand"]
 PUSH_COLUMNS = ["What is pushed", "Without a hook", "With the hook"]
 ATTACK_COLUMNS = ["What is pushed", "Bytes", "`receive.fsckObjects`", "The hook"]
 # The pages of marks that aren't on bench/README.md.
@@ -135,8 +137,8 @@ def ways(lines):
     return f"{version}:\n\n{cells}" + "".join(f"\n\n{it}." for it in lines[1:])
 
 
-def languages(lines):
-    """The rows of the table of instructions in each language."""
+def of_languages(lines):
+    """The rows of a table of numbers in each language."""
     for name, *counts in cells_of(lines):
         yield name, *(shown(it) for it in counts)
 
@@ -191,7 +193,8 @@ def made(figures):
         "python": ways(figures["python"]),
         "javascript": ways(figures["javascript"]),
         "go": ways(figures["go"]),
-        "languages": table(LANGUAGE_COLUMNS, *languages(figures["languages"])),
+        "languages": table(LANGUAGE_COLUMNS, *of_languages(figures["languages"])),
+        "hand": table(HAND_COLUMNS, *of_languages(figures["hand"])),
         "gitoxide": f"{figures['gitoxide'][0]}:\n\n{gitoxide}",
         "push": table(PUSH_COLUMNS, *cells_of(figures["push"])),
         "pushes": table(ATTACK_COLUMNS, *cells_of(figures["pushes"])),

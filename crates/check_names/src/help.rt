@@ -10,7 +10,7 @@ A line is a kind, a space and a name. The name is all that follows the first
 space, up to the newline.
 
     tag          prints ok if this is a valid tag name, otherwise error: and why
-    partial      the same for a reference name, which may be short, as main
+    partial      the same for a reference name, which may be short, such as main
     ref          the same for a full reference name, as HEAD or refs/heads/main
     branch       the same for the full name of a branch
     submodule    the same for the name of a submodule

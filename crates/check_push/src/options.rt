@@ -9,7 +9,7 @@ that is refused. The first argument says what standard input has:
 
     refs          the references, as a pre-receive hook gets them
     trees         trees, as `git cat-file --batch` prints them
-    submodules    .gitmodules files, printed so too
+    submodules    .gitmodules files, printed in the same way
 
     -h, --help    prints this text; `check_push refs --help` prints that of refs
     --version     prints the version

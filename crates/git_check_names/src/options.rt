@@ -31,18 +31,18 @@ The first argument is the kind of the names:
 The other arguments are names and options, in any order:
 
     --stdin           reads the names from standard input, one on each line
-    -z                reads them too, but each name ends with a NUL
+    -z                reads names that end with a NUL from standard input
     --protect LIST    the file systems to protect, separated by commas: windows,
                       hfs and ntfs, or none. The default is all three. windows
                       protects NTFS, too. For paths, components, submodules and
                       safe-ref
-    --accept NAMES    names, separated by slashes, that are checked without
-                      windows, as components and in paths: aux.c/con.h accepts
-                      these two. It can be given 16 times
-    --repair          prints each name of a branch or a ref, repaired if it is
-                      invalid, and nothing else; after -z each with a NUL at its
-                      end. Standard error says which names have no repair, such
-                      as the branch HEAD or the ref main, and what is wrong
+    --accept NAMES    accepts names that only Windows forbids, as components and
+                      in paths. Slashes separate them: aux.c/con.h accepts these
+                      two. It can be given 16 times
+    --repair          for branches and refs: prints each name, repaired if it is
+                      invalid, and nothing else; with -z each ends with a NUL.
+                      Standard error says which names have no repair, such as the
+                      branch HEAD or the ref main, and what is wrong
     -v, --verbose     adds the error's name and its offset in bytes, from 0
     --                ends the options, for names that begin with a dash
     -h, --help        prints this text

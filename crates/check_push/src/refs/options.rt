@@ -18,8 +18,8 @@ is not checked. A line has the refused name in quotes, and why it is refused:
 
     ref \"refs/heads/a b\" Reference name contains invalid byte: \" \"
 
-In the namespace NS refs/namespaces/NS/INNER is INNER. So if INNER begins with
-refs/, that name is checked too, and so on inwards.
+In the namespace NS, the reference refs/namespaces/NS/INNER is INNER. So if
+INNER begins with refs/, that name is checked too, and so on inwards.
 
     --ids        also prints a line with the id NEW for each reference that is
                  neither deleted nor refused; with the name after it, in quotes,

@@ -17,14 +17,14 @@ Prints a line for each entry of a Git tree whose name is refused:
 
 Standard input is what `git cat-file --batch` prints. If its format ends with
 %(rest), the directory of the tree is known. A line has the id of the tree, the
-mode, the quoted path, and why it is refused, as
+mode, the quoted path, and why it is refused, for example
 
     4b825dc.. 40000 \"src/.GIT\" The .git name may never be used
 
-The path is the directory, if it is known, a slash and the name. Of a directory
-of more than 128 bytes it has the first 128 and '...'. A line begins with
-'windows ' if only the rules of Windows refuse the name: then --accept accepts
-it.
+The path is the directory, if it is known, a slash and the name. If the
+directory is longer than 128 bytes, only its first 128 are shown, with '...'. A
+line begins with 'windows ' if only the rules of Windows refuse the name, so that
+--accept accepts it.
 
     --protect LIST    the file systems to protect, separated by commas: windows,
                       hfs and ntfs, or none. The default is all three. windows
@@ -35,9 +35,9 @@ it.
     --end             the input has to be complete: no object is missing, and
                       the last line is '..end missing', which git cat-file
                       prints for the word ..end
-    --accept NAMES    names, separated by slashes, that are checked without
-                      windows: aux.c/con.h accepts these two. For more names
-                      than fit into an argument it can be given 16 times
+    --accept NAMES    accepts names that only Windows forbids. Slashes separate
+                      them: aux.c/con.h accepts these two. For more names than
+                      fit into an argument it can be given 16 times
     -h, --help        prints this text
     --version         prints the version
 

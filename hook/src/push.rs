@@ -3,14 +3,14 @@
 
 use crate::answer::Answer;
 use crate::child::{join, spawn, Child};
-use crate::failure::{OrFail, Result};
+use crate::failure::{say_failure, OrFail, Result};
 use crate::finding::id;
 use crate::git::Git;
 use crate::limits::Limits;
-use crate::messages::{say, say_failure};
 use crate::pipeline::{Pipeline, TreeList};
 use crate::places::Pushed;
 use crate::settings::{read_config, start_config, Settings};
+use crate::text::say;
 use crate::verdict::{Checked, Verdict, WITHOUT_PATHS};
 use std::env;
 use std::ffi::OsStr;

@@ -1,9 +1,8 @@
 //! What the hook tells the author of a push that it refuses.
 
 use crate::finding::{Finding, Group, Groups, Kind};
-use crate::messages::printable;
 use crate::places::Pushed;
-use crate::quoting::in_quotes;
+use crate::text::{in_quotes, printable};
 
 /// How many lines of names are shown, how long a line may be, and how long a path in it.
 const MOST_LINES: usize = 10;

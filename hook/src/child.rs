@@ -64,8 +64,11 @@ impl Child {
     }
 
     /// Waits until it has ended. Any status but 0 is a failure.
-    pub fn succeed(self) -> Result<()> {
-        self.end()?.succeeded().map(drop)
+    pub fn succeed(mut self) -> Result<()> {
+        match self.process.wait() {
+            Ok(status) if status.success() => Ok(()), // (whatever it said)
+            _ => self.end()?.succeeded().map(drop),
+        }
     }
 
     /// Reads all that it prints, and waits until it has ended.

@@ -1,6 +1,8 @@
-//! Why a check ended without a verdict. Failures are values; `messages.rs` has their texts.
+//! Why a check ended without a verdict, as a value, and as people read it.
 
-use std::io;
+use crate::limits::Limits;
+use crate::text::{printable, say};
+use std::io::{self, ErrorKind};
 
 #[derive(Debug)]
 pub enum Failure {
@@ -29,12 +31,18 @@ pub enum How {
 }
 
 const SIGPIPE: i32 = 13;
+const SIGXCPU: i32 = 24;
+
+const FULL_CLONE: &str =
+    "A commit is missing. If your clone is shallow, complete it first: git fetch --unshallow";
+/// How much of a process's own message is shown: its end.
+const LONGEST_SAID: usize = 1000;
 
 impl Failure {
     /// Whether it most likely comes from the failure of a process that should have read on.
     fn is_secondary(&self) -> bool {
         match self {
-            Self::System(_, error) => error.kind() == io::ErrorKind::BrokenPipe,
+            Self::System(_, error) => error.kind() == ErrorKind::BrokenPipe,
             Self::Ended(ended) => ended.how == How::Signal(SIGPIPE),
             _ => false,
         }
@@ -63,5 +71,61 @@ pub trait OrFail<T> {
 impl<T> OrFail<T> for io::Result<T> {
     fn or_fail(self, what: impl Into<String>) -> Result<T> {
         self.map_err(|error| Failure::System(what.into(), error))
+    }
+}
+
+/// Says why a check failed, after these words, and what may help. The limits are those of the settings,
+/// if there are some.
+pub fn say_failure(before: &str, failure: &Failure, limits: Option<Limits>) {
+    let (what, help) = of_failure(failure, limits);
+    say(&format!("{before}: {what}"));
+    if let Some(help) = help {
+        say(&help);
+    }
+}
+
+fn of_failure(failure: &Failure, limits: Option<Limits>) -> (String, Option<String>) {
+    let more_memory = limits.map(|Limits { megabytes, .. }| {
+        format!("A process may use {megabytes} MB of memory: an administrator can raise names.megabytes.")
+    });
+    let more_time = limits.map(|Limits { seconds, .. }| {
+        format!("A process may use {seconds} s, and one more for each 4000 objects of the push: an administrator can raise names.seconds.")
+    });
+    match failure {
+        Failure::Ended(ended) if ended.how == How::Signal(SIGXCPU) => {
+            (format!("{} needs too much processor time", ended.process), more_time)
+        }
+        Failure::Ended(ended) => {
+            let said = of_process(ended);
+            let help = if said.to_lowercase().contains("memory") {
+                more_memory
+            } else if said.contains("Failed to traverse parents of commit") {
+                Some(FULL_CLONE.into())
+            } else {
+                None
+            };
+            (said, help)
+        }
+        Failure::System(what, error) => {
+            let help = more_memory.filter(|_| error.kind() == ErrorKind::OutOfMemory);
+            (format!("{what}: {error}"), help)
+        }
+        Failure::Other(what) => (what.clone(), None),
+        Failure::Helped(failure, help) => (of_failure(failure, limits).0, Some((*help).into())),
+    }
+}
+
+/// How a process ended, and the end of what it said.
+fn of_process(ended: &Ended) -> String {
+    let Ended { process, how, said } = ended;
+    let said = said.strip_suffix(b"\n").unwrap_or(said);
+    let said = printable(&said[said.len().saturating_sub(LONGEST_SAID)..]);
+    let said = said.strip_prefix(&format!("{process}: ")).unwrap_or(&said);
+    let colon = if said.is_empty() { "" } else { ": " };
+    match how {
+        // (one that may not even warn)
+        How::Status(0) => format!("{process}{colon}{said}"),
+        How::Status(status) => format!("{process} failed (status {status}){colon}{said}"),
+        How::Signal(signal) => format!("{process} failed (signal {signal}){colon}{said}"),
     }
 }

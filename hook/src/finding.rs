@@ -1,8 +1,7 @@
 //! What is refused, as the proved program's lines say it, and the line that people read about it.
 
-use crate::messages::printable;
-use crate::quoting::{in_quotes, quoted};
 use crate::report::{self, Line};
+use crate::text::{in_quotes, printable, quoted};
 use std::collections::HashMap;
 
 /// An object's id, of 40 or 64 digits.

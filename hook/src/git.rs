@@ -2,7 +2,7 @@
 
 use crate::child::Child;
 use crate::failure::{failed, Result};
-use crate::messages::printable;
+use crate::text::printable;
 use std::env;
 use std::ffi::OsString;
 use std::os::unix::ffi::OsStrExt;

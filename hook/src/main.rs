@@ -13,23 +13,22 @@ mod failure;
 mod finding;
 mod git;
 mod limits;
-mod messages;
 mod pipeline;
 mod places;
 mod push;
-mod quoting;
 mod report;
 mod scan;
 mod settings;
+mod text;
 mod verdict;
 
-use messages::say;
 use scan::Outcome;
 use std::env;
 use std::io::{self, Write};
 use std::os::unix::ffi::OsStrExt;
 use std::path::Path;
 use std::process::ExitCode;
+use text::say;
 use verdict::Verdict;
 
 /// The directory of the proved program, next to this one. A release sets its name when it is built. No

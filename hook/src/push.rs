@@ -3,14 +3,14 @@
 
 use crate::answer::Answer;
 use crate::child::{join, spawn, Child};
-use crate::failure::{OrFail, Result};
+use crate::failure::{say_failure, OrFail, Result};
 use crate::finding::id;
 use crate::git::Git;
 use crate::limits::Limits;
-use crate::messages::{say, say_failure};
 use crate::pipeline::{Pipeline, TreeList};
 use crate::places::Pushed;
 use crate::settings::{read_config, start_config, Settings};
+use crate::text::say;
 use crate::verdict::{Checked, Verdict, WITHOUT_PATHS};
 use std::env;
 use std::ffi::OsStr;
@@ -53,24 +53,22 @@ impl Push {
         let read = io::stdin().read_to_end(&mut lines);
         read.or_fail("the lines of the push could not be read")?;
         let mut answer = Answer::default();
-        let mut found = |it| answer.add(it);
-        let (references, ids) = Pipeline::references(references, &lines, &mut found)?;
-        let (references, mut ids) = (Some(references), ids);
+        let (references, mut ids) =
+            Pipeline::references(references, &lines, &mut |it| answer.add(it))?;
         if !answer.is_empty() {
             // (a refused reference doesn't hide what its files would be refused for)
             ids.lines = new_ids(&lines);
         }
-        let mut found = |it| answer.add(it);
         let pushed = ids.lines.clone();
         let (trees, modules) = if pushed.is_empty() {
             drop(list); // (this kills it)
             (None, ids.replacements)
         } else {
-            let (trees, modules) = pipeline.trees(list, ids, &mut found)?;
+            let (trees, modules) = pipeline.trees(list, ids, &mut |it| answer.add(it))?;
             (Some(trees), modules)
         };
-        let submodules = pipeline.submodules(modules, &mut found)?;
-        let verdict = Verdict::of(Checked { references, trees, submodules });
+        let submodules = pipeline.submodules(modules, &mut |it| answer.add(it))?;
+        let verdict = Verdict::of(Checked { references: Some(references), trees, submodules });
         if let Verdict::Refused = verdict {
             let old = pipeline.settings.old();
             let text = answer.text(&Pushed { git: &pipeline.git, ids: &pushed, old: &old });

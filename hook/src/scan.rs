@@ -6,15 +6,15 @@ mod list;
 mod options;
 
 use crate::child::{output_of, run as run_to_end};
-use crate::failure::{failed, Failure, OrFail, Result};
+use crate::failure::{failed, say_failure, Failure, OrFail, Result};
 use crate::finding::{id, Finding, Groups};
 use crate::git::Git;
-use crate::messages::{printable, say, say_failure};
 use crate::pipeline::{Ids, OnFinding, Pipeline};
 use crate::settings::{read_config, start_config, Settings};
+use crate::text::{printable, say};
 use crate::verdict::{Checked, Report, Verdict, WITH_PATHS};
 use copy::Copy;
-use options::{misused, Asked, Options};
+use options::{misused, Options};
 use std::env;
 use std::ffi::{OsStr, OsString};
 use std::fs;
@@ -36,8 +36,8 @@ const COPY_IT: &str =
 /// Scans, or prints the help.
 pub fn run(program: PathBuf) -> Outcome {
     let outcome = match options::parse(env::args_os().skip(1)) {
-        Ok(Asked::Help) => list::write(options::HELP).map(|()| Outcome::Printed),
-        Ok(Asked::Scan(options)) => find_and_scan(program, options),
+        Ok(None) => list::write(options::HELP).map(|()| Outcome::Printed),
+        Ok(Some(options)) => find_and_scan(program, options),
         Err(failure) => Err(failure),
     };
     outcome.unwrap_or_else(|failure| {

@@ -5,7 +5,7 @@ use crate::child::Child;
 use crate::failure::{failed, Failure, How, Result};
 use crate::git::{version_in, Git, Version};
 use crate::limits::Limits;
-use crate::messages::printable;
+use crate::text::printable;
 use crate::verdict::{LENT, OLD};
 use std::ffi::{OsStr, OsString};
 use std::os::unix::ffi::OsStrExt;

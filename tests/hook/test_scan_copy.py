@@ -95,7 +95,7 @@ def test_a_shallow_repository_is_a_failure(scan, server, source, copies):
 
 def test_without_room_for_a_copy_the_scan_fails(scan, server):
     assert scan("/", "--copy", server.path, TMPDIR="/nowhere") == scan_failed(
-        "no temporary directory could be made: No such file or directory (os error 2)"
+        "no temporary directory could be made below TMPDIR or /tmp"
     )
 
 

@@ -6,22 +6,22 @@
 use crate::child::output_of;
 use crate::failure::{failed, OrFail, Result};
 use crate::git::Git;
-use std::collections::hash_map::RandomState;
-use std::env;
 use std::ffi::{OsStr, OsString};
-use std::fs::{self, DirBuilder};
-use std::hash::{BuildHasher, Hasher};
-use std::io::Read;
-use std::os::unix::fs::DirBuilderExt;
+use std::fs;
+use std::io::{BufRead, BufReader};
+use std::os::unix::ffi::OsStrExt;
 use std::path::{Path, PathBuf};
 use std::process::{self, Command, Stdio};
 
 /// Also shows what the repository hides from those who fetch.
 const UPLOAD: &str = "git -c transfer.hideRefs=!refs/ upload-pack";
-/// Removes a directory if it is there when standard input ends, as when the scan is killed. (Git may go on
-/// then, and make it again.)
-const REMOVE: &str = "trap '' HUP INT TERM; echo; while read -r line; do :; done
-while [ -e \"$1\" ]; do rm -rf -- \"$1\"; sleep 1; done";
+/// Makes a directory that nobody else can read, and removes it when standard input ends, as when the scan
+/// is killed. (Git may go on then, and make it again.)
+const KEEP: &str = "trap '' HUP INT PIPE TERM
+directory=$(mktemp -d -t scan-names.XXXXXX) || exit
+echo \"$directory\"
+while read -r line; do :; done
+while [ -e \"$directory\" ]; do rm -rf -- \"$directory\"; sleep 1; done";
 /// What Git's commands would take for their repository.
 const OF_A_REPOSITORY: [&str; 8] = [
     "GIT_DIR",
@@ -39,7 +39,7 @@ pub struct Copy {
     /// Git that works in it.
     pub git: Git,
     directory: PathBuf,
-    remover: process::Child,
+    keeper: process::Child,
 }
 
 impl Copy {
@@ -63,19 +63,21 @@ impl Copy {
         Ok(copy)
     }
 
-    /// In a new directory, which nobody else can read, and which is removed whatever happens.
+    /// In a new directory, which is removed whatever happens.
     fn in_new_directory(git: Git) -> Result<Self> {
-        let directory = new_path()?;
-        let mut remove = Command::new("/bin/sh");
-        remove.args(["-c", REMOVE, "sh"]).arg(&directory);
-        remove.stdin(Stdio::piped()).stdout(Stdio::piped());
-        let remover = remove.stderr(Stdio::null()).spawn();
-        let mut remover = remover.or_fail("/bin/sh could not be started")?;
-        let ready = remover.stdout.take().map(|mut it| it.read_exact(&mut [0]));
-        let made = ready.unwrap_or(Ok(()));
-        let made = made.and_then(|()| DirBuilder::new().mode(0o700).create(&directory));
-        made.or_fail(NOT_MADE)?;
-        Ok(Self { git, directory, remover })
+        let mut shell = Command::new("/bin/sh");
+        shell.args(["-c", KEEP]).stdin(Stdio::piped()).stdout(Stdio::piped());
+        let mut keeper =
+            shell.stderr(Stdio::null()).spawn().or_fail("/bin/sh could not be started")?;
+        let mut line = Vec::new();
+        let output = keeper.stdout.take().map(BufReader::new);
+        let read = output.map_or(Ok(0), |mut it| it.read_until(b'\n', &mut line));
+        match (read, line.strip_suffix(b"\n")) {
+            (Ok(_), Some(path)) => {
+                Ok(Self { git, directory: OsStr::from_bytes(path).into(), keeper })
+            }
+            _ => failed("no temporary directory could be made below TMPDIR or /tmp"),
+        }
     }
 
     fn clone(&self, options: &[&str], source: &OsStr, to: &Path) -> Result<()> {
@@ -89,8 +91,8 @@ impl Copy {
 impl Drop for Copy {
     fn drop(&mut self) {
         let _ = fs::remove_dir_all(&self.directory);
-        drop(self.remover.stdin.take());
-        let _ = self.remover.wait();
+        drop(self.keeper.stdin.take());
+        let _ = self.keeper.wait();
     }
 }
 
@@ -112,14 +114,3 @@ fn check_lazy_fetch(version: &[u32]) -> Result<()> {
     let version = version.iter().map(u32::to_string).collect::<Vec<_>>().join(".");
     failed(format!("git version {version} may run commands of a repository that it copies from a path: use Git 2.45.1 or later, or the last of its series"))
 }
-
-/// A path of which nobody knows.
-fn new_path() -> Result<PathBuf> {
-    // (`env::temp_dir` would take an empty TMPDIR for the current directory)
-    let parent = env::var_os("TMPDIR").filter(|it| !it.is_empty());
-    let parent = fs::canonicalize(parent.unwrap_or_else(|| "/tmp".into())).or_fail(NOT_MADE)?;
-    let number = RandomState::new().build_hasher().finish();
-    Ok(parent.join(format!("scan-names.{number:016x}")))
-}
-
-const NOT_MADE: &str = "no temporary directory could be made";

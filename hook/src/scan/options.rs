@@ -2,16 +2,10 @@
 
 use crate::failure::{Failure, Result};
 use crate::finding::split_once;
-use crate::messages::printable;
 use crate::settings::{is_list, LISTS};
+use crate::text::printable;
 use std::ffi::{OsStr, OsString};
 use std::os::unix::ffi::OsStrExt;
-
-/// What the arguments ask for.
-pub enum Asked {
-    Help,
-    Scan(Options),
-}
 
 #[derive(Default)]
 pub struct Options {
@@ -63,8 +57,8 @@ what files contain, or about the repository's hooks and settings.
 ";
 
 /// Reads the arguments. An option of `git rev-list` that doesn't select commits is unknown: with --quiet it
-/// would list nothing, and all would be well.
-pub fn parse(mut words: impl Iterator<Item = OsString>) -> Result<Asked> {
+/// would list nothing, and all would be well. Returns nothing if they ask for the help.
+pub fn parse(mut words: impl Iterator<Item = OsString>) -> Result<Option<Options>> {
     let mut options = Options::default();
     while let Some(word) = words.next() {
         let (option, value) = match split_once(word.as_bytes(), b'=') {
@@ -79,7 +73,7 @@ pub fn parse(mut words: impl Iterator<Item = OsString>) -> Result<Asked> {
             _ => misused(format!("{} needs {what}", printable(option))),
         };
         match (option, has_value) {
-            (b"-h" | b"--help", false) => return Ok(Asked::Help),
+            (b"-h" | b"--help", false) => return Ok(None),
             (b"--protect", _) => {
                 options.protect = Some(list(given(&format!("a list: {LISTS}"))?)?);
             }
@@ -100,7 +94,7 @@ pub fn parse(mut words: impl Iterator<Item = OsString>) -> Result<Asked> {
     match (options.copy.is_some(), options.index, options.words.is_empty()) {
         (true, true, _) => misused("--index and --copy don't go together"),
         (true, _, false) => misused("--copy accepts no revisions"),
-        _ => Ok(Asked::Scan(options)),
+        _ => Ok(Some(options)),
     }
 }
 

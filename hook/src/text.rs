@@ -1,6 +1,7 @@
-//! Names as people read them: as Git quotes them, and not longer than a line.
+//! What people read: names as Git quotes them, and messages, in printable ASCII.
 
-use std::fmt::Write;
+use std::fmt::Write as _;
+use std::io::{self, Write};
 
 /// The bytes as Git quotes a path. What could be taken for the end of the path in a line is quoted
 /// too: `: `, or a space at the end. If there are more than `longest` characters, those in the middle
@@ -49,6 +50,25 @@ fn escape(text: &mut String, byte: u8) {
             let _ = write!(text, "\\{byte:03o}");
         }
     }
+}
+
+/// The bytes as a message shows them: on one line, with a question mark for each byte that isn't
+/// printable ASCII. Git's messages and paths can contain names of an attacker's choice, which could
+/// write anything to a terminal.
+pub fn printable(bytes: &[u8]) -> String {
+    let bytes = bytes.strip_suffix(b"\n").unwrap_or(bytes);
+    let shown = bytes.iter().map(|byte| match byte {
+        b'\n' | b'\t' => ' ',
+        b' '..=b'~' => char::from(*byte),
+        _ => '?',
+    });
+    shown.collect()
+}
+
+/// Prints a message. If standard error is closed, the exit status says enough.
+pub fn say(message: &str) {
+    let line = printable(message.as_bytes()) + "\n";
+    let _ = io::stderr().write_all(line.as_bytes());
 }
 
 #[cfg(test)]

@@ -46,7 +46,7 @@ impl Error {
         self.fault
     }
 
-    /// Where in the name that is, in bytes. The offset is never more than the length of the name.
+    /// Where in the name that is, in bytes. It is never more than the length of the name.
     pub fn offset(&self) -> usize {
         self.offset
     }

@@ -7,6 +7,8 @@ import tarfile
 
 import pytest
 
+from scripts.checks.check_quotes import pages
+from scripts.deriving.update_benchmarks import SPEEDS
 from tests.pages.blocks import ROOT
 
 # Names that README says are accepted, each as what it is checked.
@@ -145,3 +147,11 @@ def test_tar_lists_a_name_with_a_newline_on_one_line(tmp_path):
     subprocess.check_call(["tar", "-cf", archive, "a\nb"], cwd=tmp_path)
     listed = subprocess.check_output(["tar", "-tf", archive], text=True)
     assert listed == "a\\nb\n"
+
+
+def test_a_time_of_a_call_is_only_where_a_script_writes_it_from_the_figures():
+    for page in pages(ROOT):
+        text = page.read_text("utf-8")
+        rest = re.sub(r"(?s)<!-- (\w+) -->\n.*?<!-- end -->", "", text)
+        rest = "\n".join(it for it in rest.split("\n") if not it.startswith(SPEEDS))
+        assert re.findall(r"\d (?:ns|µs|ms|nanoseconds|milliseconds)\b", rest) == []

@@ -49,7 +49,7 @@ pub struct Pipeline {
 /// What is done with a finding.
 pub type OnFinding<'a> = &'a mut dyn FnMut(Finding);
 
-/// What `check_push refs` allows, and what of that is to be checked.
+/// What is left to check of the references that `check_push refs` allows.
 #[derive(Default)]
 pub struct Ids {
     /// The ids of the references, each on a line.
@@ -57,14 +57,14 @@ pub struct Ids {
     pub replacements: Modules,
 }
 
-/// The blobs that are read as `.gitmodules`, and one place of each. Only a check of references or of trees
-/// makes one, and only `submodules` uses it up.
+/// The blobs that are read as `.gitmodules`, with one place of each. Only a check of references or of trees
+/// makes such a value, and only `submodules` consumes it.
 #[derive(Default)]
 #[must_use]
 pub struct Modules(HashMap<Id, Place>);
 
-/// `git rev-list` and the `git cat-file` that prints the trees which it lists. Both wait for ids, so
-/// they can be started before these are known, and are ready then.
+/// `git rev-list`, and the `git cat-file` that prints the trees which it lists. Both wait for ids, so they
+/// can be started before the ids are known.
 pub struct TreeList {
     rev_list: Child,
     cat_file: Child,
@@ -167,8 +167,8 @@ impl Pipeline {
         command
     }
 
-    /// Starts to print the objects whose ids it gets. (A push can be made so that Git applies chains of
-    /// deltas again and again, unless it keeps what they have made.)
+    /// Starts to print the objects whose ids it gets. (In a hostile push Git would apply the same chains of
+    /// deltas again and again, unless it keeps the results.)
     fn cat_file(&self, format: &str) -> Result<Child> {
         let megabytes = self.settings.limits.megabytes / 2;
         let cache = format!("core.deltaBaseCacheLimit={megabytes}m");
@@ -211,8 +211,8 @@ impl Modules {
     }
 }
 
-/// Gives `git rev-list` its ids, and passes on what it lists. Only if it ended with 0 has it listed all, and
-/// the list gets its end.
+/// Gives `git rev-list` its ids, and passes on what it lists. If it ends with 0, it has listed everything, so
+/// only then does the list get its end.
 fn pass_on(mut rev_list: Child, ids: &[u8], mut to: ChildStdin) -> Result<()> {
     let written = write_all(rev_list.input()?, ids);
     let copied = io::copy(&mut rev_list.output()?, &mut to);
@@ -226,7 +226,7 @@ fn malformed(process: &str) -> Failure {
     Failure::Other(format!("{process} reported in another way"))
 }
 
-/// Passes a finding on. The line is about a refused name.
+/// Passes a finding on, and says that the line is about a refused name.
 fn refused(found: OnFinding, finding: Finding) -> bool {
     found(finding);
     true

@@ -8,9 +8,9 @@ use crate::text::{in_quotes, printable};
 const MOST_LINES: usize = 10;
 const LONGEST_LINE: usize = 300;
 const LONGEST_PATH: usize = 120;
-/// How many refused names are kept: a push can have millions.
+/// How many refused names are kept, because a push can contain millions.
 const MOST_KEPT: usize = 10_000;
-/// How much of a commit's id is shown.
+/// How many digits of a commit's id are shown.
 const ABBREVIATED: usize = 12;
 
 const OLD: &str = "If no commit of your push adds a name, the server has it already: first push one commit on top of the server's branch that changes it.";
@@ -26,14 +26,14 @@ impl Answer {
         self.found.is_empty()
     }
 
-    /// Adds what is refused, until it is too much.
+    /// Adds something refused, unless there is too much already.
     pub fn add(&mut self, finding: Finding) {
         if self.found.len() < MOST_KEPT {
             self.found.push(finding);
         }
     }
 
-    /// The lines of what is refused, each once, how many there are, and what helps.
+    /// What the author reads: the first lines, each once, how many there are, and what to do.
     pub fn text(mut self, pushed: &Pushed) -> String {
         pushed.find_directories(&mut self.found);
         let mut groups = Groups::default();
@@ -88,7 +88,7 @@ fn accepting<'a>(findings: impl Iterator<Item = &'a Finding>) -> Option<String> 
     Some(format!("An administrator can accept a name that only Windows forbids: git config --add names.accept {name}"))
 }
 
-/// How to change the first commit that has something refused.
+/// How to change the first commit that contains something refused.
 fn change(commit: &str) -> String {
     let short = abbreviated(commit);
     format!("To change commit {short}: git rebase -i {short}~1 (or --root, if it has no parent), and write \"edit\" in its line.")
@@ -98,7 +98,7 @@ fn abbreviated(commit: &str) -> &str {
     commit.get(..ABBREVIATED).unwrap_or(commit)
 }
 
-/// A finding's line, and one with what offends and the first commit that has it, if that is known.
+/// A finding's line. Below it, as far as they are known, the offending part and the first commit.
 fn shown_line(finding: &Finding, commit: Option<&str>) -> String {
     let mut line = finding.line(LONGEST_PATH);
     if line.len() > LONGEST_LINE {

@@ -1,7 +1,7 @@
 //! Child processes.
 //!
-//! Each is started by an absolute path, and without code between fork and exec. So the standard library
-//! calls `posix_spawn`, which doesn't give a file that isn't a program to a shell, as `execvp` would.
+//! Each is started by an absolute path, with no code between fork and exec, so the standard library calls
+//! `posix_spawn`. Unlike `execvp`, that doesn't pass a file which isn't a program to a shell.
 
 use crate::failure::{failed, Ended, Failure, How, OrFail, Result};
 use std::io::{Read, Write};
@@ -11,9 +11,9 @@ use std::sync::mpsc::{channel, Receiver};
 use std::thread::{self, Scope, ScopedJoinHandle};
 use std::time::Duration;
 
-/// How much of what a process writes to standard error is kept: the last so many bytes.
+/// How many bytes of what a process writes to standard error are kept: the last ones.
 const KEPT: usize = 4000;
-/// How long we wait for the rest of it when the process has ended: another one may keep it open.
+/// How long to wait for the rest of it after the process has ended. Another process may keep it open.
 const PATIENCE: Duration = Duration::from_secs(1);
 
 /// A child. If nobody waits for it, it is killed.
@@ -24,8 +24,8 @@ pub struct Child {
 }
 
 impl Child {
-    /// Starts it. This takes the command, and so closes our ends of the pipes that were given to
-    /// it: a pipe has to end when its writer does, and a writer has to fail when its reader is gone.
+    /// Starts a child. This consumes the command, which closes our copies of its pipes: a pipe has to end
+    /// when its writer does, and a writer has to fail when its reader is gone.
     pub fn start(name: &'static str, mut command: Command) -> Result<Self> {
         command.stderr(Stdio::piped());
         let mut process = command.spawn().or_fail(format!("{name} could not be started"))?;
@@ -39,13 +39,13 @@ impl Child {
         Ok(child)
     }
 
-    /// Our end of its standard input, once.
+    /// Our end of its standard input. There is one.
     pub fn input(&mut self) -> Result<ChildStdin> {
         let input = self.process.stdin.take();
         input.map_or_else(|| failed(format!("{} has no pipe", self.name)), Ok)
     }
 
-    /// Our end of its standard output, once.
+    /// Our end of its standard output. There is one.
     pub fn output(&mut self) -> Result<ChildStdout> {
         let output = self.process.stdout.take();
         output.map_or_else(|| failed(format!("{} has no pipe", self.name)), Ok)
@@ -97,7 +97,7 @@ impl Drop for Child {
     }
 }
 
-/// Reads all, so that the process never waits, and keeps the end.
+/// Reads everything, so that the process never blocks, and keeps the end of it.
 fn end_of(mut pipe: ChildStderr) -> Vec<u8> {
     let (mut kept, mut bytes) = (Vec::new(), [0; KEPT]);
     while let Ok(length @ 1..) = pipe.read(&mut bytes) {
@@ -113,7 +113,7 @@ pub fn run(name: &'static str, mut command: Command) -> Result<(Ended, Vec<u8>)>
     Child::start(name, command)?.finish()
 }
 
-/// The same of a command that has to end with 0.
+/// The same for a command that has to end with 0. Returns what it printed.
 pub fn output_of(name: &'static str, command: Command) -> Result<Vec<u8>> {
     let (ended, output) = run(name, command)?;
     ended.succeeded().map(|_| output)

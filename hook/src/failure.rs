@@ -8,7 +8,7 @@ use std::io::{self, ErrorKind};
 pub enum Failure {
     /// A process ended in a way that it may not.
     Ended(Ended),
-    /// Something could not be done, for the reason that the system gives.
+    /// Something could not be done, for the system's reason.
     System(String, io::Error),
     /// Anything else.
     Other(String),
@@ -35,11 +35,11 @@ const SIGXCPU: i32 = 24;
 
 const FULL_CLONE: &str =
     "A commit is missing. If your clone is shallow, complete it first: git fetch --unshallow";
-/// How much of a process's own message is shown: its end.
+/// How many bytes of a process's own message are shown: the last ones.
 const LONGEST_SAID: usize = 1000;
 
 impl Failure {
-    /// Whether it most likely comes from the failure of a process that should have read on.
+    /// Whether it is most likely a consequence: the process that should have read on has failed.
     fn is_secondary(&self) -> bool {
         match self {
             Self::System(_, error) => error.kind() == ErrorKind::BrokenPipe,
@@ -49,7 +49,7 @@ impl Failure {
     }
 }
 
-/// The first of several failures that doesn't come from another.
+/// The first of several failures that isn't a consequence of another.
 pub fn first_of(failures: impl IntoIterator<Item = Option<Failure>>) -> Failure {
     let failures = failures.into_iter().flatten();
     let (secondary, first): (Vec<_>, Vec<_>) = failures.partition(Failure::is_secondary);
@@ -74,8 +74,8 @@ impl<T> OrFail<T> for io::Result<T> {
     }
 }
 
-/// Says why a check failed, after these words, and what may help. The limits are those of the settings,
-/// if there are some.
+/// Prints why a check failed, after these words, and what may help. There may be limits, as the settings have
+/// them.
 pub fn say_failure(before: &str, failure: &Failure, limits: Option<Limits>) {
     let (what, help) = of_failure(failure, limits);
     say(&format!("{before}: {what}"));

@@ -1,4 +1,4 @@
-//! What is refused, as the proved program's lines say it, and the line that people read about it.
+//! What is refused: read from the proved program's lines, and written as people read it.
 
 use crate::report::{self, Line};
 use crate::text::{in_quotes, printable, quoted};
@@ -34,13 +34,13 @@ pub enum Kind {
 /// Where it is: the reference, the entry, or the `.gitmodules` file.
 #[derive(Clone)]
 pub struct Place {
-    /// A reference's name, or a path. If it is long, its beginning.
+    /// A reference's name, or a path. Only the beginning of a long one.
     pub path: Vec<u8>,
     /// The tree in which the path begins, if that isn't known to be the root.
     pub tree: Option<Id>,
 }
 
-/// The reasons about which more is said, or how they begin.
+/// The reasons about which more is said. Of `ILLEGAL` this is the beginning.
 const DEVICE: &[u8] = b"Windows device-names may have side-effects and are not allowed";
 const ILLEGAL: &[u8] = b"Trailing spaces or dots, and the following characters anywhere, are forbidden in Windows paths";
 const PREFIX: &[u8] = b"Windows path prefixes are not allowed";
@@ -108,7 +108,7 @@ impl Finding {
         self.place.path.rsplit(|byte| *byte == b'/').next().unwrap_or_default()
     }
 
-    /// The part of the name that offends, if it is a part: the device, the drive, or a character.
+    /// The part of the name that offends, unless it is the whole: a device, a drive, or a character.
     pub fn offender(&self) -> Option<&[u8]> {
         let name = self.name();
         let first = |bytes: &[u8]| name.iter().position(|byte| bytes.contains(byte));
@@ -125,8 +125,8 @@ impl Finding {
         }
     }
 
-    /// Whether an administrator may well accept the name, and a setting can have it. (A name with a
-    /// backslash is a path to Windows.)
+    /// Whether an administrator can accept the name by a setting, and may. (To Windows, a name with a
+    /// backslash is a path.)
     pub fn can_be_accepted(&self) -> bool {
         let is_windows = matches!(self.kind, Kind::Entry { is_windows: true, .. });
         let is_whole = self.place.path.len() <= report::LONGEST_NAME;
@@ -159,7 +159,7 @@ impl Finding {
     }
 }
 
-/// Findings that have one line, such as a name that is in many versions of its directory.
+/// Findings with the same line, such as a name in many versions of its directory.
 pub struct Group {
     /// The first of them.
     pub finding: Finding,
@@ -188,7 +188,7 @@ impl Groups {
     }
 }
 
-/// A reason that has an offset before it, with the offset at its end.
+/// A reason, with the offset at its end instead of before it.
 fn with_offset_last(text: &[u8]) -> Vec<u8> {
     match split_once(text, b' ') {
         Some((offset, reason)) if offset.iter().all(u8::is_ascii_digit) => {
@@ -198,13 +198,13 @@ fn with_offset_last(text: &[u8]) -> Vec<u8> {
     }
 }
 
-/// The id that these bytes are.
+/// These bytes, if they are an id.
 pub fn id(text: &[u8]) -> Option<Id> {
     let is_digit = |byte: &u8| matches!(byte, b'0'..=b'9' | b'a'..=b'f');
     (matches!(text.len(), 40 | 64) && text.iter().all(is_digit)).then(|| text.into())
 }
 
-/// What is before the first such byte, and what is after it.
+/// What is before this byte, where it first occurs, and what is after it.
 pub fn split_once(text: &[u8], byte: u8) -> Option<(&[u8], &[u8])> {
     let at = text.iter().position(|it| *it == byte)?;
     Some((&text[..at], &text[at + 1..]))

@@ -20,7 +20,7 @@ pub struct Git {
 /// What a push needs of the caller's environment. Without HOME, Git would fail at a path such as
 /// `~/attributes` in the server's settings.
 const OF_A_PUSH: [&str; 3] = ["HOME", "GIT_OBJECT_DIRECTORY", "GIT_ALTERNATE_OBJECT_DIRECTORIES"];
-/// By these variables, or some that begin so, an account has settings.
+/// An account can have settings in these variables, and in those that begin with one of these words.
 const OF_AN_ACCOUNT: [&str; 6] = [
     "GIT_CONFIG_GLOBAL",
     "GIT_CONFIG_PARAMETERS",
@@ -48,17 +48,16 @@ impl Git {
         Ok(git.with("GIT_NO_REPLACE_OBJECTS", "1"))
     }
 
-    /// This fails if grafts or the borders of a shallow clone would hide history.
+    /// Commands fail instead of leaving out history that grafts or a shallow clone hide.
     pub fn with_whole_history(&self) -> Self {
         // (Git would call a file that is there deprecated)
         let git = self.with("GIT_GRAFT_FILE", "/dev/null/none");
         git.with("GIT_SHALLOW_FILE", "")
     }
 
-    /// In the repository of a push, as receive-pack has set it: a hook runs in it, and the objects of the
-    /// push are in a quarantine of their own. Git gets no other variable: neither settings of the account
-    /// that pushes, nor a file into which it would write what it does (`GIT_TRACE`), nor libraries
-    /// (`LD_PRELOAD`).
+    /// In the repository of a push, as receive-pack has set it up for a hook, with the push's objects in a
+    /// quarantine. Git gets no other variable: neither the account's settings, nor a file to write a trace
+    /// into (`GIT_TRACE`), nor libraries (`LD_PRELOAD`).
     pub fn in_push() -> Result<Self> {
         let mut git = Self::find()?;
         git.environment.retain(|(name, _)| OF_A_PUSH.iter().any(|it| name == it));
@@ -98,8 +97,8 @@ impl Git {
         command
     }
 
-    /// Starts a short command that writes Git's version to standard error, for `version_in`. (That takes
-    /// one process less than `git version`.)
+    /// Starts a short command that also writes Git's version to standard error, for `version_in`. (`git
+    /// version` would be one more process.)
     pub fn start_traced(&self, name: &'static str, words: &[&str]) -> Result<Child> {
         let git = self.with("GIT_TRACE2", "1").with("GIT_TRACE2_BRIEF", "1");
         let mut command = git.command(words);

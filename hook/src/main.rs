@@ -1,9 +1,8 @@
 //! A pre-receive hook of Git that refuses hostile names, and a scan of a repository.
 //!
-//! A proved program, `check_push`, decides about names. This one gives its subcommands what Git lists,
-//! reads their reports, and sees how each process ended. It fails closed: apart from help, only
-//! [`Verdict::Clean`] ends with status 0. `verdict.rs` says what that hangs on; `check` in push.rs and
-//! scan.rs say what is checked.
+//! A proved program, `check_push`, decides about names. This one passes to it what Git lists, reads its
+//! reports, and sees how each process ended. It fails closed: apart from help, only [`Verdict::Clean`]
+//! ends with status 0. `verdict.rs` says what that depends on. Then read `check` in push.rs.
 #![deny(unsafe_code, unused)]
 #![warn(clippy::pedantic)]
 
@@ -31,14 +30,14 @@ use std::process::ExitCode;
 use text::say;
 use verdict::Verdict;
 
-/// The directory of the proved program, next to this one. A release sets its name when it is built. No
-/// other release has it, so no push is checked by parts of two.
+/// The directory of the proved program, next to this one. Its name is set when a release is built. No other
+/// release has that name, so a push is never checked by parts of two.
 const RELEASE: &str = match option_env!("GIX_VALIDATE_RELEASE") {
     Some(name) => name,
     None => "",
 };
 
-/// Does what this program does under the name by which it is installed.
+/// Runs the hook or the scan, by the name under which this program is installed.
 fn main() -> ExitCode {
     // (the file that runs, with all links resolved: an administrator may link it under any name)
     let file = match env::current_exe() {
@@ -80,7 +79,7 @@ fn why_not(file: &Path) -> String {
     )
 }
 
-/// Says why not even the name of this program is known.
+/// Says why this program can't tell what to do.
 fn unusable(why: &str) -> ExitCode {
     say(&format!("push refused: {why}"));
     ExitCode::from(2)

@@ -7,10 +7,9 @@
 //!                       └─blobs read as .gitmodules─► git cat-file ─► check_push submodules
 //! ```
 //!
-//! Each arrow between two processes is one pipe, so this program only reads reports. A list of objects
-//! ends with the word `..end`, for which `git cat-file` prints `..end missing`. `check_push` runs with
-//! `--end`: its status is 2 unless that is the last line, and no object is missing. So it sees whether
-//! what it reads is whole.
+//! A list of objects ends with the word `..end`, for which `git cat-file` prints `..end missing`.
+//! `check_push` runs with `--end`: its status is 2 unless that is the last line, and no object is missing.
+//! So it sees whether what it reads is whole.
 
 use crate::child::{join, spawn, write_all, Child};
 use crate::failure::{Failure, OrFail, Result};
@@ -22,7 +21,6 @@ use crate::verdict::{Report, LIST};
 use std::collections::HashMap;
 use std::ffi::OsStr;
 use std::io;
-use std::os::unix::io::AsFd;
 use std::os::unix::process::CommandExt;
 use std::path::PathBuf;
 use std::process::{ChildStdin, Command, Stdio};
@@ -51,7 +49,7 @@ pub struct Pipeline {
 /// What is done with a finding.
 pub type OnFinding<'a> = &'a mut dyn FnMut(Finding);
 
-/// What `check_push refs` allows, and what of that is to be checked.
+/// What is left to check of the references that `check_push refs` allows.
 #[derive(Default)]
 pub struct Ids {
     /// The ids of the references, each on a line.
@@ -59,19 +57,17 @@ pub struct Ids {
     pub replacements: Modules,
 }
 
-/// The blobs that are read as `.gitmodules`, and one place of each. Only a check of references or of trees
-/// makes one, and only `submodules` uses it up.
+/// The blobs that are read as `.gitmodules`, with one place of each. Only a check of references or of trees
+/// makes such a value, and only `submodules` consumes it.
 #[derive(Default)]
 #[must_use]
 pub struct Modules(HashMap<Id, Place>);
 
-/// `git rev-list` and the `git cat-file` that prints the trees which it lists. Both wait for ids, so
-/// they can be started before these are known, and are ready then.
+/// `git rev-list`, and the `git cat-file` that prints the trees which it lists. Both wait for ids, so they
+/// can be started before the ids are known.
 pub struct TreeList {
     rev_list: Child,
     cat_file: Child,
-    /// Where the list gets its end.
-    end: ChildStdin,
 }
 
 impl Pipeline {
@@ -99,19 +95,19 @@ impl Pipeline {
 
     /// Starts to list the trees that these words of `git rev-list` select, and to print them.
     pub fn start_list<S: AsRef<OsStr>>(&self, words: &[S]) -> Result<TreeList> {
-        let mut cat_file = self.cat_file(TREES)?;
-        let end = cat_file.input()?;
-        let copy = end.as_fd().try_clone_to_owned();
         let mut command = self.git.command(&LIST);
-        command.args(words).stdin(Stdio::piped());
-        command.stdout(copy.or_fail("a pipe could not be copied")?);
-        Ok(TreeList { rev_list: Child::start("git rev-list", command)?, cat_file, end })
+        command.args(words).stdin(Stdio::piped()).stdout(Stdio::piped());
+        thread::scope(|scope| {
+            let cat_file = spawn(scope, || self.cat_file(TREES))?;
+            let rev_list = Child::start("git rev-list", command)?;
+            Ok(TreeList { rev_list, cat_file: join(cat_file)? })
+        })
     }
 
     /// Checks the names in the trees of a list, which gets these ids. Also returns the blobs that a
     /// checkout reads as `.gitmodules`.
     pub fn trees(&self, list: TreeList, ids: Ids, found: OnFinding) -> Result<(Report, Modules)> {
-        let TreeList { mut rev_list, mut cat_file, end } = list;
+        let TreeList { rev_list, mut cat_file } = list;
         let Ids { lines, replacements: mut modules } = ids;
         let mut command = self.check("trees");
         command.args(["--end", "--modules", "--protect"]).arg(&self.settings.protect);
@@ -119,15 +115,10 @@ impl Pipeline {
             command.arg("--accept").arg(names);
         }
         command.stdin(cat_file.output()?);
-        let to = rev_list.input()?;
+        let to = cat_file.input()?;
         thread::scope(|scope| {
             // (while that reads its ids, the other program starts)
-            let lister = spawn(scope, move || {
-                let written = write_all(to, &lines);
-                // only if it has ended with 0 it has listed all
-                rev_list.succeed()?;
-                written.and_then(|()| write_all(end, &[END, b"\n"].concat()))
-            })?;
+            let lister = spawn(scope, move || pass_on(rev_list, &lines, to))?;
             let check = Child::start(CHECK_TREES, command)?;
             let report = Report::read(check, |line| {
                 if let Some(rest) = line.front.strip_prefix(b"modules ") {
@@ -176,8 +167,8 @@ impl Pipeline {
         command
     }
 
-    /// Starts to print the objects whose ids it gets. (A push can be made so that Git applies chains of
-    /// deltas again and again, unless it keeps what they have made.)
+    /// Starts to print the objects whose ids it gets. (In a hostile push Git would apply the same chains of
+    /// deltas again and again, unless it keeps the results.)
     fn cat_file(&self, format: &str) -> Result<Child> {
         let megabytes = self.settings.limits.megabytes / 2;
         let cache = format!("core.deltaBaseCacheLimit={megabytes}m");
@@ -220,11 +211,22 @@ impl Modules {
     }
 }
 
+/// Gives `git rev-list` its ids, and passes on what it lists. If it ends with 0, it has listed everything, so
+/// only then does the list get its end.
+fn pass_on(mut rev_list: Child, ids: &[u8], mut to: ChildStdin) -> Result<()> {
+    let written = write_all(rev_list.input()?, ids);
+    let copied = io::copy(&mut rev_list.output()?, &mut to);
+    rev_list.succeed()?;
+    written?;
+    copied.or_fail("git cat-file did not read all ids")?;
+    write_all(to, &[END, b"\n"].concat())
+}
+
 fn malformed(process: &str) -> Failure {
     Failure::Other(format!("{process} reported in another way"))
 }
 
-/// Passes a finding on. The line is about a refused name.
+/// Passes a finding on, and says that the line is about a refused name.
 fn refused(found: OnFinding, finding: Finding) -> bool {
     found(finding);
     true

@@ -1,5 +1,5 @@
-//! Where in a refused push something is, for the answer to its author: the directory of a tree, and
-//! the first commit that has a path.
+//! Where in a refused push something is, to tell its author: the directory of a tree, and the first
+//! commit that contains a path.
 
 use crate::child::{join, spawn, write_all, Child};
 use crate::failure::{OrFail, Result};
@@ -13,11 +13,11 @@ use std::os::unix::ffi::OsStrExt;
 use std::process::Stdio;
 use std::thread;
 
-/// How much is read of a list of trees, and of the changes of commits.
+/// How many bytes are read of a list of trees, and of the changes that commits make.
 const LONGEST_LIST: u64 = 64 << 20;
 const LONGEST_CHANGES: u64 = 16 << 20;
 
-/// The commits that change paths, the oldest first, also those whose changes a later one takes back.
+/// The commits that change some paths, oldest first, even if a later commit reverts the change.
 const REV_LIST: [&str; 6] =
     ["--literal-pathspecs", "rev-list", "--stdin", "--reverse", "--topo-order", "--full-history"];
 /// What each of them changes.
@@ -27,7 +27,7 @@ const DIFF_TREE: [&str; 13] = [
     "-c", "--raw", "--no-abbrev", "--no-renames", "-z",
 ];
 
-/// What a push brings.
+/// What is new in a push.
 pub struct Pushed<'a> {
     pub git: &'a Git,
     /// The ids of its references, each on a line.
@@ -37,8 +37,8 @@ pub struct Pushed<'a> {
 }
 
 impl Pushed<'_> {
-    /// Puts the directories of their trees before the paths of these. (What isn't found keeps the tree's
-    /// id, and is refused all the same.)
+    /// Completes paths with the directories of their trees. (A tree that isn't found keeps its id, and the
+    /// name is still refused.)
     pub fn find_directories(&self, findings: &mut [Finding]) {
         let trees = findings.iter().filter_map(|it| it.place.tree.clone());
         let mut directories = trees.map(|tree| (tree, None)).collect();
@@ -53,8 +53,8 @@ impl Pushed<'_> {
         }
     }
 
-    /// Finds the directories of these trees at the beginning of Git's list. (With long paths the list can be
-    /// quadratic.)
+    /// Finds the directories of these trees in the first part of Git's list, because with long paths the
+    /// whole list can be quadratic.
     fn list_directories(&self, directories: &mut HashMap<Id, Option<Vec<u8>>>) -> Result<()> {
         let mut missing = directories.len();
         let mut command = self.git.command(&LIST);
@@ -79,8 +79,8 @@ impl Pushed<'_> {
         })
     }
 
-    /// The first commit that has each of these, if the push has one: from the oldest to the newest of those
-    /// that change a path, the first in which the path has such an entry.
+    /// The first new commit that contains each of these, if there is one: the oldest of those that change the
+    /// path and make it such an entry.
     pub fn first_commits(&self, groups: &[Group]) -> Vec<Option<String>> {
         // (an answer without commits is one, too)
         let changes = self.changes(groups).unwrap_or_default();
@@ -102,8 +102,8 @@ impl Pushed<'_> {
         first
     }
 
-    /// The changes to these paths by each new commit, the oldest first: the commit's id, and then change and
-    /// path, each with a NUL.
+    /// The changes that new commits make to these paths, oldest first: for each commit its id, and then pairs
+    /// of change and path, each ended by a NUL.
     fn changes(&self, groups: &[Group]) -> Result<Vec<u8>> {
         let paths = || groups.iter().map(|it| OsStr::from_bytes(&it.finding.place.path));
         let mut command = self.git.command(&REV_LIST);
@@ -129,8 +129,8 @@ impl Pushed<'_> {
 
 const UNREAD: &str = "what the push brings could not be read";
 
-/// Whether the entry after a change is what is refused. The change has a colon for each parent, then
-/// the modes before and after it, and the ids: `:100644 120000 ID ID T`.
+/// Whether a change results in what is refused. It has a colon for each parent, then the modes and the ids
+/// before and after it, and its kind: `:100644 120000 ID ID T`.
 fn has(change: &[u8], group: &Group) -> bool {
     let words = change.split(|byte| *byte == b' ').collect::<Vec<_>>();
     let parents = change.iter().take_while(|byte| **byte == b':').count();

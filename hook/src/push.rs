@@ -1,4 +1,4 @@
-//! The hook: refuses a push that brings a hostile name, and says which. hook/README.md says what it
+//! The hook: refuses a push that contains a hostile name, and says which. hook/README.md says what it
 //! checks and what it doesn't.
 
 use crate::answer::Answer;
@@ -19,7 +19,7 @@ use std::io::{self, Read, Write};
 use std::path::{Path, PathBuf};
 use std::thread;
 
-/// For so many objects of a push each process has a second more.
+/// Each process has another second for so many objects of a push.
 const STEP: u64 = 4_000;
 
 /// Checks the push whose lines are on standard input. Returns nothing if that failed.
@@ -37,7 +37,7 @@ pub fn run(program: PathBuf) -> Option<Verdict> {
     checked.ok()
 }
 
-/// What messages say of a push, also of one that can't be checked.
+/// What messages need to know about a push, even if it can't be checked.
 struct Push {
     /// As the settings have them.
     limits: Limits,
@@ -80,8 +80,8 @@ impl Push {
 
     /// Reads the settings, sets the limits, and starts to check references and to list trees.
     ///
-    /// Starting Git takes most of the time that a small push does. So all is started before the settings
-    /// are known, and started again in the rare case that they say something else. (Nothing was read then.)
+    /// A small push spends most of its time starting processes. So all are started before the settings are
+    /// known, and started again if these turn out to matter to them. (They have read nothing by then.)
     fn start(&mut self, program: PathBuf) -> Result<(Pipeline, Child, TreeList)> {
         let objects = objects()?;
         set(self.limits, objects)?;
@@ -115,7 +115,7 @@ fn set(limits: Limits, objects: u64) -> Result<()> {
     limits.set().or_fail("time and memory could not be limited")
 }
 
-/// Starts the programs that wait for the push. (A process takes some time to start, in which a thread waits.)
+/// Starts the programs that wait for the push, at once: a thread waits while its process starts.
 fn start(pipeline: &Pipeline) -> Result<(Child, TreeList)> {
     let words = [&[WITHOUT_PATHS, "--stdin"][..], &pipeline.settings.old()].concat();
     thread::scope(|scope| {
@@ -125,7 +125,7 @@ fn start(pipeline: &Pipeline) -> Result<(Child, TreeList)> {
     })
 }
 
-/// The new ids in these lines `OLD NEW REF`, each on a line. (That of a deleted reference has only zeros.)
+/// The new ids in these lines `OLD NEW REF`, each on a line. (A deleted reference has zeros there.)
 fn new_ids(lines: &[u8]) -> Vec<u8> {
     let words = lines.split(|byte| *byte == b'\n').map(|line| line.split(|byte| *byte == b' '));
     let ids = words.filter_map(|mut words| id(words.nth(1)?));
@@ -133,7 +133,7 @@ fn new_ids(lines: &[u8]) -> Vec<u8> {
     new.flat_map(|id| [&id, &b"\n"[..]].concat()).collect()
 }
 
-/// How many objects the push brings: in a pack, or each in a file.
+/// How many objects the push has, in a pack or each in a file.
 fn objects() -> Result<u64> {
     // (without a quarantine this directory would be that of the whole server)
     let has_quarantine = env::var_os("GIT_ALTERNATE_OBJECT_DIRECTORIES").is_some();
@@ -159,7 +159,7 @@ fn objects_in(directory: &Path) -> io::Result<u64> {
     Ok(count)
 }
 
-/// How many objects this pack says that it has: in its header, after `PACK` and the format's version.
+/// How many objects a pack has, by its header: after `PACK` and the format's version.
 fn objects_of(pack: &Path) -> io::Result<u64> {
     let mut header = [0; 12];
     File::open(pack)?.read_exact(&mut header)?;

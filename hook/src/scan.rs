@@ -1,5 +1,5 @@
-//! The scan: checks the names in a repository of one's own, by the pipeline of a push. Git runs there
-//! as usual. A repository that one doesn't trust is copied first.
+//! The scan: checks the names in your own repository, by the same pipeline as a push. Git runs there as
+//! usual. A repository that you don't trust is copied first.
 
 mod copy;
 mod list;
@@ -66,13 +66,13 @@ fn find_and_scan(program: PathBuf, mut options: Options) -> Result<Outcome> {
     scan(&Pipeline { program, git: git.with_whole_history(), settings }, &options)
 }
 
-/// Fails if Git finds no repository here, or one that it refuses since another owns it.
+/// Fails if Git finds no repository here, or refuses it because somebody else owns it.
 fn check_repository(git: &Git) -> Result<()> {
     let found = output_of("git rev-parse", git.command(&["rev-parse", "--git-dir"]));
     found.map(drop).map_err(|failure| Failure::Helped(Box::new(failure), COPY_IT))
 }
 
-/// By which rules names are checked: those of the options, and of the settings if they are to be read.
+/// The rules by which names are checked: those of the options and, if they count, of the hook's settings.
 fn settings(printed: &[u8], options: &Options) -> Result<Settings> {
     let mut settings = Settings::default();
     if options.settings {
@@ -165,7 +165,7 @@ fn check_index(pipeline: &Pipeline, found: OnFinding) -> Result<Verdict> {
     check_trees(pipeline, &[tree], None, Ids::default(), found)
 }
 
-/// The ids of the tree without entries.
+/// The ids of the empty tree.
 const EMPTY_TREES: [&str; 2] = [
     "4b825dc642cb6eb9a060e54bf8d69288fbee4904",
     "6ef19b41225c5369f1c104d45d8d85efa9b057b53b14b4b9b939dd74decc5321",
@@ -207,7 +207,7 @@ fn check_patterns(git: &Git, words: &[OsString]) -> Result<()> {
     Ok(())
 }
 
-/// What a command of Git prints, which may not even warn.
+/// What a Git command prints, if it succeeds without a warning.
 fn output_without_warning(git: &Git, name: &'static str, words: &[&str]) -> Result<Vec<u8>> {
     let (ended, output) = run_to_end(name, git.command(words))?;
     match ended.succeeded()? {

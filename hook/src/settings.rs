@@ -1,5 +1,5 @@
-//! The settings `names.*` of the repository and the system. Those of the account that pushes, and of its
-//! environment, are ignored.
+//! The settings `names.*` of the repository and the system. Those of the account that pushes and of its
+//! environment are ignored.
 
 use crate::child::Child;
 use crate::failure::{failed, Failure, How, Result};
@@ -10,23 +10,23 @@ use crate::verdict::{LENT, OLD};
 use std::ffi::{OsStr, OsString};
 use std::os::unix::ffi::OsStrExt;
 
-/// By which rules names are checked, and what that may take.
+/// The rules by which names are checked, and the limits of the check.
 #[derive(Clone)]
 pub struct Settings {
     /// The file systems to protect, for `check_push trees --protect`.
     pub protect: OsString,
-    /// The names that are checked without windows: the values of `--accept`, as few as Linux allows.
+    /// The names that are checked without windows, as values of `--accept`: as few as Linux allows.
     pub accept: Vec<OsString>,
     /// Whether references below refs/replace/ are allowed.
     pub replace: bool,
-    /// Whether what other repositories lend was checked there.
+    /// Whether to trust what other repositories lend, because it was checked there.
     pub alternate_refs: bool,
     pub limits: Limits,
 }
 
 /// The largest number that a setting may be.
 const MOST: u64 = 1_000_000_000;
-/// How many bytes Linux passes in one argument, and how many `--accept` there may be.
+/// How long an argument may be on Linux, and how many `--accept` there may be.
 const LONGEST_ARGUMENT: usize = 131_000;
 const MOST_ARGUMENTS: usize = 16;
 
@@ -93,7 +93,7 @@ impl Settings {
         Ok((settings, ignored))
     }
 
-    /// Sets what this key means, or says why it means nothing.
+    /// Applies a setting, or says what is wrong with it.
     fn set(&mut self, key: &str, value: Option<&[u8]>) -> std::result::Result<(), String> {
         match (key, value) {
             ("names.replace", value) => self.replace = boolean(value)?,
@@ -115,7 +115,7 @@ impl Settings {
         Ok(())
     }
 
-    /// Accepts names that slashes separate, or says why it can't.
+    /// Accepts names, separated by slashes, or says why they are too many.
     pub fn accept(&mut self, names: &OsStr) -> std::result::Result<(), String> {
         match self.accept.last_mut() {
             Some(last) if last.len() + names.len() < LONGEST_ARGUMENT => {

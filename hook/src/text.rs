@@ -3,9 +3,8 @@
 use std::fmt::Write as _;
 use std::io::{self, Write};
 
-/// The bytes as Git quotes a path. What could be taken for the end of the path in a line is quoted
-/// too: `: `, or a space at the end. If there are more than `longest` characters, those in the middle
-/// are replaced by dots.
+/// A path as Git quotes it. It is also quoted if its end in a line would be unclear, because of `: ` or a
+/// space. If there are more than `longest` characters, dots replace those in the middle.
 pub fn quoted(bytes: &[u8], longest: usize) -> String {
     let is_plain = |byte: &u8| matches!(byte, b' '..=b'~') && !matches!(byte, b'"' | b'\\');
     let needs_quotes = !bytes.iter().all(is_plain)
@@ -40,7 +39,7 @@ fn shortened(bytes: &[u8], longest: usize) -> String {
     format!("{}...{}", part(None, front.map_or(0, |it| *it)), part(back, text.len()))
 }
 
-/// Adds a byte as Git writes it between quotes, with core.quotePath.
+/// Adds a byte as Git writes it between quotes with core.quotePath.
 fn escape(text: &mut String, byte: u8) {
     match byte {
         b'"' | b'\\' => text.extend(['\\', char::from(byte)]),

@@ -75,7 +75,7 @@ def test_a_git_that_is_no_program_is_not_run_as_a_script(hook, source, text):
     git.write_text(text)
     git.chmod(0o755)
     assert hook.run(source.pushes["clean"].lines) == not_checked(
-        f"git cat-file {NO_PROGRAM}"
+        f"git rev-list {NO_PROGRAM}"
     )
 
 

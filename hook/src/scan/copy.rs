@@ -1,7 +1,7 @@
-//! A copy of a repository that nobody has to trust.
+//! A copy of a repository that you don't have to trust.
 //!
-//! `git upload-pack` is the part of Git that is made for it: it runs no hook and no command of that
-//! repository. Of the repository's settings the copy gets none, and Git computes all ids anew.
+//! It is made by `git upload-pack`, the part of Git that is made for this: it runs no hook and no command
+//! of the repository. The copy has none of the repository's settings, and Git computes all ids anew.
 
 use crate::child::output_of;
 use crate::failure::{failed, OrFail, Result};
@@ -13,7 +13,7 @@ use std::os::unix::ffi::OsStrExt;
 use std::path::{Path, PathBuf};
 use std::process::{self, Command, Stdio};
 
-/// Also shows what the repository hides from those who fetch.
+/// This also serves what the repository hides from those who fetch.
 const UPLOAD: &str = "git -c transfer.hideRefs=!refs/ upload-pack";
 /// Makes a directory that nobody else can read, and removes it when standard input ends, as when the scan
 /// is killed. (Git may go on then, and make it again.)
@@ -22,7 +22,7 @@ directory=$(mktemp -d -t scan-names.XXXXXX) || exit
 echo \"$directory\"
 while read -r line; do :; done
 while [ -e \"$directory\" ]; do rm -rf -- \"$directory\"; sleep 1; done";
-/// What Git's commands would take for their repository.
+/// The variables by which Git's commands would find another repository.
 const OF_A_REPOSITORY: [&str; 8] = [
     "GIT_DIR",
     "GIT_WORK_TREE",
@@ -34,7 +34,7 @@ const OF_A_REPOSITORY: [&str; 8] = [
     "GIT_PREFIX",
 ];
 
-/// The copy, which goes when this does.
+/// The copy. Dropping this removes it.
 pub struct Copy {
     /// Git that works in it.
     pub git: Git,
@@ -96,7 +96,7 @@ impl Drop for Copy {
     }
 }
 
-/// The settings with which the repository is copied. (Git else refuses one of another owner.)
+/// The settings for the copying. (Otherwise Git refuses a repository of another owner.)
 fn configuration(directory: &Path) -> Result<PathBuf> {
     let file = directory.join("configuration");
     let written = fs::write(&file, "[safe]\n\tdirectory = *\n");
@@ -104,7 +104,7 @@ fn configuration(directory: &Path) -> Result<PathBuf> {
 }
 
 /// Fails if Git may run a command of the repository that it copies, to fetch objects that are missing there.
-/// These versions, and those from 2.45.1 on, know `GIT_NO_LAZY_FETCH`.
+/// The first versions with `GIT_NO_LAZY_FETCH` are these, and 2.45.1.
 fn check_lazy_fetch(version: &[u32]) -> Result<()> {
     let fixed = [[2, 39, 4], [2, 40, 2], [2, 41, 1], [2, 42, 2], [2, 43, 4], [2, 44, 1]];
     let of_series = fixed.iter().find(|it| version.starts_with(&it[..2]));

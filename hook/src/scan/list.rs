@@ -6,8 +6,8 @@ use std::collections::BTreeSet;
 use std::fmt::Write as _;
 use std::io::{self, Write};
 
-/// Prints a line for each group. With `to_accept` it prints the command that accepts a name instead, if
-/// there is one, and the other lines on standard error. Returns whether it printed commands alone.
+/// Prints a line for each group. With `to_accept` it prints the commands that accept names instead, and the
+/// other lines on standard error. Returns whether it printed nothing but commands.
 pub fn print(groups: &[Group], to_accept: bool) -> Result<bool> {
     let is_settable = |group: &&Group| to_accept && group.finding.can_be_accepted();
     let (settable, others): (Vec<_>, Vec<_>) = groups.iter().partition(is_settable);
@@ -49,7 +49,7 @@ fn command(name: &[u8]) -> String {
     format!("git config --add names.accept {word}\n")
 }
 
-/// A word that `printf` makes of a name, with the octal number of each byte that could mean something else.
+/// A word in which `printf` writes the name, with bytes that mean something to a shell in octal.
 fn printf(name: &[u8]) -> String {
     let mut format = String::new();
     for byte in name {

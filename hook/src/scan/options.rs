@@ -12,7 +12,7 @@ pub struct Options {
     pub protect: Option<OsString>,
     /// Names, separated by slashes.
     pub accept: Vec<OsString>,
-    /// Whether the settings of the hook count, too.
+    /// Whether the hook's settings count too.
     pub settings: bool,
     pub index: bool,
     pub copy: Option<OsString>,
@@ -56,8 +56,8 @@ failed, nothing is selected, or a reference is broken. It says nothing about
 what files contain, or about the repository's hooks and settings.
 ";
 
-/// Reads the arguments. An option of `git rev-list` that doesn't select commits is unknown: with --quiet it
-/// would list nothing, and all would be well. Returns nothing if they ask for the help.
+/// Reads the arguments. Returns nothing if they ask for the help. Options of `git rev-list` that don't select
+/// commits are unknown: with --quiet, for example, it would list nothing, and everything would seem clean.
 pub fn parse(mut words: impl Iterator<Item = OsString>) -> Result<Option<Options>> {
     let mut options = Options::default();
     while let Some(word) = words.next() {
@@ -112,7 +112,7 @@ fn names(names: OsString) -> Result<OsString> {
     misused("--accept: a name that is accepted has to be UTF-8")
 }
 
-/// A failure, since the arguments are wrong in this way.
+/// A failure that says how to use the scan.
 pub fn misused<T>(what: impl Into<String>) -> Result<T> {
     Err(Failure::Helped(Box::new(Failure::Other(what.into())), USAGE))
 }

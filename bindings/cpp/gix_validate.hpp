@@ -516,7 +516,7 @@ inline std::string error::message(std::string_view name) const {
       name.substr(start, end == name.npos ? end : end - start);
   detail::append_quoted(said += " (", name.substr(offset, 1), '\'');
   (said += " at byte ") += std::to_string(offset);
-  if (!piece.empty() && piece.size() < name.size()) {
+  if (!piece.empty() && piece.size() < name.size() && name[offset] != '/') {
     detail::append_quoted(said += ", in ", piece, '"');
   }
   return said += ')';

@@ -52,7 +52,7 @@ func (e *Error) appendPlace(text []byte) []byte {
 	text = strconv.AppendInt(text, int64(at), 10)
 	start := strings.LastIndexByte(e.Name[:at], '/') + 1
 	piece, _, _ := strings.Cut(e.Name[start:], "/")
-	if piece != "" && piece != e.Name {
+	if piece != "" && piece != e.Name && e.Name[at] != '/' {
 		text = strconv.AppendQuote(append(text, ", in "...), piece)
 	}
 	return text

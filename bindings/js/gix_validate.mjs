@@ -172,11 +172,11 @@ function placed(text, name, at, unit, index) {
   if (at === name.length) {
     return at === 0 ? text : `${text} (at the end)`;
   }
-  // (lastIndexOf reads -1 as 0. Around a slash there the piece is empty, too.)
   const from = name.lastIndexOf("/", at - 1) + 1;
   const slash = name.indexOf("/", at), to = slash < 0 ? name.length : slash;
   const piece = name.slice(from, to);
-  const isPiece = from < to && to - from < name.length;
+  const isPiece =
+      from < to && to - from < name.length && name[at] !== "/";
   if (isPiece &&
       PLAIN.test(name)) {  // (what follows does the same, but slower)
     return `${text} ("${name[at]}" at ${unit} ${index}, in "${piece}")`;

@@ -646,7 +646,7 @@ def _place(name: Any, at: int) -> str:
         return " (at the end)" if name else ""
     piece = name[name.rfind(slash, 0, at) + 1 :].partition(slash)[0]
     within = ""
-    if piece and slash in name:
+    if piece and found != slash and slash in name:
         within = f", in {piece[:200]!r}{'..' if len(piece) > 200 else ''}"
     return f" ({found!r} at {unit} {at}{within})"
 

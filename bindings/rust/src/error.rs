@@ -78,7 +78,7 @@ impl Error {
         }
         write!(f, " at byte {}", self.offset())?;
         let piece = self.piece();
-        if !piece.is_empty() && piece.len() < self.name.len() {
+        if !piece.is_empty() && piece.len() < self.name.len() && self.byte() != Some(b'/') {
             f.write_str(", in ")?;
             fmt_quoted(piece, f)?;
         }

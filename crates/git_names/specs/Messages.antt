@@ -18,9 +18,9 @@ piece_start x at = at - suffix_len (λ b. not (is_slash b)) (take at x)
 abbrev pub piece_around : List ℕ → ℕ → List ℕ
 piece_around x at = part_at x (piece_start x at)
 
--- the piece that an offset is in, if the name has several
+-- the piece that an offset is in, if the name has several, and no slash there
 abbrev pub piece_of : List ℕ → ℕ → List ℕ
-piece_of x at = if has_no_slash x then [] else piece_around x at
+piece_of x at = if has_no_slash x || is_slash (slice_index x at) then [] else piece_around x at
 
 -- a piece, if it isn't empty
 abbrev pub in_piece : List ℕ → List ℕ

@@ -1,6 +1,6 @@
 //! The message for an invalid name: the text of its error, and where in the name that is.
 
-ghost use Rattle.std.specs.Prelude.{◌≡◌, ◌≤◌, length, Some};
+ghost use Rattle.std.specs.Prelude.{◌≡◌, ◌<◌, ◌≤◌, length, Some};
 ghost use Rattle.bstr.specs.BStr.{bstr_bytes};
 ghost use Rattle.git_names.specs.Messages.{in_piece, message_of, piece_around, piece_of, piece_start};
 ghost use Rattle.git_names.specs.Messages.{place_of};
@@ -23,8 +23,8 @@ pub struct Message<'a> {
 
 impl Fault {
     /// The message for `name`, which has this fault: the text of the reason, the byte at the
-    /// offset, the offset in bytes from 0, and, if the name has a slash, the piece that the byte is
-    /// in. It doesn't allocate.
+    /// offset, the offset in bytes from 0, and, if the name has a slash and the byte isn't one, the
+    /// piece that the byte is in. It doesn't allocate.
     ///
     /// ```
     /// let name = BStr::from("feature/a b");
@@ -98,15 +98,15 @@ impl<'a> fmt::Display for InPiece<'a> {
     }
 }
 
-/// The piece that the offset is in, if the name has several.
+/// The piece that the offset is in, if the name has several, and no slash there.
 #[tactic(auto, using(crate::proofs::MessageLemmas::slashes))]
 fn piece_of(name: &[u8], at: usize) -> &[u8]
-    requires { at ≤ length name.now }
+    requires { at < length name.now }
     ensures { result.now ≡ piece_of name.now at }
 {
     match next_slash(name) {
-        None => &[],
-        Some(_) => piece_around(name, at),
+        Some(_) if name[at] != b'/' => piece_around(name, at),
+        _ => &[],
     }
 }
 

@@ -1,14 +1,20 @@
 //! What the scan prints.
 
+use super::options::Options;
 use crate::failure::{OrFail, Result};
 use crate::finding::{Finding, Group, Kind};
-use std::collections::BTreeSet;
+use crate::text::printable;
+use std::collections::{BTreeMap, BTreeSet};
 use std::fmt::Write as _;
 use std::io::{self, Write};
 
-/// Prints a line for each group. With `to_accept` it prints the commands that accept names instead, and the
+/// Prints a line for each group, or with `summary` how many there are. With `to_accept` it prints the commands that accept names instead, and the
 /// other lines on standard error. Returns whether it printed nothing but commands.
-pub fn print(groups: &[Group], to_accept: bool) -> Result<bool> {
+pub fn print(groups: &[Group], options: &Options) -> Result<bool> {
+    if options.summary {
+        return write(&summary(groups)).map(|()| false);
+    }
+    let to_accept = options.to_accept;
     let is_settable = |group: &&Group| to_accept && group.finding.can_be_accepted();
     let (settable, others): (Vec<_>, Vec<_>) = groups.iter().partition(is_settable);
     let lines: String = others.into_iter().map(line).collect();
@@ -19,6 +25,19 @@ pub fn print(groups: &[Group], to_accept: bool) -> Result<bool> {
     write(&names.into_iter().map(command).collect::<String>())?;
     let written = io::stderr().write_all(lines.as_bytes());
     written.or_fail("the report could not be written").map(|()| lines.is_empty())
+}
+
+/// How many lines there are for each reason.
+fn summary(groups: &[Group]) -> String {
+    let mut counts = BTreeMap::new();
+    for group in groups {
+        *counts.entry(printable(&group.finding.reason)).or_insert(0) += 1;
+    }
+    let mut text = String::new();
+    for (reason, count) in counts {
+        let _ = writeln!(text, "{count} {reason}");
+    }
+    text
 }
 
 /// Writes to standard output.

@@ -17,6 +17,7 @@ pub struct Options {
     pub index: bool,
     pub copy: Option<OsString>,
     pub to_accept: bool,
+    pub summary: bool,
     /// A directory, or revisions.
     pub words: Vec<OsString>,
 }
@@ -45,6 +46,7 @@ the history that git rev-list selects. REVISION is a commit, a range (v1..v2,
                       repository and the system, as the hook does
     --to-accept       prints the commands that make the hook accept the names
                       that only Windows forbids; the others on standard error
+    --summary         prints how many lines there are for each reason
     --version         prints the version
     -h, --help        prints this text
 
@@ -82,6 +84,7 @@ pub fn parse(mut words: impl Iterator<Item = OsString>) -> Result<Option<Options
             (b"--settings", false) => options.settings = true,
             (b"--index", false) => options.index = true,
             (b"--to-accept", false) => options.to_accept = true,
+            (b"--summary", false) => options.summary = true,
             (b"--all" | b"--not", false)
             | (b"--branches" | b"--tags" | b"--remotes", _)
             | (b"--glob" | b"--exclude", true) => options.words.push(word),

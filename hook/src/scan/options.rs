@@ -16,10 +16,18 @@ pub struct Options {
     pub settings: bool,
     pub index: bool,
     pub copy: Option<OsString>,
-    pub to_accept: bool,
-    pub summary: bool,
+    pub form: Form,
     /// A directory, or revisions.
     pub words: Vec<OsString>,
+}
+
+/// What is printed about names that are refused.
+#[derive(Clone, Copy, Default, PartialEq, Eq)]
+pub enum Form {
+    #[default]
+    Lines,
+    Summary,
+    Commands,
 }
 
 const USAGE: &str =
@@ -83,8 +91,8 @@ pub fn parse(mut words: impl Iterator<Item = OsString>) -> Result<Option<Options
             (b"--copy", _) => options.copy = Some(given("a path or a URL")?),
             (b"--settings", false) => options.settings = true,
             (b"--index", false) => options.index = true,
-            (b"--to-accept", false) => options.to_accept = true,
-            (b"--summary", false) => options.summary = true,
+            (b"--to-accept", false) => options.form = Form::Commands,
+            (b"--summary", false) => options.form = Form::Summary,
             (b"--all" | b"--not", false)
             | (b"--branches" | b"--tags" | b"--remotes", _)
             | (b"--glob" | b"--exclude", true) => options.words.push(word),

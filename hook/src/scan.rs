@@ -103,7 +103,7 @@ fn scan(pipeline: &Pipeline, options: &Options) -> Result<Outcome> {
         (false, false) => check_revisions(pipeline, &options.words, &mut found),
     };
     // (what was found before a failure is shown, too)
-    let has_commands = list::print(&groups.all, options.to_accept)?;
+    let has_commands = list::print(&groups.all, options.form)?;
     let verdict = verdict?;
     if has_commands && matches!(verdict, Verdict::Refused) {
         return Ok(Outcome::Printed);

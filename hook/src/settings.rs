@@ -104,6 +104,9 @@ impl Settings {
             ("names.protect", Some(list)) => {
                 return Err(format!("is \"{}\": {LISTS}", printable(list)));
             }
+            ("names.accept", Some(names)) if names.contains(&b'\n') => {
+                return Err("has a newline".into());
+            }
             ("names.accept", Some(names)) => self.accept(OsStr::from_bytes(names))?,
             ("names.seconds", Some(value)) => self.limits.seconds = number(value)?,
             ("names.megabytes", Some(value)) => self.limits.megabytes = number(value)?,

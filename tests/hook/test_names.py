@@ -374,6 +374,17 @@ def test_a_refused_reference_hides_nothing_of_its_files(server, source):
     )
 
 
+def test_references_that_are_devices_or_look_like_options_are_accepted(server, source):
+    """The page says that they are not checked."""
+    names = "refs/heads/aux.c", "refs/heads/con", "refs/heads/-x", "refs/tags/-x"
+    assert server.push(*(f"{source.clean}:{name}" for name in names)) == ACCEPTED
+
+
+def test_a_failure_without_a_missing_commit_does_not_ask_for_a_full_clone(hook, source):
+    hook.stand_in("git -c core.warn*rev-list", "echo 'fatal: no' >&2; exit 128")
+    assert is_broken(hook.run(source.push_of(source.clean)), "fatal: no")
+
+
 def test_other_references_in_a_namespace_are_accepted(server, source):
     names = "HEAD", "refs/heads/main", "refs/namespaces/b/refs/heads/main"
     refspecs = [f"{source.clean}:refs/namespaces/a/{name}" for name in names]

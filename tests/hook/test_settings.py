@@ -234,6 +234,8 @@ def test_more_names_than_linux_passes_refuse_every_push(server, source):
     "setting, why",
     [
         ("accept", "accept has no value"),
+        (r"accept = aux.c\n", "accept has a newline"),
+        (r"accept = aux.c\ncon.h", "accept has a newline"),
         ("accept-existing = true", "accept-existing is unknown"),
         ("limits = 2", "limits is unknown"),
         ("replace = maybe", "replace is neither true nor false"),

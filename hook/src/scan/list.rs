@@ -1,24 +1,43 @@
 //! What the scan prints.
 
+use super::options::Form;
 use crate::failure::{OrFail, Result};
 use crate::finding::{Finding, Group, Kind};
-use std::collections::BTreeSet;
+use crate::text::printable;
+use std::collections::{BTreeMap, BTreeSet};
 use std::fmt::Write as _;
 use std::io::{self, Write};
 
-/// Prints a line for each group. With `to_accept` it prints the commands that accept names instead, and the
-/// other lines on standard error. Returns whether it printed nothing but commands.
-pub fn print(groups: &[Group], to_accept: bool) -> Result<bool> {
-    let is_settable = |group: &&Group| to_accept && group.finding.can_be_accepted();
-    let (settable, others): (Vec<_>, Vec<_>) = groups.iter().partition(is_settable);
+/// Prints the groups in this form. Commands accept names, and the lines about others go to standard error.
+/// Returns whether it printed nothing but commands.
+pub fn print(groups: &[Group], form: Form) -> Result<bool> {
+    let has_command = |it: &&Group| form == Form::Commands && it.finding.can_be_accepted();
+    let (settable, others): (Vec<_>, Vec<_>) = groups.iter().partition(has_command);
     let lines: String = others.into_iter().map(line).collect();
-    if !to_accept {
-        return write(&lines).map(|()| false);
+    match form {
+        Form::Lines => write(&lines)?,
+        Form::Summary => write(&summary(groups))?,
+        Form::Commands => {
+            let names: BTreeSet<_> = settable.iter().map(|it| it.finding.name()).collect();
+            write(&names.into_iter().map(command).collect::<String>())?;
+            let written = io::stderr().write_all(lines.as_bytes());
+            written.or_fail("the report could not be written")?;
+        }
     }
-    let names: BTreeSet<_> = settable.iter().map(|group| group.finding.name()).collect();
-    write(&names.into_iter().map(command).collect::<String>())?;
-    let written = io::stderr().write_all(lines.as_bytes());
-    written.or_fail("the report could not be written").map(|()| lines.is_empty())
+    Ok(form == Form::Commands && lines.is_empty())
+}
+
+/// How many lines there are for each reason.
+fn summary(groups: &[Group]) -> String {
+    let mut counts = BTreeMap::new();
+    for group in groups {
+        *counts.entry(printable(&group.finding.reason)).or_insert(0) += 1;
+    }
+    let mut text = String::new();
+    for (reason, count) in counts {
+        let _ = writeln!(text, "{count} {reason}");
+    }
+    text
 }
 
 /// Writes to standard output.

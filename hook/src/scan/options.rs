@@ -16,9 +16,18 @@ pub struct Options {
     pub settings: bool,
     pub index: bool,
     pub copy: Option<OsString>,
-    pub to_accept: bool,
+    pub form: Form,
     /// A directory, or revisions.
     pub words: Vec<OsString>,
+}
+
+/// What is printed about names that are refused.
+#[derive(Clone, Copy, Default, PartialEq, Eq)]
+pub enum Form {
+    #[default]
+    Lines,
+    Summary,
+    Commands,
 }
 
 const USAGE: &str =
@@ -45,6 +54,7 @@ the history that git rev-list selects. REVISION is a commit, a range (v1..v2,
                       repository and the system, as the hook does
     --to-accept       prints the commands that make the hook accept the names
                       that only Windows forbids; the others on standard error
+    --summary         prints how many lines there are for each reason
     --version         prints the version
     -h, --help        prints this text
 
@@ -81,7 +91,8 @@ pub fn parse(mut words: impl Iterator<Item = OsString>) -> Result<Option<Options
             (b"--copy", _) => options.copy = Some(given("a path or a URL")?),
             (b"--settings", false) => options.settings = true,
             (b"--index", false) => options.index = true,
-            (b"--to-accept", false) => options.to_accept = true,
+            (b"--to-accept", false) => options.form = Form::Commands,
+            (b"--summary", false) => options.form = Form::Summary,
             (b"--all" | b"--not", false)
             | (b"--branches" | b"--tags" | b"--remotes", _)
             | (b"--glob" | b"--exclude", true) => options.words.push(word),

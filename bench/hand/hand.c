@@ -8,7 +8,7 @@
 #include <stdlib.h>
 #include <time.h>
 
-enum { PASSES = 200, NAMES = 10000 };
+enum { PASSES = 1000, NAMES = 10000 };
 static gix_validate_name names[NAMES];
 
 /* What is wrong with a piece, which begins with this byte of the name. */

@@ -70,7 +70,7 @@ template <class Call>
 static double best(const std::vector<std::string> &names, bool is_valid,
                    Call call) {
   double least = 1e18;
-  for (int pass = 0; pass < 200; pass++) {
+  for (int pass = 0; pass < 1000; pass++) {
     auto start = std::chrono::steady_clock::now();
     auto valid =
         std::count_if(names.begin(), names.end(), [&](std::string_view it) {

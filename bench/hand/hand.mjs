@@ -53,7 +53,7 @@ function refByHand(name) {
 /** The nanoseconds of a call in the best pass. */
 function best(names, isValid, call) {
   let least = Infinity;
-  for (let pass = 0; pass < 300; pass++) {
+  for (let pass = 0; pass < 1000; pass++) {
     const start = process.hrtime.bigint();
     const valid = names.filter((name) => call(name) === null).length;
     const taken = Number(process.hrtime.bigint() - start) / names.length;

@@ -60,7 +60,7 @@ def offsets(names, call, error):
 def best(loop, names, count, *how):
     """The nanoseconds of a call in the best pass, each of which finds so many faults."""
     assert loop(names, *how) == count
-    taken = timeit.repeat(lambda: loop(names, *how), number=1, repeat=50)
+    taken = timeit.repeat(lambda: loop(names, *how), number=1, repeat=200)
     return f"{min(taken) * 1e9 / len(names):.1f}"
 
 

@@ -48,7 +48,7 @@ fn ref_by_hand(name: &[u8]) -> Result<(), Wrong> {
 
 /// The nanoseconds of a call in the best pass, each of which finds names that are all valid, or none of them.
 fn best(names: &[&str], is_valid: bool, offset_of: fn(&[u8]) -> Option<usize>) -> f64 {
-    (0..200)
+    (0..1000)
         .map(|_| {
             let start = Instant::now();
             let valid = names

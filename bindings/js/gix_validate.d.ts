@@ -8,7 +8,7 @@
  *     //   'Reference name contains invalid byte: " " (" " at index 2)' }
  *     suggestBranch("Fix: it's done..");   // "Fix-it's-done"
  *
- * The first call compiles 44 kB of WebAssembly. Where that isn't allowed, each
+ * The first call compiles 45 kB of WebAssembly. Where that isn't allowed, each
  * call throws an Error: see `ready`.
  *
  * A name is a string, which is checked as UTF-8, or bytes of any values.

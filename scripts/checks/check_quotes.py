@@ -4,8 +4,9 @@ The code on the pages that teach is code of the sources: the line before a block
 or antt ends with 'From `FILE`:', and the lines between two lines `...` are together in
 that file, in any order of the parts. (Code below 'Write `FILE`:' is the reader's.)
 docs/CONTRACTS.md has each word of the kit that the definitions of the libraries import.
-The names in the table of docs/BINDINGS.md are names of each language. A link between pages
-leads to a file and to a heading of it.
+The names in the table of docs/BINDINGS.md are names of each language, and it has each
+function that a language exports. A link between pages leads to a file and to a heading of
+it.
 """
 
 import re
@@ -23,15 +24,24 @@ OF_THE_KIT = re.compile(
 )
 BLOCK = re.compile(r"(?ms)^([^\n]*)\n+```(?:rust|antt)\n(.*?)^```$")
 BINDINGS = "docs/BINDINGS.md"
-# Of each column of its table: the files, and what is in one of them.
+# Of each column of its table: the files, what is in one of them, and what they export. (In C
+# each kind has a form for C strings, too.)
 LANGUAGES = (
-    ("crates/git_check_names/src/*.rt", r"\"{}\""),
-    ("bindings/c/gix_validate.h", r"\bgix_validate_{}\("),
-    ("bindings/cpp/gix_validate.hpp", r"\b{}\b"),
-    ("bindings/rust/src/*.rs", r"\b{}\b"),
-    ("bindings/python/gix_validate.py", r"\b{}\b"),
-    ("bindings/js/gix_validate.d.ts", r"\b{}\b"),
-    ("bindings/go/*.go", r"(?m)^(?:func (?:\([^)]*\) )?|type |\t){}\b"),
+    ("crates/git_check_names/src/*.rt", r"\"{}\"", "(?!)"),
+    (
+        "bindings/c/gix_validate.h",
+        r"\bgix_validate_{}\(",
+        r"\bgix_validate_(\w+)(?<!_str)\(",
+    ),
+    ("bindings/cpp/gix_validate.hpp", r"\b{}\b", r"\b(check_\w+)\("),
+    ("bindings/rust/src/*.rs", r"\b{}\b", r"(?m)^pub fn (\w+)"),
+    ("bindings/python/gix_validate.py", r"\b{}\b", r'(?m)^    "(\w+)",$'),
+    ("bindings/js/gix_validate.d.ts", r"\b{}\b", r"(?m)^export function (\w+)"),
+    (
+        "bindings/go/*.go",
+        r"(?m)^(?:func (?:\([^)]*\) )?|type |\t){}\b",
+        r"(?m)^func (?!Test|Benchmark|Example|Fuzz)([A-Z]\w+)",
+    ),
 )
 TRIED = re.compile(r"\bWrite `[\w./]+`:$")  # (tests/pages tries it)
 
@@ -79,6 +89,22 @@ def unexplained_words():
                 yield f"{CONTRACTS} doesn't explain a word of the kit: {word} ({file})"
 
 
+def wrong_names():
+    """The names in the table of bindings that a language lacks, and those that it has and the
+    table lacks."""
+    table = read(BINDINGS).partition("\n## With")[0]
+    rows = re.findall(r"(?m)^\| (?!---).*`.*$", table)
+    columns = [*zip(*(row.split("|")[2:-1] for row in rows if row.count("|") == 9))]
+    for (file, form, exported), cells in zip(LANGUAGES, columns, strict=True):
+        text = "\n".join(map(read, sorted(glob(file))))
+        names = re.findall(r"`(\w[\w-]*)`", " ".join(cells))
+        for name in names:
+            if not re.search(form.format(name), text):
+                yield f"{BINDINGS} has a name that isn't in {file}: {name}"
+        for name in sorted({*re.findall(exported, text)} - {*names}):
+            yield f"{BINDINGS} lacks a name of {file}: {name}"
+
+
 def derived():
     """What is wrong on the pages."""
     yield from unexplained_words()
@@ -93,14 +119,7 @@ def derived():
                 and anchor not in anchors(to)
             ):
                 yield f"{page} has a link that leads nowhere: {target}"
-    for row in re.findall(
-        r"(?m)^\| (?!---).*`.*$", read(BINDINGS).partition("\n## With")[0]
-    ):
-        for (file, form), cell in zip(LANGUAGES, row.split("|")[2:]):
-            texts = [*map(read, glob(file))]
-            for name in re.findall(r"`(\w[\w-]*)`", cell):
-                if not any(re.search(form.format(name), text) for text in texts):
-                    yield f"{BINDINGS} has a name that isn't in {file}: {name}"
+    yield from wrong_names()
     for page, (before, code) in (
         (page, block) for page in PAGES for block in BLOCK.findall(read(page))
     ):

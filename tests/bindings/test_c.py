@@ -174,6 +174,11 @@ def test_the_block_can_be_assembled_for_systems_where_nothing_is_run(system, tmp
     assert block.stat().st_size > BLOCK.stat().st_size / 10
 
 
+def test_the_block_alone_which_would_make_the_stack_executable_is_refused(tmp_path):
+    refused = run(CC, "-c", "-o", tmp_path / "block.o", BLOCK, status=1)
+    assert "gix_validate_function" in refused.stderr
+
+
 def test_the_machine_code_for_windows_on_x86_64_is_refused(tmp_path):
     need("x86_64-w64-mingw32-gcc")
     words = ["-c", OF_BLOCKS, "-o", tmp_path / "block.o", MACHINE_CODE]

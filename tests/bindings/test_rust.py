@@ -15,6 +15,24 @@ STANDARD_LIBRARY = "/usr/lib/rustlib"
 WASI = Path(__file__).parent / "wasi.mjs"
 
 
+# What of the crate calls machine code: prints the calls that don't panic.
+CALLS = """use git_names::*;
+fn main() {
+    let calls: [(&str, fn()); 6] = [
+        ("check", || drop(branch("main"))),
+        ("typed", || drop(Branch::try_from(&b"main"[..]))),
+        ("suggest", || drop(suggest_branch("a b"))),
+        ("sanitize", || drop(sanitize("a b"))),
+        ("in place", || drop(sanitize_in_place(&mut [b'a'], 1))),
+        ("device", || drop(is_windows_device("nul"))),
+    ];
+    for (name, call) in calls {
+        if std::panic::catch_unwind(call).is_ok() {
+            println!("{name}");
+        }
+    }
+}
+"""
 # A library in Rust, and a program that calls it and the library for C.
 IN_RUST = """#[no_mangle]
 pub extern "C" fn is_valid_in_rust() -> bool {
@@ -111,16 +129,29 @@ def test_the_crate_passes_its_own_tests_on_a_target_without_machine_code():
     assert [it > 0 for it in passed(said)] == TESTS
 
 
-def test_a_program_links_the_crate_and_the_library_for_c(tmp_path):
+def compile_with_crate(folder, text, *words):
+    """Compiles a program, or a library, that uses the crate."""
     need("rustc")
-    (tmp_path / "in_rust.rs").write_text(IN_RUST)
-    (tmp_path / "in_c.c").write_text(IN_C)
-    words = ["rustc", "--edition=2021", "--out-dir", tmp_path, "-L", tmp_path]
+    source = folder / "program.rs"
+    source.write_text(text)
+    compiler = ["rustc", "--edition=2021", "--out-dir", folder, "-L", folder]
     crate = ["--crate-type=rlib", "--crate-name=git_names"]
-    run(*words, *crate, "--cfg", 'feature="std"', BINDINGS / "rust/src/lib.rs")
-    library = ["--crate-type=staticlib", "--extern", "git_names"]
-    run(*words, *library, tmp_path / "in_rust.rs")
+    run(*compiler, *crate, BINDINGS / "rust/src/lib.rs")
+    run(*compiler, "--extern=git_names", *words, source)
+
+
+def test_on_an_older_processor_each_call_panics(tmp_path):
+    need("qemu-x86_64")
+    compile_with_crate(tmp_path, CALLS)
+    ended = run("qemu-x86_64", "-cpu", "core2duo", tmp_path / "program")
+    assert ended.stdout == ""
+    assert ended.stderr.count("need a processor with SSE 4.2") == 6
+
+
+def test_a_program_links_the_crate_and_the_library_for_c(tmp_path):
+    compile_with_crate(tmp_path, IN_RUST, "--crate-type=staticlib")
+    (tmp_path / "in_c.c").write_text(IN_C)
     whole = ["-Wl,--whole-archive", ARCHIVE, "-Wl,--no-whole-archive"]
     words = [CC, f"-I{HEADER.parent}", "-o", tmp_path / "both", tmp_path / "in_c.c"]
-    run(*words, *whole, tmp_path / "libin_rust.a", "-lpthread", "-ldl", "-lm")
+    run(*words, *whole, tmp_path / "libprogram.a", "-lpthread", "-ldl", "-lm")
     assert output(tmp_path / "both") == ""

@@ -247,6 +247,13 @@ REFUSED = {
         "`is_a_windows_device`",
         "docs/BINDINGS.md has a name that isn't in ",
     ),
+    "the table of bindings lacks a function": Refused(
+        "check-quotes",
+        "docs/BINDINGS.md",
+        r", `FaultsOf`",
+        "",
+        "docs/BINDINGS.md lacks a name of bindings/go/*.go: FaultsOf",
+    ),
     "the body of a test is empty": Refused(
         "check-tests",
         "crates/name_vectors/src/tests.rt",

@@ -131,7 +131,7 @@ enum class protect : std::uint32_t {
 
 /// What a fault means, whatever the kind of the name. It is the end of a
 /// sentence about the name: "it has two dots in a row".
-[[nodiscard]] inline std::string_view text_of(fault it) noexcept {
+[[nodiscard]] inline std::string_view fault_text(fault it) noexcept {
   return gix_validate_fault_text(std::uint32_t(it));
 }
 
@@ -284,12 +284,14 @@ check_submodule(std::string_view name, protect under = protect::all) noexcept {
 }
 
 /// The fault of each of the names, or `ok`: `names` is a range whose elements
-/// convert to std::string_view, such as a std::vector<std::string>.
+/// convert to std::string_view, such as a std::vector<std::string>, or a view
+/// that makes its elements as it goes.
 template <class Names>
-[[nodiscard]] std::vector<fault> check_all(kind of, const Names &names,
+[[nodiscard]] std::vector<fault> check_all(kind of, Names &&names,
                                            protect under = protect::all) {
   std::vector<fault> faults;
-  for (const std::string_view name : names) {
+  for (auto &&each : names) { // (A temporary lives as long as `each`.)
+    const std::string_view name = each;
     faults.push_back(fault(gix_validate_fault_of(
         std::uint32_t(of), name.data(), name.size(), std::uint32_t(under))));
   }
@@ -496,7 +498,7 @@ inline std::string error::text(std::string_view name) const {
       buffer.data(), buffer.size());
   GIX_VALIDATE_UNPOISON(buffer.data(), length);
   if (length == 0) { // It isn't the name that was checked.
-    return std::string(text_of(fault));
+    return std::string(fault_text(fault));
   }
   return {reinterpret_cast<const char *>(buffer.data()), length};
 }

@@ -260,7 +260,7 @@ void check_other_names() {
   const auto error = gix_validate::check_branch("some/long..name").value();
   EXPECT(error.message("main") == "it has two dots in a row (at the end)");
   EXPECT(error.message("") == "Reference name cannot be empty");
-  EXPECT(error.text("main") == gix_validate::text_of(fault::repeated_dot));
+  EXPECT(error.text("main") == gix_validate::fault_text(fault::repeated_dot));
   EXPECT(error != gix_validate::check_branch("a..b").value());
 }
 

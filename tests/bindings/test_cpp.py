@@ -6,7 +6,9 @@ import pytest
 from .tools import (
     ARCHIVE,
     BINDINGS,
+    CC,
     CXX,
+    PORTABLE,
     ROWS,
     STRICT,
     as_msvc,
@@ -60,6 +62,45 @@ def test_the_rows_hold_with_sanitizers(tmp_path):
     words = ["-std=c++17", "-fsanitize=address,undefined", "-fno-sanitize-recover"]
     run(CXX, *words, *WORDS, "-o", program, SOURCE, ARCHIVE)
     assert output(program, ROWS) == f"{ALL_HOLD}\n"
+
+
+# Names that a view makes as it goes: each is too long to be inside its std::string, so it
+# is on the heap, and is freed when the loop comes to the next one.
+VIEWS = """
+#include "gix_validate.hpp"
+#include <ranges>
+using gix_validate::check_all;
+using gix_validate::fault;
+int main() {
+  const auto name_of = [](int i) {
+    return "feature/a-name-that-is-longer-than-a-string-holds" +
+           std::string(std::size_t(i), '.');
+  };
+  const auto is_invalid = [](const std::string &it) { return it.back() == '.'; };
+  const auto names = std::views::iota(0, 3) | std::views::transform(name_of);
+  auto chosen = names | std::views::filter(is_invalid);
+  const std::vector<fault> of_all = {fault::ok, fault::ends_with_dot,
+                                     fault::repeated_dot};
+  const std::vector<fault> of_chosen = {fault::ends_with_dot,
+                                        fault::repeated_dot};
+  const bool is_right = check_all(gix_validate::kind::branch, names) == of_all &&
+                        check_all(gix_validate::kind::branch, chosen) == of_chosen;
+  return is_right ? 0 : 1;
+}
+"""
+
+
+def test_check_all_reads_no_freed_memory_of_views_that_make_or_choose_names(tmp_path):
+    # (The sanitizer sees what the functions read only if it compiles them.)
+    need(CXX, PORTABLE)
+    source, program = tmp_path / "views.cpp", tmp_path / "views"
+    functions = tmp_path / "functions.o"
+    source.write_text(VIEWS, "ascii")
+    sanitized = ["-g", "-fsanitize=address,undefined", "-fno-sanitize-recover"]
+    run(CC, "-std=c99", *sanitized, *STRICT, "-c", "-o", functions, PORTABLE)
+    words = ["-std=c++20", *sanitized, *WORDS]
+    run(CXX, *words, "-o", program, source, functions)
+    assert run(program).stderr == ""
 
 
 @pytest.mark.parametrize("version", ["17", "20"])

@@ -54,7 +54,12 @@ impl Answer {
                 advice.push(it.into());
             }
         }
-        advice.extend(commits.iter().flatten().next().map(|it| change(it)));
+        if let Some(commit) = commits.iter().flatten().next() {
+            advice.push(change(commit));
+            if findings().any(Finding::is_refused_by_git) {
+                advice.push(recreate(commit));
+            }
+        }
         let is_reference = |group: &Group| matches!(group.finding.kind, Kind::Reference);
         if shown.iter().zip(&commits).any(|(it, commit)| commit.is_none() && !is_reference(it)) {
             advice.push(OLD.into());
@@ -73,7 +78,7 @@ impl Answer {
         }
         format!(
             "{text} ({MOST_LINES} of them shown)\n\
-             This lists all in your clone: git scan-names origin/main..HEAD\n"
+             This lists all in your clone: git scan-names BRANCH --not --remotes\n"
         )
     }
 }
@@ -91,7 +96,13 @@ fn accepting<'a>(findings: impl Iterator<Item = &'a Finding>) -> Option<String> 
 /// How to change the first commit that contains something refused.
 fn change(commit: &str) -> String {
     let short = abbreviated(commit);
-    format!("To change commit {short}: git rebase -i {short}~1 (or --root, if it has no parent), and write \"edit\" in its line.")
+    format!("To change commit {short}: git rebase -i --rebase-merges {short}~1 BRANCH (or --root BRANCH, if it has no parent), and write \"edit\" in its line. Where it stops: git mv OLD NEW, git commit --amend --no-edit, git rebase --continue.")
+}
+
+/// What else to do if Git itself refuses to check the commit out.
+fn recreate(commit: &str) -> String {
+    let short = abbreviated(commit);
+    format!("If Git says \"invalid path\", it can't check that commit out: make a new branch, git switch -c NEW {short}~1, and commit the files again.")
 }
 
 fn abbreviated(commit: &str) -> &str {

@@ -134,6 +134,11 @@ impl Finding {
         is_windows && is_whole && name.map_or(false, |name| !name.contains(['\\', '\n']))
     }
 
+    /// Whether Git itself may refuse to check the name out.
+    pub fn is_refused_by_git(&self) -> bool {
+        matches!(self.kind, Kind::Entry { is_windows: false, .. })
+    }
+
     /// What the author of a push can do about it.
     pub fn advice(&self) -> &'static str {
         match (&self.kind, &self.reason[..]) {

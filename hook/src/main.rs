@@ -51,7 +51,8 @@ fn main() -> ExitCode {
     }
     if env::args_os().skip(1).eq(["--version"]) {
         let version = RELEASE.rsplit_once('-').map_or(RELEASE, |(version, _)| version);
-        let printed = writeln!(io::stdout(), "{name} {version}");
+        let command = if is_hook { "pre-receive" } else { "git-scan-names" };
+        let printed = writeln!(io::stdout(), "{command} {version}");
         return printed.map_or(ExitCode::from(2), |()| ExitCode::SUCCESS);
     }
     let program = file.with_file_name(RELEASE).join("check_push");

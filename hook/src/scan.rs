@@ -149,12 +149,14 @@ fn check_revisions(pipeline: &Pipeline, words: &[OsString], found: OnFinding) ->
 /// Checks what `git commit` would commit.
 fn check_index(pipeline: &Pipeline, found: OnFinding) -> Result<Verdict> {
     let git = &pipeline.git;
-    let unmerged = git.command(&["ls-files", "--unmerged", "--", ":/"]);
+    // (neither needs the work tree, of which that command would tell)
+    let no_monitor = "core.fsmonitor=false";
+    let unmerged = git.command(&["-c", no_monitor, "ls-files", "--unmerged", "--", ":/"]);
     if !output_of("git ls-files", unmerged)?.is_empty() {
         return failed("the index has a conflict: resolve it first");
     }
     // (Git 2.39 leaves out directories of a sparse index, with a message and status 0)
-    let tree = output_without_warning(git, "git write-tree", &["write-tree"])?;
+    let tree = output_without_warning(git, "git write-tree", &["-c", no_monitor, "write-tree"])?;
     let tree = match tree.strip_suffix(b"\n").and_then(id) {
         Some(tree) => OsStr::from_bytes(&tree).to_owned(),
         None => return failed("git write-tree printed no id"),

@@ -155,6 +155,6 @@ fn boolean(value: Option<&[u8]>) -> std::result::Result<bool, String> {
 fn number(value: &[u8]) -> std::result::Result<u64, String> {
     match std::str::from_utf8(value).unwrap_or_default().parse() {
         Ok(number @ 1..=MOST) => Ok(number),
-        _ => Err(format!("is no number from 1 to {MOST}")),
+        _ => Err(format!("is \"{}\": give a number from 1 to {MOST}", printable(value))),
     }
 }

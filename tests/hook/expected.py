@@ -43,8 +43,19 @@ IT_MAY_BE_OLD = (
 def change(commit):
     short = commit[:12]
     return (
-        f"To change commit {short}: git rebase -i {short}~1 "
-        '(or --root, if it has no parent), and write "edit" in its line.\n'
+        f"To change commit {short}: git rebase -i --rebase-merges {short}~1 BRANCH "
+        '(or --root BRANCH, if it has no parent), and write "edit" in its line. '
+        "Where it stops: git mv OLD NEW, git commit --amend --no-edit, "
+        "git rebase --continue.\n"
+    )
+
+
+def recreate(commit):
+    """What follows if Git itself refuses to check a name out."""
+    return (
+        'If Git says "invalid path", it can\'t check that commit out: '
+        f"make a new branch, git switch -c NEW {commit[:12]}~1, "
+        "and commit the files again.\n"
     )
 
 

@@ -10,6 +10,7 @@ A plain string is a file with that name whose content doesn't matter.
 """
 import functools
 import os
+import re
 import subprocess
 from pathlib import Path
 from typing import NamedTuple
@@ -30,6 +31,12 @@ ENVIRONMENT = {
     "GIT_COMMITTER_EMAIL": WHO,
     "GIT_COMMITTER_DATE": WHEN,
 }
+
+
+def git_version():
+    """The first two numbers of Git's version."""
+    version = subprocess.check_output(["git", "version"], text=True)
+    return tuple(map(int, re.search(r"(\d+)\.(\d+)", version).groups()))
 
 
 class Entry(NamedTuple):

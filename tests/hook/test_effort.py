@@ -569,7 +569,7 @@ def test_of_very_many_refused_names_the_first_are_read(source, measured):
         1,
         "".join(names)
         + "push refused: at least 10000 names are not allowed (10 of them shown)\n"
-        + "This lists all in your clone: git scan-names origin/main..HEAD\n"
+        + "This lists all in your clone: git scan-names BRANCH --not --remotes\n"
         + RENAME_THE_FILE
         + change(commit)
         + accept(),

@@ -28,6 +28,7 @@ from tests.hook.expected import (
     change,
     found,
     not_checked,
+    recreate,
     refused,
 )
 from tests.hook.git import (
@@ -35,6 +36,7 @@ from tests.hook.git import (
     Repository,
     file,
     folder,
+    git_version,
     program,
     submodule,
     symlink,
@@ -95,11 +97,12 @@ def test_each_kind_of_name_is_refused_and_ten_lines_are_shown(server, source):
             + bad_name(r'"a\n\tb"', ILLEGAL, r"\n", commit)
             + "".join(bad_name(name, DEVICE, name, commit) for name in devices)
             + "push refused: 12 names are not allowed (10 of them shown)\n"
-            + "This lists all in your clone: git scan-names origin/main..HEAD\n"
+            + "This lists all in your clone: git scan-names BRANCH --not --remotes\n"
             + RENAME_THE_REF
             + RENAME_THE_FILE
             + RENAME_THE_SUBMODULE
             + change(commit)
+            + recreate(commit)
             + accept()
         ),
     )
@@ -123,6 +126,7 @@ def test_what_offends_is_named_and_only_what_windows_alone_forbids_can_be_accept
         + "push refused: 6 names are not allowed\n"
         + RENAME_THE_FILE
         + change(commit)
+        + recreate(commit)
         + accept(),
     )
     other = source.commit_of(".GIT", r"a\b", on=[source.clean])
@@ -151,7 +155,9 @@ def test_a_symlink_is_first_in_the_commit_that_makes_it_one(server, source):
     second = source.commit_of(symlink(".gitmodules", source.text), on=[first])
     third = source.commit_of(symlink(".gitmodules", source.text), "a", on=[second])
     line = bad_name(".gitmodules", SYMLINK, None, second)
-    assert server.push(third) == refused(line, MAKE_IT_A_FILE, change(second))
+    assert server.push(third) == refused(
+        line, MAKE_IT_A_FILE, change(second), recreate(second)
+    )
 
 
 def test_a_submodule_is_first_in_the_commit_that_brings_it(server, source):
@@ -436,8 +442,7 @@ def with_reftables(server):
     words = "git", "init", "-q", "--bare", "--ref-format=reftable"
     new = server.path.with_name("reftable")
     command = [*words, f"--object-format={server.object_format}", new]
-    if subprocess.run(command, env=ENVIRONMENT, stderr=subprocess.DEVNULL).returncode:
-        pytest.skip("needs Git 2.45 or later, which has reftables")
+    subprocess.run(command, env=ENVIRONMENT, check=True)
     shutil.rmtree(new / "hooks")
     shutil.copytree(server.path / "hooks", new / "hooks")
     shutil.rmtree(server.path)
@@ -445,18 +450,21 @@ def with_reftables(server):
     return server
 
 
-def test_a_server_with_reftables_is_checked_and_what_it_has_is_old(
-    with_reftables, scan, source
-):
-    server = with_reftables
-    device = source.device
-    server.already_has(*(f"{device}:refs/heads/{n}" for n in range(2000)))
-    assert server.push(source.commit_of("a", on=[device])) == ACCEPTED
-    con = source.commit_of("con", on=[device])
-    assert server.push(con).said.startswith(bad_name("con", DEVICE, "con", con))
-    assert scan(server) == found(bad_name("aux.c", DEVICE))
-    copied = scan("/", "--copy", server.path)
-    assert copied.status == 1 and copied.said.endswith(bad_name("aux.c", DEVICE))
+# (Debian 12's Git has none. Its run has no such test, because one that is skipped fails it.)
+if git_version() >= (2, 45):
+
+    def test_a_server_with_reftables_is_checked_and_what_it_has_is_old(
+        with_reftables, scan, source
+    ):
+        server = with_reftables
+        device = source.device
+        server.already_has(*(f"{device}:refs/heads/{n}" for n in range(2000)))
+        assert server.push(source.commit_of("a", on=[device])) == ACCEPTED
+        con = source.commit_of("con", on=[device])
+        assert server.push(con).said.startswith(bad_name("con", DEVICE, "con", con))
+        assert scan(server) == found(bad_name("aux.c", DEVICE))
+        copied = scan("/", "--copy", server.path)
+        assert copied.status == 1 and copied.said.endswith(bad_name("aux.c", DEVICE))
 
 
 # A fork that borrows the objects of another repository.

@@ -18,6 +18,7 @@ from tests.hook.expected import (
     bad_submodule,
     change,
     not_checked,
+    recreate,
     refused,
 )
 
@@ -26,7 +27,7 @@ pytestmark = pytest.mark.one_format
 
 def refused_name(name, fault, commit):
     line = bad_name(name, fault, None, commit)
-    return refused(line, RENAME_THE_FILE, change(commit))
+    return refused(line, RENAME_THE_FILE, change(commit), recreate(commit))
 
 
 def push_of_clean_branches(server):
@@ -171,6 +172,8 @@ def result_for(names, commit):
     said = "".join(lines[name] for name in names)
     said += f"push refused: {count} not allowed\n{RENAME_THE_FILE}"
     said += change(commit)
+    if {*names} - {DEVICE_NAME}:
+        said += recreate(commit)
     return Result(1, said + (accept("aux.c") if DEVICE_NAME in names else ""))
 
 
@@ -240,9 +243,9 @@ def test_more_names_than_linux_passes_refuse_every_push(server, source):
         ("limits = 2", "limits is unknown"),
         ("replace = maybe", "replace is neither true nor false"),
         ("alternateRefs = maybe", "alternaterefs is neither true nor false"),
-        ("seconds = 0", "seconds is no number from 1 to 1000000000"),
-        ("seconds = 2k", "seconds is no number from 1 to 1000000000"),
-        ("megabytes = -1", "megabytes is no number from 1 to 1000000000"),
+        ("seconds = 0", 'seconds is "0": give a number from 1 to 1000000000'),
+        ("seconds = 2k", 'seconds is "2k": give a number from 1 to 1000000000'),
+        ("megabytes = -1", 'megabytes is "-1": give a number from 1 to 1000000000'),
         ("megabytes", "megabytes has no value"),
     ],
 )

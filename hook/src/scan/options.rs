@@ -37,19 +37,20 @@ Checks the names in the Git repository of DIRECTORY, or of the current one:
 
     git scan-names [OPTION..] [DIRECTORY | REVISION..]
 
-Prints a line for each path with a name that is not allowed. Without REVISION it
-checks the names of all refs, all names in their history, and the submodules in
-each .gitmodules file. With REVISION it checks the names and the submodules in
-the history that git rev-list selects. REVISION is a commit, a range (v1..v2,
-^v1), --all, --branches, --tags, --remotes, --glob, --exclude or --not.
+Prints a line for each name that is not allowed, with its path (of identical
+directories one path). Without REVISION it checks the names of all refs, all
+names in their history, and the submodules in each .gitmodules file. With
+REVISION it checks the names and the submodules in the history that git rev-list
+selects. REVISION is a commit, a range (v1..v2, ^v1), --all, --branches, --tags,
+--remotes, --glob, --exclude or --not.
 
     --index           checks what git commit would commit, and no history
     --copy SOURCE     checks a copy of the repository with this path or URL,
                       which you need not trust, and removes the copy
     --protect LIST    the file systems to protect, separated by commas:
                       windows, hfs and ntfs, or none. The default is all three
-    --accept NAMES    names, separated by slashes, that are checked without
-                      windows: aux.c/con.h accepts these two. It may come again
+    --accept NAMES    accepts names that only Windows forbids. Slashes separate
+                      them: aux.c/con.h accepts these two. It can be repeated
     --settings        begins with names.protect and names.accept of the
                       repository and the system, as the hook does
     --to-accept       prints the commands that make the hook accept the names

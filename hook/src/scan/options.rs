@@ -72,12 +72,7 @@ what files contain, or about the repository's hooks and settings.
 pub fn parse(mut words: impl Iterator<Item = OsString>) -> Result<Option<Options>> {
     let mut options = Options::default();
     while let Some(word) = words.next() {
-        let (option, value) = match split_once(word.as_bytes(), b'=') {
-            Some((option, value)) if option.starts_with(b"--") => {
-                (option, Some(OsStr::from_bytes(value).to_owned()))
-            }
-            _ => (word.as_bytes(), None),
-        };
+        let (option, value) = split(&word);
         let has_value = value.is_some();
         let mut given = |what: &str| match value.clone().or_else(|| words.next()) {
             Some(value) if !value.is_empty() => Ok(value),
@@ -107,6 +102,16 @@ pub fn parse(mut words: impl Iterator<Item = OsString>) -> Result<Option<Options
         (true, true, _) => misused("--index and --copy don't go together"),
         (true, _, false) => misused("--copy accepts no revisions"),
         _ => Ok(Some(options)),
+    }
+}
+
+/// An option, and its value if that follows an equals sign.
+fn split(word: &OsStr) -> (&[u8], Option<OsString>) {
+    match split_once(word.as_bytes(), b'=') {
+        Some((option, value)) if option.starts_with(b"--") => {
+            (option, Some(OsStr::from_bytes(value).to_owned()))
+        }
+        _ => (word.as_bytes(), None),
     }
 }
 

@@ -26,7 +26,7 @@ import tempfile
 from datetime import datetime, timezone
 from pathlib import Path
 
-from release import completion, javascript, manual, references
+from release import completion, javascript, links, manual, references
 from scripts.sources import Wrong
 
 ROOT = Path(__file__).resolve().parent.parent
@@ -60,7 +60,7 @@ BUILT = [
     *PORTABLE,
 ]
 # Why the full check is named in MANIFEST.
-IN_THE_CHECK = "passed: it packed this, and keeps an archive only if all passes"
+IN_THE_CHECK = "passed (it packs the archive, and keeps it only if every part passes)"
 ALONE = "did not run on this commit; the proofs were made when this was packed"
 # Debian's Rust, whatever else there is.
 CARGO, RUSTC = "/usr/bin/cargo", "/usr/bin/rustc"
@@ -199,8 +199,9 @@ class Release:
     def copy_what_is_committed(self):
         """Copies what release/contents lists: in each line a folder of the room, one of
         the repository, and files in it. The documents are in folders in which their links
-        work."""
-        for line in (ROOT / "release/contents").read_text().splitlines():
+        work, or get links that do."""
+        contents = (ROOT / "release/contents").read_text()
+        for line in contents.splitlines():
             folder, source, *files = line.split()
             to = self.room / folder
             to.mkdir(parents=True, exist_ok=True)
@@ -215,10 +216,15 @@ class Release:
             ]
             run(*archive, "--format=tar", f"HEAD:./{source}", "--", *files)
             run("tar", "-C", to, "-xf", self.room / "part")
-        self.copy_built(PAGE, self.tree / "share/doc/gix-validate" / PAGE)
+        places = links.places(contents)
+        for page, place in places.items():
+            text = (ROOT / page).read_text("utf-8")
+            text = links.rewritten(text, page, places)
+            (self.tree / place).write_text(text, "utf-8")
+        self.copy_built(PAGE, self.tree / links.DOC / PAGE)
         # (A release has no sources for the page to lead to.)
         for page in ["README.md", "docs/PROMISES.md"]:
-            file = self.tree / "share/doc/gix-validate" / page
+            file = self.tree / links.DOC / page
             link = r"\[([^\]]*)\]\((\.\./)?crates/[^)]*\.(rt|antt)[^)]*\)"
             file.write_text(re.sub(link, r"\1", file.read_text("utf-8")), "utf-8")
 

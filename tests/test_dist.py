@@ -7,10 +7,11 @@ import re
 import shutil
 import subprocess
 import tarfile
+from pathlib import Path
 
 import pytest
 
-from release import dist
+from release import dist, links
 from scripts.checks import full_check
 
 
@@ -176,6 +177,35 @@ def test_the_record_has_each_part_of_the_full_check():
     source = inspect.getsource(full_check.check_all)
     parts = re.findall(r'\b(?:run|start)\("(\w+)"', source)
     assert sorted(parts) == sorted(dist.PARTS)
+
+
+# A page, a link in it, and the link that works where the release has the page.
+LINKS = [
+    (
+        "bindings/c",
+        "../../docs/RULES.md#paths",
+        "../share/doc/gix-validate/docs/RULES.md#paths",
+    ),
+    (
+        "bindings/c",
+        "../cpp/README.md",
+        "../share/doc/gix-validate/bindings/cpp/README.md",
+    ),
+    ("bindings/go", "../rust/README.md", "../../rust/git-names/README.md"),
+    ("bindings/rust", "gix-validate/README.md#a", "gix-validate/README.md#a"),
+    ("bindings/rust/gix-validate", "../README.md", "../README.md"),
+    ("bindings/c", "#kinds", "#kinds"),
+    ("bindings/c", "https://example.org/a.md", "https://example.org/a.md"),
+]
+
+
+@pytest.mark.parametrize("folder, link, expected", LINKS)
+def test_a_page_that_the_release_has_elsewhere_gets_links_that_work_there(
+    folder, link, expected
+):
+    places = links.places((Path(links.__file__).parent / "contents").read_text())
+    text = links.rewritten(f"A [b]({link}).", f"{folder}/README.md", places)
+    assert text == f"A [b]({expected})."
 
 
 def test_the_sources_are_packed_with_their_commit_and_always_alike(

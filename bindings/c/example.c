@@ -3,6 +3,7 @@
 #include "gix_validate.h"
 
 #include <stdio.h>
+#include <stdlib.h>
 
 int main(int count, char **arguments) {
   int invalid = 0;
@@ -17,10 +18,13 @@ int main(int count, char **arguments) {
     printf("%s: %s (%s at byte %zu)\n", name,
            gix_validate_fault_text(result.fault),
            gix_validate_fault_name(result.fault), result.offset);
-    char suggested[256];
-    if (gix_validate_suggest_str(name, suggested, sizeof suggested) > 0) {
+    size_t size = strlen(name) + 1;
+    char *suggested = malloc(size);
+    if (suggested != NULL &&
+        gix_validate_suggest_str(name, suggested, size) > 0) {
       printf("    try %s\n", suggested);
     }
+    free(suggested);
     invalid++;
   }
   return invalid == 0 ? 0 : 1;

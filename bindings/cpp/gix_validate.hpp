@@ -450,9 +450,8 @@ using submodule_name = valid<kind::submodule>;
 /// none, as for `...`.
 [[nodiscard]] inline std::optional<branch_name> suggest(std::string_view name) {
   std::string text(name.size(), '\0');
-  text.resize(gix_validate_suggest(
-      name.data(), name.size(), reinterpret_cast<std::uint8_t *>(text.data()),
-      text.size()));
+  text.resize(
+      gix_validate_suggest(name.data(), name.size(), text.data(), text.size()));
   return branch_name::parse(std::move(text));
 }
 
@@ -460,9 +459,8 @@ using submodule_name = valid<kind::submodule>;
 /// unchanged.
 [[nodiscard]] inline partial_name sanitize(std::string_view name) {
   std::string text(name.empty() ? 1 : name.size(), '\0');
-  text.resize(gix_validate_sanitize(
-      name.data(), name.size(), reinterpret_cast<std::uint8_t *>(text.data()),
-      text.size()));
+  text.resize(gix_validate_sanitize(name.data(), name.size(), text.data(),
+                                    text.size()));
   return partial_name::parse(std::move(text)).value();
 }
 
@@ -492,7 +490,7 @@ inline void append_quoted(std::string &to, std::string_view bytes, char quote) {
 } // namespace detail
 
 inline std::string error::text(std::string_view name) const {
-  std::array<std::uint8_t, GIX_VALIDATE_TEXT_MAX> buffer;
+  std::array<char, GIX_VALIDATE_TEXT_MAX> buffer;
   const std::size_t length = gix_validate_text_of(
       std::uint32_t(kind), name.data(), name.size(), std::uint32_t(protect),
       buffer.data(), buffer.size());
@@ -500,7 +498,7 @@ inline std::string error::text(std::string_view name) const {
   if (length == 0) { // It isn't the name that was checked.
     return std::string(fault_text(fault));
   }
-  return {reinterpret_cast<const char *>(buffer.data()), length};
+  return {buffer.data(), length};
 }
 
 inline std::string error::message(std::string_view name) const {

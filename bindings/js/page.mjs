@@ -64,7 +64,7 @@ function noteOf(kind, name, invalid, hasRepair) {
       invalid ?
       "This is only the first fault. The repair removes all of them." :
       kind === "path" ?
-      "These are Git's rules. A file system may refuse more, such as a long name." :
+      "No protection refuses it. A file system may refuse more, such as a long name." :
       kind === "branch" ? `Git stores it as refs/heads/${printable(name)}.` :
       kind === "tag" ? `Git stores it as refs/tags/${printable(name)}.` :
                        "";

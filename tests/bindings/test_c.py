@@ -102,6 +102,36 @@ def test_the_rows_hold_as_cplusplus(tmp_path):
     assert replayed(tmp_path, [CXX, "-std=c++11"], *flags) == ALL_HOLD
 
 
+# Gives the functions buffers of each type that a text may have.
+BUFFERS = """
+#include "gix_validate.h"
+int main(void) {
+  char name[] = "a..b", text[GIX_VALIDATE_TEXT_MAX];
+  uint8_t bytes[GIX_VALIDATE_TEXT_MAX];
+  size_t length =
+      gix_validate_text_of(GIX_VALIDATE_KIND_TAG, name, 4, 0, text, sizeof text);
+  bool is_same = length == gix_validate_text_of(GIX_VALIDATE_KIND_TAG, name, 4, 0,
+                                                bytes, sizeof bytes) &&
+                 memcmp(text, bytes, length) == 0;
+  bool is_repaired = gix_validate_suggest(name, 4, text, sizeof text) == 3 &&
+                     memcmp(text, "a.b", 3) == 0 &&
+                     gix_validate_sanitize(name, 4, text, sizeof text) == 3 &&
+                     gix_validate_sanitize_in_place(name, 4, 4) == 3 &&
+                     memcmp(text, name, 3) == 0;
+  return is_same && is_repaired ? 0 : 1;
+}
+"""
+
+
+@pytest.mark.parametrize("compiler", [[CC, "-std=c99"], [CXX, "-x", "c++"]])
+def test_a_buffer_for_a_text_may_be_of_char_without_a_warning(compiler, tmp_path):
+    need(compiler[0])
+    source, program = tmp_path / "buffers.c", tmp_path / "buffers"
+    source.write_text(BUFFERS)
+    run(*compiler, *STRICT, "-o", program, source, "-x", "none", ARCHIVE)
+    assert run(program).stderr == ""
+
+
 # Writes to memory that has no value yet, and then reads what was written.
 UNINITIALISED = """
 #include "gix_validate.h"

@@ -172,6 +172,12 @@ def test_require_returns_what_import_does(project):
     assert output("node", "main.mjs", cwd=project) == "1 true\n"
 
 
+def test_a_program_can_read_the_version_in_the_package(project):
+    need("node")
+    required = 'require("gix-validate/package.json").version.replace("-dev", "")'
+    assert output("node", "-p", required, cwd=project) == f"{VERSION}\n"
+
+
 def test_a_program_runs_where_nothing_may_be_compiled_and_calls_say_why_they_fail(
     project,
 ):
@@ -222,12 +228,14 @@ def test_the_types_are_those_that_callers_need(project, resolution, module, sour
     assert output("tsc", *TSC, *options.split(), source, cwd=project) == ""
 
 
-def test_the_types_of_the_slim_module_need_no_types_of_a_browser(project):
+@pytest.mark.parametrize("resolution", ["node", "node16"])
+def test_the_types_of_the_slim_module_need_no_types_of_a_browser(project, resolution):
     need("tsc")
     (project / "types.mts").write_text(
         'import { ready } from "gix-validate/slim"; export const made: Promise<void> = ready({});'
     )
-    options = "--target es2022 --lib es2022 --module node16 --moduleResolution node16"
+    module = "es2022" if resolution == "node" else resolution
+    options = f"--target es2022 --lib es2022 --module {module} --moduleResolution {resolution}"
     assert output("tsc", *TSC, *options.split(), "types.mts", cwd=project) == ""
 
 

@@ -99,6 +99,11 @@ target_link_libraries(example gix_validate::{{}})
 def built_by_cmake(room, prefix, target, *options):
     """The example for C, linked with a target of the package that CMake finds."""
     (room / "CMakeLists.txt").write_text(PROJECT.format(target))
+    return built_project(room, prefix, *options)
+
+
+def built_project(room, prefix, *options):
+    """The program `example` that CMake builds of the project in `room`."""
     found = f"-DCMAKE_PREFIX_PATH={prefix}"
     for words in [
         ["-S", room, "-B", room / "built", found, *options],

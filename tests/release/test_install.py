@@ -14,7 +14,7 @@ def test_the_manifest_has_the_version_and_says_whether_the_full_check_ran(tree):
     title = f"gix-validate (of the project Dihareku) {VERSION} for x86_64 Linux\n"
     assert manifest.startswith(title)
     assert re.search(
-        "(?m)^full check: (passed: it packed this|did not run on this commit; )",
+        r"(?m)^full check: (passed \(it packs the archive|did not run on this commit; )",
         manifest,
     )
 

@@ -5,12 +5,14 @@ import shutil
 
 import pytest
 
+from tests.pages.blocks import blocks_of
 from tests.release.commands import (
     COMPILER,
     MAJOR,
     NUMBERS,
     ROOT,
     built_by_cmake,
+    built_project,
     differences,
     need,
     run,
@@ -147,6 +149,17 @@ def test_cmake_links_the_kind_of_library_that_build_shared_libs_says(
     option = f"-DBUILD_SHARED_LIBS={is_shared}"
     example = built_by_cmake(room, prefix, "gix_validate", option)
     assert (LIBRARY in needed_by(example)) == (is_shared == "ON")
+
+
+# (Clang 14 chooses C++14 by itself.)
+@need("cmake", "clang++")
+def test_cmake_builds_the_example_of_the_page_for_cplusplus_with_clang(prefix, room):
+    page = (ROOT / "bindings/cpp/README.md").read_text("utf-8")
+    code = {it.language: it.code for it in blocks_of(page)}
+    (room / "example.cpp").write_text(code["cpp"], "utf-8")
+    (room / "CMakeLists.txt").write_text(code["cmake"], "utf-8")
+    example = built_project(room, prefix, "-DCMAKE_CXX_COMPILER=clang++")
+    assert run(example) == (0, code["text"])
 
 
 def needed_by(program):

@@ -1,5 +1,5 @@
-//! Whether bytes may be a Git name: a branch, a tag, a reference, a path or a submodule name; what is wrong if they may
-//! not, and where; and which name to use in their place.
+//! Checks whether bytes are a valid Git name: a branch, a tag, a reference, a path or a submodule name. If not, says why
+//! and where, and suggests a branch to use instead.
 //!
 //! ```
 //! use git_names::{branch, path, suggest_branch, Fault, Protections};

@@ -1,5 +1,6 @@
 //! A type for each kind of names, whose values are valid, and the functions that make them.
 
+use alloc::string::String;
 use core::fmt;
 
 use crate::{Error, Kind, Protections};
@@ -29,6 +30,13 @@ macro_rules! type_of_names {
             #[inline]
             fn as_ref(&self) -> &[u8] {
                 self.0
+            }
+        }
+
+        /// Prints U+FFFD for bytes that aren't UTF-8, and allocates only then.
+        impl fmt::Display for $name<'_> {
+            fn fmt(&self, f: &mut fmt::Formatter<'_>) -> fmt::Result {
+                f.pad(&String::from_utf8_lossy(self.0))
             }
         }
 
@@ -77,7 +85,13 @@ macro_rules! names {
 /// A type of names that are protected, and its function.
 macro_rules! protected_names {
     ($($(#[$type_doc:meta])* $name:ident; $(#[$doc:meta])* $function:ident;)*) => {$(
-        type_of_names! { $(#[$type_doc])* $name }
+        type_of_names! {
+            $(#[$type_doc])*
+            ///
+            /// The type doesn't say under which protections the name was checked. It may have been
+            /// [`Protections::NONE`].
+            $name
+        }
 
         $(#[$doc])*
         ///
@@ -97,6 +111,16 @@ macro_rules! protected_names {
 
 names! {
     /// A branch as people write it, such as `main`: see [`branch`].
+    ///
+    /// A function that takes it can't be called with a name that wasn't checked:
+    ///
+    /// ```
+    /// fn create(name: git_names::Branch<'_>) -> String {
+    ///     format!("created {name}")
+    /// }
+    /// assert_eq!(create(git_names::branch("main")?), "created main");
+    /// # Ok::<(), git_names::Error>(())
+    /// ```
     Branch;
     /// Checks a branch as people write it, such as `main`.
     ///

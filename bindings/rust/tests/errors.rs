@@ -32,6 +32,17 @@ fn an_error_prints_the_byte_and_the_piece() {
 }
 
 #[test]
+fn a_name_is_printed_with_a_replacement_for_what_is_not_utf8() -> Result<(), Error> {
+    let print = |name: Branch<'_>| format!("[{name:>4}]");
+    assert_eq!(print(branch("é/x")?), "[ é/x]");
+    assert_eq!(
+        print(branch(b"a\xff\xfeb".as_slice())?),
+        "[a\u{fffd}\u{fffd}b]"
+    );
+    Ok(())
+}
+
+#[test]
 fn an_error_at_the_end_says_so() {
     let error = path("src/", Protections::ALL).unwrap_err();
     assert_eq!(

@@ -58,9 +58,15 @@ class Job:
     """The job of a file on the page, with the release that it is to get."""
 
     def __init__(self, text, room, archive, sum_of_it):
-        self.file, self.room = yaml.safe_load(text), room
+        self.text, self.file, self.room = text, yaml.safe_load(text), room
         self.release = {"RELEASE_URL": archive.as_uri(), "RELEASE_SHA256": sum_of_it}
         self.environment = {**Git(room).environment, "RUNNER_TEMP": str(room)}
+
+    def add_to_each_scan(self, words):
+        scan = 'git-scan-names "$what"'
+        assert self.text.count(scan) == 1
+        text = self.text.replace(scan, f'git-scan-names {words} "$what"')
+        self.file = yaml.safe_load(text)
 
     def run_script(self, shell, script, clone, **variables):
         environment = {**self.environment, **variables}
@@ -153,18 +159,36 @@ def test_a_job_for_good_names_passes_and_says_how_many_it_checked(job, opened):
 
 
 @pytest.mark.parametrize("changes", [["aux.c"], ["aux.c", "-aux.c"]])
-def test_a_job_for_a_device_fails_also_if_a_later_commit_removes_it(
+def test_a_job_for_a_device_fails_and_says_how_to_find_the_commit_that_adds_it(
     job, opened, changes
 ):
-    status, said = job.run(opened("main.c", *changes))
+    clone = opened("main.c", *changes, "other.c")
+    status, said = job.run(clone)
     assert status == 1
-    assert said.count(DEVICE) == 1
-    assert said.endswith("Rename these paths in the commits that add them.\n")
+    # (The file that is still there is also in the index.)
+    assert said.count(DEVICE) == (2 if changes == ["aux.c"] else 1)
+    [command] = re.findall(r"(?m)^git (log .*)$", said)
+    git = Git(job.room)
+    found = git(clone.path, *command.replace("PATH", "aux.c").split())
+    assert git(clone.path, "log", "-1", "--format=%s", found) == "aux.c"
 
 
-def test_a_job_for_an_old_device_fails(job, opened):
-    status, said = job.run(opened("main.c", before=["aux.c"]))
-    assert (status, said.count(DEVICE)) == (1, 1)
+def test_a_job_names_an_old_device_and_a_new_one_that_is_no_longer_there(job, opened):
+    status, said = job.run(opened("con.h", "-con.h", before=["aux.c"]))
+    assert status == 1
+    assert DEVICE in said
+    assert DEVICE.replace("aux.c", "con.h") in said
+
+
+def test_a_job_with_an_old_device_passes_if_the_name_is_accepted(job, opened):
+    clone = opened("main.c", before=["aux.c"])
+    status, said = job.run(clone)
+    assert status == 1
+    assert said.endswith(" accept it: --accept aux.c\n")
+    shutil.rmtree(job.room / "release")
+    job.add_to_each_scan("--accept aux.c")
+    status, said = job.run(clone)
+    assert status == 0, said
 
 
 def test_a_job_without_a_base_checks_all_history(job, opened):
@@ -175,13 +199,17 @@ def test_a_job_without_a_base_checks_all_history(job, opened):
     assert (status, said.count(DEVICE)) == (1, 1)
 
 
-def test_a_job_in_a_shallow_clone_fails(job, opened):
-    clone = opened("main.c")
+@pytest.mark.parametrize("change", ["main.c", "aux.c"])
+def test_a_job_in_a_shallow_clone_has_status_2_also_if_it_finds_a_name(
+    job, opened, change
+):
+    clone = opened(change)
     shallow = job.room / "shallow"
     Git(job.room)(job.room, "clone", "-q", "--depth=1", clone.path.as_uri(), shallow)
     status, said = job.run(clone._replace(path=shallow))
     assert status == 2, said
     assert "A commit is missing." in said
+    assert (DEVICE in said) == (change == "aux.c")
 
 
 def test_a_job_in_an_empty_checkout_fails(job, opened):

@@ -43,11 +43,13 @@ def test_a_copy_of_the_hook_says_to_link_it(hook, source, room):
     assert hook.run(source.push_of(source.device), file=copy) == source.device_refused
 
 
-@pytest.mark.parametrize("name", ["pre-receive", "scan"])
-def test_the_hook_and_the_scan_print_their_version(hook, name):
+@pytest.mark.parametrize(
+    "name, command", [("pre-receive", "pre-receive"), ("scan", "git-scan-names")]
+)
+def test_the_hook_and_the_scan_print_their_version(hook, name, command):
     version = (ROOT / "VERSION").read_text().strip()
     said = hook.run("", ["env"], hook.folder / name, words=["--version"])
-    assert said == Result(0, f"{name} {version}\n")
+    assert said == Result(0, f"{command} {version}\n")
 
 
 @pytest.mark.parametrize("size", [63, 64, 500, 4096, 100_000, "half", "most"])

@@ -45,6 +45,19 @@ def test_what_is_added_is_checked(scan, hostile, room):
     assert scan(hostile.sub, "--index") == expected
 
 
+def test_the_monitor_that_the_repository_configures_does_not_run(scan, hostile, room):
+    """`git status` runs it."""
+    monitor = room / "monitor"
+    monitor.write_text(f"#!/bin/sh\ntouch {room}/ran\nexit 1\n")
+    monitor.chmod(0o755)
+    add(hostile, "a")
+    hostile.git("config", "core.fsmonitor", str(monitor))
+    assert scan(hostile, "--index") == ALL_IS_WELL
+    assert not (room / "ran").exists()
+    hostile.git("status")
+    assert (room / "ran").exists()
+
+
 def test_the_index_can_be_another_file_as_in_a_partial_commit(scan, work):
     next_index = work.path / "next"
     add(work, "con", GIT_INDEX_FILE=str(next_index))

@@ -272,9 +272,10 @@ static struct bytes quoted(const char **at) {
   return exact;
 }
 
+/* The bits of a row's letters. (w is that of Windows' own rules, which has no
+   constant: GIX_VALIDATE_PROTECT_WINDOWS also has that of NTFS.) */
 static uint32_t flags_of(const char *letters) {
-  static const uint32_t values[] = {GIX_VALIDATE_PROTECT_WINDOWS,
-                                    GIX_VALIDATE_PROTECT_HFS,
+  static const uint32_t values[] = {1, GIX_VALIDATE_PROTECT_HFS,
                                     GIX_VALIDATE_PROTECT_NTFS};
   uint32_t flags = 0;
   for (; *letters != ' ' && *letters != '\0'; letters++) {
@@ -612,6 +613,13 @@ static void check_helpers(void) {
                               GIX_VALIDATE_PROTECT_ALL, NULL,
                               0) == GIX_VALIDATE_TEXT_MAX);
   EXPECT(gix_validate_version() == GIX_VALIDATE_VERSION);
+  place = "Windows includes NTFS";
+  EXPECT(gix_validate_path_str("aux.c", GIX_VALIDATE_PROTECT_WINDOWS) ==
+         GIX_VALIDATE_WINDOWS_RESERVED_NAME);
+  EXPECT(gix_validate_path_str("git~1", GIX_VALIDATE_PROTECT_WINDOWS) ==
+         GIX_VALIDATE_DOT_GIT_DIR);
+  EXPECT(gix_validate_path_str("aux.c", GIX_VALIDATE_PROTECT_HFS) ==
+         GIX_VALIDATE_OK);
   place = "the names and texts of faults";
   EXPECT(number_of("Unknown", 7) > GIX_VALIDATE_DISGUISED);
   EXPECT(number_of("UnknownKind", 11) == GIX_VALIDATE_UNKNOWN_KIND);

@@ -107,7 +107,7 @@ enum class fault : std::uint8_t {
 };
 
 /// What paths, components, safe references and submodules are protected
-/// against. The other kinds ignore it.
+/// against. The other kinds ignore it. `windows` includes `ntfs`.
 enum class protect : std::uint32_t {
   none = GIX_VALIDATE_PROTECT_NONE,
   windows = GIX_VALIDATE_PROTECT_WINDOWS,
@@ -247,9 +247,9 @@ check_symlink_path(std::string_view path,
 
 /// A component of a path, such as `src`: one name in a directory.
 ///
-/// A valid component may contain a NUL unless Windows and NTFS are both
-/// protected, as they are by default. open() ends a name at its first NUL: for
-/// `.git`, a NUL and `x` it opens `.git`. `check_path` accepts no NUL at all.
+/// A valid component may contain a NUL unless Windows is protected, as it is by
+/// default. open() ends a name at its first NUL: for `.git`, a NUL and `x` it
+/// opens `.git`. `check_path` accepts no NUL at all.
 [[nodiscard]] inline std::optional<error>
 check_component(std::string_view name, protect under = protect::all) noexcept {
   return check(kind::component, name, under);

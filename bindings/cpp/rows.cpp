@@ -95,10 +95,12 @@ const std::map<string, called> kinds = {
     UNDER("submodule", submodule),
 };
 
+/* Those of a row's letters. (w is the bit of Windows' own rules, which has no
+   name: `protect::windows` also has that of NTFS.) */
 protect protections_of(const string &letters) {
   protect all = protect::none;
   for (const char it : letters) {
-    all = all | (it == 'w'   ? protect::windows
+    all = all | (it == 'w'   ? protect(1)
                  : it == 'h' ? protect::hfs
                              : protect::ntfs);
   }
@@ -254,6 +256,13 @@ void check_messages() {
          "A path must not have a NUL byte ('\\0' at byte 5, in \"a\\0b\")");
 }
 
+void check_protections() {
+  place = "Windows includes NTFS";
+  EXPECT(gix_validate::check_path("aux.c", protect::windows).has_value());
+  EXPECT(gix_validate::check_path("git~1", protect::windows).has_value());
+  EXPECT(!gix_validate::check_path("aux.c", protect::hfs).has_value());
+}
+
 /* An error that is shown with a name that isn't its own. */
 void check_other_names() {
   place = "another name than the error's";
@@ -275,8 +284,9 @@ void check_types() {
   static_assert(!std::is_default_constructible_v<branch_name>);
   static_assert(!std::is_constructible_v<branch_name, string>);
   static_assert(!std::is_convertible_v<gix_validate::tag_name, branch_name>);
-  static_assert((protect::windows | protect::ntfs) != protect::all);
-  static_assert((protect::windows & protect::ntfs) == protect::none);
+  static_assert((protect::windows | protect::hfs) == protect::all);
+  static_assert((protect::windows & protect::ntfs) == protect::ntfs);
+  static_assert((protect::windows & protect::hfs) == protect::none);
   string given(100, 'a');
   const char *bytes = given.data();
   EXPECT(branch_name::parse(given).value().view().data() != bytes);
@@ -322,6 +332,7 @@ int main(int count, char **arguments) {
   std::ifstream file(count == 2 ? arguments[1] : "");
   const int rows = check_rows(file, false);
   check_messages();
+  check_protections();
   check_other_names();
   check_types();
   const string more = additions();

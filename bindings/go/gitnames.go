@@ -26,15 +26,15 @@ type Name interface{ ~string | ~[]byte }
 // has to be harmless.
 //
 // A server passes [ProtectAll], because it doesn't know where a name will be checked out.
-// Devices, such as NUL and aux.c, and what Windows forbids in a name, such as a dot at its
-// end, are refused only if [ProtectWindows] and [ProtectNTFS] are both set. [ProtectNTFS]
-// alone accepts `a\.git`, which Windows reads as a path and git fsck refuses. 0 is none of
-// them.
+// [ProtectWindows] includes [ProtectNTFS], because Windows has NTFS. It refuses devices, such
+// as NUL and aux.c, and what Windows forbids in a name, such as a dot at its end.
+// [ProtectNTFS] alone accepts `a\.git`, which Windows reads as a path and git fsck refuses.
+// 0 is none of them.
 type Protections uint8
 
 // The protections, which are combined by |.
 const (
-	ProtectWindows Protections = 1
+	ProtectWindows Protections = 5
 	ProtectHFS     Protections = 2
 	ProtectNTFS    Protections = 4
 	ProtectAll     Protections = 7
@@ -97,7 +97,7 @@ func CheckSymlinkPath[T Name](name T, protect Protections) error {
 }
 
 // CheckComponent checks one component of a path, such as src: the part between two slashes. A valid
-// one may have a NUL byte, unless [ProtectWindows] and [ProtectNTFS] are both set.
+// one may have a NUL byte, unless [ProtectWindows] is set.
 func CheckComponent[T Name](name T, protect Protections) error {
 	return check(Component, name, protect)
 }

@@ -44,7 +44,8 @@ func TestAListMayHaveNamesWithNULs(t *testing.T) {
 func TestProtectionsCountForManyNames(t *testing.T) {
 	for protect, wanted := range map[Protections]string{
 		0:              "[Valid Valid DotGitDir]",
-		ProtectWindows: "[PathSeparator Valid DotGitDir]",
+		ProtectWindows: "[PathSeparator WindowsReservedName DotGitDir]",
+		ProtectHFS:     "[Valid Valid DotGitDir]",
 		ProtectAll:     "[PathSeparator WindowsReservedName DotGitDir]",
 	} {
 		names := []string{`a\b`, "a/aux.c", ".git/x"}
@@ -52,6 +53,18 @@ func TestProtectionsCountForManyNames(t *testing.T) {
 			t.Errorf("%d: %v", protect, found)
 		}
 		if found := Faults(Path, strings.Join(names, "\x00"), 0, protect); fmt.Sprint(found) != wanted {
+			t.Errorf("%d: %v", protect, found)
+		}
+	}
+}
+
+func TestWindowsIncludesNTFS(t *testing.T) {
+	names := []string{"aux.c", "git~1", "src"}
+	for protect, wanted := range map[Protections]string{
+		ProtectWindows: "[WindowsReservedName DotGitDir Valid]",
+		ProtectHFS:     "[Valid Valid Valid]",
+	} {
+		if found := FaultsOf(Path, names, protect); fmt.Sprint(found) != wanted {
 			t.Errorf("%d: %v", protect, found)
 		}
 	}

@@ -44,7 +44,9 @@ var others = map[string]func(*testing.T, row){
 	"device": testDevice, "many": testMany, "sanitize": testSanitize, "suggest": testSuggest,
 }
 
-var letters = map[rune]Protections{'w': ProtectWindows, 'h': ProtectHFS, 'n': ProtectNTFS}
+// letters are those of the settings. (w is the bit of Windows' own rules, which has no name:
+// [ProtectWindows] also has that of NTFS.)
+var letters = map[rune]Protections{'w': 1, 'h': ProtectHFS, 'n': ProtectNTFS}
 
 // A row of tests/rows: its call with what follows a colon, the kind of many names, its name,
 // and the rest.

@@ -65,13 +65,17 @@ export interface InvalidName {
  * name will be checked out.
  */
 export interface Protections {
-  /** What Windows reads differently from Git, such as "a\b" and "c:". */
+  /**
+   * What Windows reads differently from Git, such as "a\b" and "c:", devices,
+   * such as "NUL", and what it forbids, such as a dot at the end. This includes
+   * `ntfs`, because Windows has NTFS.
+   */
   readonly windows?: boolean|undefined;
   /** What HFS+ of macOS takes for ".git", such as ".g\u200cit". */
   readonly hfs?: boolean|undefined;
   /**
-   * What NTFS takes for ".git", such as "git~1". Devices, such as "NUL", and
-   * what Windows forbids, such as a dot at the end, need `windows` and `ntfs`.
+   * What NTFS takes for ".git", such as "git~1". `false` makes a difference
+   * only if `windows` is false, too.
    */
   readonly ntfs?: boolean|undefined;
 }

@@ -33,9 +33,9 @@ const BRANCH = 0, BRANCH_REF = 1, TAG = 2, REF = 3, PARTIAL_REF = 4, TAG_NAME = 
 const SAFE_REF = 6, PATH = 7, SYMLINK_PATH = 8, COMPONENT = 9, SYMLINK = 10, SUBMODULE = 11;
 // clang-format on
 
-// The flags of the protections.
+// The flags of the protections. Windows includes NTFS.
 const FLAGS = {
-  windows: 1,
+  windows: 5,
   hfs: 2,
   ntfs: 4
 };
@@ -239,16 +239,18 @@ function flagsOf(protections) {
   if (typeof protections !== "object" || protections === null) {
     throw new TypeError("the protections have to be an object");
   }
-  let flags = PROTECT_ALL;
+  const flags = {...FLAGS};
   for (const [name, value] of Object.entries(protections)) {
     if (!Object.hasOwn(FLAGS, name) ||
         ![true, false, undefined].includes(value)) {
       throw new TypeError(
           `the protections are windows, hfs and ntfs, true or false: ${name}`);
     }
-    flags &= value === false ? ~FLAGS[name] : PROTECT_ALL;
+    if (value === false) {
+      flags[name] = 0;
+    }
   }
-  return flags;
+  return flags.windows | flags.hfs | flags.ntfs;
 }
 
 export function checkBranch(name) {

@@ -34,7 +34,7 @@ const REPAIRS = {
   reference: sanitize
 };
 const PROTECTIONS = {
-  "Windows, NTFS": {windows: true, hfs: false, ntfs: true},
+  "Windows, NTFS": {windows: true, hfs: false},
   "HFS+": {windows: false, hfs: true, ntfs: false},
   none: {windows: false, hfs: false, ntfs: false},
 };

@@ -140,13 +140,13 @@ class Protect(enum.IntFlag):
     makes no difference for other kinds. The default of all functions is ALL, because a
     name that a server accepts may be checked out anywhere. Combine others by `|`.
 
-    Devices, such as "NUL" and "aux.c", and what Windows forbids in a name, such as a dot
-    at its end, are invalid only under WINDOWS and NTFS together. NTFS without WINDOWS
-    accepts "a\\.git", which Windows reads as a path and `git fsck` refuses.
+    WINDOWS includes NTFS, because Windows has NTFS. It refuses devices, such as "NUL" and
+    "aux.c", and what Windows forbids in a name, such as a dot at its end. NTFS without
+    WINDOWS accepts "a\\.git", which Windows reads as a path and `git fsck` refuses.
     """
 
     NONE = 0
-    WINDOWS = 1
+    WINDOWS = 5
     HFS = 2
     NTFS = 4
     ALL = 7
@@ -413,8 +413,7 @@ def validate_component(name: Name, *, protect: Protect = _DEFAULT) -> Name:
     """Returns `name` if it may be one component of a path, such as "src"; otherwise
     raises InvalidName.
 
-    It may have a NUL, unless it is protected by WINDOWS and NTFS together. C's open()
-    ends a name there.
+    It may have a NUL, unless it is protected by WINDOWS. C's open() ends a name there.
     """
     return _validated(name, "component", protect)
 

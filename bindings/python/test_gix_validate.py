@@ -20,7 +20,8 @@ HERE = Path(__file__).resolve().parent
 HEADER = (HERE.parent / "c" / "gix_validate.h").read_text(encoding="ascii")
 TEXT = (HERE.parents[1] / "tests" / "rows").read_text(encoding="ascii")
 ROWS = re.findall(r'(?m)^([\w-]+)(?::(\w*))?(?: ([\w-]+))? "([^"]*)" (.*)$', TEXT)
-SETTINGS = {"w": Protect.WINDOWS, "h": Protect.HFS, "n": Protect.NTFS}
+# (w is the flag of Windows' own rules, which has no name: WINDOWS includes NTFS.)
+SETTINGS = {"w": Protect(1), "h": Protect.HFS, "n": Protect.NTFS}
 PROTECTED = {
     *(Kind.SAFE_REF, Kind.PATH, Kind.SYMLINK_PATH),
     *(Kind.COMPONENT, Kind.SYMLINK, Kind.SUBMODULE),
@@ -262,9 +263,10 @@ def test_the_offset_in_a_str_counts_its_characters(name, offset):
 
 
 def test_the_offset_is_that_under_the_protections_of_the_call():
-    error = refusal(gix_validate.validate_path, "a./c:", protect=Protect.WINDOWS)
-    assert (error.fault, error.offset) == (Fault.WINDOWS_PATH_PREFIX, 4)
-    error = refusal(gix_validate.validate_path, "a./c:")
+    name = "a./.g\u200cit"
+    error = refusal(gix_validate.validate_path, name, protect=Protect.HFS)
+    assert (error.fault, error.offset) == (Fault.DOT_GIT_DIR, 3)
+    error = refusal(gix_validate.validate_path, name)
     assert (error.fault, error.offset) == (Fault.WINDOWS_ILLEGAL_CHARACTER, 1)
 
 
@@ -345,7 +347,7 @@ def test_protections_are_a_protect(call, protect):
 
 
 def test_the_default_protects_against_all():
-    names = {"aux.c": Protect.WINDOWS | Protect.NTFS, ".g\u200cit": Protect.HFS}
+    names = {"aux.c": Protect.WINDOWS, ".g\u200cit": Protect.HFS}
     names["git~1"] = Protect.NTFS
     for name, protect in names.items():
         for kind in (Kind.PATH, Kind.SYMLINK_PATH, Kind.COMPONENT, Kind.SYMLINK):
@@ -356,7 +358,14 @@ def test_the_default_protects_against_all():
             assert gix_validate.is_valid(name, kind, protect=Protect.NONE) is True
         assert not gix_validate.is_valid(name, "submodule")
         assert not gix_validate.is_valid(f"refs/{name}", "safe-ref")
-    assert Protect.WINDOWS | Protect.HFS | Protect.NTFS == Protect.ALL
+    assert Protect.WINDOWS | Protect.HFS == Protect.ALL
+
+
+def test_windows_includes_ntfs():
+    for name in ("aux.c", "git~1", ".git ", "a."):
+        assert not gix_validate.is_valid(name, "path", protect=Protect.WINDOWS)
+    assert gix_validate.is_valid("aux.c", "path", protect=Protect.HFS)
+    assert Protect.WINDOWS | Protect.NTFS is Protect.WINDOWS
 
 
 def test_a_kind_is_a_str_which_may_be_passed_in_its_place():

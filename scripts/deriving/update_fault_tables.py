@@ -253,6 +253,8 @@ def parts_of_rust(names, whys):
     variants, numbers = [], []
     for number, name in names.items():
         why = whys[name].replace(" The first is `byte`.", "")
+        # (`Protections` has NTFS in Windows, unlike the options of the crate.)
+        why = why.replace("Windows and NTFS protection", "Windows protection")
         variants += (f"    /// {line}" for line in wrap(why, 110))
         variants.append(f"    {name} = {number},")
         numbers.append(f"            {number} => Fault::{name},")

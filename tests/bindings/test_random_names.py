@@ -127,8 +127,8 @@ def answers(gix, name):
     for kind in KINDS:
         yield kind, refusal(gix, kind, name), "Ok"
     for letters in LETTERS:
-        words = {"w": gix.Protect.WINDOWS, "h": gix.Protect.HFS, "n": gix.Protect.NTFS}
-        protect = gix.Protect(sum(words[letter] for letter in letters))
+        flags = {"w": 1, "h": 2, "n": 4}
+        protect = gix.Protect(sum(flags[letter] for letter in letters))
         for kind in PROTECTED:
             yield f"{kind}:{letters}", refusal(gix, kind, name, protect=protect), "Ok"
     suggested = gix.suggest_branch(name)

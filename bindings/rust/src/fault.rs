@@ -37,9 +37,9 @@ pub enum Fault {
     PathSeparator = 15,
     /// A colon follows its first unit, as in `C:`. This needs Windows protection.
     WindowsPathPrefix = 16,
-    /// It is a device, such as `NUL` or `com1.txt`. This needs Windows and NTFS protection.
+    /// It is a device, such as `NUL` or `com1.txt`. This needs Windows protection.
     WindowsReservedName = 17,
-    /// It has a byte below 0x20 or one of `<>:"|?*`, or a dot or space last. This needs Windows and NTFS protection.
+    /// It has a byte below 0x20 or one of `<>:"|?*`, or a dot or space last. This needs Windows protection.
     WindowsIllegalCharacter = 18,
     /// It is `.git`, or may be read as that. HFS and NTFS protection say how.
     DotGitDir = 19,

@@ -54,7 +54,15 @@ impl Kind {
         name: &N,
         protections: Protections,
     ) -> Option<Fault> {
-        match block::fault_of(self.number(), name.as_ref(), protections.flags()) {
+        self.fault_under(name.as_ref(), protections.flags())
+    }
+
+    /// [`fault`](Kind::fault) under the flags of the exported functions, whose bit of Windows is without that of NTFS.
+    /// It is for the crate gix-validate, which has that switch.
+    #[doc(hidden)]
+    #[inline]
+    pub fn fault_under(self, name: &[u8], flags: u32) -> Option<Fault> {
+        match block::fault_of(self.number(), name, flags) {
             0 => None,
             number => Some(Fault::of(number)),
         }
@@ -81,13 +89,11 @@ impl Kind {
 
 /// What a path, a component, a submodule name or a safe reference name is protected against.
 ///
-/// A server passes [`ALL`](Protections::ALL), because it doesn't know where a name will be checked out. Devices, such
-/// as `NUL` and `aux.c`, and what Windows forbids in a name, such as a dot at its end, are refused only if `windows`
-/// and `ntfs` are both set.
+/// A server passes [`ALL`](Protections::ALL), because it doesn't know where a name will be checked out.
 #[derive(Debug, Clone, Copy, PartialEq, Eq, Hash)]
 pub struct Protections {
-    /// Refuse what Windows reads otherwise: backslashes, prefixes as `C:`, and, together with `ntfs`, devices and
-    /// characters that it forbids.
+    /// Refuse what Windows reads otherwise: backslashes, prefixes such as `C:`, devices such as `aux.c`, and what it
+    /// forbids in a name, such as a dot at its end. This includes `ntfs`, because Windows has NTFS.
     pub windows: bool,
     /// Refuse names that HFS+ reads as `.git`, or, for a symbolic link, as `.gitmodules`.
     pub hfs: bool,
@@ -111,7 +117,8 @@ impl Protections {
     };
 
     pub(crate) fn flags(self) -> u32 {
-        u32::from(self.windows) | u32::from(self.hfs) << 1 | u32::from(self.ntfs) << 2
+        let ntfs = self.ntfs || self.windows;
+        u32::from(self.windows) | u32::from(self.hfs) << 1 | u32::from(ntfs) << 2
     }
 }
 

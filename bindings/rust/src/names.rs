@@ -213,7 +213,7 @@ protected_names! {
     Component;
     /// Checks a component of a path, such as `src`: the part between two slashes.
     ///
-    /// A valid component may have a NUL unless Windows and NTFS are protected, and the functions of C end a name there.
+    /// A valid component may have a NUL unless Windows is protected, and the functions of C end a name there.
     /// [`path`] refuses a NUL.
     component;
 

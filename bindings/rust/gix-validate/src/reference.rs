@@ -1,7 +1,7 @@
 //! Reference names.
 
 use bstr::{BStr, BString};
-use git_names::{Kind, Protections};
+use git_names::Kind;
 
 use crate::checked;
 
@@ -41,20 +41,20 @@ pub mod name {
 /// ```
 #[inline]
 pub fn name(path: &BStr) -> Result<&BStr, name::Error> {
-    checked(Kind::Reference, path, Protections::NONE, name::Error::of)
+    checked(Kind::Reference, path, 0, name::Error::of)
 }
 
 /// Returns `path` if it is a valid partial name, otherwise its first fault. `main` is one.
 #[inline]
 pub fn name_partial(path: &BStr) -> Result<&BStr, name::Error> {
-    checked(Kind::Partial, path, Protections::NONE, name::Error::of)
+    checked(Kind::Partial, path, 0, name::Error::of)
 }
 
 /// Returns `path` if it is a full name other than `refs/heads/HEAD`, otherwise its first fault. `HEAD` and
 /// `refs/tags/v1` pass too, and `main` doesn't: [`git_names::branch`] is for what people write.
 #[inline]
 pub fn branch_name(path: &BStr) -> Result<&BStr, name::Error> {
-    checked(Kind::BranchRef, path, Protections::NONE, name::Error::of)
+    checked(Kind::BranchRef, path, 0, name::Error::of)
 }
 
 /// The partial name that `path` is repaired to: `path` itself if it is one, and at least `-`.

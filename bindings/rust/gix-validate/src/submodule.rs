@@ -1,7 +1,7 @@
 //! Submodule names.
 
 use bstr::BStr;
-use git_names::{Kind, Protections};
+use git_names::Kind;
 
 use crate::checked;
 
@@ -22,5 +22,5 @@ pub mod name {
 /// ```
 #[inline]
 pub fn name(name: &BStr) -> Result<&BStr, name::Error> {
-    checked(Kind::Submodule, name, Protections::NONE, name::Error::of)
+    checked(Kind::Submodule, name, 0, name::Error::of)
 }

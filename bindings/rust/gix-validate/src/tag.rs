@@ -1,7 +1,7 @@
 //! Tag names.
 
 use bstr::BStr;
-use git_names::{Kind, Protections};
+use git_names::Kind;
 
 use crate::checked;
 
@@ -21,5 +21,5 @@ pub mod name {
 /// ```
 #[inline]
 pub fn name(input: &BStr) -> Result<&BStr, name::Error> {
-    checked(Kind::TagName, input, Protections::NONE, name::Error::of)
+    checked(Kind::TagName, input, 0, name::Error::of)
 }

@@ -62,6 +62,10 @@ BUILT = [
 # Why the full check is named in MANIFEST.
 IN_THE_CHECK = "passed (it packs the archive, and keeps it only if every part passes)"
 ALONE = "did not run on this commit; the proofs were made when this was packed"
+NO_KIT = (
+    "this needs the Rattle kit, whose `rt` isn't on the PATH: "
+    'see "Build from source" in README.md'
+)
 # Debian's Rust, whatever else there is.
 CARGO, RUSTC = "/usr/bin/cargo", "/usr/bin/rustc"
 # What the site has for a server on the web, for other languages than English and for
@@ -468,6 +472,8 @@ def pack(sums, out, check):
 
 def pack_anew(out):
     """Proves and builds all from nothing, and packs it."""
+    if not shutil.which("rt"):
+        raise Wrong(NO_KIT)
     commit_without_changes()
     empty()
     run("scripts/build")

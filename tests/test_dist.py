@@ -73,6 +73,18 @@ def test_emptying_follows_no_link(clone, tmp_path):
     assert not (clone / "crates/low/out").is_symlink()
 
 
+def test_packing_anew_without_rt_says_so_and_removes_nothing(
+    clone, tmp_path, monkeypatch, capsys
+):
+    (tmp_path / "few").mkdir()
+    (tmp_path / "few/git").symlink_to(shutil.which("git"))
+    monkeypatch.setenv("PATH", str(tmp_path / "few"))
+    assert dist.main([str(tmp_path / "new")]) == 1
+    [line] = capsys.readouterr().err.splitlines()
+    assert "needs the Rattle kit" in line
+    assert [it for it in dist.BUILT if not (clone / it).exists()] == []
+
+
 def test_what_is_recorded_is_what_sha256sum_checks(clone, sums):
     checked = ["sha256sum", "--check", "--quiet", "--strict", sums]
     assert subprocess.run(checked, cwd=clone).returncode == 0

@@ -272,6 +272,16 @@ def test_a_command_that_is_not_installed_was_not_run(copy):
     assert status == 1
 
 
+def test_a_check_without_rt_says_in_one_line_that_it_needs_the_kit(copy):
+    (copy.bin / "rt").unlink()
+    for tool in ("dirname", "python3", "sh"):
+        (copy.bin / tool).symlink_to(shutil.which(tool, path="/usr/bin:/bin"))
+    status, printed = copy.run(PATH=str(copy.bin))
+    assert (status, copy.calls) == (1, [])
+    [line] = printed.splitlines()
+    assert "needs the Rattle kit" in line
+
+
 def test_another_kit_fails_the_check_unless_it_is_allowed(copy):
     copy.kit.write_text("rattle-kit logic ffffffffffffffff")
     status, printed = copy.run()

@@ -40,6 +40,10 @@ ROOT = Path(__file__).resolve().parents[2]
 LOGS = Path("out/check")
 BUILT = "out/check/built"
 RELEASE = "out/check/release"
+NO_KIT = (
+    ".ci/run: this needs the Rattle kit, whose `rt` isn't on the PATH: "
+    'see "Build from source" in README.md'
+)
 # What the parts of a whole run took, in processor minutes, and the last commit for which all
 # edits were tried.
 MINUTES = Path(".ci/minutes")
@@ -324,6 +328,8 @@ def arguments():
 def main():
     os.chdir(ROOT)
     given = arguments()
+    if not shutil.which("rt"):
+        sys.exit(NO_KIT)
     started = time.monotonic()
     LOGS.mkdir(parents=True, exist_ok=True)
     is_known = is_known_kit()

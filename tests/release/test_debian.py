@@ -4,6 +4,8 @@ dpkg installs them into a folder of the test."""
 
 import gzip
 import io
+import re
+import shutil
 import subprocess
 import tarfile
 
@@ -20,6 +22,7 @@ from tests.release.hostile import (
 pytestmark = need("dpkg")
 
 SHARED = f"libgix-validate-c{MAJOR}"
+LOCAL = b"/usr/local/libexec"
 NAMES = ["gix-validate", "gix-validate-doc", SHARED, "libgix-validate-dev"]
 
 
@@ -94,17 +97,30 @@ def test_the_files_have_the_sums_of_the_packages(system, room):
     assert summed == (0, "")
 
 
+@pytest.fixture(scope="module")
+def of_archive(tree, session_room):
+    """The archive's files, with the hook's directory as the package has it."""
+    copy = session_room / "archive"
+    shutil.copytree(tree, copy, symlinks=True)
+    for page in (copy / "share/doc").rglob("*"):
+        if page.is_file() and LOCAL in (text := page.read_bytes()):
+            page.write_bytes(text.replace(LOCAL, b"/usr/libexec"))
+    return copy
+
+
 @pytest.mark.parametrize(
     "folder",
     ["bin", "include", "libexec", "share/bash-completion", "share/doc", "share/fish"],
 )
-def test_the_files_are_those_of_the_archive(system, tree, folder):
+def test_the_files_are_those_of_the_archive(system, of_archive, folder):
     of_debian = ["copyright", "changelog.gz", *NAMES[1:]]
     ignored = [
         word for it in ("licences", "MANIFEST", *of_debian) for word in ("-x", it)
     ]
     # (follows links: the package has some in place of hard links)
-    compared = run("diff", "-r", *ignored, "--", tree / folder, system.usr / folder)
+    compared = run(
+        "diff", "-r", *ignored, "--", of_archive / folder, system.usr / folder
+    )
     assert compared == (0, "")
 
 
@@ -125,6 +141,20 @@ def test_the_manual_page_of_the_hook_says_where_the_package_has_it(system):
     page = gzip.decompress(file.read_bytes()).decode().replace("\\", "")
     assert "\nln -s /usr/libexec/gix-validate/pre-receive hooks/pre-receive\n" in page
     assert "/usr/local" not in page
+
+
+def test_no_page_of_the_packages_names_the_directory_of_a_release_without_a_package(
+    system,
+):
+    documents = system.usr / "share/doc"
+    pages = [
+        it for it in documents.rglob("*") if it.suffix in (".md", ".html", ".json")
+    ]
+    texts = {it: re.sub(rb"<[^>]*>", b"", it.read_bytes()) for it in pages}
+    assert [it for it, text in texts.items() if LOCAL in text] == []
+    command = b"ln -s /usr/libexec/gix-validate/pre-receive hooks/pre-receive"
+    saying = {it.suffix for it in pages if command in texts[it]}
+    assert {".md", ".html"} <= saying
 
 
 def test_the_package_of_the_shared_object_lists_its_symbols(system):

@@ -90,14 +90,23 @@ def test_a_command_without_an_input_does_not_wait(copy):
     assert ended.output + ended.errors == "check_names|cat: -: Is a directory\n"
 
 
-def test_a_command_without_rt_says_so(copy):
+@pytest.mark.parametrize(
+    "words", [["check_names"], ["git-check-names"], ["hook/install", "new"]]
+)
+def test_a_command_without_rt_says_in_one_line_that_it_needs_the_kit(copy, words):
     few = copy.room / "few"
     few.mkdir()
-    for tool in "bash", "env", "nproc", "readlink", "sed":
+    for tool in "bash", "dirname", "env", "readlink", "sed":
         (few / tool).symlink_to(shutil.which(tool))
-    ended = copy.run("check_names", path=few)
+    ended = copy.run(*words, path=few)
     assert (ended.status, ended.output) == (2, "")
-    assert "rt: command not found" in ended.errors
+    [line] = ended.errors.splitlines()
+    assert "needs the Rattle kit" in line
+    assert '"Build from source" in README.md' in line
+
+
+def test_a_reader_finds_in_README_what_a_command_without_rt_names(copy):
+    assert "\n## Build from source\n" in copy.read("README.md")
 
 
 def test_scripts_program_builds_a_program(copy):

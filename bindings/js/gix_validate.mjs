@@ -175,8 +175,7 @@ function placed(text, name, at, unit, index) {
   const from = name.lastIndexOf("/", at - 1) + 1;
   const slash = name.indexOf("/", at), to = slash < 0 ? name.length : slash;
   const piece = name.slice(from, to);
-  const isPiece =
-      from < to && to - from < name.length && name[at] !== "/";
+  const isPiece = from < to && to - from < name.length && name[at] !== "/";
   if (isPiece &&
       PLAIN.test(name)) {  // (what follows does the same, but slower)
     return `${text} ("${name[at]}" at ${unit} ${index}, in "${piece}")`;

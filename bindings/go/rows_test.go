@@ -181,7 +181,7 @@ func place(name string, offset int) string {
 	char = strings.NewReplacer(`\"`, `"`, `'`, `\'`).Replace(char[1 : len(char)-1])
 	start := strings.LastIndex("/"+name[:offset], "/")
 	piece := strings.Split(name[start:], "/")[0]
-	if piece == "" || piece == name {
+	if piece == "" || piece == name || char == "/" {
 		return fmt.Sprintf(" ('%s' at byte %d)", char, offset)
 	}
 	return fmt.Sprintf(" ('%s' at byte %d, in %q)", char, offset, piece)

@@ -133,9 +133,10 @@ function placeOf(name, index) {
     return isIt;
   });
   const unit = typeof name === "string" ? "index" : "byte";
-  const within =
-      parts.length > 1 && part !== "" ? `, in ${JSON.stringify(part)}` : "";
   const [character] = text.slice(index);
+  const within = parts.length > 1 && part !== "" && character !== "/" ?
+      `, in ${JSON.stringify(part)}` :
+      "";
   return ` (${JSON.stringify(character)} at ${unit} ${index}${within})`;
 }
 

@@ -212,7 +212,7 @@ MESSAGES = [
     (
         "branch",
         b"a/b/",
-        "Reference name cannot end with a slash (b'/' at byte 3, in b'b')",
+        "Reference name cannot end with a slash (b'/' at byte 3)",
     ),
     (
         "path",

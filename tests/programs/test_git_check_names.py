@@ -94,7 +94,7 @@ KINDS = [
     invalid(["component", "aux.c"], f"aux.c: {DEVICE} ('a' at byte 0)"),
     invalid(
         ["component", "a/b"],
-        "a/b: Path separators like / or \\ are not allowed ('/' at byte 1, in \"a\")",
+        "a/b: Path separators like / or \\ are not allowed ('/' at byte 1)",
     ),
     row_of(["submodule", "vendor/package"], 0),
     row_of(["submodule", "--protect=none", "/etc"], 0),

@@ -41,8 +41,8 @@ The other arguments are names and options, in any order:
                       two. It can be given 16 times
     --repair          for branches and refs: prints each name, repaired if it is
                       invalid, and nothing else; with -z each ends with a NUL.
-                      Standard error says which names have no repair, such as the
-                      branch HEAD or the ref main, and what is wrong
+                      Standard error says which names have no repair, such as
+                      the branch HEAD or the ref main, and what is wrong
     -v, --verbose     adds the error's name and its offset in bytes, from 0
     --                ends the options, for names that begin with a dash
     -h, --help        prints this text

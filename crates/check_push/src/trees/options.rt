@@ -23,7 +23,7 @@ mode, the quoted path, and why it is refused, for example
 
 The path is the directory, if it is known, a slash and the name. If the
 directory is longer than 128 bytes, only its first 128 are shown, with '...'. A
-line begins with 'windows ' if only the rules of Windows refuse the name, so that
+line begins with 'windows ' if only the rules of Windows refuse the name: then
 --accept accepts it.
 
     --protect LIST    the file systems to protect, separated by commas: windows,

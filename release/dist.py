@@ -341,7 +341,8 @@ class Release:
         (package / "py.typed").touch()
         shutil.copy(self.shared, package / self.names.library)
         metadata = (ROOT / "release/METADATA").read_text("utf-8")
-        metadata += (ROOT / "bindings/python/README.md").read_text("utf-8")
+        page = "bindings/python/README.md"
+        metadata += links.alone((ROOT / page).read_text("utf-8"), page)
         metadata = metadata.replace("@VERSION@", self.names.python)
         for file in [info / "METADATA", sdist / "PKG-INFO"]:
             file.write_text(metadata, "utf-8")
@@ -355,7 +356,9 @@ class Release:
 
     def pack_javascript(self):
         """Packs the npm package, in the layout of `npm pack`."""
-        package = self.room / "package"
+        package, page = self.room / "package", "bindings/js/README.md"
+        text = links.alone((ROOT / page).read_text("utf-8"), page)
+        (package / "README.md").write_text(text, "utf-8")
         self.copy_built(JAVASCRIPT, package / Path(JAVASCRIPT).name)
         javascript.write(package)
         (self.tree / "javascript").mkdir()

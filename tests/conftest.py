@@ -1,6 +1,10 @@
 """What all tests share. A fixture is what a test gets if it names it as an argument."""
 
+import shutil
+import subprocess
 from pathlib import Path
+
+import pytest
 
 pytest_plugins = ["tests.fail_closed", "tests.given_release", "tests.nothing_left"]
 
@@ -24,3 +28,13 @@ def pytest_addoption(parser):
         action="store_true",
         help="tests/programs: the builds load no library, so no device can fail",
     )
+
+
+@pytest.fixture(scope="session")
+def busybox(tmp_path_factory):
+    """A directory with all commands of BusyBox, and no other."""
+    if not shutil.which("busybox"):
+        pytest.skip("needs busybox")
+    made = tmp_path_factory.mktemp("busybox")
+    subprocess.run(["busybox", "--install", "-s", made], check=True)
+    return made

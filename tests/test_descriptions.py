@@ -27,6 +27,12 @@ HEADINGS = [
 ]
 
 
+@pytest.mark.parametrize("name", PROGRAMS)
+def test_the_glossary_says_what_a_program_is(name):
+    glossary = (ROOT / "docs/GLOSSARY.md").read_text("utf-8")
+    assert f"\n**`{name}`**: " in glossary
+
+
 def help_of(name):
     """The help that a program prints, from its source."""
     if name == "git-scan-names":

@@ -220,6 +220,22 @@ def test_a_page_that_the_release_has_elsewhere_gets_links_that_work_there(
     assert text == f"A [b]({expected})."
 
 
+@pytest.mark.parametrize("language", ["js", "python"])
+def test_the_page_of_a_package_names_the_pages_that_the_package_lacks(language):
+    page = Path(links.__file__).parent.parent / f"bindings/{language}/README.md"
+    text = page.read_text("utf-8")
+    assert "](../../docs/BINDINGS.md#protections)" in text
+    packed = links.alone(text, f"bindings/{language}/README.md")
+    assert "](../" not in packed
+    assert " (`docs/BINDINGS.md`)" in packed
+    assert packed.endswith("are in `share/doc/gix-validate` of a release.\n")
+
+
+def test_the_page_of_a_package_keeps_links_to_the_web_and_within_it():
+    text = "A [b](https://c.example/d.md), an [e](#f).\n"
+    assert links.alone(text, "bindings/js/README.md") == text
+
+
 def test_the_sources_are_packed_with_their_commit_and_always_alike(
     clone, sums, tmp_path
 ):

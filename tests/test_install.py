@@ -61,16 +61,6 @@ def release(tmp_path):
     return made
 
 
-@pytest.fixture(scope="session")
-def busybox(tmp_path_factory):
-    """A directory with all commands of BusyBox, and no other."""
-    if not shutil.which("busybox"):
-        pytest.skip("needs busybox")
-    made = tmp_path_factory.mktemp("busybox")
-    subprocess.run(["busybox", "--install", "-s", made], check=True)
-    return made
-
-
 @pytest.fixture(params=["GNU", "BusyBox"])
 def install(request, release, tmp_path):
     """Runs install. It has to leave nothing in the temporary directory."""

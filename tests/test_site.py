@@ -82,11 +82,27 @@ def test_the_search_finds_a_page_of_each_folder(site):
         assert f'"location":"{place}"' in index
 
 
-def test_the_search_finds_each_question(site):
+def answers(site):
+    """The questions and answers in the index of the search."""
     index = json.loads((site.path / "search/search_index.json").read_text("utf-8"))
-    found = {it["title"] for it in index["docs"] if "docs/FAQ.html" in it["location"]}
+    return [it for it in index["docs"] if "docs/FAQ.html" in it["location"]]
+
+
+def test_the_search_finds_each_question(site):
+    found = {it["title"] for it in answers(site)}
     asked = re.findall("(?m)^### (.*)$", (ROOT / "docs/FAQ.md").read_text("utf-8"))
     assert len(asked) > 15
     for it in asked:
         title = html.escape(it.replace("`", ""), quote=False)
         assert any(title == re.sub("<.*?>", "", each) for each in found), it
+
+
+@pytest.mark.parametrize(
+    "sought",
+    ["closed source", "contact", "jenkins", "license", "proprietary", "support"],
+)
+def test_the_search_finds_an_answer_to_what_readers_look_for(site, sought):
+    texts = [it["title"] + " " + it["text"] for it in answers(site)[1:]]
+    # (The search splits at spaces and dashes, and drops what surrounds a word.)
+    words = [re.split(r"\W*[\s-]+\W*", it.lower()) for it in texts]
+    assert any({*sought.split()} <= {*it} for it in words)

@@ -1,4 +1,5 @@
-"""The whole files of docs/CI.md: their commands, as GitHub Actions and GitLab run them."""
+"""The whole files of docs/CI.md: their commands, as GitHub Actions and GitLab run them, with
+the commands of GNU and with those of BusyBox, which images of Alpine have."""
 
 import hashlib
 import os
@@ -57,8 +58,9 @@ class Git:
 class Job:
     """The job of a file on the page, with the release that it is to get."""
 
-    def __init__(self, text, room, archive, sum_of_it):
+    def __init__(self, text, room, commands, archive, sum_of_it):
         self.text, self.file, self.room = text, yaml.safe_load(text), room
+        self.commands = commands
         self.release = {"RELEASE_URL": archive.as_uri(), "RELEASE_SHA256": sum_of_it}
         self.environment = {**Git(room).environment, "RUNNER_TEMP": str(room)}
 
@@ -70,6 +72,10 @@ class Job:
 
     def run_script(self, shell, script, clone, **variables):
         environment = {**self.environment, **variables}
+        if self.commands:
+            # (Where there is no bash, GitHub, too, takes sh.)
+            shell, environment["PATH"] = "sh", self.commands
+        shell = shutil.which(shell, path=environment["PATH"])
         command = [shell, "-e", "-c", script]
         how = {"cwd": clone.path, "env": environment, "text": True}
         ran = subprocess.run(command, **how, stdout=-1, stderr=-2, errors="replace")
@@ -117,16 +123,31 @@ class GitLab(Job):
         return self.run_script("sh", script, clone, **self.release, **base)
 
 
-@pytest.fixture(params=[GitHub, GitLab])
-def job(request, archive, tmp_path):
+@pytest.fixture(scope="module")
+def tools(tmp_path_factory):
+    """A directory with what a job installs."""
+    made = tmp_path_factory.mktemp("tools")
     for tool in ("curl", "git"):
         if not shutil.which(tool):
             pytest.skip(f"needs {tool}")
+        (made / tool).symlink_to(shutil.which(tool))
+    return made
+
+
+@pytest.fixture(params=["GNU", "BusyBox"])
+def commands(request, tools):
+    """The PATH of a job, if it isn't that of this machine."""
+    if request.param == "BusyBox":
+        return f"{request.getfixturevalue('busybox')}:{tools}"
+
+
+@pytest.fixture(params=[GitHub, GitLab])
+def job(request, archive, tmp_path, commands):
     kind = request.param
     form = rf"(?ms)^## {kind.heading}$.*?^```yaml\n(.*?)^```$"
     [text] = re.findall(form, PAGE.read_text("utf-8"))
     sum_of_it = hashlib.sha256(archive.read_bytes()).hexdigest()
-    return kind(text, tmp_path, archive, sum_of_it)
+    return kind(text, tmp_path, commands, archive, sum_of_it)
 
 
 @pytest.fixture

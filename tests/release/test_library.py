@@ -151,6 +151,54 @@ def test_cmake_links_the_kind_of_library_that_build_shared_libs_says(
     assert (LIBRARY in needed_by(example)) == (is_shared == "ON")
 
 
+@need("cmake")
+def test_cmake_compiles_the_source_of_an_unpacked_release(tree, room):
+    assert_is_compiled(room, [built_by_cmake(room, tree, "source")])
+
+
+AARCH64 = ["-DCMAKE_SYSTEM_NAME=Linux", "-DCMAKE_SYSTEM_PROCESSOR=aarch64"]
+
+
+@need("cmake", "aarch64-linux-gnu-gcc", "qemu-aarch64")
+def test_cmake_compiles_the_source_where_there_is_no_library(tree, room):
+    options = [
+        "-DCMAKE_C_COMPILER=aarch64-linux-gnu-gcc",
+        "-DCMAKE_EXE_LINKER_FLAGS=-static",
+    ]
+    example = built_by_cmake(room, tree, "gix_validate", *AARCH64, *options)
+    assert_is_compiled(room, ["qemu-aarch64", example])
+
+
+def assert_is_compiled(room, example):
+    """That the source was compiled with the example for C, which works."""
+    assert [it.name for it in room.rglob("gix_validate.c.o")] == ["gix_validate.c.o"]
+    status, said = run(*example, "main", "a..b")
+    assert status == 1
+    assert "a..b: it has two dots in a row (RepeatedDot at byte 2)\n" in said
+
+
+FINDING = """cmake_minimum_required(VERSION 3.10)
+project(example {})
+find_package(gix_validate)
+message("found: ${{gix_validate_FOUND}}")
+"""
+
+
+@need("cmake")
+@pytest.mark.parametrize("language, place", [("CXX", "tree"), ("C", "prefix")])
+def test_cmake_says_what_is_missing_where_there_is_no_library(
+    request, room, language, place
+):
+    (room / "CMakeLists.txt").write_text(FINDING.format(language))
+    found = f"-DCMAKE_PREFIX_PATH={request.getfixturevalue(place)}"
+    words = ["-S", room, "-B", room / "built", found, *AARCH64]
+    status, said = run("cmake", *words)
+    assert status == 0, said
+    assert "found: 0\n" in said
+    said = " ".join(said.split())  # (CMake breaks lines)
+    assert "This system has no libraries. Find an unpacked release, and" in said
+
+
 # (Clang 14 chooses C++14 by itself.)
 @need("cmake", "clang++")
 def test_cmake_builds_the_example_of_the_page_for_cplusplus_with_clang(prefix, room):

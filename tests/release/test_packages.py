@@ -89,6 +89,13 @@ def test_the_npm_package_has_the_functions_that_the_release_has(package, prefix)
 
 
 @need("node", "npm")
+def test_the_page_of_the_npm_package_links_to_no_file(package):
+    page = (package / "README.md").read_text("utf-8")
+    assert "`docs/BINDINGS.md`" in page
+    assert "](." not in page
+
+
+@need("node", "npm")
 def test_the_npm_package_can_be_required(package):
     program = 'require("gix-validate").sanitize("a..b")'
     assert run("node", "-p", program, cwd=package.parent) == (0, "a.b\n")

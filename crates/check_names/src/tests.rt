@@ -1,6 +1,10 @@
 //! Tests of what no clause of `run` says: that it succeeds, which error it returns, and that it
 //! flushes. Also tables of lines with the expected result of each, by check_names(1) and
 //! docs/RULES.md.
+//!
+//! The tests are proved to be safe, which takes long for a function with many exits or many values
+//! that are dropped. So a failed allocation ends a test, and what a loop does is in a function of
+//! its own.
 
 use crate::check::{RunError, run};
 use bstr::BStr;
@@ -9,7 +13,6 @@ use std::alloc::Global;
 use std::io;
 use std::io::{ErrorKind, Read, Write};
 use std::process::Abort;
-use std::test::Fail;
 
 /// Lines, and what is printed for them.
 pub const ROWS: (&[u8], &[u8]) = (
@@ -37,6 +40,9 @@ const TAGS: (&[u8], &[u8]) = (
     error: A ref must not end with a '/'\n",
 );
 
+/// What is printed for whole inputs.
+const INPUTS: &[(&[u8], &[u8])] = &[ROWS, TAGS, (b"", b"")];
+
 /// What a run that reads and writes memory prints for this input.
 pub fn printed(alloc: Global, input: &[u8]) -> Result<Vec<u8>, RunError> {
     let mut output = Vec::new(alloc);
@@ -44,14 +50,35 @@ pub fn printed(alloc: Global, input: &[u8]) -> Result<Vec<u8>, RunError> {
     Ok(output)
 }
 
-/// Panics if for this line something else is printed.
-fn expect_line(rt: &(impl Abort + AllocGlobal), line: &[u8], answer: &[u8]) -> Result<(), Fail> {
-    let input = [line, b"\n"].concat(rt.alloc())?;
-    let wanted = [answer, b"\n"].concat(rt.alloc())?;
-    let [line, wanted] = [BStr::new(line), BStr::new(&wanted)];
-    let came = printed(rt.alloc(), &input)?;
-    assert_eq!(rt; BStr::new(&came), wanted, "{line:?} (right: wanted)");
-    Ok(())
+/// Panics if for this input something else is printed.
+pub fn expect_printed(rt: &(impl Abort + AllocGlobal), input: &[u8], wanted: &[u8]) {
+    let came = printed(rt.alloc(), input).expect(rt, "a run");
+    let [input, wanted, came] = [BStr::new(input), BStr::new(wanted), BStr::new(&came)];
+    assert_eq!(rt; came, wanted, "{input:?} (right: wanted)");
+}
+
+/// The same for what is too long to be shown.
+fn expect_long(rt: &(impl Abort + AllocGlobal), input: &[u8], wanted: &[u8]) {
+    let came = printed(rt.alloc(), input).expect(rt, "a run");
+    assert!(rt; came.as_slice() == wanted);
+}
+
+/// The byte strings, one after the other.
+fn joined(rt: &(impl Abort + AllocGlobal), parts: &[&[u8]]) -> Vec<u8> {
+    parts.concat(rt.alloc()).expect(rt, "memory")
+}
+
+/// Panics if for a line that begins with this and ends in the name something else is printed.
+fn expect_line(rt: &(impl Abort + AllocGlobal), (front, name): (&[u8], &[u8]), answer: &[u8]) {
+    let line = joined(rt, &[front, name, b"\n"]);
+    expect_printed(rt, &line, &joined(rt, &[answer, b"\n"]));
+}
+
+/// Does so for lines that begin with this.
+fn expect_lines(rt: &(impl Abort + AllocGlobal), front: &[u8], rows: &[(&[u8], &[u8])]) {
+    for (name, answer) in rows {
+        expect_line(rt, (front, name), answer);
+    }
 }
 
 /// Lines, and the results: only the space after the kind is not part of the name, and no byte of a
@@ -71,11 +98,8 @@ const LINES: &[(&[u8], &[u8])] = &[
 ];
 
 #[test]
-fn answers_lines(rt: HostRuntime) -> Result<(), Fail> {
-    for (line, answer) in LINES {
-        expect_line(&rt, line, answer)?;
-    }
-    Ok(())
+fn answers_lines(rt: HostRuntime) {
+    expect_lines(&rt, b"", LINES);
 }
 
 /// Names, and the same repaired.
@@ -89,12 +113,8 @@ const REPAIRS: &[(&[u8], &[u8])] = &[
 ];
 
 #[test]
-fn sanitizes_names(rt: HostRuntime) -> Result<(), Fail> {
-    for (name, repaired) in REPAIRS {
-        let line = [b"sanitize ", *name].concat(rt.alloc())?;
-        expect_line(&rt, &line, repaired)?;
-    }
-    Ok(())
+fn sanitizes_names(rt: HostRuntime) {
+    expect_lines(&rt, b"sanitize ", REPAIRS);
 }
 
 /// The kinds of line, in the order of the results below.
@@ -162,14 +182,17 @@ const ANSWERS: &[(&[u8], [&[u8]; 9])] = &[
 ];
 
 #[test]
-fn answers_by_the_rule_of_the_kind(rt: HostRuntime) -> Result<(), Fail> {
+fn answers_by_the_rule_of_the_kind(rt: HostRuntime) {
     for (name, answers) in ANSWERS {
-        for (kind, answer) in KINDS.iter().zip(answers) {
-            let line = [*kind, *name].concat(rt.alloc())?;
-            expect_line(&rt, &line, answer)?;
-        }
+        expect_kinds(&rt, name, answers);
     }
-    Ok(())
+}
+
+/// Panics if for this name and a kind something other than its result is printed.
+fn expect_kinds(rt: &(impl Abort + AllocGlobal), name: &[u8], answers: &[&[u8]; 9]) {
+    for (kind, answer) in KINDS.iter().zip(answers) {
+        expect_line(rt, (kind, name), answer);
+    }
 }
 
 /// A reader that fails.
@@ -214,101 +237,130 @@ impl Write for Device<'_> {
 }
 
 #[test]
-fn prints_the_rows(rt: HostRuntime) -> Result<(), Fail> {
-    for (input, output) in [ROWS, TAGS, (b"", b"")] {
-        assert_eq!(rt; printed(rt.alloc(), input)?.as_slice(), output);
+fn prints_the_rows(rt: HostRuntime) {
+    for (input, output) in INPUTS {
+        expect_printed(&rt, input, output);
     }
-    Ok(())
 }
 
 #[test]
-fn prints_each_byte(rt: HostRuntime) -> Result<(), Fail> {
+fn prints_each_byte(rt: HostRuntime) {
     for byte in 0..=255 {
-        let line = [b't', b'a', b'g', b' ', byte];
-        let name = line[4..].strip_suffix(b"\n").unwrap_or(&line[4..]);
-        let wanted = match tag::name(BStr::new(name)) {
-            Ok(_) => format!(in rt.alloc(); "ok\n")?,
-            Err(fault) => format!(in rt.alloc(); "error: {fault}\n")?,
-        };
-        for (input, wanted) in [(&line[4..], "unknown kind\n"), (&line, wanted.as_str())] {
-            let came = printed(rt.alloc(), input)?;
-            assert_eq!(rt; came.as_slice(), wanted.as_bytes(), "{byte}");
-        }
+        expect_byte(&rt, &[byte]);
     }
-    Ok(())
+}
+
+/// Checks what is printed for this byte, alone and as a tag.
+fn expect_byte(rt: &(impl Abort + AllocGlobal), byte: &[u8]) {
+    expect_printed(rt, byte, b"unknown kind\n");
+    let name = byte.strip_suffix(b"\n").unwrap_or(byte);
+    expect_printed(
+        rt,
+        &joined(rt, &[b"tag ", byte]),
+        of_tag(rt, name).as_bytes(),
+    );
+}
+
+/// The result for a tag, as the library says it.
+fn of_tag(rt: &(impl Abort + AllocGlobal), name: &[u8]) -> String {
+    let answer = match tag::name(BStr::new(name)) {
+        Ok(_) => format!(in rt.alloc(); "ok\n"),
+        Err(fault) => format!(in rt.alloc(); "error: {fault}\n"),
+    };
+    answer.expect(rt, "memory")
 }
 
 #[test]
-fn accepts_a_long_name(rt: HostRuntime) -> Result<(), Fail> {
+fn accepts_a_long_name(rt: HostRuntime) {
     for len in [10_000, 3_000_000] {
-        let mut line = b"tag ".to_vec(rt.alloc())?;
-        line.resize(4 + len, b'a')?;
-        assert_eq!(rt; printed(rt.alloc(), &line)?.as_slice(), b"ok\n".as_slice());
+        let name = b"a".repeat(rt.alloc(), len).expect(&rt, "memory");
+        expect_long(&rt, &joined(&rt, &[b"tag ", &name]), b"ok\n");
     }
-    Ok(())
 }
 
 #[test]
-fn answers_many_lines(rt: HostRuntime) -> Result<(), Fail> {
-    let input = ROWS.0.repeat(rt.alloc(), 20_000)?;
-    let wanted = ROWS.1.repeat(rt.alloc(), 20_000)?;
+fn answers_many_lines(rt: HostRuntime) {
+    let input = ROWS.0.repeat(rt.alloc(), 20_000).expect(&rt, "memory");
     assert!(rt; input.len() > 2_000_000);
-    assert!(rt; printed(rt.alloc(), &input)?.as_slice() == wanted.as_slice());
-    Ok(())
+    let wanted = ROWS.1.repeat(rt.alloc(), 20_000).expect(&rt, "memory");
+    expect_long(&rt, &input, &wanted);
 }
 
 #[test]
-fn reports_failed_reads(rt: HostRuntime) -> Result<(), Fail> {
-    let (input, output) = ROWS;
-    for k in 0..=input.len() {
-        let mut written = Vec::new(rt.alloc());
-        let result = run(rt.alloc(), &mut input[..k].chain(Broken), &mut written);
-        assert!(rt;
-            matches!(result, Err(RunError::Read)) && written.is_empty(),
-            "{k}"
-        );
-        assert_eq!(rt; printed(rt.alloc(), input)?.as_slice(), output);
+fn reports_failed_reads(rt: HostRuntime) {
+    for k in 0..=ROWS.0.len() {
+        expect_failed_read(&rt, &ROWS.0[..k]);
+        expect_printed(&rt, ROWS.0, ROWS.1);
     }
-    Ok(())
+}
+
+/// Panics unless a run fails, and nothing is written, if reading fails after these bytes.
+fn expect_failed_read(rt: &(impl Abort + AllocGlobal), front: &[u8]) {
+    let mut written = Vec::new(rt.alloc());
+    let result = run(rt.alloc(), &mut front.chain(Broken), &mut written);
+    let is_reported = matches!(result, Err(RunError::Read)) && written.is_empty();
+    assert!(rt; is_reported, "{}", front.len());
 }
 
 #[test]
-fn reports_failed_writes(rt: HostRuntime) -> Result<(), Fail> {
-    let (input, output) = ROWS;
+fn reports_failed_writes(rt: HostRuntime) {
     let mut room = [0; 512];
-    assert!(rt; output.len() <= room.len());
-    for k in 0..output.len() {
-        let mut device = Device::new(&mut room[..k], 1);
-        let result = run(rt.alloc(), &mut &*input, &mut device);
-        assert!(rt; matches!(result, Err(RunError::Write)), "{k}");
-        run(rt.alloc(), &mut io::empty(), &mut device)?;
-        assert_eq!(rt; printed(rt.alloc(), input)?.as_slice(), output);
+    assert!(rt; ROWS.1.len() <= room.len());
+    for k in 0..ROWS.1.len() {
+        expect_failed_write(&rt, &mut room[..k]);
+        expect_printed(&rt, ROWS.0, ROWS.1);
     }
-    Ok(())
+}
+
+/// Panics unless a run fails if writing fails after so many bytes, and the next run succeeds, which
+/// has nothing to write.
+fn expect_failed_write(rt: &(impl Abort + AllocGlobal), room: &mut [u8]) {
+    let len = room.len();
+    let mut device = Device::new(room, 1);
+    let result = run(rt.alloc(), &mut &*ROWS.0, &mut device);
+    assert!(rt; matches!(result, Err(RunError::Write)), "{len}");
+    run(rt.alloc(), &mut io::empty(), &mut device).expect(rt, "a run");
 }
 
 #[test]
-fn flushes_once(rt: HostRuntime) -> Result<(), Fail> {
+fn flushes_once(rt: HostRuntime) {
+    expect_flushes(&rt, ROWS.0, 1);
+    expect_flushes(&rt, TAGS.0, 1);
+    expect_flushes(&rt, b"\n", 1);
+    expect_flushes(&rt, b"", 0);
+    expect_printed(&rt, ROWS.0, ROWS.1);
+}
+
+/// Panics unless a run flushes so often what it writes for the input, and fails if it can't.
+fn expect_flushes(rt: &(impl Abort + AllocGlobal), input: &[u8], flushes: usize) {
+    assert_eq!(rt; flushes_left(rt, input, flushes), 0);
+    assert_eq!(rt; fails_to_flush(rt, input), flushes == 1);
+}
+
+/// How many of so many flushes a run leaves.
+fn flushes_left(rt: &(impl Abort + AllocGlobal), input: &[u8], flushes: usize) -> usize {
     let mut room = [0; 512];
-    for (input, flushes) in [(ROWS.0, 1), (TAGS.0, 1), (b"\n", 1), (b"", 0)] {
-        let mut device = Device::new(&mut room, flushes);
-        run(rt.alloc(), &mut &*input, &mut device)?;
-        assert_eq!(rt; device.flushes, 0);
-        let result = run(rt.alloc(), &mut &*input, &mut Device::new(&mut room, 0));
-        assert_eq!(rt; matches!(result, Err(RunError::Write)), flushes == 1);
-    }
-    assert_eq!(rt; printed(rt.alloc(), ROWS.0)?.as_slice(), ROWS.1);
-    Ok(())
+    let mut device = Device::new(&mut room, flushes);
+    run(rt.alloc(), &mut &*input, &mut device).expect(rt, "a run");
+    device.flushes
+}
+
+/// Whether a run fails that can't flush.
+fn fails_to_flush(rt: &impl AllocGlobal, input: &[u8]) -> bool {
+    let mut room = [0; 512];
+    let result = run(rt.alloc(), &mut &*input, &mut Device::new(&mut room, 0));
+    matches!(result, Err(RunError::Write))
 }
 
 #[test]
-fn prints_each_error(rt: HostRuntime) -> Result<(), Fail> {
-    for (stop, text) in [
-        (RunError::Read, "read failed"),
-        (RunError::Memory, "out of memory"),
-        (RunError::Write, "write failed"),
-    ] {
-        assert_eq!(rt; format!(in rt.alloc(); "{stop}")?.as_str(), text);
-    }
-    Ok(())
+fn prints_each_error(rt: HostRuntime) {
+    expect_text(&rt, &RunError::Read, "read failed");
+    expect_text(&rt, &RunError::Memory, "out of memory");
+    expect_text(&rt, &RunError::Write, "write failed");
+}
+
+/// Panics if the error prints something else.
+fn expect_text(rt: &(impl Abort + AllocGlobal), error: &RunError, text: &str) {
+    let came = error.to_string(rt.alloc()).expect(rt, "memory");
+    assert_eq!(rt; came.as_str(), text);
 }

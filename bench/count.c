@@ -1,8 +1,9 @@
 /* A plugin of QEMU that counts the instructions of a program in all of its
    threads, also those of code that the program makes. Each time the program
    sends a signal by kill(), the count so far is a line on standard error: a
-   program sends itself the signal 0, which does nothing. Debian's QEMU has no
-   header for plugins. So what is declared here is that of QEMU 7.2.
+   program sends itself the signal 0, which does nothing. At the end of the
+   program there is a line with the count of all. Debian's QEMU has no header
+   for plugins. So what is declared here is that of QEMU 7.2.
 
    cc -O2 -shared -fPIC -o count.so count.c
    qemu-x86_64 -plugin ./count.so PROGRAM */
@@ -23,6 +24,8 @@ void qemu_plugin_register_vcpu_tb_trans_cb(plugin, translated *);
 void qemu_plugin_register_vcpu_tb_exec_cb(struct qemu_plugin_tb *, executed *,
                                           int flags, void *data);
 void qemu_plugin_register_vcpu_syscall_ret_cb(plugin, returned *);
+typedef void ended(plugin, void *data);
+void qemu_plugin_register_atexit_cb(plugin, ended *, void *data);
 
 int qemu_plugin_version = 1;
 static _Atomic uint64_t count;
@@ -46,9 +49,15 @@ static void call(plugin id, unsigned cpu, int64_t number, int64_t result) {
     fprintf(stderr, "count: %" PRIu64 "\n", count);
 }
 
+static void end(plugin id, void *data) {
+  (void)id, (void)data;
+  fprintf(stderr, "all: %" PRIu64 "\n", count);
+}
+
 int qemu_plugin_install(plugin id, const void *info, int argc, char **argv) {
   (void)info, (void)argc, (void)argv;
   qemu_plugin_register_vcpu_tb_trans_cb(id, block);
   qemu_plugin_register_vcpu_syscall_ret_cb(id, call);
+  qemu_plugin_register_atexit_cb(id, end, NULL);
   return 0;
 }

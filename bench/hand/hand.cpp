@@ -1,4 +1,4 @@
-// hand VALID INVALID: what hand.c measures, in C++.
+// hand CALL PASSES FILE: what hand.c measures, in C++.
 #include "gix_validate.hpp"
 #include <algorithm>
 #include <chrono>
@@ -64,13 +64,13 @@ static std::optional<wrong> ref_by_hand(std::string_view name) {
   return {};
 }
 
-// The nanoseconds of a call in the best pass, each of which finds names that
-// are all valid, or none of them.
+// The nanoseconds of a call in the best pass. The names are all valid, or none
+// of them.
 template <class Call>
-static double best(const std::vector<std::string> &names, bool is_valid,
+static double best(const std::vector<std::string> &names, int passes,
                    Call call) {
   double least = 1e18;
-  for (int pass = 0; pass < 1000; pass++) {
+  for (int pass = 0; pass < passes; pass++) {
     auto start = std::chrono::steady_clock::now();
     auto valid =
         std::count_if(names.begin(), names.end(), [&](std::string_view it) {
@@ -79,7 +79,7 @@ static double best(const std::vector<std::string> &names, bool is_valid,
     std::chrono::duration<double, std::nano> taken =
         std::chrono::steady_clock::now() - start;
     least = std::min(least, taken.count() / static_cast<double>(names.size()));
-    if (valid != (is_valid ? std::ssize(names) : 0)) {
+    if (names.empty() || (valid != 0 && valid != std::ssize(names))) {
       std::exit(1);
     }
   }
@@ -87,18 +87,20 @@ static double best(const std::vector<std::string> &names, bool is_valid,
 }
 
 int main(int count, char **arguments) {
-  std::cout << std::fixed << std::setprecision(1);
-  for (int i = 1; i < count; i++) {
-    std::ifstream file(arguments[i]);
-    std::vector<std::string> names;
-    for (std::string line; std::getline(file, line);) {
-      names.push_back(line);
-    }
-    // (The error always has the offset.)
-    double here = best(names, i == 1, [](std::string_view it) {
-      return gix_validate::check_ref(it);
-    });
-    std::cout << here << ' ' << here << ' ' << best(names, i == 1, ref_by_hand)
-              << '\n';
+  if (count != 4) {
+    return 2;
   }
+  std::ifstream file(arguments[3]);
+  std::vector<std::string> names;
+  for (std::string line; std::getline(file, line);) {
+    names.push_back(line);
+  }
+  int passes = std::stoi(arguments[2]);
+  // (The error always has the offset.)
+  double taken = std::string_view(arguments[1]) == "hand"
+                     ? best(names, passes, ref_by_hand)
+                     : best(names, passes, [](std::string_view it) {
+                         return gix_validate::check_ref(it);
+                       });
+  std::cout << std::fixed << std::setprecision(1) << taken << '\n';
 }

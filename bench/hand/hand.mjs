@@ -1,4 +1,4 @@
-// hand.mjs VALID INVALID: what hand.c measures, in JavaScript.
+// hand.mjs CALL PASSES FILE: what hand.c measures, in JavaScript.
 import {readFileSync} from "node:fs";
 
 import {checkRef} from "../../bindings/js/gix_validate.mjs";
@@ -51,23 +51,22 @@ function refByHand(name) {
 }
 
 /** The nanoseconds of a call in the best pass. */
-function best(names, isValid, call) {
+function best(names, passes, call) {
   let least = Infinity;
-  for (let pass = 0; pass < 1000; pass++) {
+  for (let pass = 0; pass < passes; pass++) {
     const start = process.hrtime.bigint();
     const valid = names.filter((name) => call(name) === null).length;
     const taken = Number(process.hrtime.bigint() - start) / names.length;
     least = Math.min(least, taken);
-    if (valid !== (isValid ? names.length : 0)) {
+    if (valid !== 0 && valid !== names.length) {
       throw new Error("a name was judged wrongly");
     }
   }
   return least.toFixed(1);
 }
 
-for (const [at, file] of process.argv.slice(2).entries()) {
-  const names = readFileSync(file, "latin1").trimEnd().split("\n");
-  // (The object that says what is wrong always has the index.)
-  const here = best(names, at === 0, checkRef);
-  console.log(here, here, best(names, at === 0, refByHand));
-}
+const [call, passes, file] = process.argv.slice(2);
+const names = readFileSync(file, "latin1").trimEnd().split("\n");
+// (The object that says what is wrong always has the index.)
+console.log(
+    best(names, Number(passes), call === "hand" ? refByHand : checkRef));

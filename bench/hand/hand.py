@@ -1,4 +1,4 @@
-"""hand.py VALID INVALID: what hand.c measures, in Python."""
+"""hand.py CALL PASSES FILE: what hand.c measures, in Python."""
 import re
 import sys
 import timeit
@@ -57,18 +57,10 @@ def offsets(names, call, error):
     return count
 
 
-def best(loop, names, count, *how):
-    """The nanoseconds of a call in the best pass, each of which finds so many faults."""
-    assert loop(names, *how) == count
-    taken = timeit.repeat(lambda: loop(names, *how), number=1, repeat=200)
-    return f"{min(taken) * 1e9 / len(names):.1f}"
-
-
-for file, is_valid in zip(sys.argv[1:], (True, False)):
-    names = Path(file).read_text().splitlines()
-    count = 0 if is_valid else len(names)
-    print(
-        best(refused, names, count, validate_ref, InvalidName),
-        best(offsets, names, count, validate_ref, InvalidName),
-        best(offsets, names, count, ref_by_hand, Wrong),
-    )
+call, passes, file = sys.argv[1:]
+names = Path(file).read_text().splitlines()
+loop = refused if call == "here" else offsets
+how = (ref_by_hand, Wrong) if call == "hand" else (validate_ref, InvalidName)
+assert loop(names, *how) in (0, len(names))
+taken = timeit.repeat(lambda: loop(names, *how), number=1, repeat=int(passes))
+print(f"{min(taken) * 1e9 / len(names):.1f}")

@@ -1,4 +1,4 @@
-//! `hand VALID INVALID`: what hand.c measures, in Rust.
+//! `hand CALL PASSES FILE`: what hand.c measures, in Rust.
 use std::time::Instant;
 
 struct Wrong {
@@ -46,32 +46,29 @@ fn ref_by_hand(name: &[u8]) -> Result<(), Wrong> {
     Ok(())
 }
 
-/// The nanoseconds of a call in the best pass, each of which finds names that are all valid, or none of them.
-fn best(names: &[&str], is_valid: bool, offset_of: fn(&[u8]) -> Option<usize>) -> f64 {
-    (0..1000)
+/// The nanoseconds of a call in the best pass. The names are all valid, or none of them.
+fn best(names: &[&str], passes: usize, offset_of: fn(&[u8]) -> Option<usize>) -> f64 {
+    (0..passes)
         .map(|_| {
             let start = Instant::now();
             let valid = names
                 .iter()
                 .filter(|it| offset_of(it.as_bytes()).is_none())
                 .count();
-            assert_eq!(valid, if is_valid { names.len() } else { 0 });
+            assert!(valid == 0 || valid == names.len());
             start.elapsed().as_nanos() as f64 / names.len() as f64
         })
         .fold(f64::INFINITY, f64::min)
 }
 
 fn main() {
-    for (file, is_valid) in std::env::args().skip(1).zip([true, false]) {
-        let text = std::fs::read_to_string(file).unwrap();
-        let names: Vec<_> = text.lines().collect();
-        let here = best(&names, is_valid, |it| {
-            git_names::reference(it).err().map(|_| 0)
-        });
-        let with_offset = best(&names, is_valid, |it| {
-            Some(git_names::reference(it).err()?.offset())
-        });
-        let by_hand = best(&names, is_valid, |it| Some(ref_by_hand(it).err()?.offset));
-        println!("{here:.1} {with_offset:.1} {by_hand:.1}");
-    }
+    let words: Vec<_> = std::env::args().collect();
+    let text = std::fs::read_to_string(&words[3]).unwrap();
+    let names: Vec<_> = text.lines().collect();
+    let call: fn(&[u8]) -> Option<usize> = match &*words[1] {
+        "here" => |it| git_names::reference(it).err().map(|_| 0),
+        "offset" => |it| Some(git_names::reference(it).err()?.offset()),
+        _ => |it| Some(ref_by_hand(it).err()?.offset),
+    };
+    println!("{:.1}", best(&names, words[2].parse().unwrap(), call));
 }

@@ -185,6 +185,7 @@ def made(figures):
     measured = figures["counts"] + figures["trees"]
     over = [" ".join(it.split()[:3]) for it in measured if it.endswith("OVER")]
     gitoxide = table(["Gitoxide", "Times as fast"], *gains(figures["gitoxide"]))
+    by_hand = [*of_languages(figures["hand"])]
     return {
         "calls": table(CALL_COLUMNS, *calls(times, counts)),
         "bytes": table(["Call", "Name", "Dihareku", "Crate"], *costs),
@@ -194,7 +195,8 @@ def made(figures):
         "javascript": ways(figures["javascript"]),
         "go": ways(figures["go"]),
         "languages": table(LANGUAGE_COLUMNS, *of_languages(figures["languages"])),
-        "hand": table(HAND_COLUMNS, *of_languages(figures["hand"])),
+        "hand": table(HAND_COLUMNS, *(it[:6] for it in by_hand)),
+        "hand-instructions": table(HAND_COLUMNS, *((it[0], *it[6:]) for it in by_hand)),
         "gitoxide": f"{figures['gitoxide'][0]}:\n\n{gitoxide}",
         "push": table(PUSH_COLUMNS, *cells_of(figures["push"])),
         "pushes": table(ATTACK_COLUMNS, *cells_of(figures["pushes"])),

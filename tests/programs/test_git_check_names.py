@@ -90,6 +90,12 @@ KINDS = [
     invalid(
         ["path", "src/.GIT/x"], f"src/.GIT/x: {DOT_GIT} ('.' at byte 4, in \".GIT\")"
     ),
+    # (Git's escapes in the name, and those of every language in the message.)
+    invalid(
+        ["path", "a/.g\u200cit"],
+        f'"a/.g\\342\\200\\214it": {DOT_GIT} '
+        "('.' at byte 2, in \".g\\xe2\\x80\\x8cit\")",
+    ),
     row_of(["component", "main.rs"], 0),
     invalid(["component", "aux.c"], f"aux.c: {DEVICE} ('a' at byte 0)"),
     invalid(
@@ -154,9 +160,11 @@ WORDS = [
 ]
 WRONG = [
     row_of([], 2, said=NO_KIND),
-    row_of(["branches", "main"], 2, said=NO_KIND),
-    row_of(["", "main"], 2, said=NO_KIND),
-    row_of(["Branch", "main"], 2, said=NO_KIND),
+    row_of(["branches", "main"], 2, said=f"unknown kind branches: {NO_KIND}"),
+    row_of(["--protect", "hfs", "aux.c"], 2, said=f"unknown kind aux.c: {NO_KIND}"),
+    row_of(["", "main"], 2, said=f'unknown kind "": {NO_KIND}'),
+    row_of(["\u00e9", "main"], 2, said=f'unknown kind "\\303\\251": {NO_KIND}'),
+    row_of(["Branch", "main"], 2, said=f"unknown kind Branch: {NO_KIND}"),
     row_of(["branch"], 2, said=NO_NAME, given="a\n"),
     row_of(["branch", "--"], 2, said=NO_NAME),
     row_of(["branch", "--stdin", "main"], 2, said=TWO_SOURCES, given="a b\n"),

@@ -6,7 +6,7 @@ use Rattle.gix_validate.specs.Component.{all_protections}
 use Rattle.programs.specs.Operands.{split_words}
 use Rattle.git_names.specs.declared.faults.Kind.TheVariants.{Branch, Reference, Tag}
 use Rattle.git_check_names.specs.declared.problem.Problem.TheVariants.{NoKind, NoName, TwoSources, NoRepair}
-use Rattle.git_check_names.specs.Names.{asked_of, shown}
+use Rattle.git_check_names.specs.Names.{asked_of, shown, unknown_in}
 use Rattle.git_check_names.specs.Options.{Options, rule, without_options}
 
 -- the words of a command line, split into options and operands
@@ -69,3 +69,11 @@ asked : Gives asked_of
     ∷ (reading false true (codes "tag" ∷ codes "a" ∷ []), Err NoRepair)
     ∷ [])
 asked = refl
+
+-- which word is said not to be a kind
+unknown_words : Gives (λ operands. unknown_in operands NoKind)
+    (([], [])
+    ∷ (codes "banch" ∷ codes "main" ∷ [], codes "unknown kind banch: ")
+    ∷ (codes "a b: c" ∷ [], codes "unknown kind \"a b: c\": ")
+    ∷ [])
+unknown_words = refl

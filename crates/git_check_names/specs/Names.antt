@@ -114,10 +114,24 @@ unrepaired_by text = record {
   failed = false;
 }
 
--- a message says what is wrong with the arguments or the input
+-- a message says what is wrong with the input
 abbrev pub failed_by : Problem → Report
 failed_by problem =
     record { lines = []; messages = message_start ++ problem_text_of problem; refused = false; failed = true }
+
+-- which word is said not to be a kind, of these operands
+abbrev pub unknown_in : List (List ℕ) → Problem → List ℕ
+unknown_in (word ∷ names) NoKind = codes "unknown kind " ++ shown word ++ codes ": "
+unknown_in operands problem = []
+
+-- a message says what is wrong with the arguments, which have these operands
+abbrev pub wrong_by : List (List ℕ) → Problem → Report
+wrong_by operands problem = record {
+  lines = [];
+  messages = message_start ++ unknown_in operands problem ++ problem_text_of problem;
+  refused = false;
+  failed = true;
+}
 
 -- ---- one name
 
@@ -191,7 +205,7 @@ abbrev pub asked_of : Options → Result (Kind × List (List ℕ)) Problem
 asked_of options = asked_in options options.operands
 
 abbrev pub report_by : Options → List ℕ → Result (Kind × List (List ℕ)) Problem → Report
-report_by options text (Err problem) = failed_by problem
+report_by options text (Err problem) = wrong_by options.operands problem
 report_by options text (Ok asked) =
     if options.reads then input_report options asked.0 1 text else given_report options asked.0 asked.1
 

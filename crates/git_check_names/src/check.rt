@@ -1,6 +1,6 @@
 //! A run over the names in the arguments or in the input, one after the other.
 
-ghost use Rattle.std.specs.Prelude.{◌≡◌, ◌≢◌, ◌++◌, [], false, Some, Err, ℕ, List, Option};
+ghost use Rattle.std.specs.Prelude.{◌≡◌, ◌≢◌, ◌++◌, [], codes, false, Some, Err, ℕ, List, Option};
 ghost use Rattle.std.specs.Prelude.{IfOk, IfSome, OnErr, OnOk, map};
 ghost use Rattle.std.specs.Io.KnownBytes.{Appends};
 ghost use Rattle.std.specs.Result.{result_map_both};
@@ -9,7 +9,7 @@ ghost use Rattle.programs.specs.Command.{EndsAs, Ran, SaysIf};
 ghost use Rattle.programs.specs.Messages.{AppendsPrefixOf};
 ghost use Rattle.git_check_names.specs.Names.{Runs, as_outcome, asked_of, ended_of, failed_by};
 ghost use Rattle.git_check_names.specs.Names.{given_report, has_nul, input_report, name_end};
-ghost use Rattle.git_check_names.specs.Names.{outcome_of, text_for};
+ghost use Rattle.git_check_names.specs.Names.{outcome_of, shown, text_for, unknown_in, wrong_by};
 ghost use Rattle.git_check_names.specs.Options.{as_options};
 ghost use Rattle.git_check_names.specs.Problems.{end_of, said_of, status_of};
 ghost use Rattle.git_check_names.specs.ValidNames.{IsValidIff};
@@ -18,7 +18,7 @@ use crate::input::{Next, next_name};
 use crate::kind::{is_repairable, kind_of};
 use crate::options::CheckOptions;
 use crate::problem::{Ended, MESSAGE_START, Problem, Verdict};
-use crate::report::push_report;
+use crate::report::{push_report, push_shown};
 use git_names::Kind;
 use programs::command::Command;
 use programs::error::RunError;
@@ -26,7 +26,7 @@ use programs::messages::Messages;
 use programs::text::split_once;
 use programs::{fail, until_returned};
 use std::alloc::Global;
-use std::io::{BufRead, Write};
+use std::io::{self, BufRead, Write};
 use std::process::ExitCode;
 
 impl<'a> Command<'a> for CheckOptions<'a> {
@@ -112,7 +112,7 @@ fn check_names<R: BufRead, W: Write>(
 {
     let (kind, names) = match asked_of(options) {
         Ok(asked) => asked,
-        Err(problem) => return failed_by(alloc, problem),
+        Err(problem) => return wrong_by(alloc, options.operands, problem),
     };
     if options.reads {
         check_input(alloc, &options, kind, input, output)
@@ -121,17 +121,53 @@ fn check_names<R: BufRead, W: Write>(
     }
 }
 
-/// The verdict of a run that does nothing because something is wrong with the arguments.
-fn failed_by(alloc: Global, problem: Problem) -> Result<Verdict, RunError>
-    ensures verdict { IfOk result (λ verdict. as_outcome verdict ≡ outcome_of (failed_by problem)) }
+/// The verdict of a run that does nothing because something is wrong with the arguments, which have
+/// these operands.
+fn wrong_by(alloc: Global, operands: &[String], problem: Problem) -> Result<Verdict, RunError>
+    ensures verdict { IfOk result (λ verdict.
+        as_outcome verdict ≡ outcome_of (wrong_by (map string_bytes operands.now) problem)) }
     ensures stopped { OnErr result (result ≡ Err RunError.Memory) }
 {
     let mut messages = Vec::new(alloc);
-    push_problem(&mut messages, problem)?;
+    push_wrong(&mut messages, operands, problem).map_err(|_| RunError::Memory)?;
     Ok(Verdict {
         ended: Ended::Failed,
         messages,
     })
+}
+
+/// Appends the message of a problem with the arguments, which have these operands.
+fn push_wrong(messages: &mut Vec<u8>, operands: &[String], problem: Problem) -> io::Result<()>
+    ensures { OnOk result (messages.new.items
+        ≡ messages.old.items ++ (wrong_by (map string_bytes operands.now) problem).messages) }
+{
+    write!(messages, "{MESSAGE_START}")?;
+    push_unknown(messages, operands, &problem)?;
+    write!(messages, "{problem}")
+}
+
+/// Appends which of the operands is not a kind, if that is the problem.
+fn push_unknown(messages: &mut Vec<u8>, operands: &[String], problem: &Problem) -> io::Result<()>
+    ensures { OnOk result (messages.new.items
+        ≡ messages.old.items ++ unknown_in (map string_bytes operands.now) problem.now) }
+{
+    let [word, _names @ ..] = operands else {
+        return Ok(());
+    };
+    match problem {
+        Problem::NoKind => push_unknown_word(messages, word.as_bytes()),
+        _ => Ok(()),
+    }
+}
+
+/// Appends that a word is not a kind.
+fn push_unknown_word(messages: &mut Vec<u8>, word: &[u8]) -> io::Result<()>
+    ensures { OnOk result (messages.new.items
+        ≡ messages.old.items ++ (codes "unknown kind " ++ shown word.now ++ codes ": ")) }
+{
+    write!(messages, "unknown kind ")?;
+    push_shown(messages, word)?;
+    write!(messages, ": ")
 }
 
 /// Appends the message of a problem.

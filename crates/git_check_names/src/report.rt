@@ -134,7 +134,7 @@ fn push_fault(
 }
 
 /// Appends a name as it is, or quoted if it has to be.
-fn push_shown(lines: &mut Vec<u8>, name: &[u8]) -> Result<(), AllocError>
+pub(crate) fn push_shown(lines: &mut Vec<u8>, name: &[u8]) -> Result<(), AllocError>
     ensures { OnOk result (lines.new.items ≡ lines.old.items ++ shown name.now) }
 {
     if !name.is_empty() && are_plain(name) && !is_unclear(name) {

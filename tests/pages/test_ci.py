@@ -174,9 +174,17 @@ def test_a_job_for_good_names_passes_and_says_how_many_it_checked(job, opened):
     status, said = job.run(clone)
     assert status == 0, said
     commits = 3 if isinstance(job, GitHub) else 2  # (with the merge)
-    assert said.splitlines()[-1] == (
-        f"git-scan-names: 3 files, {commits} commits in {clone.base}..HEAD"
-    )
+    assert said.splitlines()[-3:] == [
+        f"git-scan-names: 3 files, {commits} commits in {clone.base}..HEAD",
+        "== git-scan-names --index",
+        f"== git-scan-names {clone.base}..HEAD",
+    ]
+
+
+def advised(said, path):
+    """The command with which the job's log tells to look for the commit of a path."""
+    [command] = re.findall(r"(?m)^git log .*$", said)
+    return command.replace("PATH", path)
 
 
 @pytest.mark.parametrize("changes", [["aux.c"], ["aux.c", "-aux.c"]])
@@ -188,10 +196,22 @@ def test_a_job_for_a_device_fails_and_says_how_to_find_the_commit_that_adds_it(
     assert status == 1
     # (The file that is still there is also in the index.)
     assert said.count(DEVICE) == (2 if changes == ["aux.c"] else 1)
-    [command] = re.findall(r"(?m)^git (log .*)$", said)
-    git = Git(job.room)
-    found = git(clone.path, *command.replace("PATH", "aux.c").split())
-    assert git(clone.path, "log", "-1", "--format=%s", found) == "aux.c"
+    found = job.run_script("sh", advised(said, "aux.c"), clone)[1].strip()
+    assert Git(job.room)(clone.path, "log", "-1", "--format=%s", found) == "aux.c"
+
+
+def test_the_command_that_a_job_advises_finds_a_merge_that_adds_a_name(job, opened):
+    clone = opened("main.c", "aux.c")
+    said, git = job.run(clone)[1], Git(job.room)
+    git(clone.path, "checkout", "-q", "-b", "side", clone.base)
+    git.commit(clone.path, "side.c")
+    git(clone.path, "merge", "-q", "--no-commit", clone.head)
+    merge = git.commit(clone.path, "con.h")
+    git(clone.path, "checkout", "-q", "-b", "next", clone.head)
+    git.commit(clone.path, "next.c")
+    git(clone.path, "merge", "-q", "--no-edit", "side")
+    found = job.run_script("sh", advised(said, "con.h"), clone)[1].strip()
+    assert found and merge.startswith(found)
 
 
 def test_a_job_names_an_old_device_and_a_new_one_that_is_no_longer_there(job, opened):
@@ -205,7 +225,7 @@ def test_a_job_with_an_old_device_passes_if_the_name_is_accepted(job, opened):
     clone = opened("main.c", before=["aux.c"])
     status, said = job.run(clone)
     assert status == 1
-    assert said.endswith(" accept it: --accept aux.c\n")
+    assert said.endswith(" accept it: git-scan-names --accept aux.c\n")
     shutil.rmtree(job.room / "release")
     job.add_to_each_scan("--accept aux.c")
     status, said = job.run(clone)

@@ -6,8 +6,9 @@ use Rattle.git_check_names.specs.declared.problem.Problem.TheVariants.{NoKind}
 use Rattle.git_check_names.proofs.check.push_unknown.Goals as goal
 
 -- the word is the first operand
-unknown_word : {A : Type 0} (f : A → List ℕ) (operands : List A) (word : A) (problem : Problem) (bytes : List ℕ)
-    → 1 ≤ length operands → word ≡ slice_index_or operands 0 word → problem ≡ NoKind → bytes ≡ f word
+unknown_word : {A : Type 0} (f : A → List ℕ) (operands : List A) (word : A) (problem : Problem)
+    (bytes : List ℕ) → 1 ≤ length operands → word ≡ slice_index_or operands 0 word
+    → problem ≡ NoKind → bytes ≡ f word
     → codes "unknown kind " ++ shown bytes ++ codes ": " ≡ unknown_in (map f operands) problem
 unknown_word f [] word problem bytes some is none same = absurd (grind (arith, some))
 unknown_word f (first ∷ rest) word problem bytes some is none same = grind (arith, is, none, same)

@@ -37,11 +37,10 @@ class Site:
         return {it: Read(self.path / it) for it in names if it != "404.html"}
 
     def target(self, page, link):
-        """The file that a link leads to, and the anchor."""
+        """What a link leads to, and the anchor. (From a disk a directory is no page.)"""
         path, anchor = urldefrag(link)
         to = (self.path / page).parent / unquote(path) if path else self.path / page
-        to = to.resolve()
-        return to / "index.html" if to.is_dir() else to, unquote(anchor)
+        return to.resolve(), unquote(anchor)
 
     def loaded(self):
         """Each thing that the pages load, with its page, but what is in the page itself."""

@@ -199,7 +199,11 @@ def test_destdir_is_in_front_of_all_directories_and_in_no_file(install, tmp_path
 def test_an_uninstall_leaves_nothing(install, tmp_path, words):
     to = tmp_path / "prefix"
     assert install(*(it.format(tmp_path) for it in words), to)[0] == 0
-    assert install("--uninstall", to) == (0, f"removed from {to}\n")
+    assert install("--uninstall", to) == (
+        0,
+        f"removed from {to}\nhooks that link to {to}/libexec/gix-validate accept every "
+        "push now, so remove these links\n",
+    )
     assert list(to.iterdir()) == []
     assert not (tmp_path / "elsewhere").exists()
 
@@ -270,6 +274,7 @@ def test_nothing_of_a_damaged_release_is_installed(install, release, tmp_path, d
         (["--mandir=../man"], "--mandir needs a directory"),
         (["--datadir=share"], "there is no option --datadir=share"),
         (["a", "b"], "there is more than one prefix"),
+        (["DESTDIR=a"], "DESTDIR is a variable: write it before ./install"),
     ],
 )
 def test_wrong_arguments_have_status_2_and_change_nothing(

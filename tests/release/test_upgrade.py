@@ -113,15 +113,15 @@ def test_an_upgrade_that_fills_the_disk_fails_and_changes_no_file(
 
 
 def test_an_uninstall_removes_all_that_an_install_made(upgraded, tree):
-    removed = (0, f"removed from {upgraded}\n")
-    assert run(tree / "install", "--uninstall", upgraded) == removed
+    status, said = run(tree / "install", "--uninstall", upgraded)
+    assert (status, said.splitlines()[0]) == (0, f"removed from {upgraded}")
     assert list(upgraded.iterdir()) == []
 
 
 def test_an_uninstall_leaves_a_folder_that_was_there_before(legacy, one, tree):
     assert run(one / "install", legacy).status == 0
-    removed = (0, f"removed from {legacy}\n")
-    assert run(tree / "install", "--uninstall", legacy) == removed
+    status, said = run(tree / "install", "--uninstall", legacy)
+    assert (status, said.splitlines()[0]) == (0, f"removed from {legacy}")
     assert files_under(legacy) == []
     assert (legacy / "bin").is_dir()
 

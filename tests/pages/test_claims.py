@@ -69,6 +69,31 @@ def section(page, heading):
     return re.search(rf"(?ms)^#+ {heading}$(.*?)(?=^#|\Z)", text)[1]
 
 
+def test_ASSURANCE_counts_the_must_fail_edits():
+    text = section("docs/ASSURANCE.md", r"Could a wrong body satisfy its contract\?")
+    famous = [it.read_text("utf-8") for it in ROOT.glob("crates/*/must-fail/*.edit")]
+    others = [*ROOT.glob("crates/*/mutants/*.edit")]
+    with_control = sum("\nright: " in it for it in famous)
+    assert f"more than {(len(famous) + len(others)) // 100}00." in text
+    assert f"The {len(famous)} in `must-fail/`" in text
+    assert f"{with_control} of the {len(famous)} have a *control*" in text
+    assert sum("\nhollow: " in it for it in famous) == len(famous) - with_control
+
+
+def test_ASSURANCE_counts_what_was_recorded_and_the_rows_of_the_bindings():
+    text = (ROOT / "docs/ASSURANCE.md").read_text("utf-8")
+    record = (ROOT / "crates/upstream_record/stdin").read_text("utf-8").splitlines()
+    results = 0
+    for line in record:
+        kind, _, *given = line.split(" ")
+        each = given if kind == "names" else "".join(given)
+        results += sum(it != "-" for it in each)
+    assert f"[{results:,} results for {len(record):,} questions]" in text
+    rows = (ROOT / "tests/rows").read_text("utf-8").splitlines()
+    count = sum(bool(it) and not it.startswith("#") for it in rows)
+    assert f"some {round(count, -2)} rows" in text
+
+
 @pytest.mark.parametrize("kind, name", ACCEPTED)
 def test_what_README_says_is_not_checked_is_accepted(command, kind, name):
     words = [command, kind, "-z"]

@@ -2,12 +2,12 @@
 import pytest
 
 from tests.hook.expected import (
+    ACCEPT,
     ACCEPTED,
+    CORRECT_THE_FILE,
     DEVICE,
     IT_MAY_BE_OLD,
     RENAME_THE_FILE,
-    RENAME_THE_SUBMODULE,
-    accept,
     bad_name,
     bad_submodule,
     refused,
@@ -28,7 +28,7 @@ def old(request, source):
                 bad_name("aux.c", DEVICE, "aux"),
                 RENAME_THE_FILE,
                 IT_MAY_BE_OLD,
-                accept("aux.c"),
+                ACCEPT,
             ),
         )
     bad, good = file(".gitmodules", source.bad_modules), file(
@@ -38,7 +38,7 @@ def old(request, source):
         source.bad_submodule,
         bad,
         good,
-        refused(bad_submodule(), RENAME_THE_SUBMODULE, IT_MAY_BE_OLD),
+        refused(bad_submodule(), CORRECT_THE_FILE, IT_MAY_BE_OLD),
     )
 
 

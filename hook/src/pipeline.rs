@@ -20,7 +20,6 @@ use crate::verdict::{Report, LIST};
 use std::collections::HashMap;
 use std::ffi::{OsStr, OsString};
 use std::io;
-use std::os::unix::ffi::OsStringExt;
 use std::os::unix::process::CommandExt;
 use std::path::PathBuf;
 use std::process::{ChildStdin, Command, Stdio};
@@ -97,8 +96,8 @@ impl Pipeline {
         let Settings { protect, accept, .. } = &self.settings;
         let rules = ["--end", "--modules", "--protect", protect].map(OsString::from);
         // (it takes 16 lists)
-        let accepted = accept.chunks(accept.len() / 16 + 1).map(|names| names.join(&b'/'));
-        let accepted = accepted.flat_map(|it| ["--accept".into(), OsString::from_vec(it)]);
+        let accepted = accept.chunks(accept.len() / 16 + 1).map(|names| names.join("/"));
+        let accepted = accepted.flat_map(|it| ["--accept".into(), it.into()]);
         let check = rules.into_iter().chain(accepted).collect();
         let rev_list = Child::start("git rev-list", list, Stdio::piped())?;
         let (cat_file, check) = self.start_objects(TREES, "check_push trees", check)?;

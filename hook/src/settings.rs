@@ -15,7 +15,7 @@ pub struct Settings {
     /// The file systems to protect, for `check_push trees --protect`.
     pub protect: String,
     /// The names that are checked without windows.
-    pub accept: Vec<Vec<u8>>,
+    pub accept: Vec<String>,
     /// Whether references below refs/replace/ are allowed.
     pub replace: bool,
     /// Whether to trust what other repositories lend, because it was checked there.
@@ -84,10 +84,11 @@ impl Settings {
 
     /// Applies a setting, or says what is wrong with it.
     pub fn set(&mut self, key: &str, value: Option<&[u8]>) -> Valid<()> {
-        let given = value.ok_or("has no value");
+        let text = |it| std::str::from_utf8(it).map_err(|_| "isn't UTF-8");
+        let given = value.ok_or("has no value").and_then(text);
         match key {
             "names.protect" => self.protect = list(given?)?,
-            "names.accept" if given?.contains(&b'\n') => return Err("has a newline".into()),
+            "names.accept" if given?.contains('\n') => return Err("has a newline".into()),
             "names.accept" => self.accept.push(given?.into()),
             // (a key without a value is true to Git)
             "names.replace" => self.replace = boolean(value.unwrap_or(b"true"))?,
@@ -101,12 +102,10 @@ impl Settings {
 }
 
 /// A list of file systems, as `check_push trees --protect` reads it.
-fn list(value: &[u8]) -> Valid<String> {
-    let list = String::from_utf8_lossy(value);
+fn list(list: &str) -> Valid<String> {
     if list == "none" || list.split(',').all(|it| matches!(it, "windows" | "hfs" | "ntfs")) {
         return Ok(list.into());
     }
-    let list = printable(value);
     Err(format!("is \"{list}\": give windows, hfs or ntfs, separated by commas, or none"))
 }
 
@@ -119,9 +118,9 @@ fn boolean(value: &[u8]) -> Valid<bool> {
     }
 }
 
-fn number(value: &[u8]) -> Valid<u64> {
-    match std::str::from_utf8(value).unwrap_or_default().parse() {
+fn number(value: &str) -> Valid<u64> {
+    match value.parse() {
         Ok(number @ 1..=1_000_000_000) => Ok(number),
-        _ => Err(format!("is \"{}\": give a number from 1 to 1000000000", printable(value))),
+        _ => Err(format!("is \"{value}\": give a number from 1 to 1000000000")),
     }
 }

@@ -178,6 +178,7 @@ def test_other_options_of_git_rev_list_are_refused(scan, server, word):
         (["--protect=hsf"], f'--protect is "hsf": {FILE_SYSTEMS}'),
         (["--accept"], "--accept needs names"),
         (["--accept="], "--accept needs names"),
+        ([b"--accept=\xff"], "--accept isn't UTF-8"),
         (["--accept=a\nb"], "--accept has a newline"),
         (["--index", "HEAD"], "--index accepts no revisions"),
         (["--copy"], "--copy needs a path or a URL"),

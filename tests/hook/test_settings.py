@@ -124,7 +124,7 @@ def test_what_replaces_a_tree_or_a_commit_is_checked(server, source):
 def test_an_unknown_file_system_refuses_every_push(server, word):
     server.configure(f'protect = "{word}"')
     result = push_of_clean_branches(server)
-    shown = word.replace(r"\n", "")
+    shown = word.replace(r"\n", " ")
     assert result.ending == not_checked(
         f'the setting names.protect is "{shown}": {FILE_SYSTEMS}', status=1
     )

@@ -32,8 +32,11 @@ const DIFF_TREE: &str = "--literal-pathspecs -c core.fsmonitor=false diff-tree -
                          -r -t -c --raw --no-abbrev --no-renames -z --";
 
 const OLD: &str = "If no commit of your push adds a name, the server has it already: first push one commit on top of the server's branch that changes it.";
-const LIST_ALL: &str = "This lists all in your clone: git scan-names BRANCH --not --remotes";
+const LIST_ALL: &str = "This lists all in your clone, if gix-validate is installed there: git scan-names BRANCH --not --remotes";
 const ACCEPT: &str = "An administrator can accept a name that only Windows forbids: git config --add names.accept NAME";
+
+/// A commit's number, by which an older one has a lower, and its id.
+type Commit = (usize, String);
 
 /// Adds something refused, unless there is too much already.
 pub fn keep(findings: &mut Vec<Finding>, finding: Finding) {
@@ -57,7 +60,7 @@ pub fn text_of(mut kept: Vec<Finding>, pipeline: &Pipeline, ids: &[u8]) -> Strin
     let _ = find_commits(&mut commits, shown, pipeline, ids);
     let findings = || groups.iter().map(|it| &it[0]);
     let names = || findings().zip(&commits);
-    let mut lines: Vec<_> = names().map(|(it, commit)| shown_line(it, commit.as_deref())).collect();
+    let mut lines: Vec<_> = names().map(|(it, commit)| shown_line(it, commit.as_ref())).collect();
     lines.push(count(groups.len(), is_all));
     if groups.len() > MOST_LINES {
         lines.push(LIST_ALL.into());
@@ -67,7 +70,7 @@ pub fn text_of(mut kept: Vec<Finding>, pipeline: &Pipeline, ids: &[u8]) -> Strin
             lines.push(advice.into());
         }
     }
-    lines.extend(commits.iter().flatten().next().map(|it| change(it)));
+    lines.extend(commits.iter().flatten().min().map(|it| change(&it.1)));
     if names().any(|(it, commit)| commit.is_none() && !matches!(it.kind, Kind::Reference)) {
         lines.push(OLD.into());
     }
@@ -84,20 +87,20 @@ fn count(count: usize, is_all: bool) -> String {
     format!("push refused: {least}{count} {names} not allowed{shown}")
 }
 
-/// How to change the first commit that contains something refused.
-fn change(commit: &str) -> String {
-    format!("To change commit {commit}: git rebase -i --rebase-merges {commit}~1 BRANCH (or --root BRANCH, if it has no parent), and write \"edit\" in its line. Where it stops: git mv OLD NEW, git commit --amend --no-edit, git rebase --continue. If Git says \"invalid path\", it can't check that commit out: make a new branch, git switch -c NEW {commit}~1, and commit the files again.")
+/// How to change the commits that are named, of which this is the oldest.
+fn change(oldest: &str) -> String {
+    format!("To change these commits: git rebase -i --rebase-merges {oldest}~1 BRANCH (or --root BRANCH, if it has no parent). Write \"edit\" in the line of each, or a line \"break\" after that of a merge. Where it stops: git mv OLD NEW, git commit --amend --no-edit, git rebase --continue. If it stops at {oldest} with \"invalid path\": git rebase --quit, git switch -c NEW {oldest}~1, git checkout --no-overlay {oldest} -- ., git commit -C {oldest}, git cherry-pick {oldest}..BRANCH.")
 }
 
 /// A finding's line. Below it, as far as they are known, the offending part and the first commit.
-fn shown_line(finding: &Finding, commit: Option<&str>) -> String {
+fn shown_line(finding: &Finding, commit: Option<&Commit>) -> String {
     let mut line = finding.line(LONGEST_PATH);
     if line.len() > LONGEST_LINE {
         line.truncate(LONGEST_LINE - 3);
         line += "...";
     }
     let offender = finding.offender().map(|it| format!("because of {}", in_quotes(it, 40)));
-    let commit = commit.map(|it| format!("first in commit {it}"));
+    let commit = commit.map(|it| format!("first in commit {}", it.1));
     match offender.into_iter().chain(commit).collect::<Vec<_>>() {
         details if details.is_empty() => line,
         details => format!("{line}\n    {}", details.join(", ")),
@@ -135,7 +138,7 @@ fn find_directories(findings: &mut [Finding], pipeline: &Pipeline, ids: &[u8]) -
 /// Finds the first new commit that contains each of these, if there is one: the oldest of those that change
 /// the path and make it such an entry.
 fn find_commits(
-    commits: &mut [Option<String>],
+    commits: &mut [Option<Commit>],
     groups: &[Vec<Finding>],
     Pipeline { git, settings, .. }: &Pipeline,
     ids: &[u8],
@@ -153,16 +156,16 @@ fn find_commits(
     let read = || from.read_to_end(&mut changes).or_fail("the changes could not be read");
     at_once(|| write_all(to, ids), read)?;
     // For each commit its id, and then pairs of change and path, each ended by a NUL.
-    let (mut commit, mut parts) = (&[][..], changes.split(|byte| *byte == 0));
+    let (mut commit, mut parts) = ((0, String::new()), changes.split(|byte| *byte == 0));
     while let Some(part) = parts.next() {
         if part.first() != Some(&b':') {
-            commit = &part[..part.len().min(ABBREVIATED)];
+            commit = (commit.0 + 1, printable(&part[..part.len().min(ABBREVIATED)]));
             continue;
         }
         let path = parts.next().unwrap_or_default();
         for (found, group) in commits.iter_mut().zip(groups) {
             if found.is_none() && path == group[0].path && has(part, group) {
-                *found = Some(printable(commit));
+                *found = Some(commit.clone());
             }
         }
     }

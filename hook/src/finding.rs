@@ -174,7 +174,7 @@ impl Finding {
                 "An administrator can allow refs/replace/: git config names.replace true"
             }
             (Kind::Reference, _) => {
-                "Push a refused reference under another name: git push origin HEAD:refs/heads/OTHER"
+                "Push a refused reference under another name: git push origin YOURS:refs/heads/OTHER"
             }
             (Kind::Entry { .. }, SYMLINK) => {
                 "Make .gitmodules a file, not a symlink, in the commit that changes it."

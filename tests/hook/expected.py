@@ -16,7 +16,7 @@ SYMLINK = "The .gitmodules file must not be a symlink"
 # What to do about it, which the hook says last.
 RENAME_THE_REF = (
     "Push a refused reference under another name: "
-    "git push origin HEAD:refs/heads/OTHER\n"
+    "git push origin YOURS:refs/heads/OTHER\n"
 )
 ALLOW_REPLACEMENTS = (
     "An administrator can allow refs/replace/: git config names.replace true\n"
@@ -39,17 +39,25 @@ IT_MAY_BE_OLD = (
 )
 
 
-def change(commit):
-    short = commit[:12]
+def change(oldest):
+    """How the oldest of the commits that are named is changed, with the others."""
+    short = oldest[:12]
     return (
-        f"To change commit {short}: git rebase -i --rebase-merges {short}~1 BRANCH "
-        '(or --root BRANCH, if it has no parent), and write "edit" in its line. '
+        f"To change these commits: git rebase -i --rebase-merges {short}~1 BRANCH "
+        '(or --root BRANCH, if it has no parent). Write "edit" in the line of each, '
+        'or a line "break" after that of a merge. '
         "Where it stops: git mv OLD NEW, git commit --amend --no-edit, "
         "git rebase --continue. "
-        'If Git says "invalid path", it can\'t check that commit out: '
-        f"make a new branch, git switch -c NEW {short}~1, "
-        "and commit the files again.\n"
+        f'If it stops at {short} with "invalid path": git rebase --quit, '
+        f"git switch -c NEW {short}~1, git checkout --no-overlay {short} -- ., "
+        f"git commit -C {short}, git cherry-pick {short}..BRANCH.\n"
     )
+
+
+LIST_ALL = (
+    "This lists all in your clone, if gix-validate is installed there: "
+    "git scan-names BRANCH --not --remotes\n"
+)
 
 
 ACCEPT = (

@@ -14,6 +14,7 @@ from tests.hook.expected import (
     CORRECT_THE_FILE,
     DEVICE,
     IT_MAY_BE_OLD,
+    LIST_ALL,
     MORE_MEMORY,
     MORE_TIME,
     RENAME_THE_FILE,
@@ -571,7 +572,7 @@ def test_of_very_many_refused_names_the_first_are_read(source, measured):
         1,
         "".join(names)
         + "push refused: at least 10000 names are not allowed (10 of them shown)\n"
-        + "This lists all in your clone: git scan-names BRANCH --not --remotes\n"
+        + LIST_ALL
         + RENAME_THE_FILE
         + change(commit)
         + ACCEPT,

@@ -15,6 +15,7 @@ from tests.hook.expected import (
     FULL_CLONE,
     ILLEGAL,
     IT_MAY_BE_OLD,
+    LIST_ALL,
     MAKE_IT_A_FILE,
     RENAME_THE_FILE,
     RENAME_THE_REF,
@@ -95,7 +96,7 @@ def test_each_kind_of_name_is_refused_and_ten_lines_are_shown(server, source):
             + bad_name(r'"a\n\tb"', ILLEGAL, r"\n", commit)
             + "".join(bad_name(name, DEVICE, name, commit) for name in devices)
             + "push refused: 12 names are not allowed (10 of them shown)\n"
-            + "This lists all in your clone: git scan-names BRANCH --not --remotes\n"
+            + LIST_ALL
             + RENAME_THE_REF
             + RENAME_THE_FILE
             + CORRECT_THE_FILE
@@ -141,7 +142,7 @@ def test_the_first_commit_that_has_a_refused_name_is_named(server, source):
         + bad_name("aux.c", DEVICE, "aux", side)
         + "push refused: 2 names are not allowed\n"
         + RENAME_THE_FILE
-        + change(merge)
+        + change(side)
         + ACCEPT,
     )
 
@@ -295,7 +296,7 @@ def test_the_same_line_is_shown_and_counted_once(server, source):
         + bad_name("aux.c", DEVICE, "aux", commits[0])
         + "push refused: 2 names are not allowed\n"
         + RENAME_THE_FILE
-        + change(commits[1])
+        + change(commits[0])
         + ACCEPT,
     )
 

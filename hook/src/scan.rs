@@ -12,7 +12,7 @@ use crate::settings::{read_config, Settings};
 use crate::text::{printable, say};
 use crate::verdict::{Report, Verdict};
 use options::{misused, Options};
-use std::collections::BTreeSet;
+use std::collections::{BTreeMap, BTreeSet};
 use std::env;
 use std::ffi::{OsStr, OsString};
 use std::fmt::Write as _;
@@ -38,7 +38,7 @@ while [ -e \"$directory\" ]; do rm -rf -- \"$directory\"; sleep 1; done";
 const OF_A_REPOSITORY: &str = "GIT_DIR GIT_WORK_TREE GIT_INDEX_FILE GIT_OBJECT_DIRECTORY \
                                GIT_ALTERNATE_OBJECT_DIRECTORIES GIT_COMMON_DIR GIT_NAMESPACE GIT_PREFIX";
 
-const NOT_COPIED: &str = "A copy lacks what Git doesn't serve: the index, the HEADs of other worktrees, and references that Git calls broken.";
+const NOT_COPIED: &str = "A copy lacks what Git doesn't serve: the index, the HEADs of other worktrees, references that Git calls broken, and by a URL those that the server hides.";
 const NAMES_ONLY: &str =
     "names only: all are allowed. What files contain, hooks and settings were not checked.";
 const UNWRITTEN: &str = "the report could not be written";
@@ -92,7 +92,7 @@ fn scan(pipeline: &Pipeline, options: &Options) -> Result<Verdict> {
         groups.add(finding.line(usize::MAX), finding);
     });
     // (what was found before a failure is shown, too)
-    let commands_accept_all = print(&groups.all, options.to_accept)?;
+    let commands_accept_all = print(&groups.all, options)?;
     match verdict? {
         Verdict::Refused if commands_accept_all => Ok(Verdict::Printed),
         Verdict::Clean(evidence) => {
@@ -196,19 +196,30 @@ fn output_without_warning(git: &Git, name: &'static str, words: &str) -> Result<
     }
 }
 
-/// Prints a line for each group, or the commands that accept names, and the lines about others to standard
-/// error. Returns whether the commands accept all.
-fn print(groups: &[Vec<Finding>], to_accept: bool) -> Result<bool> {
-    let has_command = |it: &&Vec<Finding>| to_accept && it[0].can_be_accepted();
+/// Prints a line for each group, or their summary, or the commands that accept names, and the lines about
+/// others to standard error. Returns whether the commands accept all.
+fn print(groups: &[Vec<Finding>], options: &Options) -> Result<bool> {
+    let has_command = |it: &&Vec<Finding>| options.to_accept && it[0].can_be_accepted();
     let (settable, others): (Vec<_>, Vec<_>) = groups.iter().partition(has_command);
     let lines: String = others.into_iter().map(|group| line(group)).collect();
-    if !to_accept {
-        return write(&lines).map(|()| false);
+    if !options.to_accept {
+        let text = if options.summary { summary(groups) } else { lines };
+        return write(&text).map(|()| false);
     }
     let names: BTreeSet<_> = settable.iter().map(|it| it[0].name()).collect();
     write(&names.into_iter().map(command).collect::<String>())?;
     io::stderr().write_all(lines.as_bytes()).or_fail(UNWRITTEN)?;
     Ok(lines.is_empty())
+}
+
+/// How many lines there are for each reason.
+fn summary(groups: &[Vec<Finding>]) -> String {
+    let mut counts = BTreeMap::new();
+    for group in groups {
+        *counts.entry(printable(&group[0].reason)).or_insert(0) += 1;
+    }
+    let line = |(reason, count): (String, usize)| format!("{count} {reason}\n");
+    counts.into_iter().map(line).collect()
 }
 
 /// Writes to standard output.

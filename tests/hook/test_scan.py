@@ -357,6 +357,14 @@ def test_a_name_of_many_versions_has_one_line(scan, server, source):
     assert scan(server) == found(f"{line} (in 20 versions of its directory)\n")
 
 
+def test_a_summary_has_a_line_for_each_reason(scan, server, source):
+    commit = source.commit_of("aux.c", "con", "x?y", ".GIT")
+    server.already_has(f"{commit}:refs/heads/main")
+    assert scan(server, "--summary") == found(
+        f"1 {DOT_GIT}\n", f"1 {ILLEGAL}\n", f"2 {DEVICE}\n"
+    )
+
+
 def test_the_path_of_a_directory_is_cut_and_the_name_is_whole(scan, server, source):
     names = [letter * 60 for letter in "abcdef"]
     tree = source.tree("aux.c")

@@ -23,7 +23,7 @@ from tests.hook.processes import end, run, start, write_script
 AUX = bad_name("aux.c", DEVICE)
 LACKS = (
     "A copy lacks what Git doesn't serve: the index, the HEADs of other worktrees, "
-    "and references that Git calls broken.\n"
+    "references that Git calls broken, and by a URL those that the server hides.\n"
 )
 
 

@@ -7,6 +7,7 @@ use std::ffi::{OsStr, OsString};
 use std::os::unix::ffi::OsStrExt;
 
 #[derive(Default)]
+#[allow(clippy::struct_excessive_bools)]
 pub struct Options {
     /// Options that are called as settings of the hook, and have such values.
     pub rules: Vec<(&'static str, OsString)>,
@@ -15,6 +16,7 @@ pub struct Options {
     pub index: bool,
     pub copy: Option<OsString>,
     pub to_accept: bool,
+    pub summary: bool,
     /// A directory, or revisions.
     pub words: Vec<OsString>,
 }
@@ -42,6 +44,7 @@ selects. REVISION is a commit, a range (v1..v2, ^v1), --all, --branches, --tags,
                       repository and the system, as the hook does
     --to-accept       prints the commands that make the hook accept the names
                       that only Windows forbids; the others on standard error
+    --summary         prints how many lines there are for each reason
     --version         prints the version
     -h, --help        prints this text
 
@@ -72,6 +75,7 @@ pub fn parse(mut words: impl Iterator<Item = OsString>) -> Result<Option<Options
             (b"--settings", None) => options.settings = true,
             (b"--index", None) => options.index = true,
             (b"--to-accept", None) => options.to_accept = true,
+            (b"--summary", None) => options.summary = true,
             (b"--all" | b"--not", None)
             | (b"--branches" | b"--tags" | b"--remotes", _)
             | (b"--glob" | b"--exclude", Some(_)) => options.words.push(word),

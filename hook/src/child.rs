@@ -3,18 +3,16 @@
 //! Each is started by an absolute path, with no code between fork and exec, so the standard library calls
 //! `posix_spawn`. Unlike `execvp`, that doesn't pass a file which isn't a program to a shell.
 
-use crate::failure::{failed, Ended, Failure, How, OrFail, Result};
+use crate::failure::{failed, Ended, OrFail, Result};
 use std::io::{Read, Write};
-use std::os::unix::process::ExitStatusExt;
-use std::process::{self, ChildStderr, ChildStdin, ChildStdout, Command, Stdio};
+use std::process::{self, ChildStdin, ChildStdout, Command, Stdio};
 use std::sync::mpsc::{channel, Receiver};
-use std::thread::{self, Scope, ScopedJoinHandle};
+use std::thread;
 use std::time::Duration;
 
-/// How many bytes of what a process writes to standard error are kept: the last ones.
-const KEPT: usize = 4000;
-/// How long to wait for the rest of it after the process has ended. Another process may keep it open.
+/// How long to wait for the end of standard error after a process has ended. Another may keep it open.
 const PATIENCE: Duration = Duration::from_secs(1);
+const NO_THREAD: &str = "no thread could be started";
 
 /// A child. If nobody waits for it, it is killed.
 pub struct Child {
@@ -24,68 +22,40 @@ pub struct Child {
 }
 
 impl Child {
-    /// Starts a child. This consumes the command, which closes our copies of its pipes: a pipe has to end
-    /// when its writer does, and a writer has to fail when its reader is gone.
-    pub fn start(name: &'static str, mut command: Command) -> Result<Self> {
-        command.stderr(Stdio::piped());
+    /// Starts a child, with pipes from its output and, unless there is another input, to its input. This
+    /// consumes the command, which closes our copies of its pipes: a pipe has to end when its writer does,
+    /// and a writer has to fail when its reader is gone.
+    pub fn start(name: &'static str, mut command: Command, from: impl Into<Stdio>) -> Result<Self> {
+        command.stdin(from).stdout(Stdio::piped()).stderr(Stdio::piped());
         let mut process = command.spawn().or_fail(format!("{name} could not be started"))?;
-        let (sender, errors) = channel();
         let pipe = process.stderr.take();
+        let (sender, errors) = channel();
         let child = Self { name, process, errors };
         let read = move || {
-            let _ = sender.send(pipe.map(end_of).unwrap_or_default());
+            let mut said = Vec::new();
+            let _ = pipe.map(|mut it| it.read_to_end(&mut said));
+            let _ = sender.send(said);
         };
         thread::Builder::new().spawn(read).or_fail(NO_THREAD)?;
         Ok(child)
     }
 
-    /// Our end of its standard input. There is one.
+    /// Our end of its standard input.
     pub fn input(&mut self) -> Result<ChildStdin> {
-        let input = self.process.stdin.take();
-        input.map_or_else(|| failed(format!("{} has no pipe", self.name)), Ok)
+        self.process.stdin.take().or_fail(format!("{} has no input", self.name))
     }
 
-    /// Our end of its standard output. There is one.
+    /// Our end of its standard output.
     pub fn output(&mut self) -> Result<ChildStdout> {
-        let output = self.process.stdout.take();
-        output.map_or_else(|| failed(format!("{} has no pipe", self.name)), Ok)
+        self.process.stdout.take().or_fail(format!("{} has no output", self.name))
     }
 
     /// Waits until it has ended.
     pub fn end(mut self) -> Result<Ended> {
-        let waited = self.process.wait();
-        let status = waited.or_fail(format!("{} could not be waited for", self.name))?;
-        let signal = How::Signal(status.signal().unwrap_or_default());
-        Ok(Ended {
-            process: self.name,
-            how: status.code().map_or(signal, How::Status),
-            said: self.errors.recv_timeout(PATIENCE).unwrap_or_default(),
-        })
-    }
-
-    /// Waits until it has ended. Any status but 0 is a failure.
-    pub fn succeed(mut self) -> Result<()> {
-        match self.process.wait() {
-            Ok(status) if status.success() => Ok(()), // (whatever it said)
-            _ => self.end()?.succeeded().map(drop),
-        }
-    }
-
-    /// Reads all that it prints, and waits until it has ended.
-    pub fn finish(mut self) -> Result<(Ended, Vec<u8>)> {
-        let mut output = Vec::new();
-        let read = self.output()?.read_to_end(&mut output);
-        read.or_fail(format!("the output of {} could not be read", self.name))?;
-        Ok((self.end()?, output))
-    }
-}
-
-impl Ended {
-    pub fn succeeded(self) -> Result<Self> {
-        match self.how {
-            How::Status(0) => Ok(self),
-            _ => Err(Failure::Ended(self)),
-        }
+        let status = self.process.wait();
+        let status = status.or_fail(format!("{} could not be waited for", self.name))?;
+        let said = self.errors.recv_timeout(PATIENCE).unwrap_or_default();
+        Ok(Ended { process: self.name, status, output: Vec::new(), said })
     }
 }
 
@@ -97,44 +67,34 @@ impl Drop for Child {
     }
 }
 
-/// Reads everything, so that the process never blocks, and keeps the end of it.
-fn end_of(mut pipe: ChildStderr) -> Vec<u8> {
-    let (mut kept, mut bytes) = (Vec::new(), [0; KEPT]);
-    while let Ok(length @ 1..) = pipe.read(&mut bytes) {
-        kept.extend_from_slice(&bytes[..length]);
-        kept.drain(..kept.len().saturating_sub(KEPT));
-    }
-    kept
-}
-
-/// Runs a short command. Returns how it ended, and all that it printed.
-pub fn run(name: &'static str, mut command: Command) -> Result<(Ended, Vec<u8>)> {
-    command.stdout(Stdio::piped());
-    Child::start(name, command)?.finish()
-}
-
-/// The same for a command that has to end with 0. Returns what it printed.
-pub fn output_of(name: &'static str, command: Command) -> Result<Vec<u8>> {
-    let (ended, output) = run(name, command)?;
-    ended.succeeded().map(|_| output)
-}
-
-const NO_THREAD: &str = "no thread could be started";
-
-/// Starts a thread. (`Scope::spawn` panics if there can't be another.)
-pub fn spawn<'scope, T: Send + 'scope>(
-    scope: &'scope Scope<'scope, '_>,
-    task: impl FnOnce() -> Result<T> + Send + 'scope,
-) -> Result<ScopedJoinHandle<'scope, Result<T>>> {
-    thread::Builder::new().spawn_scoped(scope, task).or_fail(NO_THREAD)
-}
-
-/// What a thread returned.
-pub fn join<T>(thread: ScopedJoinHandle<Result<T>>) -> Result<T> {
-    thread.join().unwrap_or_else(|_| failed("a thread panicked"))
+/// Runs a command without input, reads all that it prints, and waits until it has ended.
+pub fn run(name: &'static str, command: Command) -> Result<Ended> {
+    let mut child = Child::start(name, command, Stdio::null())?;
+    let mut output = Vec::new();
+    let read = child.output()?.read_to_end(&mut output);
+    read.or_fail(format!("the output of {name} could not be read"))?;
+    Ok(Ended { output, ..child.end()? })
 }
 
 /// Writes all that a process reads, and closes the pipe.
 pub fn write_all(mut to: ChildStdin, bytes: &[u8]) -> Result<()> {
     to.write_all(bytes).or_fail("a process did not read all of its input")
+}
+
+/// Does two things at once, the first in a thread of its own. If both fail, one because of the other, the
+/// failure is that of the other.
+pub fn at_once<T: Send, U>(
+    first: impl FnOnce() -> Result<T> + Send,
+    second: impl FnOnce() -> Result<U>,
+) -> Result<(T, U)> {
+    thread::scope(|scope| {
+        // (`Scope::spawn` panics if there can't be another thread)
+        let first = thread::Builder::new().spawn_scoped(scope, first).or_fail(NO_THREAD)?;
+        let second = second();
+        match (first.join().unwrap_or_else(|_| failed("a thread panicked")), second) {
+            (Ok(first), Ok(second)) => Ok((first, second)),
+            (Err(first), Err(second)) if first.is_secondary() => Err(second),
+            (Err(failure), _) | (_, Err(failure)) => Err(failure),
+        }
+    })
 }

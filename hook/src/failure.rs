@@ -3,6 +3,8 @@
 use crate::limits::Limits;
 use crate::text::{printable, say};
 use std::io::{self, ErrorKind};
+use std::os::unix::process::ExitStatusExt;
+use std::process::ExitStatus;
 
 #[derive(Debug)]
 pub enum Failure {
@@ -12,50 +14,28 @@ pub enum Failure {
     System(String, io::Error),
     /// Anything else.
     Other(String),
-    /// A failure, and what may help.
-    Helped(Box<Failure>, &'static str),
 }
 
-/// A process that has ended, and the end of what it wrote to standard error.
+/// A process that has ended.
 #[derive(Debug)]
 pub struct Ended {
     pub process: &'static str,
-    pub how: How,
+    pub status: ExitStatus,
+    /// What it printed, if that was read until its end.
+    pub output: Vec<u8>,
+    /// What it wrote to standard error.
     pub said: Vec<u8>,
 }
 
-#[derive(Clone, Copy, Debug, PartialEq, Eq)]
-pub enum How {
-    Status(i32),
-    Signal(i32),
-}
-
+/// How many bytes of what a process wrote to standard error are shown: the last ones.
+const LONGEST_SAID: usize = 1000;
 const SIGPIPE: i32 = 13;
 const SIGXCPU: i32 = 24;
 
+const COPY_IT: &str =
+    "To scan a copy of a repository that you don't own or trust: git scan-names --copy PATH";
 const FULL_CLONE: &str =
     "A commit is missing. If your clone is shallow, complete it first: git fetch --unshallow";
-/// How many bytes of a process's own message are shown: the last ones.
-const LONGEST_SAID: usize = 1000;
-
-impl Failure {
-    /// Whether it is most likely a consequence: the process that should have read on has failed.
-    fn is_secondary(&self) -> bool {
-        match self {
-            Self::System(_, error) => error.kind() == ErrorKind::BrokenPipe,
-            Self::Ended(ended) => ended.how == How::Signal(SIGPIPE),
-            _ => false,
-        }
-    }
-}
-
-/// The first of several failures that isn't a consequence of another.
-pub fn first_of(failures: impl IntoIterator<Item = Option<Failure>>) -> Failure {
-    let failures = failures.into_iter().flatten();
-    let (secondary, first): (Vec<_>, Vec<_>) = failures.partition(Failure::is_secondary);
-    let found = first.into_iter().chain(secondary).next();
-    found.unwrap_or_else(|| Failure::Other("nothing failed".into()))
-}
 
 pub type Result<T> = std::result::Result<T, Failure>;
 
@@ -63,7 +43,7 @@ pub fn failed<T>(what: impl Into<String>) -> Result<T> {
     Err(Failure::Other(what.into()))
 }
 
-/// Says what could not be done.
+/// Says what could not be done, or what is missing.
 pub trait OrFail<T> {
     fn or_fail(self, what: impl Into<String>) -> Result<T>;
 }
@@ -74,58 +54,75 @@ impl<T> OrFail<T> for io::Result<T> {
     }
 }
 
-/// Prints why a check failed, after these words, and what may help. There may be limits, as the settings have
-/// them.
-pub fn say_failure(before: &str, failure: &Failure, limits: Option<Limits>) {
-    let (what, help) = of_failure(failure, limits);
-    say(&format!("{before}: {what}"));
-    if let Some(help) = help {
-        say(&help);
+impl<T> OrFail<T> for Option<T> {
+    fn or_fail(self, what: impl Into<String>) -> Result<T> {
+        self.map_or_else(|| failed(what), Ok)
     }
 }
 
-fn of_failure(failure: &Failure, limits: Option<Limits>) -> (String, Option<String>) {
-    let more_memory = limits.map(|Limits { megabytes, .. }| {
-        format!("A process may use {megabytes} MB of memory: an administrator can raise names.megabytes.")
-    });
-    let more_time = limits.map(|Limits { seconds, .. }| {
-        format!("A process may use {seconds} s, and one more for each 4000 objects of the push: an administrator can raise names.seconds.")
-    });
-    match failure {
-        Failure::Ended(ended) if ended.how == How::Signal(SIGXCPU) => {
-            (format!("{} needs too much processor time", ended.process), more_time)
+impl Failure {
+    /// Whether it is most likely a consequence: the process that should have read on has failed.
+    pub fn is_secondary(&self) -> bool {
+        match self {
+            Self::System(_, error) => error.kind() == ErrorKind::BrokenPipe,
+            Self::Ended(ended) => ended.status.signal() == Some(SIGPIPE),
+            Self::Other(_) => false,
         }
-        Failure::Ended(ended) => {
-            let said = of_process(ended);
-            let help = if said.to_lowercase().contains("memory") {
-                more_memory
-            } else if said.contains("Failed to traverse parents of commit") {
-                Some(FULL_CLONE.into())
-            } else {
-                None
-            };
-            (said, help)
+    }
+
+    /// Prints it after these words, and what may help. There may be limits, as the settings have them.
+    pub fn say(&self, before: &str, limits: Option<Limits>) {
+        let what = match self {
+            Self::Ended(ended) => ended.what(),
+            Self::System(what, error) => format!("{what}: {error}"),
+            Self::Other(what) => what.clone(),
+        };
+        say(&format!("{before}: {what}"));
+        if let Some(help) = self.help(&what, limits) {
+            say(&help);
         }
-        Failure::System(what, error) => {
-            let help = more_memory.filter(|_| error.kind() == ErrorKind::OutOfMemory);
-            (format!("{what}: {error}"), help)
+    }
+
+    /// What may help. Apart from a limit of time, that depends on what Git or the system say.
+    fn help(&self, what: &str, limits: Option<Limits>) -> Option<String> {
+        let more_time = |Limits { seconds, .. }| {
+            format!("A process may use {seconds} s, and one more for each 4000 objects of the push: an administrator can raise names.seconds.")
+        };
+        let more_memory = |Limits { megabytes, .. }| {
+            format!("A process may use {megabytes} MB of memory: an administrator can raise names.megabytes.")
+        };
+        match self {
+            Self::Ended(it) if it.status.signal() == Some(SIGXCPU) => limits.map(more_time),
+            _ if what.to_lowercase().contains("memory") => limits.map(more_memory),
+            _ if what.contains("Failed to traverse parents of commit") => Some(FULL_CLONE.into()),
+            _ if what.contains("dubious ownership") => Some(COPY_IT.into()),
+            _ => None,
         }
-        Failure::Other(what) => (what.clone(), None),
-        Failure::Helped(failure, help) => (of_failure(failure, limits).0, Some((*help).into())),
     }
 }
 
-/// How a process ended, and the end of what it said.
-fn of_process(ended: &Ended) -> String {
-    let Ended { process, how, said } = ended;
-    let said = said.strip_suffix(b"\n").unwrap_or(said);
-    let said = printable(&said[said.len().saturating_sub(LONGEST_SAID)..]);
-    let said = said.strip_prefix(&format!("{process}: ")).unwrap_or(&said);
-    let colon = if said.is_empty() { "" } else { ": " };
-    match how {
-        // (one that may not even warn)
-        How::Status(0) => format!("{process}{colon}{said}"),
-        How::Status(status) => format!("{process} failed (status {status}){colon}{said}"),
-        How::Signal(signal) => format!("{process} failed (signal {signal}){colon}{said}"),
+impl Ended {
+    /// Fails, unless the status is 0.
+    pub fn succeeded(self) -> Result<Self> {
+        if self.status.success() {
+            Ok(self)
+        } else {
+            Err(Failure::Ended(self))
+        }
+    }
+
+    /// How it ended, and the end of what it said.
+    fn what(&self) -> String {
+        let Self { process, status, said, .. } = self;
+        let said = printable(&said[said.len().saturating_sub(LONGEST_SAID)..]);
+        let said = said.strip_prefix(&format!("{process}: ")).unwrap_or(&said);
+        let colon = if said.is_empty() { "" } else { ": " };
+        match (status.code(), status.signal().unwrap_or_default()) {
+            // (one that may not even warn)
+            (Some(0), _) => format!("{process}{colon}{said}"),
+            (Some(code), _) => format!("{process} failed (status {code}){colon}{said}"),
+            (None, SIGXCPU) => format!("{process} needs too much processor time"),
+            (None, signal) => format!("{process} failed (signal {signal}){colon}{said}"),
+        }
     }
 }

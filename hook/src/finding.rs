@@ -1,25 +1,45 @@
 //! What is refused: read from the proved program's lines, and written as people read it.
 
-use crate::report::{self, Line};
 use crate::text::{in_quotes, printable, quoted};
 use std::collections::HashMap;
 
 /// An object's id, of 40 or 64 digits.
 pub type Id = Box<[u8]>;
 
+/// How much of a name is kept, because a push decides how long it is. (A file system allows no more.)
+pub const LONGEST_NAME: usize = 4096;
+
+/// A line `FRONT "NAME" REST` or `FRONT`, without its newline.
+pub struct Line<'a> {
+    /// What is before the first double quote, or the whole line if there is none.
+    pub front: &'a [u8],
+    /// The name between the quotes, without its escapes. If it is long, its beginning and three dots.
+    pub name: Vec<u8>,
+    /// What is after the quote that ends the name, and a space.
+    pub rest: &'a [u8],
+}
+
+/// A path, and the tree in which it begins, as in a finding.
+pub type Place = (Vec<u8>, Option<Id>);
+
+/// What is done with a finding.
+pub type OnFinding<'a> = &'a mut dyn FnMut(Finding);
+
 /// A name that is refused, or a `.gitmodules` file that can't be read.
-#[derive(Clone)]
 pub struct Finding {
     pub kind: Kind,
-    pub place: Place,
+    /// Where it is: a reference's name, or the path of the entry or of the `.gitmodules` file. Only the
+    /// beginning of a long one.
+    pub path: Vec<u8>,
+    /// The tree in which the path begins, if that isn't known to be the root.
+    pub tree: Option<Id>,
     pub reason: Vec<u8>,
 }
 
-#[derive(Clone)]
 pub enum Kind {
     Reference,
     Entry {
-        mode: u32,
+        file_type: u32,
         /// Whether Windows alone forbids the name, so that it can be accepted.
         is_windows: bool,
     },
@@ -31,15 +51,6 @@ pub enum Kind {
     },
 }
 
-/// Where it is: the reference, the entry, or the `.gitmodules` file.
-#[derive(Clone)]
-pub struct Place {
-    /// A reference's name, or a path. Only the beginning of a long one.
-    pub path: Vec<u8>,
-    /// The tree in which the path begins, if that isn't known to be the root.
-    pub tree: Option<Id>,
-}
-
 /// The reasons about which more is said. Of `ILLEGAL` this is the beginning.
 const DEVICE: &[u8] = b"Windows device-names may have side-effects and are not allowed";
 const ILLEGAL: &[u8] = b"Trailing spaces or dots, and the following characters anywhere, are forbidden in Windows paths";
@@ -48,37 +59,62 @@ const SEPARATOR: &[u8] = b"Path separators like / or \\ are not allowed";
 const SYMLINK: &[u8] = b"The .gitmodules file must not be a symlink";
 const REPLACEMENT: &[u8] = b"replacement references are not allowed";
 
+impl<'a> Line<'a> {
+    pub fn of(text: &'a [u8]) -> Self {
+        let quote = text.iter().position(|byte| *byte == b'"');
+        let (front, quoted) = text.split_at(quote.unwrap_or(text.len()));
+        let mut rest = quoted.get(1..).unwrap_or_default();
+        let mut name = Vec::new();
+        loop {
+            let (byte, after) = match rest {
+                [] | [b'"', ..] => break,
+                [b'\\', b'x', high, low, after @ ..] => (digit(*high) << 4 | digit(*low), after),
+                [b'\\', b'0', after @ ..] => (0, after),
+                [b'\\', b't', after @ ..] => (b'\t', after),
+                [b'\\', b'n', after @ ..] => (b'\n', after),
+                [b'\\', b'r', after @ ..] => (b'\r', after),
+                [b'\\', byte, after @ ..] | [byte, after @ ..] => (*byte, after),
+            };
+            if name.len() < LONGEST_NAME {
+                name.push(byte);
+            } else if name.len() == LONGEST_NAME {
+                name.extend_from_slice(b"...");
+            }
+            rest = after;
+        }
+        let rest = rest.strip_prefix(b"\" ").unwrap_or_default();
+        Self { front, name, rest }
+    }
+}
+
 impl Finding {
     /// The reference of a line `ref "REF" REASON`.
-    pub fn of_reference(line: &Line) -> Option<Self> {
-        let place = Place { path: line.name.clone(), tree: None };
-        let reason = line.rest.into();
-        (line.front == b"ref ").then_some(Self { kind: Kind::Reference, place, reason })
+    pub fn of_reference(line: &Line) -> Self {
+        let (path, reason) = (line.name.clone(), line.rest.into());
+        Self { kind: Kind::Reference, path, tree: None, reason }
     }
 
     /// The entry of a line `TREE MODE "PATH" REASON`, perhaps after `windows `.
     pub fn of_entry(line: &Line) -> Option<Self> {
         let without = line.front.strip_prefix(b"windows ");
         let (tree, mode) = split_once(without.unwrap_or(line.front), b' ')?;
-        let place = Place { path: line.name.clone(), tree: Some(id(tree)?) };
-        let mode = std::str::from_utf8(mode).ok()?.trim_end();
-        // (a mode may have hundreds of digits, and is none of Git's then)
-        let mode = u32::from_str_radix(mode, 8).unwrap_or_default();
-        let kind = Kind::Entry { mode, is_windows: without.is_some() };
-        Some(Self { kind, place, reason: line.rest.into() })
+        let kind = Kind::Entry { file_type: file_type(mode), is_windows: without.is_some() };
+        let (path, tree, reason) = (line.name.clone(), Some(id(tree)?), line.rest.into());
+        Some(Self { kind, path, tree, reason })
     }
 
     /// The submodule of a line `BLOB OFFSET "NAME" REASON`, or without a name `BLOB OFFSET REASON` or
     /// `BLOB REASON`. `place_of` knows where the blob is.
     pub fn of_submodule(line: &Line, place_of: impl Fn(&[u8]) -> Option<Place>) -> Option<Self> {
         let (blob, rest) = split_once(line.front, b' ')?;
-        let (name, reason) = if rest.ends_with(b" ") {
-            (Some(line.name.clone()), line.rest.into())
-        } else {
-            (None, with_offset_last(rest))
+        let (path, tree) = place_of(blob)?;
+        let name = rest.ends_with(b" ").then(|| line.name.clone());
+        let reason = match (&name, rest) {
+            (Some(_), _) => line.rest.into(),
+            (None, [b'0'..=b'9', ..]) => [b"at byte ", rest].concat(),
+            (None, _) => rest.into(),
         };
-        let kind = Kind::Submodule { blob: id(blob)?, name };
-        Some(Self { kind, place: place_of(blob)?, reason })
+        Some(Self { kind: Kind::Submodule { blob: id(blob)?, name }, path, tree, reason })
     }
 
     /// The line about it, without a newline: first where it is, then why. A path has at most so many
@@ -90,22 +126,19 @@ impl Finding {
     /// refs/heads/HEAD: Reference name is reserved and cannot be used: "refs/heads/HEAD"
     /// ```
     pub fn line(&self, longest: usize) -> String {
-        let reason = printable(&self.reason);
-        let mut place = quoted(&self.place.path, longest);
-        if let Some(tree) = &self.place.tree {
+        let mut place = quoted(&self.path, longest);
+        if let Some(tree) = &self.tree {
             place = format!("{place} (in the tree {})", printable(tree));
         }
-        match &self.kind {
-            Kind::Submodule { name: Some(name), .. } => {
-                format!("{place}: submodule {}: {reason}", in_quotes(name, longest / 3))
-            }
-            _ => format!("{place}: {reason}"),
+        if let Kind::Submodule { name: Some(name), .. } = &self.kind {
+            place = format!("{place}: submodule {}", in_quotes(name, longest / 3));
         }
+        format!("{place}: {}", printable(&self.reason))
     }
 
     /// The entry's name.
     pub fn name(&self) -> &[u8] {
-        self.place.path.rsplit(|byte| *byte == b'/').next().unwrap_or_default()
+        self.path.rsplit(|byte| *byte == b'/').next().unwrap_or_default()
     }
 
     /// The part of the name that offends, unless it is the whole: a device, a drive, or a character.
@@ -129,14 +162,9 @@ impl Finding {
     /// backslash is a path.)
     pub fn can_be_accepted(&self) -> bool {
         let is_windows = matches!(self.kind, Kind::Entry { is_windows: true, .. });
-        let is_whole = self.place.path.len() <= report::LONGEST_NAME;
+        let is_whole = self.path.len() <= LONGEST_NAME;
         let name = std::str::from_utf8(self.name());
         is_windows && is_whole && name.map_or(false, |name| !name.contains(['\\', '\n']))
-    }
-
-    /// Whether Git itself may refuse to check the name out.
-    pub fn is_refused_by_git(&self) -> bool {
-        matches!(self.kind, Kind::Entry { is_windows: false, .. })
     }
 
     /// What the author of a push can do about it.
@@ -146,7 +174,7 @@ impl Finding {
                 "An administrator can allow refs/replace/: git config names.replace true"
             }
             (Kind::Reference, _) => {
-                "Push a refused reference under another name: git push origin HEAD:refs/heads/OTHER"
+                "Push a refused reference under another name: git push origin YOURS:refs/heads/OTHER"
             }
             (Kind::Entry { .. }, SYMLINK) => {
                 "Make .gitmodules a file, not a symlink, in the commit that changes it."
@@ -154,53 +182,43 @@ impl Finding {
             (Kind::Entry { .. }, _) => {
                 "Rename a refused file or directory in the commit that adds it, not in a later one."
             }
-            (Kind::Submodule { name: Some(_), .. }, _) => {
-                "Give a refused submodule another name in the commit that changes its .gitmodules file."
-            }
-            (Kind::Submodule { name: None, .. }, _) => {
-                "Correct a .gitmodules file in the commit that changes it."
+            (Kind::Submodule { .. }, _) => {
+                "Correct a .gitmodules file, or rename a submodule in it, in the commit that changes it."
             }
         }
     }
 }
 
-/// Findings with the same line, such as a name in many versions of its directory.
-pub struct Group {
-    /// The first of them.
-    pub finding: Finding,
-    pub count: u64,
-    /// The `.gitmodules` files.
-    pub blobs: Vec<Id>,
-}
-
-/// All findings, in the order in which they were found.
+/// All findings, in the order in which they were found. Those with the same line, such as a name in many
+/// versions of its directory, are in one group.
 #[derive(Default)]
 pub struct Groups {
-    pub all: Vec<Group>,
+    pub all: Vec<Vec<Finding>>,
     places: HashMap<String, usize>,
 }
 
 impl Groups {
-    pub fn add(&mut self, line: String, finding: &Finding) {
+    pub fn add(&mut self, line: String, finding: Finding) {
         let place = *self.places.entry(line).or_insert(self.all.len());
         if place == self.all.len() {
-            self.all.push(Group { finding: finding.clone(), count: 0, blobs: Vec::new() });
+            self.all.push(Vec::new());
         }
-        self.all[place].count += 1;
-        if let Kind::Submodule { blob, .. } = &finding.kind {
-            self.all[place].blobs.push(blob.clone());
-        }
+        self.all[place].push(finding);
     }
 }
 
-/// A reason, with the offset at its end instead of before it.
-fn with_offset_last(text: &[u8]) -> Vec<u8> {
-    match split_once(text, b' ') {
-        Some((offset, reason)) if offset.iter().all(u8::is_ascii_digit) => {
-            [reason, b" (at byte ", offset, b")"].concat()
-        }
-        _ => text.to_vec(),
+/// The number of a hexadecimal digit.
+fn digit(byte: u8) -> u8 {
+    match byte {
+        b'a'..=b'f' => byte - b'a' + 10,
+        _ => byte.wrapping_sub(b'0'),
     }
+}
+
+/// What kind of file an octal mode is. (A mode may have hundreds of digits, and is none of Git's then.)
+pub fn file_type(mode: &[u8]) -> u32 {
+    let mode = std::str::from_utf8(mode).unwrap_or_default();
+    u32::from_str_radix(mode.trim_end(), 8).unwrap_or_default() >> 12
 }
 
 /// These bytes, if they are an id.
@@ -213,4 +231,18 @@ pub fn id(text: &[u8]) -> Option<Id> {
 pub fn split_once(text: &[u8], byte: u8) -> Option<(&[u8], &[u8])> {
     let at = text.iter().position(|it| *it == byte)?;
     Some((&text[..at], &text[at + 1..]))
+}
+
+#[cfg(test)]
+mod tests {
+    use super::Line;
+
+    #[test]
+    fn a_line_is_split_at_the_quotes_of_its_name_and_may_have_none() {
+        let line = Line::of(b"1f 100644 \"a\\\"\\\\ \\x00\\xff\\n\" \"no\" (in \"b\")");
+        assert_eq!(line.front, b"1f 100644 ");
+        assert_eq!(line.name, b"a\"\\ \x00\xff\n");
+        assert_eq!(line.rest, b"\"no\" (in \"b\")");
+        assert_eq!(Line::of(b"abc").front, b"abc");
+    }
 }

@@ -1,8 +1,9 @@
-//! The limits of time and memory. The standard library can't set them, so the one unsafe line is here.
+//! The limits of time and memory. The standard library can't set them, so the one unsafe block is here.
 //!
-//! (The call is as unsafe in the crate libc. That would have to be installed in the one version that
+//! (The calls are as unsafe in the crate libc. That would have to be installed in the one version that
 //! `Cargo.lock` names, and each release would carry its licence.)
 
+use crate::failure::{OrFail, Result};
 use std::io;
 use std::os::raw::{c_int, c_uint};
 
@@ -10,13 +11,8 @@ use std::os::raw::{c_int, c_uint};
 compile_error!("the declarations below are those of 64-bit Linux");
 
 extern "C" {
-    /// A reference that may be missing is a pointer that may be null.
-    fn prlimit(
-        process: c_int,
-        resource: c_uint,
-        new: Option<&Limit>,
-        old: Option<&mut Limit>,
-    ) -> c_int;
+    fn getrlimit(what: c_uint, limit: &mut Limit) -> c_int;
+    fn setrlimit(what: c_uint, limit: &Limit) -> c_int;
 }
 
 /// `struct rlimit`.
@@ -26,8 +22,11 @@ struct Limit {
     hard: u64,
 }
 
+/// Each process has another second for so many objects of a push.
+const STEP: u64 = 4_000;
+
 /// What this process, and each that it starts from then on, may take.
-#[derive(Clone, Copy, Debug, PartialEq, Eq)]
+#[derive(Clone, Copy, PartialEq)]
 pub struct Limits {
     /// Of processor time.
     pub seconds: u64,
@@ -36,30 +35,30 @@ pub struct Limits {
 }
 
 impl Limits {
-    /// Sets them, and that no process leaves a core file, which could be as large as its memory.
-    pub fn set(self) -> io::Result<()> {
+    /// Sets them for a push of so many objects, and that no process leaves a core file, which could be as
+    /// large as its memory.
+    pub fn set(self, objects: u64) -> Result<()> {
         const TIME: c_uint = 0; // RLIMIT_CPU
         const MEMORY: c_uint = 2; // RLIMIT_DATA
         const CORE: c_uint = 4; // RLIMIT_CORE
-        set(TIME, self.seconds)?;
-        set(MEMORY, self.megabytes << 20)?;
-        set(CORE, 0)
+        let seconds = self.seconds + objects / STEP;
+        let limits = [(TIME, seconds), (MEMORY, self.megabytes << 20), (CORE, 0)];
+        let are_set = limits.into_iter().try_for_each(|(what, limit)| set(what, limit));
+        are_set.or_fail("time and memory could not be limited")
     }
 }
 
 /// Sets the soft limit, which can be raised again, and ends a process by a signal that says why. A hard
 /// limit that is lower stays.
-fn set(resource: c_uint, limit: u64) -> io::Result<()> {
-    let mut old = Limit { soft: 0, hard: 0 };
-    call(resource, None, Some(&mut old))?;
-    call(resource, Some(&Limit { soft: limit.min(old.hard), ..old }), None)
-}
-
 #[allow(unsafe_code)]
-fn call(resource: c_uint, new: Option<&Limit>, old: Option<&mut Limit>) -> io::Result<()> {
-    // SAFETY: both have the layout of struct rlimit, and the call keeps neither.
-    match unsafe { prlimit(0, resource, new, old) } {
-        0 => Ok(()),
-        _ => Err(io::Error::last_os_error()),
-    }
+fn set(what: c_uint, soft: u64) -> io::Result<()> {
+    let mut limit = Limit { soft: 0, hard: 0 };
+    // SAFETY: `Limit` has the layout of struct rlimit, and the calls don't keep it.
+    let is_set = unsafe {
+        getrlimit(what, &mut limit) == 0 && {
+            limit.soft = soft.min(limit.hard);
+            setrlimit(what, &limit) == 0
+        }
+    };
+    is_set.then_some(()).ok_or_else(io::Error::last_os_error)
 }

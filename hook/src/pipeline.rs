@@ -11,33 +11,27 @@
 //! `check_push` runs with `--end`: its status is 2 unless that is the last line, and no object is missing.
 //! So it sees whether what it reads is whole.
 
-use crate::child::{join, spawn, write_all, Child};
-use crate::failure::{Failure, OrFail, Result};
-use crate::finding::{id, Finding, Id, Place};
+use crate::child::{at_once, write_all, Child};
+use crate::failure::{OrFail, Result};
+use crate::finding::{id, Finding, Id, Line, OnFinding, Place};
 use crate::git::Git;
-use crate::report::Line;
 use crate::settings::Settings;
 use crate::verdict::{Report, LIST};
 use std::collections::HashMap;
-use std::ffi::OsStr;
+use std::ffi::{OsStr, OsString};
 use std::io;
 use std::os::unix::process::CommandExt;
 use std::path::PathBuf;
 use std::process::{ChildStdin, Command, Stdio};
-use std::thread;
 
 /// What `git cat-file` prints of an object, before its content. Last comes what follows the id in the
 /// list: a tree's path, if the list has paths.
 const TREES: &str = "--batch=%(objectname) %(objecttype) %(objectsize) %(rest)";
 const FILES: &str = "--batch=%(objectname) %(objecttype) %(objectsize)";
 /// The last line of a list.
-const END: &[u8] = b"..end";
+const END: &[u8] = b"..end\n";
 /// How much of the path of a `.gitmodules` file is kept.
 const LONGEST_PATH: usize = 300;
-
-const CHECK_REFERENCES: &str = "check_push refs";
-const CHECK_TREES: &str = "check_push trees";
-const CHECK_SUBMODULES: &str = "check_push submodules";
 
 pub struct Pipeline {
     /// The proved program.
@@ -46,15 +40,12 @@ pub struct Pipeline {
     pub settings: Settings,
 }
 
-/// What is done with a finding.
-pub type OnFinding<'a> = &'a mut dyn FnMut(Finding);
-
-/// What is left to check of the references that `check_push refs` allows.
-#[derive(Default)]
-pub struct Ids {
-    /// The ids of the references, each on a line.
-    pub lines: Vec<u8>,
-    pub replacements: Modules,
+/// The processes that list trees, print them, and check them. They wait for ids, so they can be started
+/// before the ids are known.
+pub struct TreeCheck {
+    rev_list: Child,
+    cat_file: Child,
+    check: Child,
 }
 
 /// The blobs that are read as `.gitmodules`, with one place of each. Only a check of references or of trees
@@ -63,73 +54,77 @@ pub struct Ids {
 #[must_use]
 pub struct Modules(HashMap<Id, Place>);
 
-/// `git rev-list`, and the `git cat-file` that prints the trees which it lists. Both wait for ids, so they
-/// can be started before the ids are known.
-pub struct TreeList {
-    rev_list: Child,
-    cat_file: Child,
-}
-
 impl Pipeline {
     /// Starts the check of references, which waits for lines.
     pub fn start_references(&self) -> Result<Child> {
-        let mut command = self.check("refs");
-        command.arg("--ids").args(self.settings.replace.then_some("--replace"));
-        Child::start(CHECK_REFERENCES, command)
+        let replace = self.settings.replace.then(|| "--replace".into());
+        let words = replace.into_iter().chain(["--ids".into()]).collect();
+        self.start_check("check_push refs", words, Stdio::piped())
     }
 
     /// Checks the names of references in these lines `OLD NEW REF`. Also returns what is to be checked of
-    /// those that are allowed.
-    pub fn references(mut check: Child, lines: &[u8], found: OnFinding) -> Result<(Report, Ids)> {
+    /// those that are allowed: their ids, each on a line, and the blobs of replacements. (Git shows such a
+    /// blob instead of another, which may be a `.gitmodules` file that was accepted.)
+    pub fn references(
+        mut check: Child,
+        lines: &[u8],
+        found: OnFinding,
+    ) -> Result<(Report, Vec<u8>, Modules)> {
         let to = check.input()?;
-        let mut ids = Ids::default();
-        thread::scope(|scope| {
-            let writer = spawn(scope, move || write_all(to, lines))?;
-            let report = Report::read(check, |line| match Finding::of_reference(line) {
-                Some(finding) => Ok(refused(found, finding)),
-                None => ids.add(line).map(|()| false),
-            });
-            Ok((Report::of_all([join(writer)], report)?, ids))
-        })
+        let (mut ids, mut replacements) = (Vec::new(), Modules::default());
+        let finding_of = |line: &Line| {
+            if line.front == b"ref " {
+                return Some(Some(Finding::of_reference(line)));
+            }
+            // (`NEW "REF"` if it is a replacement, and else `NEW`)
+            let before_name = line.front.strip_suffix(b" ");
+            let new = id(before_name.unwrap_or(line.front))?;
+            ids.extend(new.iter().chain(b"\n"));
+            if before_name.is_some() {
+                replacements.add(new, (line.name.clone(), None));
+            }
+            Some(None)
+        };
+        let report = Report::read(check, || write_all(to, lines), found, finding_of)?;
+        Ok((report, ids, replacements))
     }
 
-    /// Starts to list the trees that these words of `git rev-list` select, and to print them.
-    pub fn start_list<S: AsRef<OsStr>>(&self, words: &[S]) -> Result<TreeList> {
-        let mut command = self.git.command(&LIST);
-        command.args(words).stdin(Stdio::piped()).stdout(Stdio::piped());
-        thread::scope(|scope| {
-            let cat_file = spawn(scope, || self.cat_file(TREES))?;
-            let rev_list = Child::start("git rev-list", command)?;
-            Ok(TreeList { rev_list, cat_file: join(cat_file)? })
-        })
+    /// Starts the check of the trees that these words of `git rev-list` select.
+    pub fn start_trees(&self, words: &[impl AsRef<OsStr>]) -> Result<TreeCheck> {
+        let mut list = self.git.command(LIST);
+        list.args(words);
+        let Settings { protect, accept, .. } = &self.settings;
+        let rules = ["--end", "--modules", "--protect", protect].map(OsString::from);
+        // (it takes 16 lists)
+        let accepted = accept.chunks(accept.len() / 16 + 1).map(|names| names.join("/"));
+        let accepted = accepted.flat_map(|it| ["--accept".into(), it.into()]);
+        let check = rules.into_iter().chain(accepted).collect();
+        let rev_list = Child::start("git rev-list", list, Stdio::piped())?;
+        let (cat_file, check) = self.start_objects(TREES, "check_push trees", check)?;
+        Ok(TreeCheck { rev_list, cat_file, check })
     }
 
-    /// Checks the names in the trees of a list, which gets these ids. Also returns the blobs that a
-    /// checkout reads as `.gitmodules`.
-    pub fn trees(&self, list: TreeList, ids: Ids, found: OnFinding) -> Result<(Report, Modules)> {
-        let TreeList { rev_list, mut cat_file } = list;
-        let Ids { lines, replacements: mut modules } = ids;
-        let mut command = self.check("trees");
-        command.args(["--end", "--modules", "--protect"]).arg(&self.settings.protect);
-        for names in &self.settings.accept {
-            command.arg("--accept").arg(names);
-        }
-        command.stdin(cat_file.output()?);
-        let to = cat_file.input()?;
-        thread::scope(|scope| {
-            // (while that reads its ids, the other program starts)
-            let lister = spawn(scope, move || pass_on(rev_list, &lines, to))?;
-            let check = Child::start(CHECK_TREES, command)?;
-            let report = Report::read(check, |line| {
-                if let Some(rest) = line.front.strip_prefix(b"modules ") {
-                    return modules.add_file(rest, line).map(|()| false);
-                }
-                let finding = Finding::of_entry(line).ok_or_else(|| malformed(CHECK_TREES))?;
-                Ok(refused(found, finding))
-            });
-            let given = [join(lister), cat_file.succeed()];
-            Ok((Report::of_all(given, report)?, modules))
-        })
+    /// Checks the names in trees. `git rev-list` gets these ids. To the blobs that a checkout reads as
+    /// `.gitmodules`, it adds those in the trees.
+    pub fn trees(
+        TreeCheck { rev_list, cat_file, check }: TreeCheck,
+        ids: &[u8],
+        mut modules: Modules,
+        found: OnFinding,
+    ) -> Result<(Report, Modules)> {
+        let finding_of = |line: &Line| {
+            if !line.front.starts_with(b"modules ") {
+                return Finding::of_entry(line).map(Some);
+            }
+            // (`modules BLOB TREE MODE "PATH"`)
+            let mut words = line.front.split(|byte| *byte == b' ').skip(1);
+            let (blob, tree) = (id(words.next()?)?, id(words.next()?)?);
+            modules.add(blob, (line.name.clone(), Some(tree)));
+            Some(None)
+        };
+        let list = |to| pass_on(rev_list, ids, to);
+        let report = read_objects(cat_file, check, list, found, finding_of)?;
+        Ok((report, modules))
     }
 
     /// Checks the names of submodules in these blobs, if there are any.
@@ -138,77 +133,65 @@ impl Pipeline {
         if modules.is_empty() {
             return Ok(None);
         }
-        let mut list = Vec::new();
-        modules.keys().try_for_each(|blob| push_line(&mut list, blob))?;
-        push_line(&mut list, END)?;
-        let mut cat_file = self.cat_file(FILES)?;
-        let to = cat_file.input()?;
-        let mut command = self.check("submodules");
-        command.arg("--end").stdin(cat_file.output()?);
-        let check = Child::start(CHECK_SUBMODULES, command)?;
-        thread::scope(|scope| {
-            let lister = spawn(scope, || write_all(to, &list))?;
-            let report = Report::read(check, |line| {
-                let finding = Finding::of_submodule(line, |blob| modules.get(blob).cloned());
-                let finding = finding.ok_or_else(|| malformed(CHECK_SUBMODULES))?;
-                Ok(refused(found, finding))
-            });
-            let given = [join(lister), cat_file.succeed()];
-            Report::of_all(given, report).map(Some)
-        })
+        let blobs = modules.keys().map(|it| &it[..]).chain([END]).collect::<Vec<_>>().join(&b'\n');
+        let words = vec!["--end".into()];
+        let (cat_file, check) = self.start_objects(FILES, "check_push submodules", words)?;
+        let list = |to| write_all(to, &blobs);
+        let place_of = |blob: &[u8]| modules.get(blob).cloned();
+        let finding_of = |line: &Line| Finding::of_submodule(line, place_of).map(Some);
+        read_objects(cat_file, check, list, found, finding_of).map(Some)
     }
 
-    /// A command that runs a subcommand of the proved program. It needs no environment, so it gets none.
-    fn check(&self, subcommand: &str) -> Command {
+    /// Starts the proved program, with the subcommand in this name. It needs no environment, so it gets none.
+    fn start_check(
+        &self,
+        name: &'static str,
+        words: Vec<OsString>,
+        input: impl Into<Stdio>,
+    ) -> Result<Child> {
         let mut command = Command::new(&self.program);
         // (a word that isn't UTF-8, such as a path, is a wrong argument to it)
-        command.env_clear().arg0("check_push").arg(subcommand);
-        command.stdin(Stdio::piped()).stdout(Stdio::piped());
-        command
+        command.env_clear().arg0("check_push").args(name.split(' ').skip(1)).args(words);
+        Child::start(name, command, input)
     }
 
-    /// Starts to print the objects whose ids it gets. (In a hostile push Git would apply the same chains of
-    /// deltas again and again, unless it keeps the results.)
-    fn cat_file(&self, format: &str) -> Result<Child> {
+    /// Starts to print objects in this format, and to check them. (In a hostile push Git would apply the same
+    /// chains of deltas again and again, unless it keeps the results.)
+    fn start_objects(
+        &self,
+        format: &str,
+        name: &'static str,
+        words: Vec<OsString>,
+    ) -> Result<(Child, Child)> {
         let megabytes = self.settings.limits.megabytes / 2;
         let cache = format!("core.deltaBaseCacheLimit={megabytes}m");
-        let mut command = self.git.command(&["-c", &cache, "cat-file", format, "--buffer"]);
-        command.stdin(Stdio::piped()).stdout(Stdio::piped());
-        Child::start("git cat-file", command)
-    }
-}
-
-impl Ids {
-    /// Adds the id of a line `NEW` or `NEW "REF"`. If there is a name, it is a replacement's, and Git shows the
-    /// blob NEW instead of another, which may be a `.gitmodules` file that was accepted.
-    fn add(&mut self, line: &Line) -> Result<()> {
-        let text = line.front.strip_suffix(b" ");
-        let new = id(text.unwrap_or(line.front)).ok_or_else(|| malformed(CHECK_REFERENCES))?;
-        push_line(&mut self.lines, &new)?;
-        if text.is_some() {
-            self.replacements.add(new, Place { path: line.name.clone(), tree: None })?;
-        }
-        Ok(())
+        let mut command = self.git.command(&format!("-c {cache} cat-file"));
+        command.args([format, "--buffer"]);
+        let mut cat_file = Child::start("git cat-file", command, Stdio::piped())?;
+        let check = self.start_check(name, words, cat_file.output()?)?;
+        Ok((cat_file, check))
     }
 }
 
 impl Modules {
-    /// Adds the file of a line `modules BLOB TREE MODE "PATH"`.
-    fn add_file(&mut self, rest: &[u8], line: &Line) -> Result<()> {
-        let mut ids = rest.split(|byte| *byte == b' ').map(id);
-        match (ids.next().flatten(), ids.next().flatten()) {
-            (Some(blob), tree @ Some(_)) => self.add(blob, Place { path: line.name.clone(), tree }),
-            _ => Err(malformed(CHECK_TREES)),
-        }
-    }
-
     /// Adds a blob and where it is, unless it is there already.
-    fn add(&mut self, blob: Id, mut place: Place) -> Result<()> {
-        self.0.try_reserve(1).or_else(|_| too_little_memory())?;
-        place.path.truncate(LONGEST_PATH);
+    fn add(&mut self, blob: Id, mut place: Place) {
+        place.0.truncate(LONGEST_PATH);
         self.0.entry(blob).or_insert(place);
-        Ok(())
     }
+}
+
+/// Checks the objects in a list, which `list` writes.
+fn read_objects(
+    mut cat_file: Child,
+    check: Child,
+    list: impl FnOnce(ChildStdin) -> Result<()> + Send,
+    found: OnFinding,
+    finding_of: impl FnMut(&Line) -> Option<Option<Finding>>,
+) -> Result<Report> {
+    let to = cat_file.input()?;
+    let give = || at_once(|| list(to), || cat_file.end()?.succeeded()).map(drop);
+    Report::read(check, give, found, finding_of)
 }
 
 /// Gives `git rev-list` its ids, and passes on what it lists. If it ends with 0, it has listed everything, so
@@ -216,30 +199,8 @@ impl Modules {
 fn pass_on(mut rev_list: Child, ids: &[u8], mut to: ChildStdin) -> Result<()> {
     let written = write_all(rev_list.input()?, ids);
     let copied = io::copy(&mut rev_list.output()?, &mut to);
-    rev_list.succeed()?;
+    rev_list.end()?.succeeded()?;
     written?;
     copied.or_fail("git cat-file did not read all ids")?;
-    write_all(to, &[END, b"\n"].concat())
-}
-
-fn malformed(process: &str) -> Failure {
-    Failure::Other(format!("{process} reported in another way"))
-}
-
-/// Passes a finding on, and says that the line is about a refused name.
-fn refused(found: OnFinding, finding: Finding) -> bool {
-    found(finding);
-    true
-}
-
-/// Adds a line to a list, which can be long.
-fn push_line(list: &mut Vec<u8>, line: &[u8]) -> Result<()> {
-    list.try_reserve(line.len() + 1).or_else(|_| too_little_memory())?;
-    list.extend_from_slice(line);
-    list.push(b'\n');
-    Ok(())
-}
-
-fn too_little_memory() -> Result<()> {
-    Err(io::Error::from(io::ErrorKind::OutOfMemory)).or_fail("the lists are too long")
+    write_all(to, END)
 }

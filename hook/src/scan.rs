@@ -1,88 +1,83 @@
 //! The scan: checks the names in your own repository, by the same pipeline as a push. Git runs there as
 //! usual. A repository that you don't trust is copied first.
 
-mod copy;
-mod list;
 mod options;
 
-use crate::child::{output_of, run as run_to_end};
-use crate::failure::{failed, say_failure, Failure, OrFail, Result};
-use crate::finding::{id, Finding, Groups};
+use crate::child::{run as run_git, Child};
+use crate::failure::{failed, Failure, OrFail, Result};
+use crate::finding::{id, Finding, Groups, Kind, OnFinding};
 use crate::git::Git;
-use crate::pipeline::{Ids, OnFinding, Pipeline};
-use crate::settings::{read_config, start_config, Settings};
+use crate::pipeline::{Modules, Pipeline};
+use crate::settings::{read_config, Settings};
 use crate::text::{printable, say};
-use crate::verdict::{Checked, Report, Verdict, WITH_PATHS};
-use copy::Copy;
+use crate::verdict::{Report, Verdict};
 use options::{misused, Options};
+use std::collections::{BTreeMap, BTreeSet};
 use std::env;
 use std::ffi::{OsStr, OsString};
+use std::fmt::Write as _;
 use std::fs;
+use std::io::{self, BufRead, BufReader, Write};
 use std::os::unix::ffi::OsStrExt;
 use std::path::{Path, PathBuf};
+use std::process::{Command, Stdio};
 
-/// How the hook or the scan ended.
-pub enum Outcome {
-    Checked(Verdict),
-    /// It printed what was asked for: the help, or a command for each refused name.
-    Printed,
-    Failed,
-}
+/// This also serves what the repository hides from those who fetch, and repositories of other owners. In a
+/// partial clone it would fetch what is missing, by a command of the repository, but no way to fetch is
+/// allowed.
+const UPLOAD: &str = "GIT_ALLOW_PROTOCOL=none GIT_NO_LAZY_FETCH=1 git -c 'safe.directory=*' \
+                      -c transfer.hideRefs=!refs/ upload-pack";
+/// Makes a directory that nobody else can read, and removes it when standard input ends, as when the scan
+/// is killed. (Git may go on then, and make it again.)
+const KEEP: &str = "trap '' HUP INT PIPE TERM
+directory=$(mktemp -d -t scan-names.XXXXXX) || exit
+echo \"$directory\"
+while read -r line; do :; done
+while [ -e \"$directory\" ]; do rm -rf -- \"$directory\"; sleep 1; done";
+/// The variables by which Git's commands would find another repository.
+const OF_A_REPOSITORY: &str = "GIT_DIR GIT_WORK_TREE GIT_INDEX_FILE GIT_OBJECT_DIRECTORY \
+                               GIT_ALTERNATE_OBJECT_DIRECTORIES GIT_COMMON_DIR GIT_NAMESPACE GIT_PREFIX";
 
-const NOT_COPIED: &str = "A copy lacks what Git doesn't serve: the index, the HEADs of other worktrees, and references that Git calls broken.";
-const COPY_IT: &str =
-    "To scan a copy of a repository that you don't own or trust: git scan-names --copy PATH";
+const NOT_COPIED: &str = "A copy lacks what Git doesn't serve: the index, the HEADs of other worktrees, references that Git calls broken, and by a URL those that the server hides.";
+const NAMES_ONLY: &str =
+    "names only: all are allowed. What files contain, hooks and settings were not checked.";
+const UNWRITTEN: &str = "the report could not be written";
 
-/// Scans, or prints the help.
-pub fn run(program: PathBuf) -> Outcome {
-    let outcome = match options::parse(env::args_os().skip(1)) {
-        Ok(None) => list::write(options::HELP).map(|()| Outcome::Printed),
+/// Scans, or prints the help. Returns nothing if that failed.
+pub fn run(program: PathBuf) -> Option<Verdict> {
+    let scanned = match options::parse(env::args_os().skip(1)) {
+        Ok(None) => write(options::HELP).map(|()| Verdict::Printed),
         Ok(Some(options)) => find_and_scan(program, options),
         Err(failure) => Err(failure),
     };
-    outcome.unwrap_or_else(|failure| {
-        say_failure("git scan-names", &failure, None);
-        Outcome::Failed
-    })
+    scanned.map_err(|failure| failure.say("git scan-names", None)).ok()
 }
 
 /// Finds the repository, or copies it, and scans it.
-fn find_and_scan(program: PathBuf, mut options: Options) -> Result<Outcome> {
+fn find_and_scan(program: PathBuf, mut options: Options) -> Result<Verdict> {
     let mut git = Git::find()?;
-    let mut copy = None;
-    if let Some(source) = &options.copy {
-        let (_, version) = read_config(start_config(&git)?)?;
-        git = copy.insert(Copy::of(git, source, &version)?).git.clone();
+    let copy = options.copy.as_ref().map(|source| Copy::of(&git, source)).transpose()?;
+    if let Some(copy) = &copy {
+        git = copy.git.clone();
         say(NOT_COPIED);
-    } else {
-        if matches!(&options.words[..], [word] if Path::new(word).is_dir()) {
-            let entered = options.words.drain(..).try_for_each(env::set_current_dir);
-            entered.or_fail("the directory could not be entered")?;
-        }
-        check_repository(&git)?;
+    } else if matches!(&options.words[..], [word] if Path::new(word).is_dir()) {
+        let entered = options.words.drain(..).try_for_each(env::set_current_dir);
+        entered.or_fail("the directory could not be entered")?;
     }
-    let (printed, _) = read_config(start_config(&git)?)?;
-    let settings = settings(&printed, &options)?;
-    scan(&Pipeline { program, git: git.with_whole_history(), settings }, &options)
-}
-
-/// Fails if Git finds no repository here, or refuses it because somebody else owns it.
-fn check_repository(git: &Git) -> Result<()> {
-    let found = output_of("git rev-parse", git.command(&["rev-parse", "--git-dir"]));
-    found.map(drop).map_err(|failure| Failure::Helped(Box::new(failure), COPY_IT))
+    // Commands fail instead of leaving out history that grafts or a shallow clone hide. (Git would call a
+    // file that is there deprecated.)
+    let git = git.with("GIT_GRAFT_FILE", "/dev/null/none").with("GIT_SHALLOW_FILE", "");
+    let settings = settings(&git, &options)?;
+    scan(&Pipeline { program, git, settings }, &options)
 }
 
 /// The rules by which names are checked: those of the options and, if they count, of the hook's settings.
-fn settings(printed: &[u8], options: &Options) -> Result<Settings> {
-    let mut settings = Settings::default();
-    if options.settings {
-        (settings, _) = Settings::of(printed)?;
-    }
-    if let Some(protect) = &options.protect {
-        settings.protect.clone_from(protect);
-    }
-    for names in &options.accept {
-        settings.accept(names).or_else(|what| failed(format!("--accept {what}")))?;
+fn settings(git: &Git, options: &Options) -> Result<Settings> {
+    let printed = read_config(git)?;
+    let mut settings = if options.settings { Settings::of(&printed)? } else { Settings::default() };
+    for (name, value) in &options.rules {
+        let set = settings.set(&format!("names.{name}"), Some(value.as_bytes()));
+        set.or_else(|what| misused(format!("--{name} {what}")))?;
     }
     // (a replacement is a name like any other here: Git shows the objects as they are)
     settings.replace = true;
@@ -90,137 +85,214 @@ fn settings(printed: &[u8], options: &Options) -> Result<Settings> {
 }
 
 /// Scans the repository in which Git is, and prints what is refused.
-fn scan(pipeline: &Pipeline, options: &Options) -> Result<Outcome> {
+fn scan(pipeline: &Pipeline, options: &Options) -> Result<Verdict> {
     let mut groups = Groups::default();
-    let mut found = |mut finding: Finding| {
-        finding.place.tree = None; // (the list has paths)
-        groups.add(finding.line(usize::MAX), &finding);
-    };
-    let verdict = match (options.index, options.words.is_empty()) {
-        (true, true) => check_index(pipeline, &mut found),
-        (true, false) => misused("--index accepts no revisions"),
-        (false, true) => check_all(pipeline, &mut found),
-        (false, false) => check_revisions(pipeline, &options.words, &mut found),
-    };
+    let verdict = check(pipeline, options, &mut |mut finding: Finding| {
+        finding.tree = None; // (the list has paths)
+        groups.add(finding.line(usize::MAX), finding);
+    });
     // (what was found before a failure is shown, too)
-    let has_commands = list::print(&groups.all, options.form)?;
-    let verdict = verdict?;
-    if has_commands && matches!(verdict, Verdict::Refused) {
-        return Ok(Outcome::Printed);
+    let commands_accept_all = print(&groups.all, options)?;
+    match verdict? {
+        Verdict::Refused if commands_accept_all => Ok(Verdict::Printed),
+        Verdict::Clean(evidence) => {
+            let output = fs::read_link("/proc/self/fd/1").unwrap_or_default();
+            if output.starts_with("/dev") && output != Path::new("/dev/null") {
+                say(NAMES_ONLY); // (to a terminal)
+            }
+            Ok(Verdict::Clean(evidence))
+        }
+        verdict => Ok(verdict),
     }
-    if matches!(verdict, Verdict::Clean(_)) && is_terminal(1) {
-        say(
-            "names only: all are allowed. What files contain, hooks and settings were not checked.",
-        );
-    }
-    Ok(Outcome::Checked(verdict))
 }
 
-/// Checks all references, and all that they and the HEADs of all worktrees lead to.
-fn check_all(pipeline: &Pipeline, found: OnFinding) -> Result<Verdict> {
-    let format = "--format=%(objectname) %(objectname) %(refname)";
+/// Checks what `git commit` would commit, or what the revisions select, or all references, and all that they
+/// and the HEADs of all worktrees lead to.
+fn check(pipeline: &Pipeline, options: &Options, found: OnFinding) -> Result<Verdict> {
+    let Pipeline { git, .. } = pipeline;
+    let (mut words, mut references, mut modules) =
+        (options.words.clone(), None, Modules::default());
+    match (options.index, words.is_empty()) {
+        (true, true) => words.push(tree_of_index(git)?),
+        (true, false) => return misused("--index accepts no revisions"),
+        (false, false) => check_patterns(git, &words)?,
+        (false, true) => {
+            words.push("--all".into());
+            (references, modules) = check_references(pipeline, found)?;
+        }
+    }
+    if !selects_some(git, &words)? {
+        if !options.words.is_empty() {
+            return failed("the revisions select no commit, so nothing was checked");
+        }
+        say("the repository is empty");
+        return Ok(Verdict::of(references, None, None));
+    }
+    words.push("--".into());
+    let trees = pipeline.start_trees(&words)?;
+    let (trees, modules) = Pipeline::trees(trees, b"", modules, found)?;
+    let submodules = pipeline.submodules(modules, found)?;
+    Ok(Verdict::of(references, Some(trees), submodules))
+}
+
+/// Checks the names of all references, if there are any. (Their objects are those of `--all`.)
+fn check_references(pipeline: &Pipeline, found: OnFinding) -> Result<(Option<Report>, Modules)> {
+    let command = "for-each-ref --format=%(objectname)%20%(objectname)%20%(refname)";
     // (Git leaves out references that it calls broken, and warns)
-    let lines =
-        output_without_warning(&pipeline.git, "git for-each-ref", &["for-each-ref", format])?;
-    let (references, mut ids) = if lines.is_empty() {
-        (None, Ids::default())
-    } else {
-        let check = pipeline.start_references()?;
-        let (report, ids) = Pipeline::references(check, &lines, found)?;
-        (Some(report), ids)
-    };
-    if selects_some(&pipeline.git, &["--all".into()])? {
-        ids.lines.clear(); // (--all selects them)
-        return check_trees(pipeline, &["--all".into()], references, ids, found);
+    let lines = output_without_warning(&pipeline.git, "git for-each-ref", command)?;
+    if lines.is_empty() {
+        return Ok((None, Modules::default()));
     }
-    say("the repository is empty");
-    Ok(Verdict::of(Checked { references, trees: None, submodules: None }))
+    let check = pipeline.start_references()?;
+    let (report, _, replacements) = Pipeline::references(check, &lines, found)?;
+    Ok((Some(report), replacements))
 }
 
-/// Checks what these revisions select.
-fn check_revisions(pipeline: &Pipeline, words: &[OsString], found: OnFinding) -> Result<Verdict> {
-    check_patterns(&pipeline.git, words)?;
-    if !selects_some(&pipeline.git, words)? {
-        return failed("the revisions select no commit, so nothing was checked");
-    }
-    check_trees(pipeline, words, None, Ids::default(), found)
-}
-
-/// Checks what `git commit` would commit.
-fn check_index(pipeline: &Pipeline, found: OnFinding) -> Result<Verdict> {
-    let git = &pipeline.git;
-    // (neither needs the work tree, of which that command would tell)
-    let no_monitor = "core.fsmonitor=false";
-    let unmerged = git.command(&["-c", no_monitor, "ls-files", "--unmerged", "--", ":/"]);
-    if !output_of("git ls-files", unmerged)?.is_empty() {
-        return failed("the index has a conflict: resolve it first");
-    }
-    // (Git 2.39 leaves out directories of a sparse index, with a message and status 0)
-    let tree = output_without_warning(git, "git write-tree", &["-c", no_monitor, "write-tree"])?;
-    let tree = match tree.strip_suffix(b"\n").and_then(id) {
-        Some(tree) => OsStr::from_bytes(&tree).to_owned(),
-        None => return failed("git write-tree printed no id"),
-    };
-    if EMPTY_TREES.iter().any(|it| tree == *it) && selects_some(git, &["--all".into()])? {
+/// The tree that `git commit` would commit.
+fn tree_of_index(git: &Git) -> Result<OsString> {
+    // (it doesn't need the work tree, of which a monitor would tell. Git 2.39 leaves out directories of a
+    // sparse index, with a message and status 0)
+    let command = "-c core.fsmonitor=false write-tree";
+    let tree = output_without_warning(git, "git write-tree", command)?;
+    let tree = tree.strip_suffix(b"\n").and_then(id).or_fail("git write-tree printed no id")?;
+    let tree = OsStr::from_bytes(&tree).to_owned();
+    let mut command = git.command("ls-tree --full-tree");
+    command.arg(&tree);
+    let is_empty = run_git("git ls-tree", command)?.succeeded()?.output.is_empty();
+    if is_empty && selects_some(git, &["--all".into()])? {
         return failed("the index is empty, so nothing was checked");
     }
-    check_trees(pipeline, &[tree], None, Ids::default(), found)
-}
-
-/// The ids of the empty tree.
-const EMPTY_TREES: [&str; 2] = [
-    "4b825dc642cb6eb9a060e54bf8d69288fbee4904",
-    "6ef19b41225c5369f1c104d45d8d85efa9b057b53b14b4b9b939dd74decc5321",
-];
-
-/// Checks the trees that these words of `git rev-list` select, and what a checkout reads as `.gitmodules`.
-fn check_trees(
-    pipeline: &Pipeline,
-    words: &[OsString],
-    references: Option<Report>,
-    ids: Ids,
-    found: OnFinding,
-) -> Result<Verdict> {
-    let list = pipeline.start_list(&[&[WITH_PATHS.into()], words, &["--".into()]].concat())?;
-    let (trees, modules) = pipeline.trees(list, ids, found)?;
-    let submodules = pipeline.submodules(modules, found)?;
-    Ok(Verdict::of(Checked { references, trees: Some(trees), submodules }))
+    Ok(tree)
 }
 
 /// Whether these words of `git rev-list` select an object.
 fn selects_some(git: &Git, words: &[OsString]) -> Result<bool> {
-    let mut command = git.command(&["rev-list", "--objects", "--filter=tree:0", "--max-count=1"]);
+    let mut command = git.command("rev-list --objects --filter=tree:0 --max-count=1");
     command.args(words).arg("--");
-    Ok(!output_of("git rev-list", command)?.is_empty())
+    Ok(!run_git("git rev-list", command)?.succeeded()?.output.is_empty())
 }
 
 /// Fails for a pattern that matches no reference. (Git takes it for an empty selection.)
 fn check_patterns(git: &Git, words: &[OsString]) -> Result<()> {
-    let patterns = ["--branches", "--tags", "--remotes", "--glob", "--all"];
-    let is_pattern =
-        |word: &&OsString| patterns.iter().any(|it| word.as_bytes().starts_with(it.as_bytes()));
-    for pattern in words.iter().filter(is_pattern) {
-        let mut command = git.command(&["rev-parse"]);
-        command.arg(pattern);
-        if output_of("git rev-parse", command)?.is_empty() {
-            return failed(format!("{} matches no reference", printable(pattern.as_bytes())));
+    for word in words {
+        let text = printable(word.as_bytes());
+        if !text.starts_with("--") || text == "--not" || text.starts_with("--exclude=") {
+            continue;
+        }
+        let mut command = git.command("rev-parse");
+        command.arg(word);
+        if run_git("git rev-parse", command)?.succeeded()?.output.is_empty() {
+            return failed(format!("{text} matches no reference"));
         }
     }
     Ok(())
 }
 
 /// What a Git command prints, if it succeeds without a warning.
-fn output_without_warning(git: &Git, name: &'static str, words: &[&str]) -> Result<Vec<u8>> {
-    let (ended, output) = run_to_end(name, git.command(words))?;
-    match ended.succeeded()? {
-        ended if ended.said.is_empty() => Ok(output),
+fn output_without_warning(git: &Git, name: &'static str, words: &str) -> Result<Vec<u8>> {
+    match run_git(name, git.command(words))?.succeeded()? {
+        ended if ended.said.is_empty() => Ok(ended.output),
         ended => Err(Failure::Ended(ended)),
     }
 }
 
-/// Whether this stream is a terminal.
-fn is_terminal(stream: u32) -> bool {
-    let file = fs::read_link(format!("/proc/self/fd/{stream}")).unwrap_or_default();
-    let terminals = ["/dev/pts/", "/dev/tty", "/dev/console"];
-    terminals.iter().any(|it| file.to_string_lossy().starts_with(it))
+/// Prints a line for each group, or their summary, or the commands that accept names, and the lines about
+/// others to standard error. Returns whether the commands accept all.
+fn print(groups: &[Vec<Finding>], options: &Options) -> Result<bool> {
+    let has_command = |it: &&Vec<Finding>| options.to_accept && it[0].can_be_accepted();
+    let (settable, others): (Vec<_>, Vec<_>) = groups.iter().partition(has_command);
+    let lines: String = others.into_iter().map(|group| line(group)).collect();
+    if !options.to_accept {
+        let text = if options.summary { summary(groups) } else { lines };
+        return write(&text).map(|()| false);
+    }
+    let names: BTreeSet<_> = settable.iter().map(|it| it[0].name()).collect();
+    write(&names.into_iter().map(command).collect::<String>())?;
+    io::stderr().write_all(lines.as_bytes()).or_fail(UNWRITTEN)?;
+    Ok(lines.is_empty())
+}
+
+/// How many lines there are for each reason.
+fn summary(groups: &[Vec<Finding>]) -> String {
+    let mut counts = BTreeMap::new();
+    for group in groups {
+        *counts.entry(printable(&group[0].reason)).or_insert(0) += 1;
+    }
+    let line = |(reason, count): (String, usize)| format!("{count} {reason}\n");
+    counts.into_iter().map(line).collect()
+}
+
+/// Writes to standard output.
+fn write(text: &str) -> Result<()> {
+    let mut to = io::stdout();
+    to.write_all(text.as_bytes()).and_then(|()| to.flush()).or_fail(UNWRITTEN)
+}
+
+fn line(group: &[Finding]) -> String {
+    let line = group[0].line(usize::MAX);
+    match (&group[0].kind, group.len()) {
+        (_, 1) | (Kind::Reference, _) => format!("{line}\n"),
+        (Kind::Entry { .. }, count) => format!("{line} (in {count} versions of its directory)\n"),
+        (Kind::Submodule { .. }, count) => format!("{line} (in {count} versions of the file)\n"),
+    }
+}
+
+/// The command that accepts a name, for a POSIX shell. Bytes that may mean something to it or to a terminal
+/// are in octal, for `printf`.
+fn command(name: &[u8]) -> String {
+    let mut word = String::new();
+    for byte in name {
+        match byte {
+            b'\'' | b'%' | b'"' | b'\\' | 0..=0x1F | 0x7F.. => {
+                let _ = write!(word, "\\{byte:03o}");
+            }
+            _ => word.push(char::from(*byte)),
+        }
+    }
+    if !word.chars().all(|it| it.is_ascii_alphanumeric() || "._+-".contains(it)) {
+        word = format!("\"$(printf -- '{word}')\"");
+    }
+    format!("git config --add names.accept {word}\n")
+}
+
+/// A copy of a repository that you don't have to trust. Dropping this removes it.
+///
+/// It is made by `git upload-pack`, the part of Git that is made for this: it runs no hook and no command
+/// of the repository. The copy has none of the repository's settings, and Git computes all ids anew.
+pub struct Copy {
+    /// Git that works in it.
+    pub git: Git,
+    directory: PathBuf,
+    _keeper: Child,
+}
+
+impl Copy {
+    /// Copies the repository with this path or URL.
+    pub fn of(git: &Git, source: &OsStr) -> Result<Self> {
+        let mut shell = Command::new("/bin/sh");
+        shell.args(["-c", KEEP]);
+        let mut keeper = Child::start("/bin/sh", shell, Stdio::piped())?;
+        let mut lines = BufReader::new(keeper.output()?).split(b'\n');
+        let line = lines.next().transpose().unwrap_or_default();
+        let line = line.or_fail("no temporary directory could be made below TMPDIR or /tmp")?;
+        let directory = PathBuf::from(OsStr::from_bytes(&line));
+        let (git, copied) = (git.without(OF_A_REPOSITORY), directory.join("copy.git"));
+        let git_there = git.with("GIT_DIR", &copied);
+        let copy = Self { git: git_there, directory, _keeper: keeper };
+        let mut command = git.command("clone --quiet --mirror --template= --reject-shallow");
+        command.args(["-c", "fetch.fsckObjects=false"]);
+        if Path::new(source).exists() {
+            command.args(["--no-local", "-u", UPLOAD]);
+        }
+        let source = fs::canonicalize(source).map_or_else(|_| source.into(), OsString::from);
+        command.arg("--").arg(source).arg(copied);
+        run_git("git clone", command)?.succeeded()?;
+        Ok(copy)
+    }
+}
+
+impl Drop for Copy {
+    fn drop(&mut self) {
+        let _ = fs::remove_dir_all(&self.directory);
+    }
 }

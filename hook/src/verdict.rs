@@ -2,10 +2,10 @@
 //!
 //! The fields of `Report` and `Evidence` are private, so only this page makes values of them.
 
-use crate::child::Child;
-use crate::failure::{first_of, Failure, How, OrFail, Result};
-use crate::report::{each_line, Line};
-use std::io::ErrorKind;
+use crate::child::{at_once, Child};
+use crate::failure::{Failure, OrFail, Result};
+use crate::finding::{Finding, Line, OnFinding};
+use std::io::{BufRead, BufReader};
 
 /// The options with which `git rev-list` lists the trees of the ids on its standard input: every tree that
 /// these ids lead to, and the server's references don't.
@@ -19,42 +19,36 @@ use std::io::ErrorKind;
 /// - Nothing else hides history or shows another object: no grafts, no shallow borders of the pusher,
 ///   no replacements (`git.rs` has the environment), and no other option.
 ///
-/// A tree has one line, wherever it is: its names don't depend on that.
-pub const LIST: [&str; 6] = [
-    "-c",
-    "core.warnAmbiguousRefs=false", // (else each id is looked up as a reference)
-    "rev-list",
-    "--objects",
-    "--filter=object:type=tree",
-    "--filter-provided-objects",
-];
-pub const OLD: [&str; 2] = ["--not", "--all"];
+/// Without the setting, Git would look up each id as a reference. A tree has one line, wherever it is: its
+/// names don't depend on that.
+pub const LIST: &str = "-c core.warnAmbiguousRefs=false rev-list --objects \
+                        --filter=object:type=tree --filter-provided-objects";
+pub const OLD: &str = "--not --all";
 /// What the references of other repositories lead to, from which the server borrows objects.
-pub const LENT: &str = "--alternate-refs";
-/// A line also has one of the tree's paths. (A push can be made so that these are quadratic.)
-pub const WITH_PATHS: &str = "--object-names";
+pub const LENT: &str = " --alternate-refs";
+/// Otherwise a line also has one of the tree's paths. (A push can be made so that these are quadratic.)
 pub const WITHOUT_PATHS: &str = "--no-object-names";
 
-/// What was checked: a report for each kind of name, or none if there was no name of that kind.
-pub struct Checked {
-    pub references: Option<Report>,
-    pub trees: Option<Report>,
-    pub submodules: Option<Report>,
-}
-
-/// What is known about all names. Apart from help, only `Clean` ends with status 0.
+/// What is known about all names. Apart from what only prints, only `Clean` ends with status 0.
 pub enum Verdict {
     Clean(Evidence),
     Refused,
+    /// The scan was asked for something else: the help, or commands that accept all refused names.
+    Printed,
 }
 
 /// Shows that `Verdict::of` has made the verdict.
 pub struct Evidence(());
 
 impl Verdict {
-    /// `Clean` is made here alone: if each report was read to its end, and refuses nothing.
-    pub fn of(checked: Checked) -> Self {
-        let reports = [checked.references, checked.trees, checked.submodules];
+    /// `Clean` is made here alone: if each report was read to its end, and refuses nothing. There is no
+    /// report about a kind of name that nothing has.
+    pub fn of(
+        references: Option<Report>,
+        trees: Option<Report>,
+        submodules: Option<Report>,
+    ) -> Self {
+        let reports = [references, trees, submodules];
         if reports.iter().flatten().all(|report| report.refused == 0) {
             Self::Clean(Evidence(()))
         } else {
@@ -63,57 +57,44 @@ impl Verdict {
     }
 }
 
-/// The report of a program that checks names. It was read to its end, and the program's status agrees: 0
-/// without a refused name, 1 with one.
+/// The report of a program that checks names. All that the program was given has arrived, the report was read
+/// to its end, and the program's status agrees: 0 without a refused name, 1 with one.
 #[must_use]
 pub struct Report {
     refused: u64,
 }
 
 impl Report {
-    /// Reads the report of a program to its end, and waits for the program. `is_refused` says whether a line
-    /// is about a refused name, or about something else, such as an id.
+    /// Reads the report of a program, while `give` gives it what it checks. A line has to be one that
+    /// `finding_of` knows. It is about a refused name, which is found, or about something else, such as an id.
     pub fn read(
         mut program: Child,
-        mut is_refused: impl FnMut(&Line) -> Result<bool>,
+        give: impl FnOnce() -> Result<()> + Send,
+        found: OnFinding,
+        mut finding_of: impl FnMut(&Line) -> Option<Option<Finding>>,
     ) -> Result<Self> {
-        let mut refused = 0;
-        let mut output = program.output()?;
-        let read = each_line(&mut output, |line| {
-            is_refused(line).map(|is_refused| refused += u64::from(is_refused))
-        });
-        match read {
-            Ok(Err(failure)) => {
-                drop(program); // (killed before its pipe is closed, so that it doesn't complain)
-                Err(failure)
-            }
-            // (if its last line has no newline, the program died, and its status says how)
-            Err(error) if error.kind() != ErrorKind::UnexpectedEof => {
-                Err(error).or_fail(format!("the report of {} could not be read", program.name))
-            }
-            read => {
-                let ended = program.end()?;
-                match (ended.how, refused, read) {
-                    (How::Status(0), 0, Ok(_)) | (How::Status(1), 1.., Ok(_)) => {
-                        Ok(Self { refused })
-                    }
-                    _ => Err(Failure::Ended(ended)),
+        let unread = format!("the report of {} could not be read", program.name);
+        let mut output = BufReader::with_capacity(1 << 16, program.output()?);
+        let (mut line, mut refused) = (Vec::new(), 0);
+        let read = || {
+            while output.read_until(b'\n', &mut line).or_fail(unread.as_str())? > 0 {
+                // (if the last line has no newline, the program died)
+                if line.pop() != Some(b'\n') {
+                    return Err(Failure::Ended(program.end()?));
                 }
+                let finding = finding_of(&Line::of(&line));
+                if let Some(finding) = finding.or_fail("check_push reported in another way")? {
+                    refused += 1;
+                    found(finding);
+                }
+                line.clear();
             }
-        }
-    }
-
-    /// With what the program was given: all of that has to have arrived.
-    ///
-    /// If one part fails, those before it fail because nobody reads what they write, and those after it
-    /// miss the end of their input. So the first says why.
-    pub fn of_all<const N: usize>(given: [Result<()>; N], report: Result<Self>) -> Result<Self> {
-        match report {
-            Ok(_) if given.iter().all(Result::is_ok) => report,
-            _ => {
-                let failures = given.into_iter().map(Result::err);
-                Err(first_of(failures.chain([report.err()])))
+            let ended = program.end()?;
+            match (ended.status.code(), refused) {
+                (Some(0), 0) | (Some(1), 1..) => Ok(Self { refused }),
+                _ => Err(Failure::Ended(ended)),
             }
-        }
+        };
+        at_once(give, read).map(|((), report)| report)
     }
 }

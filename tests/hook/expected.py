@@ -16,7 +16,7 @@ SYMLINK = "The .gitmodules file must not be a symlink"
 # What to do about it, which the hook says last.
 RENAME_THE_REF = (
     "Push a refused reference under another name: "
-    "git push origin HEAD:refs/heads/OTHER\n"
+    "git push origin YOURS:refs/heads/OTHER\n"
 )
 ALLOW_REPLACEMENTS = (
     "An administrator can allow refs/replace/: git config names.replace true\n"
@@ -28,11 +28,10 @@ RENAME_THE_FILE = (
 MAKE_IT_A_FILE = (
     "Make .gitmodules a file, not a symlink, in the commit that changes it.\n"
 )
-RENAME_THE_SUBMODULE = (
-    "Give a refused submodule another name in the commit that changes its "
-    ".gitmodules file.\n"
+CORRECT_THE_FILE = (
+    "Correct a .gitmodules file, or rename a submodule in it, "
+    "in the commit that changes it.\n"
 )
-CORRECT_THE_FILE = "Correct a .gitmodules file in the commit that changes it.\n"
 # (after a name of which no commit of the push is known)
 IT_MAY_BE_OLD = (
     "If no commit of your push adds a name, the server has it already: "
@@ -40,38 +39,39 @@ IT_MAY_BE_OLD = (
 )
 
 
-def change(commit):
-    short = commit[:12]
+def change(oldest):
+    """How the oldest of the commits that are named is changed, with the others."""
+    short = oldest[:12]
     return (
-        f"To change commit {short}: git rebase -i --rebase-merges {short}~1 BRANCH "
-        '(or --root BRANCH, if it has no parent), and write "edit" in its line. '
+        f"To change these commits: git rebase -i --rebase-merges {short}~1 BRANCH "
+        '(or --root BRANCH, if it has no parent). Write "edit" in the line of each, '
+        'or a line "break" after that of a merge. '
         "Where it stops: git mv OLD NEW, git commit --amend --no-edit, "
-        "git rebase --continue.\n"
+        "git rebase --continue. "
+        f'If it stops at {short} with "invalid path": git rebase --quit, '
+        f"git switch -c NEW {short}~1, git checkout --no-overlay {short} -- ., "
+        f"git commit -C {short}, git cherry-pick {short}..BRANCH.\n"
     )
 
 
-def recreate(commit):
-    """What follows if Git itself refuses to check a name out."""
-    return (
-        'If Git says "invalid path", it can\'t check that commit out: '
-        f"make a new branch, git switch -c NEW {commit[:12]}~1, "
-        "and commit the files again.\n"
-    )
+LIST_ALL = (
+    "This lists all in your clone, if gix-validate is installed there: "
+    "git scan-names BRANCH --not --remotes\n"
+)
 
 
-def accept(name="NAME"):
-    return (
-        "An administrator can accept a name that only Windows forbids: "
-        f"git config --add names.accept {name}\n"
-    )
+ACCEPT = (
+    "An administrator can accept a name that only Windows forbids: "
+    "git config --add names.accept NAME\n"
+)
 
 
+NOT_THE_HOOK = (
+    "push refused: {} is not the hook: link the file pre-receive instead of copying "
+    "it, or push again if it was just replaced\n"
+)
 UNCHECKED = "push refused: the server could not check the names"
 FILE_SYSTEMS = "give windows, hfs or ntfs, separated by commas, or none"
-USAGE = (
-    "usage: git scan-names [OPTION..] [DIRECTORY | REVISION..]; "
-    "git scan-names -h says more\n"
-)
 
 
 @dataclass(frozen=True)
@@ -145,4 +145,4 @@ def scan_failed(reason):
 
 
 def misused(reason):
-    return Result(2, f"git scan-names: {reason}\n{USAGE}")
+    return scan_failed(f"{reason} (git scan-names -h lists the options)")

@@ -3,13 +3,13 @@
 from typing import NamedTuple
 
 from tests.hook.expected import (
+    ACCEPT,
     ACCEPTED,
+    CORRECT_THE_FILE,
     DEVICE,
     RENAME_THE_FILE,
     RENAME_THE_REF,
-    RENAME_THE_SUBMODULE,
     Result,
-    accept,
     bad_name,
     bad_ref,
     bad_submodule,
@@ -46,7 +46,7 @@ class Source(Repository):
         self.device_refused = self.refused_device()
         self.submodule_refused = refused(
             bad_submodule(commit=self.bad_submodule),
-            RENAME_THE_SUBMODULE,
+            CORRECT_THE_FILE,
             change(self.bad_submodule),
         )
         trees = "".join(f"100644 blob {self.text}\t{n}\n\n" for n in range(1000, 2000))
@@ -70,7 +70,7 @@ class Source(Repository):
             bad_name(path, DEVICE, name.partition(".")[0], commit),
             RENAME_THE_FILE,
             change(commit),
-            accept(name),
+            ACCEPT,
         )
 
     def push_of(self, object_id, ref="refs/tags/a"):

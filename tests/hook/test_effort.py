@@ -9,17 +9,17 @@ import pytest
 
 from bench.packs import Pack, copied, header
 from tests.hook.expected import (
+    ACCEPT,
     ACCEPTED,
     CORRECT_THE_FILE,
     DEVICE,
     IT_MAY_BE_OLD,
+    LIST_ALL,
     MORE_MEMORY,
     MORE_TIME,
     RENAME_THE_FILE,
-    RENAME_THE_SUBMODULE,
     UNCHECKED,
     Result,
-    accept,
     bad_name,
     bad_ref,
     change,
@@ -45,17 +45,20 @@ def test_trees_of_12000_references_are_listed_once_and_if_refused_again_with_pat
     assert is_hostile == ("push refused: 2 names are not allowed\n" in result.said)
     words = [line.split() for line in (room / "calls").read_text().splitlines()]
     old = ["--stdin", "--not", "--all"]
-    lists = [["--no-object-names", *old], ["--object-names", *old]]
-    assert [it[-4:] for it in words] == lists[: 1 + is_hostile]
+    options = ["--filter-provided-objects", "--no-object-names"]
+    lists = [[*options, *old], [options[0], *old]]
+    assert [it[-len(lists[n]) :] for n, it in enumerate(words)] == lists[
+        : 1 + is_hostile
+    ]
 
 
 def test_if_the_directories_can_not_be_found_the_name_is_refused_without(hook, source):
-    hook.stand_in("git -c core.warn*rev-list*--object-names", "exit 9")
+    hook.stand_in("git -c core.warn*rev-list*provided-objects --stdin", "exit 9")
     tree = source.tree_with_device
     commit = source.commit_of(folder("a", tree), on=[source.clean])
     result = hook.run(source.push_of(commit))
     line = bad_name(f"aux.c (in the tree {tree})", DEVICE, "aux")
-    assert result == refused(line, RENAME_THE_FILE, IT_MAY_BE_OLD, accept("aux.c"))
+    assert result == refused(line, RENAME_THE_FILE, IT_MAY_BE_OLD, ACCEPT)
 
 
 @pytest.mark.one_format
@@ -569,10 +572,10 @@ def test_of_very_many_refused_names_the_first_are_read(source, measured):
         1,
         "".join(names)
         + "push refused: at least 10000 names are not allowed (10 of them shown)\n"
-        + "This lists all in your clone: git scan-names BRANCH --not --remotes\n"
+        + LIST_ALL
         + RENAME_THE_FILE
         + change(commit)
-        + accept(),
+        + ACCEPT,
     )
     assert megabytes < 192
     assert seconds < 10
@@ -592,7 +595,7 @@ def test_of_very_many_refused_submodules_the_first_are_read(source, measured):
             commit,
         )
         + "push refused: at least 1 name is not allowed\n"
-        + RENAME_THE_SUBMODULE
+        + CORRECT_THE_FILE
         + change(commit),
     )
     assert megabytes < 96

@@ -2,7 +2,7 @@
 
 import pytest
 
-from tests.hook.expected import ACCEPTED, Result, not_checked
+from tests.hook.expected import ACCEPTED, NOT_THE_HOOK, Result, not_checked
 
 pytestmark = pytest.mark.one_format
 
@@ -19,7 +19,7 @@ REASONS = {
     "check_push submodules": "check_push submodules failed (status 9)",
 }
 # What the scan runs.
-OF_THE_SCAN = ["git rev-parse", "git for-each-ref", *REASONS]
+OF_THE_SCAN = ["git for-each-ref", *REASONS]
 
 # The ways in which a part fails. "$real" "$@" is the part itself, and $grand the parent
 # of its parent.
@@ -94,6 +94,15 @@ def test_the_scan_finds_no_hostile_repository_clean_if_a_part(
         assert "git scan-names: " in result.said
 
 
+@pytest.mark.parametrize("part", [it for it in REASONS if it.startswith("check_push")])
+@pytest.mark.parametrize(
+    "way", [f"{said}; exit {n}" for said in ("printf half", "echo no") for n in (0, 1)]
+)
+def test_a_report_that_is_cut_or_in_another_form_is_a_failure(hook, source, part, way):
+    hook.stand_in(part, f"cat > /dev/null; {way}")
+    assert hook.run(source.pushes["clean"].lines).status == 2
+
+
 @pytest.mark.parametrize("part", REASONS)
 def test_the_hook_says_which_part_failed(hook, source, part):
     hook.stand_in(part, "exit 9")
@@ -158,5 +167,7 @@ def test_a_hook_that_was_just_replaced_says_to_push_again(hook, source):
     """Linux can run a file that is gone, and calls it by another name then."""
     script = 'exec 3< "$1"; rm "$1"; exec /proc/self/fd/3'
     through = ["bash", "-c", script, "bash"]
-    said = "push refused: the hook was just replaced: push again\n"
-    assert hook.run(source.push_of(source.clean), through=through) == Result(2, said)
+    result = hook.run(source.push_of(source.clean), through=through)
+    assert result == Result(
+        2, NOT_THE_HOOK.format(f"{hook.folder}/pre-receive (deleted)")
+    )

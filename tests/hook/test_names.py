@@ -6,6 +6,7 @@ import subprocess
 import pytest
 
 from tests.hook.expected import (
+    ACCEPT,
     ACCEPTED,
     ALLOW_REPLACEMENTS,
     CORRECT_THE_FILE,
@@ -14,21 +15,19 @@ from tests.hook.expected import (
     FULL_CLONE,
     ILLEGAL,
     IT_MAY_BE_OLD,
+    LIST_ALL,
     MAKE_IT_A_FILE,
     RENAME_THE_FILE,
     RENAME_THE_REF,
-    RENAME_THE_SUBMODULE,
     SYMLINK,
     UNCHECKED,
     Result,
-    accept,
     bad_name,
     bad_ref,
     bad_submodule,
     change,
     found,
     not_checked,
-    recreate,
     refused,
 )
 from tests.hook.git import (
@@ -97,13 +96,12 @@ def test_each_kind_of_name_is_refused_and_ten_lines_are_shown(server, source):
             + bad_name(r'"a\n\tb"', ILLEGAL, r"\n", commit)
             + "".join(bad_name(name, DEVICE, name, commit) for name in devices)
             + "push refused: 12 names are not allowed (10 of them shown)\n"
-            + "This lists all in your clone: git scan-names BRANCH --not --remotes\n"
+            + LIST_ALL
             + RENAME_THE_REF
             + RENAME_THE_FILE
-            + RENAME_THE_SUBMODULE
+            + CORRECT_THE_FILE
             + change(commit)
-            + recreate(commit)
-            + accept()
+            + ACCEPT
         ),
     )
 
@@ -126,8 +124,7 @@ def test_what_offends_is_named_and_only_what_windows_alone_forbids_can_be_accept
         + "push refused: 6 names are not allowed\n"
         + RENAME_THE_FILE
         + change(commit)
-        + recreate(commit)
-        + accept(),
+        + ACCEPT,
     )
     other = source.commit_of(".GIT", r"a\b", on=[source.clean])
     assert "names.accept" not in server.push(other).said
@@ -145,8 +142,8 @@ def test_the_first_commit_that_has_a_refused_name_is_named(server, source):
         + bad_name("aux.c", DEVICE, "aux", side)
         + "push refused: 2 names are not allowed\n"
         + RENAME_THE_FILE
-        + change(merge)
-        + accept(),
+        + change(side)
+        + ACCEPT,
     )
 
 
@@ -155,9 +152,7 @@ def test_a_symlink_is_first_in_the_commit_that_makes_it_one(server, source):
     second = source.commit_of(symlink(".gitmodules", source.text), on=[first])
     third = source.commit_of(symlink(".gitmodules", source.text), "a", on=[second])
     line = bad_name(".gitmodules", SYMLINK, None, second)
-    assert server.push(third) == refused(
-        line, MAKE_IT_A_FILE, change(second), recreate(second)
-    )
+    assert server.push(third) == refused(line, MAKE_IT_A_FILE, change(second))
 
 
 def test_a_submodule_is_first_in_the_commit_that_brings_it(server, source):
@@ -165,7 +160,7 @@ def test_a_submodule_is_first_in_the_commit_that_brings_it(server, source):
     other = source.blob('[submodule "../x"]\n\tpath = y\n')
     third = source.commit_of(file(".gitmodules", other), on=[second])
     assert server.push(third) == refused(
-        bad_submodule(commit=second), RENAME_THE_SUBMODULE, change(second)
+        bad_submodule(commit=second), CORRECT_THE_FILE, change(second)
     )
 
 
@@ -180,7 +175,7 @@ def test_a_name_of_2_MB_is_cut_and_takes_no_minutes(hook, source):
         commit,
     )
     result = hook.run(source.push_of(commit), through=["timeout", "20"])
-    assert result == refused(line, RENAME_THE_SUBMODULE, change(commit))
+    assert result == refused(line, CORRECT_THE_FILE, change(commit))
 
 
 def test_a_name_deep_in_a_middle_commit_is_refused_with_its_directory(server, source):
@@ -191,9 +186,7 @@ def test_a_name_deep_in_a_middle_commit_is_refused_with_its_directory(server, so
     middle = source.commit_of(folder("a", deep), "e", on=[source.clean])
     last = source.commit_of("a", on=[middle])
     line = bad_name(r'"a/b \377/c/aux.c"', DEVICE, "aux", middle)
-    assert server.push(last) == refused(
-        line, RENAME_THE_FILE, change(middle), accept("aux.c")
-    )
+    assert server.push(last) == refused(line, RENAME_THE_FILE, change(middle), ACCEPT)
 
 
 def test_a_submodule_in_a_tag_of_a_tag_of_a_tree_is_refused_with_its_directory(
@@ -205,7 +198,7 @@ def test_a_submodule_in_a_tag_of_a_tag_of_a_tree_is_refused_with_its_directory(
     tag = source.tag("tag", source.tag("tree", tree))
     line = bad_submodule("a;/b/.gitmodules")
     assert server.push(f"{tag}:refs/tags/one") == refused(
-        line, RENAME_THE_SUBMODULE, IT_MAY_BE_OLD
+        line, CORRECT_THE_FILE, IT_MAY_BE_OLD
     )
 
 
@@ -275,7 +268,7 @@ def test_a_gitmodules_file_is_found_under_its_short_name_where_NTFS_is_protected
     server.configure("protect = hfs,ntfs")
     commit = source.commit_of(file("gitmod~1", source.bad_modules), on=[source.clean])
     assert server.push(commit) == refused(
-        bad_submodule("gitmod~1", commit), RENAME_THE_SUBMODULE, change(commit)
+        bad_submodule("gitmod~1", commit), CORRECT_THE_FILE, change(commit)
     )
 
 
@@ -303,8 +296,8 @@ def test_the_same_line_is_shown_and_counted_once(server, source):
         + bad_name("aux.c", DEVICE, "aux", commits[0])
         + "push refused: 2 names are not allowed\n"
         + RENAME_THE_FILE
-        + change(commits[1])
-        + accept(),
+        + change(commits[0])
+        + ACCEPT,
     )
 
 
@@ -317,7 +310,11 @@ def test_the_same_line_is_shown_and_counted_once(server, source):
         ("caf\u00e9.", r'"caf\303\251."'),
         ('a"b', r'"a\"b"'),
         ("a\\b", r'"a\\b"'),
-        ("\x01\x07\x7f", r'"\001\a\177"'),
+        ("\x01\x07\x08\t\n\x0b\x0c\r\x7f", r'"\001\a\b\t\n\v\f\r\177"'),
+        (" a.", '" a."'),
+        ("x" * 119 + ".", "x" * 119 + "."),
+        ("x" * 120 + ".", "x" * 60 + "..." + "x" * 59 + "."),
+        ("\x01" * 30 + ".", '"' + r"\001" * 15 + "..." + r"\001" * 14 + '."'),
     ],
 )
 def test_a_path_is_quoted_as_git_quotes_it_if_it_has_to_be(server, source, name, shown):
@@ -333,14 +330,14 @@ def test_a_long_path_is_shown_with_its_beginning_and_its_end(server, source):
     commit = source.commit(tree, source.clean)
     shown = "0" * 50 + "/" + "1" * 9 + "..." + "8" * 3 + "/" + "9" * 50 + "/aux.c"
     line = bad_name(shown, DEVICE, "aux", commit)
-    advice = RENAME_THE_FILE, change(commit), accept("aux.c")
+    advice = RENAME_THE_FILE, change(commit), ACCEPT
     assert server.push(commit) == refused(line, *advice)
 
 
 def test_a_section_that_can_not_be_read_has_its_offset(server, source):
     modules = source.blob("# a\n[submodule a]\n")
     commit = source.commit_of(file(".gitmodules", modules), on=[source.clean])
-    line = bad_name(".gitmodules", "a section can't be read (at byte 4)", None, commit)
+    line = bad_name(".gitmodules", "at byte 4 a section can't be read", None, commit)
     assert server.push(commit) == refused(line, CORRECT_THE_FILE, change(commit))
 
 
@@ -376,7 +373,7 @@ def test_a_refused_reference_hides_nothing_of_its_files(server, source):
         + RENAME_THE_REF
         + RENAME_THE_FILE
         + change(source.device)
-        + accept("aux.c"),
+        + ACCEPT,
     )
 
 

@@ -5,7 +5,7 @@ import shutil
 
 import pytest
 
-from tests.hook.expected import Result, not_checked
+from tests.hook.expected import NOT_THE_HOOK, Result, not_checked
 from tests.hook.installed import PROGRAM, ROOT
 from tests.hook.processes import write_script
 
@@ -25,7 +25,7 @@ def test_without_the_directory_of_its_release_the_hook_refuses_every_push(hook, 
     """It takes no program of another release."""
     hook.program.parent.rename(hook.folder / "3.0.0-of-another")
     assert hook.run(source.pushes["clean"].lines) == not_checked(
-        "check_push refs could not be started: No such file or directory (os error 2)"
+        "check_push trees could not be started: No such file or directory (os error 2)"
     )
 
 
@@ -33,11 +33,8 @@ def test_a_copy_of_the_hook_says_to_link_it(hook, source, room):
     """A server that runs several hooks may want another name."""
     copy = room / "10-names"
     shutil.copy(hook.folder / "pre-receive", copy)
-    assert hook.run(source.push_of(source.clean), file=copy) == Result(
-        2,
-        f"push refused: {copy} is a copy of the hook, and no copy works: "
-        "make it a symbolic link to the file pre-receive\n",
-    )
+    result = hook.run(source.push_of(source.clean), file=copy)
+    assert result == Result(2, NOT_THE_HOOK.format(copy))
     copy.unlink()
     copy.symlink_to(hook.folder / "pre-receive")
     assert hook.run(source.push_of(source.device), file=copy) == source.device_refused
@@ -67,7 +64,7 @@ def test_a_hook_that_was_cut_accepts_nothing_hostile(hook, hostile_push, size):
 def test_what_is_no_program_is_not_run_as_a_script(hook, source, text):
     hook.replace(hook.program, text.encode())
     assert hook.run(source.pushes["clean"].lines) == not_checked(
-        f"check_push refs {NO_PROGRAM}"
+        f"check_push trees {NO_PROGRAM}"
     )
 
 

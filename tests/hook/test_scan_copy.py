@@ -18,12 +18,12 @@ from tests.hook.expected import (
     scan_failed,
 )
 from tests.hook.git import folder
-from tests.hook.processes import end, start, write_script
+from tests.hook.processes import end, run, start, write_script
 
 AUX = bad_name("aux.c", DEVICE)
 LACKS = (
     "A copy lacks what Git doesn't serve: the index, the HEADs of other worktrees, "
-    "and references that Git calls broken.\n"
+    "references that Git calls broken, and by a URL those that the server hides.\n"
 )
 
 
@@ -104,18 +104,6 @@ def test_the_repository_may_have_another_owner(scan, server, source, copies, own
     server.already_has(f"{source.device}:refs/heads/main")
     result = scan("/", "--copy", server.path, TMPDIR=copies, **owner)
     assert result == of_copy(AUX)
-
-
-@pytest.mark.parametrize("version", ["2.39.3", "2.43.0", "2.45.0"])
-def test_a_git_that_may_run_commands_of_the_repository_copies_no_path(
-    scan, hook, server, version
-):
-    """To fetch what a partial clone lacks."""
-    hook.stand_in("git config", f"echo version {version} >&2; exit 1")
-    assert scan("/", "--copy", server.path) == scan_failed(
-        f"git version {version} may run commands of a repository that it copies from "
-        "a path: use Git 2.45.1 or later, or the last of its series"
-    )
 
 
 def test_names_are_shown_as_printable_ascii(scan, room):
@@ -212,8 +200,9 @@ def test_the_hook_runs_no_command_and_writes_nothing(hook, trap, work, source):
     assert trap.touched() == []
 
 
-def test_nothing_that_is_missing_is_fetched(scan, hook, work, source, room, copies):
-    """A partial clone whose remote is a command."""
+@pytest.fixture
+def partial(work, source, room):
+    """A partial clone that lacks a tree, and whose remote is a command."""
     missing = source.commit_of(folder("a", source.missing))
     work.git("update-ref", "refs/heads/main", missing)
     work.git("config", "core.repositoryformatversion", "1")
@@ -223,8 +212,28 @@ def test_nothing_that_is_missing_is_fetched(scan, hook, work, source, room, copi
             f'[remote "x"]\npromisor\nurl = "ext::touch {room}/fetched"\n'
             '[protocol "ext"]\nallow = always\n'
         )
-    assert scan(room, "--copy", work.path, TMPDIR=copies).status == 2
+    return work
+
+
+def test_nothing_that_is_missing_is_fetched(scan, partial, room, copies):
+    assert scan(room, "--copy", partial.path, TMPDIR=copies).status == 2
     assert not (room / "fetched").exists()
+
+
+@pytest.mark.one_format
+def test_an_older_git_that_serves_a_copy_fetches_nothing_either(
+    scan, hook, partial, room
+):
+    """Before 2.39.4 Git ignores GIT_NO_LAZY_FETCH, as this one does if it is 0."""
+    hook.stand_in("git clone", f"""printf '%s\\n' "$@" > '{room}/words'""")
+    scan(room, "--copy", partial.path)
+    words = (room / "words").read_text().splitlines()
+    upload = words[words.index("-u") + 1].replace("FETCH=1", "FETCH=0")
+    no_guard = upload.replace("GIT_ALLOW_PROTOCOL=none", "")
+    for command, is_fetched in (upload, False), (no_guard, True):
+        clone = "git", "clone", "-q", "--no-local", "-u", command, partial.path
+        run([*clone, room / "copy"], room, {"PATH": os.environ["PATH"]})
+        assert (room / "fetched").exists() == is_fetched
 
 
 @pytest.mark.parametrize(

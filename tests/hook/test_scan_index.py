@@ -85,8 +85,10 @@ def test_an_empty_index_is_a_failure_unless_the_repository_is_empty(
 def test_an_unfinished_merge_is_a_failure(scan, work, source):
     lines = f"100644 {source.text} 1\ta\n100644 {source.text} 2\ta\n"
     work.git("update-index", "--index-info", stdin=lines)
+    unmerged = f"a: unmerged ({source.text})"
     assert scan(work.sub, "--index") == scan_failed(
-        "the index has a conflict: resolve it first"
+        f"git write-tree failed (status 128): {unmerged} {unmerged} "
+        "fatal: git-write-tree: error building trees"
     )
 
 

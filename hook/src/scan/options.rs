@@ -1,37 +1,26 @@
 //! The arguments of the scan.
 
-use crate::failure::{Failure, Result};
+use crate::failure::{failed, Result};
 use crate::finding::split_once;
-use crate::settings::{is_list, LISTS};
 use crate::text::printable;
 use std::ffi::{OsStr, OsString};
 use std::os::unix::ffi::OsStrExt;
 
 #[derive(Default)]
+#[allow(clippy::struct_excessive_bools)]
 pub struct Options {
-    pub protect: Option<OsString>,
-    /// Names, separated by slashes.
-    pub accept: Vec<OsString>,
+    /// Options that are called as settings of the hook, and have such values.
+    pub rules: Vec<(&'static str, OsString)>,
     /// Whether the hook's settings count too.
     pub settings: bool,
     pub index: bool,
     pub copy: Option<OsString>,
-    pub form: Form,
+    pub to_accept: bool,
+    pub summary: bool,
     /// A directory, or revisions.
     pub words: Vec<OsString>,
 }
 
-/// What is printed about names that are refused.
-#[derive(Clone, Copy, Default, PartialEq, Eq)]
-pub enum Form {
-    #[default]
-    Lines,
-    Summary,
-    Commands,
-}
-
-const USAGE: &str =
-    "usage: git scan-names [OPTION..] [DIRECTORY | REVISION..]; git scan-names -h says more";
 pub const HELP: &str = "\
 Checks the names in the Git repository of DIRECTORY, or of the current one:
 
@@ -59,9 +48,6 @@ selects. REVISION is a commit, a range (v1..v2, ^v1), --all, --branches, --tags,
     --version         prints the version
     -h, --help        prints this text
 
-Git runs here as usual, by the settings of the repository. So scan a repository
-that you don't trust by --copy.
-
 The status is 0 if all names are allowed, 1 if one is not, and 2 if the scan
 failed, nothing is selected, or a reference is broken. It says nothing about
 what files contain, or about the repository's hooks and settings.
@@ -72,26 +58,27 @@ what files contain, or about the repository's hooks and settings.
 pub fn parse(mut words: impl Iterator<Item = OsString>) -> Result<Option<Options>> {
     let mut options = Options::default();
     while let Some(word) = words.next() {
-        let (option, value) = split(&word);
-        let has_value = value.is_some();
-        let mut given = |what: &str| match value.clone().or_else(|| words.next()) {
-            Some(value) if !value.is_empty() => Ok(value),
-            _ => misused(format!("{} needs {what}", printable(option))),
+        let (option, value) = match split_once(word.as_bytes(), b'=') {
+            Some((option, value)) if option.starts_with(b"--") => (option, Some(value)),
+            _ => (word.as_bytes(), None),
         };
-        match (option, has_value) {
-            (b"-h" | b"--help", false) => return Ok(None),
-            (b"--protect", _) => {
-                options.protect = Some(list(given(&format!("a list: {LISTS}"))?)?);
-            }
-            (b"--accept", _) => options.accept.push(names(given("names")?)?),
+        let mut given = |what| {
+            let value = value.map(|it| OsStr::from_bytes(it).to_owned()).or_else(|| words.next());
+            let needed = || misused(format!("{} needs {what}", printable(option)));
+            value.filter(|it| !it.is_empty()).map_or_else(needed, Ok)
+        };
+        match (option, value) {
+            (b"-h" | b"--help", None) => return Ok(None),
+            (b"--protect", _) => options.rules.push(("protect", given("a list")?)),
+            (b"--accept", _) => options.rules.push(("accept", given("names")?)),
             (b"--copy", _) => options.copy = Some(given("a path or a URL")?),
-            (b"--settings", false) => options.settings = true,
-            (b"--index", false) => options.index = true,
-            (b"--to-accept", false) => options.form = Form::Commands,
-            (b"--summary", false) => options.form = Form::Summary,
-            (b"--all" | b"--not", false)
+            (b"--settings", None) => options.settings = true,
+            (b"--index", None) => options.index = true,
+            (b"--to-accept", None) => options.to_accept = true,
+            (b"--summary", None) => options.summary = true,
+            (b"--all" | b"--not", None)
             | (b"--branches" | b"--tags" | b"--remotes", _)
-            | (b"--glob" | b"--exclude", true) => options.words.push(word),
+            | (b"--glob" | b"--exclude", Some(_)) => options.words.push(word),
             _ if option.starts_with(b"-") => {
                 return misused(format!("unknown option \"{}\"", printable(word.as_bytes())))
             }
@@ -105,31 +92,7 @@ pub fn parse(mut words: impl Iterator<Item = OsString>) -> Result<Option<Options
     }
 }
 
-/// An option, and its value if that follows an equals sign.
-fn split(word: &OsStr) -> (&[u8], Option<OsString>) {
-    match split_once(word.as_bytes(), b'=') {
-        Some((option, value)) if option.starts_with(b"--") => {
-            (option, Some(OsStr::from_bytes(value).to_owned()))
-        }
-        _ => (word.as_bytes(), None),
-    }
-}
-
-fn list(list: OsString) -> Result<OsString> {
-    if is_list(list.as_bytes()) {
-        return Ok(list);
-    }
-    misused(format!("--protect \"{}\": {LISTS}", printable(list.as_bytes())))
-}
-
-fn names(names: OsString) -> Result<OsString> {
-    if names.to_str().is_some() {
-        return Ok(names);
-    }
-    misused("--accept: a name that is accepted has to be UTF-8")
-}
-
-/// A failure that says how to use the scan.
+/// A failure that says where to look.
 pub fn misused<T>(what: impl Into<String>) -> Result<T> {
-    Err(Failure::Helped(Box::new(Failure::Other(what.into())), USAGE))
+    failed(what.into() + " (git scan-names -h lists the options)")
 }

@@ -88,7 +88,7 @@ enum class fault : std::uint8_t {
   ends_with_slash = 10,           // it ends in a slash
   empty = 11,                     // it is empty
   some_lowercase = 12,            // it has no slash, and a byte other than A to Z and _, such as a digit
-  reserved = 13,                  // it is reserved: @, or for a branch HEAD, which is refs/heads/HEAD in full
+  reserved = 13,                  // it is reserved: @, HEAD as a branch or tag, or refs/heads/HEAD
   parent_component = 14,          // a part of it is ..
   path_separator = 15,            // it has a slash, or with Windows protection a backslash
   windows_path_prefix = 16,       // a colon follows its first unit, as in C:

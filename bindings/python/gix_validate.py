@@ -176,7 +176,7 @@ class Fault(enum.Enum):
     ENDS_WITH_SLASH = 10, "it ends in a slash"
     EMPTY = 11, "it is empty"
     SOME_LOWERCASE = 12, "it has no slash, and a byte other than A to Z and _, such as a digit"
-    RESERVED = 13, "it is reserved: @, or for a branch HEAD, which is refs/heads/HEAD in full"
+    RESERVED = 13, "it is reserved: @, HEAD as a branch or tag, or refs/heads/HEAD"
     PARENT_COMPONENT = 14, "a part of it is .."
     PATH_SEPARATOR = 15, "it has a slash, or with Windows protection a backslash"
     WINDOWS_PATH_PREFIX = 16, "a colon follows its first unit, as in C:"

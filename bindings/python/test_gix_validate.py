@@ -546,6 +546,20 @@ def test_the_faults_are_those_of_the_header():
     assert [it for it in told if it[0] != "UNKNOWN_KIND"] == mine
 
 
+@pytest.mark.parametrize(
+    "name, kinds, said",
+    [
+        ("@", {"ref", "partial", "branch-ref", "safe-ref"}, " @,"),
+        ("HEAD", {"branch", "tag"}, " HEAD as a branch or tag,"),
+        ("refs/heads/HEAD", {"branch-ref"}, " refs/heads/HEAD"),
+    ],
+)
+def test_the_text_of_a_reserved_name_is_true_for_each_kind(name, kinds, said):
+    found = {kind for kind in Kind if gix_validate.check(name, kind) is Fault.RESERVED}
+    assert found == kinds
+    assert said in Fault.RESERVED.text
+
+
 def test_many_threads_may_call_at_once():
     with ThreadPoolExecutor(4) as pool:
         repaired = {*pool.map(gix_validate.suggest_branch, ["a//b.lock"] * 4000)}

@@ -140,9 +140,10 @@ class Protect(enum.IntFlag):
     makes no difference for other kinds. The default of all functions is ALL, because a
     name that a server accepts may be checked out anywhere. Combine others by `|`.
 
-    WINDOWS includes NTFS, because Windows has NTFS. It refuses devices, such as "NUL" and
-    "aux.c", and what Windows forbids in a name, such as a dot at its end. NTFS without
-    WINDOWS accepts "a\\.git", which Windows reads as a path and `git fsck` refuses.
+    WINDOWS refuses devices, such as "NUL" and "aux.c", and what Windows forbids in a name,
+    such as a dot at its end. It includes NTFS, because Windows has NTFS, so `ALL & ~NTFS`
+    is the same as ALL. NTFS without WINDOWS accepts "a\\.git", which Windows reads as a
+    path and `git fsck` refuses.
     """
 
     NONE = 0
@@ -595,9 +596,10 @@ def _number_of(kind: KindName) -> int:
 
 
 def _flags_of(protect: Protect) -> int:
-    """The flags of protections."""
+    """The flags of protections. WINDOWS includes NTFS, even if that was taken away."""
     if isinstance(protect, Protect):
-        return protect
+        flags = int(protect)
+        return flags | (flags & 1) << 2
     raise TypeError(f"protect has to be a Protect, not {type(protect).__name__}")
 
 

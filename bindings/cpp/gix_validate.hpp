@@ -34,6 +34,7 @@
 #include <cstddef>
 #include <cstdint>
 #include <functional>
+#include <iosfwd>
 #include <optional>
 #include <string>
 #include <string_view>
@@ -390,6 +391,10 @@ public:
                                        const valid &right) noexcept {
     return left.view() == right.view();
   }
+  [[nodiscard]] friend bool operator==(const valid &left,
+                                       std::string_view right) noexcept {
+    return left.view() == right;
+  }
 #if defined(__cpp_lib_three_way_comparison)
   [[nodiscard]] friend std::strong_ordering
   operator<=>(const valid &left, const valid &right) noexcept {
@@ -404,7 +409,26 @@ public:
                                       const valid &right) noexcept {
     return left.view() < right.view();
   }
+  [[nodiscard]] friend bool operator==(std::string_view left,
+                                       const valid &right) noexcept {
+    return left == right.view();
+  }
+  [[nodiscard]] friend bool operator!=(const valid &left,
+                                       std::string_view right) noexcept {
+    return left.view() != right;
+  }
+  [[nodiscard]] friend bool operator!=(std::string_view left,
+                                       const valid &right) noexcept {
+    return left != right.view();
+  }
 #endif
+
+  /// Writes the bytes of the name as they are.
+  template <class Traits>
+  friend std::basic_ostream<char, Traits> &
+  operator<<(std::basic_ostream<char, Traits> &to, const valid &name) {
+    return to << name.view();
+  }
 
 private:
   // (Given isn't a reference if the name may be moved from.)

@@ -34,6 +34,7 @@
 #include <cstddef>
 #include <cstdint>
 #include <functional>
+#include <iosfwd>
 #include <optional>
 #include <string>
 #include <string_view>
@@ -88,7 +89,7 @@ enum class fault : std::uint8_t {
   ends_with_slash = 10,           // it ends in a slash
   empty = 11,                     // it is empty
   some_lowercase = 12,            // it has no slash, and a byte other than A to Z and _, such as a digit
-  reserved = 13,                  // it is reserved: @, or for a branch HEAD, which is refs/heads/HEAD in full
+  reserved = 13,                  // it is reserved: @, HEAD as a branch or tag, or refs/heads/HEAD
   parent_component = 14,          // a part of it is ..
   path_separator = 15,            // it has a slash, or with Windows protection a backslash
   windows_path_prefix = 16,       // a colon follows its first unit, as in C:
@@ -390,6 +391,10 @@ public:
                                        const valid &right) noexcept {
     return left.view() == right.view();
   }
+  [[nodiscard]] friend bool operator==(const valid &left,
+                                       std::string_view right) noexcept {
+    return left.view() == right;
+  }
 #if defined(__cpp_lib_three_way_comparison)
   [[nodiscard]] friend std::strong_ordering
   operator<=>(const valid &left, const valid &right) noexcept {
@@ -404,7 +409,26 @@ public:
                                       const valid &right) noexcept {
     return left.view() < right.view();
   }
+  [[nodiscard]] friend bool operator==(std::string_view left,
+                                       const valid &right) noexcept {
+    return left == right.view();
+  }
+  [[nodiscard]] friend bool operator!=(const valid &left,
+                                       std::string_view right) noexcept {
+    return left.view() != right;
+  }
+  [[nodiscard]] friend bool operator!=(std::string_view left,
+                                       const valid &right) noexcept {
+    return left != right.view();
+  }
 #endif
+
+  /// Writes the bytes of the name as they are.
+  template <class Traits>
+  friend std::basic_ostream<char, Traits> &
+  operator<<(std::basic_ostream<char, Traits> &to, const valid &name) {
+    return to << name.view();
+  }
 
 private:
   // (Given isn't a reference if the name may be moved from.)

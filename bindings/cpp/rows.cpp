@@ -17,6 +17,7 @@
 #include <map>
 #include <regex>
 #include <set>
+#include <sstream>
 #include <unordered_set>
 
 using gix_validate::branch_name;
@@ -301,6 +302,24 @@ void check_types() {
   EXPECT(gix_validate::version() == GIX_VALIDATE_VERSION);
 }
 
+void check_texts_next_to_names() {
+  place = "a text next to a name";
+  const string text = "main", other = "a";
+  const auto name = branch_name::parse(text);
+  const auto view =
+      valid<kind::branch, protect::all, string_view>::parse(text).value();
+  EXPECT(*name == "main" && "main" == *name && *name == text && text == *name);
+  EXPECT(*name != "a" && "a" != *name && *name != other && other != *name);
+  EXPECT(!(*name == other) && !(other == *name));
+  EXPECT(!(*name != text) && !(text != *name));
+  EXPECT(name == text && text == name && name != other && other != name);
+  EXPECT(view == text && text == view && view != other && other != view);
+  std::ostringstream said;
+  (said << *name << ' ').width(5);
+  said << view;
+  EXPECT(said.str() == "main  main");
+}
+
 /* What this version of C++ adds. */
 string additions() {
   string said;
@@ -335,6 +354,7 @@ int main(int count, char **arguments) {
   check_protections();
   check_other_names();
   check_types();
+  check_texts_next_to_names();
   const string more = additions();
   std::cout << rows << " rows, " << failures << " wrong" << more << '\n';
   return failures == 0 && rows > 0 ? 0 : 1;

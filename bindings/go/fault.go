@@ -23,7 +23,7 @@ const (
 	EndsWithSlash           Fault = 10 // it ends in a slash
 	Empty                   Fault = 11 // it is empty
 	SomeLowercase           Fault = 12 // it has no slash, and a byte other than A to Z and _, such as a digit
-	Reserved                Fault = 13 // it is reserved: @, or for a branch HEAD, which is refs/heads/HEAD in full
+	Reserved                Fault = 13 // it is reserved: @, HEAD as a branch or tag, or refs/heads/HEAD
 	ParentComponent         Fault = 14 // a part of it is ..
 	PathSeparator           Fault = 15 // it has a slash, or with Windows protection a backslash
 	WindowsPathPrefix       Fault = 16 // a colon follows its first unit, as in C:

@@ -26,19 +26,25 @@ type Name interface{ ~string | ~[]byte }
 // has to be harmless.
 //
 // A server passes [ProtectAll], because it doesn't know where a name will be checked out.
-// [ProtectWindows] includes [ProtectNTFS], because Windows has NTFS. It refuses devices, such
-// as NUL and aux.c, and what Windows forbids in a name, such as a dot at its end.
-// [ProtectNTFS] alone accepts `a\.git`, which Windows reads as a path and git fsck refuses.
-// 0 is none of them.
+// [ProtectWindows] refuses devices, such as NUL and aux.c, and what Windows forbids in a name,
+// such as a dot at its end. It includes [ProtectNTFS], because Windows has NTFS, so ProtectAll
+// &^ ProtectNTFS is the same as ProtectAll. [ProtectNTFS] alone accepts `a\.git`, which Windows
+// reads as a path and git fsck refuses.
 type Protections uint8
 
 // The protections, which are combined by |.
 const (
+	ProtectNone    Protections = 0
 	ProtectWindows Protections = 5
 	ProtectHFS     Protections = 2
 	ProtectNTFS    Protections = 4
 	ProtectAll     Protections = 7
 )
+
+// whole has NTFS if it has Windows, even if that was taken away.
+func (p Protections) whole() Protections {
+	return p | (p&1)<<2
+}
 
 // CheckBranch checks a branch as people write it, such as main or feature/x. It can't be
 // HEAD, and can't begin with a dash.
@@ -152,7 +158,7 @@ func Version() (major, minor, patch int) {
 }
 
 func check[T Name](kind Kind, name T, protect Protections) error {
-	return checkView(kind, view(name), protect, unsafe.Sizeof(name) > unsafe.Sizeof(""))
+	return checkView(kind, view(name), protect.whole(), unsafe.Sizeof(name) > unsafe.Sizeof(""))
 }
 
 // checkView checks a name. That of a []byte may change later.

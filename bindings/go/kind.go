@@ -41,6 +41,7 @@ func (k Kind) String() string {
 // that are known only at run time, and for loops in which names are often invalid. Kinds whose
 // Check function has no protections ignore them. It panics if there is no such kind.
 func FaultOf[T Name](kind Kind, name T, protect Protections) Fault {
+	protect = protect.whole()
 	needKind(kind)
 	return Fault(numberOf(atFaultOf, uintptr(kind), view(name), uintptr(protect)))
 }

@@ -10,7 +10,7 @@ import "strings"
 func Faults[T Name](kind Kind, names T, end byte, protect Protections) []Fault {
 	joined := view(names)
 	faults := make([]Fault, strings.Count(joined, string([]byte{end}))+1)
-	return faults[:faultsOf(kind, joined, protect, end, faults)]
+	return faults[:faultsOf(kind, joined, protect.whole(), end, faults)]
 }
 
 // FaultsOf checks the names in a list as [FaultOf] does: it returns the fault of each, in
@@ -19,7 +19,7 @@ func FaultsOf[T Name](kind Kind, names []T, protect Protections) []Fault {
 	needKind(kind)
 	faults := make([]Fault, len(names))
 	for i, name := range names {
-		faults[i] = faultOf(kind, view(name), protect)
+		faults[i] = faultOf(kind, view(name), protect.whole())
 	}
 	return faults
 }

@@ -70,6 +70,28 @@ func TestWindowsIncludesNTFS(t *testing.T) {
 	}
 }
 
+func TestWindowsIncludesNTFSEvenIfThatIsTakenAway(t *testing.T) {
+	for taken, whole := range map[Protections]Protections{
+		ProtectAll &^ ProtectNTFS:     ProtectAll,
+		ProtectWindows &^ ProtectNTFS: ProtectWindows,
+	} {
+		for _, it := range rowsOf(t) {
+			if call, isKind := calls[it.call]; isKind {
+				testSame(t, it, call, taken, whole)
+			}
+		}
+	}
+}
+
+// testSame fails unless all calls return the same of the row's name under both protections.
+func testSame(t *testing.T, it row, call call, taken, whole Protections) {
+	said, wanted := call.ofString(it.name, taken), call.ofString(it.name, whole)
+	if fmt.Sprint(said) != fmt.Sprint(wanted) {
+		t.Errorf("%v %q: %v, not %v", call.kind, it.name, said, wanted)
+	}
+	testManyOf(t, it, call.kind, taken, FaultOf(call.kind, it.name, whole))
+}
+
 func TestAValidNameIsNotCopiedByARepairOrASuggestion(t *testing.T) {
 	name := []byte("main")
 	if repaired := Sanitize(name); &repaired[0] != &name[0] {

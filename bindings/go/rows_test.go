@@ -132,6 +132,12 @@ func testCall(t *testing.T, it row, call call) {
 	word, offset, _ := strings.Cut(word, "@")
 	word, digits, _ := strings.Cut(word, ":")
 	fault := faultNamed(t, word)
+	if protect != protect.whole() { // (no call returns this, but the functions below the calls do)
+		if found := faultOf(call.kind, it.name, protect); found != fault {
+			t.Errorf("%q: %v", it, found)
+		}
+		return
+	}
 	for _, err := range []error{call.ofString(it.name, protect), call.ofBytes([]byte(it.name), protect)} {
 		if fault == Valid {
 			if err != nil {

@@ -94,8 +94,10 @@ function binary() {
 
 /** The error where the module can't be made. */
 const unmade = (cause) => new Error(
-    `gix-validate can't make its WebAssembly module here: ${
-        cause}. First await ready(), or ready(module) where bytes may not be compiled. A Content-Security-Policy needs 'wasm-unsafe-eval'.`,
+    `gix-validate can't make its WebAssembly module here: ${cause}. ${
+        wasm === null ?
+            "Pass a WebAssembly.Module: await ready(module)." :
+            "First await ready(), or ready(module) where bytes may not be compiled. A Content-Security-Policy needs 'wasm-unsafe-eval'."}`,
     {cause});
 
 /** Makes the module, if no call before has made it. */

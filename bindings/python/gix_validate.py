@@ -140,9 +140,10 @@ class Protect(enum.IntFlag):
     makes no difference for other kinds. The default of all functions is ALL, because a
     name that a server accepts may be checked out anywhere. Combine others by `|`.
 
-    WINDOWS includes NTFS, because Windows has NTFS. It refuses devices, such as "NUL" and
-    "aux.c", and what Windows forbids in a name, such as a dot at its end. NTFS without
-    WINDOWS accepts "a\\.git", which Windows reads as a path and `git fsck` refuses.
+    WINDOWS refuses devices, such as "NUL" and "aux.c", and what Windows forbids in a name,
+    such as a dot at its end. It includes NTFS, because Windows has NTFS, so `ALL & ~NTFS`
+    is the same as ALL. NTFS without WINDOWS accepts "a\\.git", which Windows reads as a
+    path and `git fsck` refuses.
     """
 
     NONE = 0
@@ -176,7 +177,7 @@ class Fault(enum.Enum):
     ENDS_WITH_SLASH = 10, "it ends in a slash"
     EMPTY = 11, "it is empty"
     SOME_LOWERCASE = 12, "it has no slash, and a byte other than A to Z and _, such as a digit"
-    RESERVED = 13, "it is reserved: @, or for a branch HEAD, which is refs/heads/HEAD in full"
+    RESERVED = 13, "it is reserved: @, HEAD as a branch or tag, or refs/heads/HEAD"
     PARENT_COMPONENT = 14, "a part of it is .."
     PATH_SEPARATOR = 15, "it has a slash, or with Windows protection a backslash"
     WINDOWS_PATH_PREFIX = 16, "a colon follows its first unit, as in C:"
@@ -595,9 +596,10 @@ def _number_of(kind: KindName) -> int:
 
 
 def _flags_of(protect: Protect) -> int:
-    """The flags of protections."""
+    """The flags of protections. WINDOWS includes NTFS, even if that was taken away."""
     if isinstance(protect, Protect):
-        return protect
+        flags = int(protect)
+        return flags | (flags & 1) << 2
     raise TypeError(f"protect has to be a Protect, not {type(protect).__name__}")
 
 

@@ -20,7 +20,8 @@ HERE = Path(__file__).resolve().parent
 HEADER = (HERE.parent / "c" / "gix_validate.h").read_text(encoding="ascii")
 TEXT = (HERE.parents[1] / "tests" / "rows").read_text(encoding="ascii")
 ROWS = re.findall(r'(?m)^([\w-]+)(?::(\w*))?(?: ([\w-]+))? "([^"]*)" (.*)$', TEXT)
-# (w is the flag of Windows' own rules, which has no name: WINDOWS includes NTFS.)
+# (w is the flag of Windows' own rules, which has no name: WINDOWS includes NTFS. So a row with
+# w and without n is no result of the module, but it is one of the library.)
 SETTINGS = {"w": Protect(1), "h": Protect.HFS, "n": Protect.NTFS}
 PROTECTED = {
     *(Kind.SAFE_REF, Kind.PATH, Kind.SYMLINK_PATH),
@@ -139,8 +140,10 @@ def test_each_row_is_read():
 @pytest.mark.parametrize(
     "call, more, of, quoted, answer", ROWS, ids=[" ".join(row[:4]) for row in ROWS]
 )
-def test_a_row_holds(call, more, of, quoted, answer):
+def test_a_row_holds(call, more, of, quoted, answer, monkeypatch):
     name = unquoted(quoted)
+    if call in {*PROTECTED} and "w" in more and "n" not in more:
+        monkeypatch.setattr(gix_validate, "_flags_of", int)
     if call == "many":
         count, *wanted = answer.split()
         assert len(wanted) == int(count)
@@ -368,6 +371,23 @@ def test_windows_includes_ntfs():
     assert Protect.WINDOWS | Protect.NTFS is Protect.WINDOWS
 
 
+@pytest.mark.parametrize("whole", [Protect.ALL, Protect.WINDOWS])
+def test_windows_includes_ntfs_even_if_that_is_taken_away(whole):
+    taken = whole & ~Protect.NTFS
+    assert taken is not whole
+    names = {unquoted(quoted) for call, _, _, quoted, _ in ROWS if call in PROTECTED}
+    for kind in PROTECTED:
+        settings = {"kind": kind, "protect": taken}
+        faults = gix_validate.faults([*names], kind, protect=whole)
+        assert gix_validate.faults([*names], **settings) == faults
+        assert [gix_validate.check(name, **settings) for name in names] == faults
+    error = refusal(gix_validate.validate_path, "src/git~1", protect=taken)
+    assert (error.fault, error.offset) == (Fault.DOT_GIT_DIR, 4)
+    assert str(error).startswith("The .git name may never be used ")
+    numbers = gix_validate.fault_numbers("aux.c\ngit~1", "path", protect=taken)
+    assert numbers == b"\x11\x13"
+
+
 def test_a_kind_is_a_str_which_may_be_passed_in_its_place():
     for kind in Kind:
         assert kind == kind.value == f"{kind}" == str(kind)
@@ -544,6 +564,20 @@ def test_the_faults_are_those_of_the_header():
     told = re.findall(r"GIX_VALIDATE_(\w+) = (\d+),? +/\* (.*) \*/", listed)
     mine = [(it.name, str(it.value), it.text) for it in Fault]
     assert [it for it in told if it[0] != "UNKNOWN_KIND"] == mine
+
+
+@pytest.mark.parametrize(
+    "name, kinds, said",
+    [
+        ("@", {"ref", "partial", "branch-ref", "safe-ref"}, " @,"),
+        ("HEAD", {"branch", "tag"}, " HEAD as a branch or tag,"),
+        ("refs/heads/HEAD", {"branch-ref"}, " refs/heads/HEAD"),
+    ],
+)
+def test_the_text_of_a_reserved_name_is_true_for_each_kind(name, kinds, said):
+    found = {kind for kind in Kind if gix_validate.check(name, kind) is Fault.RESERVED}
+    assert found == kinds
+    assert said in Fault.RESERVED.text
 
 
 def test_many_threads_may_call_at_once():

@@ -102,6 +102,15 @@ def test_the_rows_hold_as_cplusplus(tmp_path):
     assert replayed(tmp_path, [CXX, "-std=c++11"], *flags) == ALL_HOLD
 
 
+@pytest.mark.parametrize("version", ["c89", "iso9899:199409"])
+def test_a_compiler_of_an_older_version_says_what_the_header_needs(version, tmp_path):
+    source = tmp_path / "old.c"
+    source.write_text('#include "gix_validate.h"\n')
+    words = [f"-std={version}", *STRICT, "-fsyntax-only", source]
+    said = run(CC, *words, status=1).stderr
+    assert "gix_validate.h needs C99 or later" in said
+
+
 # Gives the functions buffers of each type that a text may have.
 BUFFERS = """
 #include "gix_validate.h"

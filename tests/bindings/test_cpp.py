@@ -38,6 +38,10 @@ LINES = {
         'gix_validate::branch_name it = *gix_validate::tag_name::parse("a");',
         "conversion",
     ),
+    "a branch next to a tag": (
+        '(void)(*gix_validate::branch_name::parse("a") == *gix_validate::tag_name::parse("a"));',
+        "ambiguous",
+    ),
     "a view of a string that is gone": (
         "(void)gix_validate::valid<gix_validate::kind::tag, gix_validate::protect::all,"
         ' std::string_view>::parse(std::string("a"));',

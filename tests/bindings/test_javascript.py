@@ -70,6 +70,7 @@ SLIM = """
     import { createRequire } from "node:module";
     import { checkBranch, ready } from "gix-validate/slim";
     try { checkBranch("main"); } catch (error) { console.log(error.message); }
+    await ready().catch((error) => console.log(error.message));
     const file = createRequire(import.meta.url).resolve("gix-validate/gix_validate.wasm");
     await ready(new WebAssembly.Module(readFileSync(file)));
     console.log(checkBranch("a b").index);
@@ -192,8 +193,10 @@ def test_a_program_runs_where_nothing_may_be_compiled_and_calls_say_why_they_fai
 def test_the_slim_module_uses_the_webassembly_that_it_is_given(project):
     need("node")
     (project / "main.mjs").write_text(SLIM)
-    unmade, found = output("node", "main.mjs", cwd=project).splitlines()
-    assert "gix-validate/slim has no WebAssembly of its own" in unmade
+    *unmade, found = output("node", "main.mjs", cwd=project).splitlines()
+    lacks = "Error: gix-validate/slim has no WebAssembly of its own. "
+    advice = "Pass a WebAssembly.Module: await ready(module)."
+    assert [it.partition(lacks)[2] for it in unmade] == [advice, advice]
     assert found == "1"
 
 

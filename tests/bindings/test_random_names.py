@@ -4,6 +4,7 @@ import re
 import subprocess
 import sys
 import tempfile
+from unittest import mock
 
 import pytest
 from hypothesis import HealthCheck, given, settings
@@ -110,9 +111,11 @@ def replayers(rows_program, rows_program_of_cpp, rust_program):
 
 @pytest.fixture(scope="module")
 def gix():
-    """Python's module."""
+    """Python's module, with the flags of the library, since its own WINDOWS includes NTFS."""
     sys.path.append(str(BINDINGS / "python"))
-    return importlib.import_module("gix_validate")
+    module = importlib.import_module("gix_validate")
+    with mock.patch.object(module, "_flags_of", int):
+        yield module
 
 
 def quoted(name):

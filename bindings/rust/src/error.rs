@@ -20,7 +20,7 @@ const TEXT_MAX: usize = 134;
 ///     r#"Reference name cannot start with a dot ('.' at byte 8, in ".hidden")"#
 /// );
 /// ```
-#[derive(Debug, Clone, PartialEq, Eq)]
+#[derive(Clone, PartialEq, Eq)]
 pub struct Error {
     kind: Kind,
     protections: Protections,
@@ -104,6 +104,19 @@ impl fmt::Display for Error {
             return Ok(());
         }
         self.fmt_place(f)
+    }
+}
+
+/// Prints the name as text, with what isn't printable ASCII as escapes.
+impl fmt::Debug for Error {
+    fn fmt(&self, f: &mut fmt::Formatter<'_>) -> fmt::Result {
+        f.debug_struct("Error")
+            .field("kind", &self.kind)
+            .field("protections", &self.protections)
+            .field("fault", &self.fault)
+            .field("offset", &self.offset())
+            .field("name", &format_args!("\"{}\"", self.name.escape_ascii()))
+            .finish()
     }
 }
 

@@ -29,7 +29,7 @@ pub enum Fault {
     Empty = 11,
     /// It has no slash, and a byte other than `A` to `Z` and `_`, such as a digit.
     SomeLowercase = 12,
-    /// It is reserved: `@`, or for a branch `HEAD`, which is `refs/heads/HEAD` in full.
+    /// It is reserved: `@`, `HEAD` as a branch or tag, or `refs/heads/HEAD`.
     Reserved = 13,
     /// A part of it is `..`. Both `/` and `\` separate parts.
     ParentComponent = 14,

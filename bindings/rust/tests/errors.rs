@@ -57,6 +57,17 @@ fn an_error_at_the_end_says_so() {
 }
 
 #[test]
+fn an_error_that_is_debugged_has_the_name_as_text() {
+    let error = branch(b"my branch\x1b\xff".as_slice()).unwrap_err();
+    let debugged = format!("{error:?}");
+    assert!(debugged.starts_with("Error { kind: Branch, "), "{debugged}");
+    assert!(
+        debugged.ends_with(r#"fault: InvalidByte, offset: 2, name: "my branch\x1b\xff" }"#),
+        "{debugged}"
+    );
+}
+
+#[test]
 fn an_empty_piece_is_not_printed() {
     let error = path("a//b", Protections::ALL).unwrap_err();
     assert!(

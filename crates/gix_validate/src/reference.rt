@@ -51,7 +51,7 @@ pub enum NameError {
     Empty,
     /// It has no slash, and a byte other than `A` to `Z` and `_`, such as a digit.
     SomeLowercase,
-    /// It is reserved: `@`, or for a branch `HEAD`, which is `refs/heads/HEAD` in full.
+    /// It is reserved: `@`, `HEAD` as a branch or tag, or `refs/heads/HEAD`.
     Reserved { name: ArrayVec<u8, 15> },
 }
 

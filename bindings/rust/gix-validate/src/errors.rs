@@ -57,7 +57,7 @@ pub mod reference {
         Empty: "Reference name cannot be empty",
         /// It has no slash, and a byte other than `A` to `Z` and `_`, such as a digit.
         SomeLowercase: "Standalone references must be all uppercased, like 'HEAD'",
-        /// It is reserved: `@`, or for a branch `HEAD`, which is `refs/heads/HEAD` in full.
+        /// It is reserved: `@`, `HEAD` as a branch or tag, or `refs/heads/HEAD`.
         Reserved { name }: "Reference name is reserved and cannot be used: {name:?}",
     }
 }

@@ -57,15 +57,24 @@ fn expect_components(rt: &impl Host, text: &[u8], holds: &[bool; 13]) {
 }
 
 /// Panics if the call with this name returned something other than what is expected.
-pub(crate) fn expect(rt: &impl Abort, (call, text): (&str, &[u8]), wanted: &[u8], came: &[u8]) {
-    let [text, wanted, came] = [BStr::new(text), BStr::new(wanted), BStr::new(came)];
-    assert_eq!(rt; came, wanted, "{call} of {text:?} (right: wanted)");
+pub(crate) fn expect(rt: &impl Abort, call: (&str, &[u8]), wanted: &[u8], came: &[u8]) {
+    if came != wanted {
+        differs(rt, call, BStr::new(wanted), BStr::new(came));
+    }
+}
+
+fn differs(rt: &impl Abort, (call, text): (&str, &[u8]), wanted: BStr<'_>, came: BStr<'_>) {
+    let text = BStr::new(text);
+    panic!(rt; "{call} of {text:?}: {came:?}, wanted: {wanted:?}");
 }
 
 /// The same for a call that returns whether something holds.
-pub(crate) fn expect_bool(rt: &impl Abort, (call, text): (&str, &[u8]), wanted: bool, came: bool) {
-    let text = BStr::new(text);
-    assert_eq!(rt; came, wanted, "{call} of {text:?} (right: wanted)");
+pub(crate) fn expect_bool(rt: &impl Abort, call: (&str, &[u8]), wanted: bool, came: bool) {
+    expect(rt, call, word(wanted), word(came));
+}
+
+fn word(holds: bool) -> &'static [u8] {
+    if holds { b"true" } else { b"false" }
 }
 
 /// Panics unless the result is the name itself if that is valid, and otherwise the error, which

@@ -13,7 +13,7 @@ ghost use Rattle.gix_validate.specs.Submodule.{text_of as submodule_text_of};
 ghost use Rattle.gix_validate.specs.Tag.{text_of as tag_text_of};
 ghost use Rattle.typed_names.specs.Names.{name_bytes, name_text, component_bytes};
 
-use crate::agree::{expect, expect_error, options};
+use crate::agree::{expect, expect_bool, expect_error, options};
 use crate::printed::{component_texts, reference_texts};
 use crate::text::Host;
 use bstr::BStr;
@@ -176,7 +176,8 @@ fn prints_names_that_are_not_utf_8(rt: HostRuntime) {
 #[test]
 fn lists_the_pieces_of_a_name(rt: HostRuntime) {
     let tag = TagName::new(BStr::from("refs/a")).expect(&rt, "a tag name");
-    assert_eq!(rt; listed(rt.alloc(), tag).expect(&rt, "memory").len(), 2);
+    let pieces = listed(rt.alloc(), tag).expect(&rt, "memory");
+    expect_bool(&rt, ("two pieces", b"refs/a"), true, pieces.len() == 2);
 }
 
 /// Names, their pieces, and what follows each slash, in order.
@@ -203,7 +204,8 @@ fn expect_pieces(rt: &impl Abort, text: &[u8], left: Pieces<'_>, wanted: &[&[u8]
         let came = next_of(&mut left).expect(rt, "a piece");
         expect(rt, ("pieces", text), piece, came.as_bytes());
     }
-    assert!(rt; next_of(&mut left).is_none());
+    let is_last = next_of(&mut left).is_none();
+    expect_bool(rt, ("no other piece", text), true, is_last);
 }
 
 /// Checks what follows the first slash of a name, of what follows that, and so on.
@@ -214,7 +216,7 @@ fn expect_rests(rt: &impl Abort, text: &[u8], rest: Option<TagName<'_>>, wanted:
         expect(rt, ("after_first_slash", text), wanted, name.as_slice());
         rest = name.after_first_slash();
     }
-    assert!(rt; rest.is_none());
+    expect_bool(rt, ("no other slash", text), true, rest.is_none());
 }
 
 #[test]

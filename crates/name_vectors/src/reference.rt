@@ -1,7 +1,7 @@
 //! Tag names, reference names, submodule names and sanitised names (docs/RULES.md, the sections of
 //! these names).
 
-use crate::text::{Host, before_first, contains_one, is_bad, joined};
+use crate::text::{Host, before_first, contains_one, has_bad, is_bad, joined};
 use bstr::ByteSlice;
 
 /// An error of a name, as docs/RULES.md calls it, and what is quoted after its text, if anything
@@ -90,7 +90,7 @@ fn is_tag(text: &[u8], between_slashes: &[u8]) -> bool {
         between_slashes,
         &[b"*", b"//", b"/.", b"..", b"@{", b".lock/"],
     );
-    !has_other && !text.ends_with(b".") && !text.iter().any(|byte| is_bad(*byte))
+    !has_other && !text.ends_with(b".") && !has_bad(text)
 }
 
 /// How many of these four rules accept the name, by what it may not have.

@@ -5,13 +5,14 @@
 //! allocations of its own as it takes for this one to be the one that fails. In the last test none
 //! of the calls' allocations fails.
 
-use crate::agree::expect;
-use crate::rows::part;
+use crate::agree::{expect, expect_bool};
+use crate::rows::{joined_names, part};
 use crate::text::{Host, joined};
 use bstr::{BStr, BString};
-use gix_validate::reference::{self, name_partial_or_sanitize};
-use gix_validate::{path, tag};
+use gix_validate::path;
+use gix_validate::reference::name_partial_or_sanitize;
 use std::alloc::AllocError;
+use std::process::Abort;
 
 /// How each call is printed, and what it has to return.
 const CALLS: &[(&str, &[u8])] = &[
@@ -26,16 +27,9 @@ fn given(rt: &impl Host, call: usize) -> Result<BString, AllocError> {
     match call {
         0 => name_partial_or_sanitize(rt.alloc(), BStr::new(b"")),
         1 => name_partial_or_sanitize(rt.alloc(), BStr::new(b"refs//heads/../x.lock.lock/.y*")),
-        2 => joined_names(rt),
+        2 => joined_names(rt, b"@", b"v1.0"),
         _ => joined_parts(rt),
     }
-}
-
-/// Two names, joined.
-fn joined_names(rt: &impl Host) -> Result<BString, AllocError> {
-    let front = tag::name(BStr::from("@")).expect(rt, "a tag name");
-    let back = tag::name(BStr::from("v1.0")).expect(rt, "a tag name");
-    reference::join(rt.alloc(), front, back)
 }
 
 /// Three components, joined.
@@ -63,10 +57,16 @@ fn is_answered(rt: &impl Host, call: usize, wanted: &[u8]) -> bool {
 /// Makes the call, and once more if its allocation fails.
 fn check_call(rt: &(impl Host + Print), call: usize, (name, wanted): (&str, &[u8])) {
     if !is_answered(rt, call, wanted) {
-        println!(rt; "{name}: refused").expect(rt, "output");
-        assert!(rt; is_answered(rt, call, wanted));
+        say(rt, name, "refused");
+        let is_answered_then = is_answered(rt, call, wanted);
+        expect_bool(rt, (name, b""), true, is_answered_then);
     }
-    println!(rt; "{name}: answered").expect(rt, "output");
+    say(rt, name, "answered");
+}
+
+/// Prints what the call with this name did.
+fn say(rt: &(impl Abort + Print), name: &str, what: &str) {
+    println!(rt; "{name}: {what}").expect(rt, "output");
 }
 
 /// Allocates until the given allocation of the calls is the one that fails, and then makes each

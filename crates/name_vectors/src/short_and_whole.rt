@@ -103,7 +103,8 @@ fn prints_a_short_name(rt: HostRuntime) {
 
 #[test]
 fn refuses_a_short_name_with_a_dash_first(rt: HostRuntime) {
-    assert!(rt; ShortName::new(BStr::from("-d")).is_err());
+    let is_refused = ShortName::new(BStr::from("-d")).is_err();
+    expect_bool(&rt, ("refused", b"-d"), true, is_refused);
 }
 
 /// Settings, as those of `rows`; the error, and the offset of the part that has it; and the paths. For

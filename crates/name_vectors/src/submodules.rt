@@ -1,7 +1,7 @@
 //! Submodule names in a `.gitmodules` file: that reading them can succeed, and what an error
 //! prints. (The contract says what is returned.)
 
-use crate::agree::expect;
+use crate::agree::{expect, expect_bool};
 use gitmodules::submodule_names;
 
 /// Files that are refused, and what the error prints.
@@ -15,7 +15,7 @@ const REFUSED: &[(&[u8], &[u8])] = &[
 fn reads_the_names_of_a_file(rt: HostRuntime) {
     let file = b"[submodule \"a\"]\n[core]\n [SubModule\t\"b\\/c\"] # old\n";
     let names = submodule_names(rt.alloc(), file).expect(&rt, "two names");
-    assert_eq!(rt; names.len(), 2);
+    expect_bool(&rt, ("two names", file), true, names.len() == 2);
 }
 
 #[test]

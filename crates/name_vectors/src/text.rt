@@ -24,9 +24,24 @@ pub(crate) fn is_bad(byte: u8) -> bool {
     }
 }
 
+/// Whether a byte of the byte string is a bad byte.
+pub(crate) fn has_bad(text: &[u8]) -> bool {
+    for byte in text {
+        if is_bad(*byte) {
+            return true;
+        }
+    }
+    false
+}
+
 /// Whether one of the words is anywhere in the byte string.
 pub(crate) fn contains_one(text: &[u8], words: &[&[u8]]) -> bool {
-    words.iter().any(|word| text.contains_str(word))
+    for word in words {
+        if text.contains_str(word) {
+            return true;
+        }
+    }
+    false
 }
 
 /// The part before the first of the given bytes, or the whole byte string if it has none of them.
@@ -37,16 +52,30 @@ pub(crate) fn before_first<'a>(text: &'a [u8], bytes: &[u8]) -> &'a [u8] {
 
 /// The byte string without the given bytes at its end.
 pub(crate) fn trimmed<'a>(text: &'a [u8], bytes: &[u8]) -> &'a [u8] {
-    let last = text.rfind_not_byteset(bytes);
-    last.and_then(|last| text.get(..=last)).unwrap_or(b"")
+    match text.rfind_not_byteset(bytes) {
+        Some(last) => text.get(..=last).unwrap_or(text),
+        None => b"",
+    }
 }
 
 /// Whether the byte string, or one that begins with it if `may_go_on`, is in the table. Each row has
 /// a least and a greatest byte string, and means all whose byte at each index is between theirs.
 pub(crate) fn is_in(text: &[u8], may_go_on: bool, rows: &[(&[u8], &[u8])]) -> bool {
-    rows.iter().any(|(least, greatest)| {
-        let mut bounds = text.iter().zip(least.iter().zip(*greatest));
+    for (least, greatest) in rows {
         let may_end = text.len() == least.len() || may_go_on && text.len() < least.len();
-        may_end && bounds.all(|(byte, (low, high))| low <= byte && byte <= high)
-    })
+        if may_end && is_between(text, least, greatest) {
+            return true;
+        }
+    }
+    false
+}
+
+/// Whether each byte is between those at its index.
+fn is_between(text: &[u8], least: &[u8], greatest: &[u8]) -> bool {
+    for (index, byte) in text.iter().enumerate() {
+        if least.get(index) > Some(byte) || greatest.get(index) < Some(byte) {
+            return false;
+        }
+    }
+    true
 }

@@ -42,5 +42,5 @@ func (k Kind) String() string {
 // Check function has no protections ignore them. It panics if there is no such kind.
 func FaultOf[T Name](kind Kind, name T, protect Protections) Fault {
 	needKind(kind)
-	return Fault(numberOf(atFaultOf, uintptr(kind), view(name), uintptr(protect)))
+	return Fault(numberOf(atFaultOf, view(name), uintptr(protect), uintptr(kind)))
 }

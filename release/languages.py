@@ -22,6 +22,11 @@ def exports(header):
         yield result, name, [(" ".join(it[:-1]), it[-1]) for it in split if it[:-1]]
 
 
+def written_sizes(params):
+    """The parameters to which a function writes a size, which has 64 bits in WebAssembly."""
+    return [word[1:] for kind, word in params if kind == "size_t" and word[0] == "*"]
+
+
 def without_unused(prelude, code):
     """The prelude without the functions that neither the code nor another one calls: compilers warn of these."""
     inline = r"(?m)^static inline \w+ (\w+)\(.*\{(?:.*\}\n|.*\n(?:  .*\n)*\}\n)"
@@ -125,18 +130,29 @@ class C:
         yield from (f"{it.head()};" for it in module.functions)
         yield from (f"\n{it}" for it in texts)
         for result, name, params in self.exports:
-            given = [
-                f"P({it[1:]})"
-                if it.startswith("*")
-                else f"(u64){it}"
-                if kind == "size_t"
-                else it
-                for kind, it in params
-            ]
-            call = f"{module.name_of(name)}({', '.join(['&top', *given])})"
-            taken = ", ".join(f"{kind} {it}" for kind, it in params) or "void"
-            yield f"\n{result} {name}({taken}) {{"
-            yield f"  CALL;\n  return ({result}){call};\n}}"
+            yield from self.export(module, result, name, params)
+
+    def export(self, module, result, name, params):
+        sizes = written_sizes(params)
+        given = [
+            f"P(&{it[1:]}_written)"
+            if it[1:] in sizes
+            else f"P({it[1:]})"
+            if it.startswith("*")
+            else f"(u64){it}"
+            if kind == "size_t"
+            else it
+            for kind, it in params
+        ]
+        call = f"({result}){module.name_of(name)}({', '.join(['&top', *given])})"
+        taken = ", ".join(f"{kind} {it}" for kind, it in params) or "void"
+        yield f"\n{result} {name}({taken}) {{\n  CALL;"
+        yield from (f"  u64 {it}_written = 0;" for it in sizes)
+        if sizes:
+            yield f"  {result} returned = {call};"
+            yield from (f"  *{it} = (size_t)load64(P(&{it}_written));" for it in sizes)
+            call = "returned"
+        yield f"  return {call};\n}}"
 
 
 class Rust(C):
@@ -220,9 +236,12 @@ class Rust(C):
             yield from self.export(module, self.TYPES[result], name, params)
 
     def export(self, module, result, name, params):
-        taken, given = [], ["&mut top"]
+        taken, given, sizes = [], ["&mut top"], written_sizes(params)
         for kind, word in params:
-            if word.startswith("*"):
+            if word[1:] in sizes:
+                taken.append(f"{word[1:]}: *mut usize")
+                given.append(f"&mut {word[1:]}_written as *mut u64 as usize as u64")
+            elif word.startswith("*"):
                 pointer = "*const" if kind.startswith("const ") else "*mut"
                 taken.append(f"{word[1:]}: {pointer} u8")
                 given.append(f"{word[1:]} as usize as u64")
@@ -234,6 +253,13 @@ class Rust(C):
         yield f"\npub(super) unsafe fn {name}({', '.join(taken)}) -> {result} {{"
         yield "    let mut stack = core::mem::MaybeUninit::<Aligned<[u8; STACK]>>::uninit();"
         yield "    let mut top = stack.as_mut_ptr() as usize as u64 + STACK as u64;"
+        yield from (f"    let mut {it}_written = 0u64;" for it in sizes)
+        if sizes:
+            yield f"    let returned = {call};"
+            yield from (
+                f"    *{it} = u64::from_le({it}_written) as usize;" for it in sizes
+            )
+            call = "returned"
         yield f"    {call}\n}}"
 
 

@@ -99,25 +99,31 @@ struct question {
 };
 
 static uint32_t code_of(struct question asked, struct bytes name) {
-  return gix_validate_fault_of(asked.kind->number, name.start, name.length,
-                               asked.flags);
+  return gix_validate_fault_of(name.start, name.length, asked.flags,
+                               asked.kind->number);
 }
 
 static size_t offset_of(struct question asked, struct bytes name) {
-  return gix_validate_offset_of(asked.kind->number, name.start, name.length,
-                                asked.flags);
+  size_t offset = SIZE_MAX;
+  EXPECT(gix_validate_fault_at(name.start, name.length, asked.flags,
+                               asked.kind->number,
+                               &offset) == code_of(asked, name));
+  return offset;
 }
 
 static size_t text_of(struct question asked, struct bytes name,
                       struct bytes text) {
-  return gix_validate_text_of(asked.kind->number, name.start, name.length,
-                              asked.flags, text.start, text.length);
+  size_t length =
+      gix_validate_text_of(name.start, name.length, asked.flags,
+                           asked.kind->number, text.start, text.length);
+  GIX_VALIDATE_UNPOISON(text.start, text.length);
+  return length;
 }
 
 static size_t many_of(struct question asked, struct bytes names, uint8_t end,
                       uint8_t *faults, size_t size) {
-  return gix_validate_faults_of(asked.kind->number, names.start, names.length,
-                                asked.flags, end, faults, size);
+  return gix_validate_faults_of(names.start, names.length, asked.flags,
+                                asked.kind->number, end, faults, size);
 }
 
 /* Whatever the buffer's size, the call returns the length of the text. It
@@ -536,7 +542,7 @@ static void check_null(void) {
   EXPECT(gix_validate_suggest(NULL, 0, NULL, 0) == 0);
   EXPECT(gix_validate_suggest("a", 1, NULL, 0) == 0);
   uint8_t text[GIX_VALIDATE_TEXT_MAX];
-  EXPECT(gix_validate_text_of(GIX_VALIDATE_KIND_SUBMODULE, NULL, 0, 0, text,
+  EXPECT(gix_validate_text_of(NULL, 0, 0, GIX_VALIDATE_KIND_SUBMODULE, text,
                               sizeof text) ==
          strlen("Submodule names cannot be empty"));
   struct bytes none = {NULL, 0};
@@ -564,11 +570,14 @@ static void check_unknown(void) {
     gix_validate_result result = {0, SIZE_MAX};
     uint8_t text[GIX_VALIDATE_TEXT_MAX];
     memset(text, CANARY, sizeof text);
-    EXPECT(gix_validate_fault_of(kind, "a", 1, 7) == GIX_VALIDATE_UNKNOWN_KIND);
-    EXPECT(gix_validate_offset_of(kind, "a", 1, 7) == 0);
-    EXPECT(gix_validate_text_of(kind, "a", 1, 7, text, sizeof text) == 0);
+    EXPECT(gix_validate_fault_of("a", 1, 7, kind) == GIX_VALIDATE_UNKNOWN_KIND);
+    EXPECT(gix_validate_fault_at("a", 1, 7, kind, &result.offset) ==
+           GIX_VALIDATE_UNKNOWN_KIND);
+    EXPECT(result.offset == 0);
+    result.offset = SIZE_MAX;
+    EXPECT(gix_validate_text_of("a", 1, 7, kind, text, sizeof text) == 0);
     EXPECT(all_are(text, sizeof text, CANARY));
-    EXPECT(gix_validate_faults_of(kind, "a\nb", 3, 7, '\n', text, 4) == 2);
+    EXPECT(gix_validate_faults_of("a\nb", 3, 7, kind, '\n', text, 4) == 2);
     EXPECT(all_are(text, 2, GIX_VALIDATE_UNKNOWN_KIND));
     EXPECT(all_are(text + 2, sizeof text - 2, CANARY));
     EXPECT(gix_validate_check(kind, "a", 1, 7, &result) ==
@@ -609,8 +618,8 @@ static void check_helpers(void) {
   EXPECT(*suggested == '\0');
   EXPECT(gix_validate_suggest_str(typed, suggested, sizeof typed - 1) == 0);
   EXPECT(gix_validate_suggest_str(typed, NULL, 0) == 0);
-  EXPECT(gix_validate_text_of(GIX_VALIDATE_KIND_COMPONENT, "a.", 2,
-                              GIX_VALIDATE_PROTECT_ALL, NULL,
+  EXPECT(gix_validate_text_of("a.", 2, GIX_VALIDATE_PROTECT_ALL,
+                              GIX_VALIDATE_KIND_COMPONENT, NULL,
                               0) == GIX_VALIDATE_TEXT_MAX);
   EXPECT(gix_validate_version() == GIX_VALIDATE_VERSION);
   place = "Windows includes NTFS";

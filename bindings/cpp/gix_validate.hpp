@@ -170,14 +170,14 @@ struct error {
 /// if it is valid.
 [[nodiscard]] inline std::optional<error>
 check(kind of, std::string_view name, protect under = protect::all) noexcept {
-  const auto number = gix_validate_fault_of(std::uint32_t(of), name.data(),
-                                            name.size(), std::uint32_t(under));
+  std::size_t offset = 0;
+  const auto number =
+      gix_validate_fault_at(name.data(), name.size(), std::uint32_t(under),
+                            std::uint32_t(of), &offset);
   if (number == GIX_VALIDATE_OK) {
     return std::nullopt;
   }
-  return error{of, under, fault(number),
-               gix_validate_offset_of(std::uint32_t(of), name.data(),
-                                      name.size(), std::uint32_t(under))};
+  return error{of, under, fault(number), offset};
 }
 
 /// A branch as people write it, such as `main`: `refs/heads/` followed by it is
@@ -294,7 +294,7 @@ template <class Names>
   for (auto &&each : names) { // (A temporary lives as long as `each`.)
     const std::string_view name = each;
     faults.push_back(fault(gix_validate_fault_of(
-        std::uint32_t(of), name.data(), name.size(), std::uint32_t(under))));
+        name.data(), name.size(), std::uint32_t(under), std::uint32_t(of))));
   }
   return faults;
 }
@@ -308,9 +308,9 @@ template <class Names>
 check_joined(kind of, std::string_view names, char end,
              protect under = protect::all) {
   const auto check = [&](std::uint8_t *faults, std::size_t size) {
-    return gix_validate_faults_of(std::uint32_t(of), names.data(), names.size(),
-                                  std::uint32_t(under), std::uint8_t(end),
-                                  faults, size);
+    return gix_validate_faults_of(names.data(), names.size(),
+                                  std::uint32_t(under), std::uint32_t(of),
+                                  std::uint8_t(end), faults, size);
   };
   std::vector<fault> faults(check(nullptr, 0));
   check(reinterpret_cast<std::uint8_t *>(faults.data()), faults.size());
@@ -328,8 +328,8 @@ inline std::size_t check_all(kind of, std::span<const std::string_view> names,
       names.size() < faults.size() ? names.size() : faults.size();
   for (std::size_t i = 0; i < count; i++) {
     faults[i] =
-        fault(gix_validate_fault_of(std::uint32_t(of), names[i].data(),
-                                    names[i].size(), std::uint32_t(under)));
+        fault(gix_validate_fault_of(names[i].data(), names[i].size(),
+                                    std::uint32_t(under), std::uint32_t(of)));
   }
   return count;
 }
@@ -515,9 +515,9 @@ inline void append_quoted(std::string &to, std::string_view bytes, char quote) {
 
 inline std::string error::text(std::string_view name) const {
   std::array<char, GIX_VALIDATE_TEXT_MAX> buffer;
-  const std::size_t length = gix_validate_text_of(
-      std::uint32_t(kind), name.data(), name.size(), std::uint32_t(protect),
-      buffer.data(), buffer.size());
+  const std::size_t length =
+      gix_validate_text_of(name.data(), name.size(), std::uint32_t(protect),
+                           std::uint32_t(kind), buffer.data(), buffer.size());
   GIX_VALIDATE_UNPOISON(buffer.data(), length);
   if (length == 0) { // It isn't the name that was checked.
     return std::string(fault_text(fault));

@@ -1,14 +1,18 @@
 package gitnames
 
+import "encoding/binary"
+
 // The functions. (A name of one here is its offset in the block, or its number in pure Go.)
 
 func faultOf(kind Kind, name string, protect Protections) Fault {
-	return Fault(numberOf(atFaultOf, uintptr(kind), name, uintptr(protect)))
+	return Fault(numberOf(atFaultOf, name, uintptr(protect), uintptr(kind)))
 }
 
-// offsetOf is where that fault is.
-func offsetOf(kind Kind, name string, protect Protections) int {
-	return int(numberOf(atOffsetOf, uintptr(kind), name, uintptr(protect)))
+// faultAt is the same, and where that fault is.
+func faultAt(kind Kind, name string, protect Protections) (Fault, int) {
+	var offset [8]byte
+	number := invokeOfKind(atFaultAt, name, uintptr(protect), uintptr(kind), offset[:])
+	return Fault(number), int(binary.LittleEndian.Uint64(offset[:]))
 }
 
 // textMax is how many bytes the text of a fault has at most.
@@ -17,13 +21,13 @@ const textMax = 134
 // appendText appends the text of that fault.
 func appendText(to []byte, kind Kind, name string, protect Protections) []byte {
 	var text [textMax]byte
-	return append(to, text[:invokeOfKind(atTextOf, uintptr(kind), name, uintptr(protect), text[:])]...)
+	return append(to, text[:invokeOfKind(atTextOf, name, uintptr(protect), uintptr(kind), text[:])]...)
 }
 
 // faultsOf writes the fault of each name, and returns how many names there are.
 func faultsOf(kind Kind, names string, protect Protections, end byte, faults []Fault) int {
 	needKind(kind)
-	return int(invokeOfMany(atFaultsOf, uintptr(kind), names, uintptr(protect), end, bytesOf(faults)))
+	return int(invokeOfMany(atFaultsOf, names, uintptr(protect), uintptr(kind), end, bytesOf(faults)))
 }
 
 func isWindowsDevice(name string) bool {

@@ -21,37 +21,37 @@
 	MOVQ  BX, SP; \
 	ADJSP $2016
 
-// func callForNumber(at, kind uintptr, name unsafe.Pointer, length, flags uintptr) uintptr
+// func callForNumber(at uintptr, name unsafe.Pointer, length, flags, kind uintptr) uintptr
 TEXT ·callForNumber(SB), 0, $2048-48
 	ADDRESS
-	MOVQ kind+8(FP), DI
-	MOVQ name+16(FP), SI
-	MOVQ length+24(FP), DX
-	MOVQ flags+32(FP), CX
+	MOVQ name+8(FP), DI
+	MOVQ length+16(FP), SI
+	MOVQ flags+24(FP), DX
+	MOVQ kind+32(FP), CX
 	CALL_ADDRESS
 	MOVQ AX, ret+40(FP)
 	RET
 
-// func callOfKind(at, kind uintptr, name unsafe.Pointer, length, flags uintptr, out unsafe.Pointer, room uintptr) uintptr
+// func callOfKind(at uintptr, name unsafe.Pointer, length, flags, kind uintptr, out unsafe.Pointer, room uintptr) uintptr
 TEXT ·callOfKind(SB), 0, $2048-64
 	ADDRESS
-	MOVQ kind+8(FP), DI
-	MOVQ name+16(FP), SI
-	MOVQ length+24(FP), DX
-	MOVQ flags+32(FP), CX
+	MOVQ name+8(FP), DI
+	MOVQ length+16(FP), SI
+	MOVQ flags+24(FP), DX
+	MOVQ kind+32(FP), CX
 	MOVQ out+40(FP), R8
 	MOVQ room+48(FP), R9
 	CALL_ADDRESS
 	MOVQ AX, ret+56(FP)
 	RET
 
-// func callOfMany(at, kind uintptr, names unsafe.Pointer, length, flags, end uintptr, out unsafe.Pointer, room uintptr) uintptr
+// func callOfMany(at uintptr, names unsafe.Pointer, length, flags, kind, end uintptr, out unsafe.Pointer, room uintptr) uintptr
 TEXT ·callOfMany(SB), 0, $2048-72
 	ADDRESS
-	MOVQ kind+8(FP), DI
-	MOVQ names+16(FP), SI
-	MOVQ length+24(FP), DX
-	MOVQ flags+32(FP), CX
+	MOVQ names+8(FP), DI
+	MOVQ length+16(FP), SI
+	MOVQ flags+24(FP), DX
+	MOVQ kind+32(FP), CX
 	MOVQ end+40(FP), R8
 	MOVQ out+48(FP), R9
 	MOVQ room+56(FP), R10

@@ -19,37 +19,37 @@
 	CALL (R9); \
 	SUB  $2032, RSP
 
-// func callForNumber(at, kind uintptr, name unsafe.Pointer, length, flags uintptr) uintptr
+// func callForNumber(at uintptr, name unsafe.Pointer, length, flags, kind uintptr) uintptr
 TEXT ·callForNumber(SB), 0, $2048-48
 	ADDRESS
-	MOVD kind+8(FP), R0
-	MOVD name+16(FP), R1
-	MOVD length+24(FP), R2
-	MOVD flags+32(FP), R3
+	MOVD name+8(FP), R0
+	MOVD length+16(FP), R1
+	MOVD flags+24(FP), R2
+	MOVD kind+32(FP), R3
 	CALL_ADDRESS
 	MOVD R0, ret+40(FP)
 	RET
 
-// func callOfKind(at, kind uintptr, name unsafe.Pointer, length, flags uintptr, out unsafe.Pointer, room uintptr) uintptr
+// func callOfKind(at uintptr, name unsafe.Pointer, length, flags, kind uintptr, out unsafe.Pointer, room uintptr) uintptr
 TEXT ·callOfKind(SB), 0, $2048-64
 	ADDRESS
-	MOVD kind+8(FP), R0
-	MOVD name+16(FP), R1
-	MOVD length+24(FP), R2
-	MOVD flags+32(FP), R3
+	MOVD name+8(FP), R0
+	MOVD length+16(FP), R1
+	MOVD flags+24(FP), R2
+	MOVD kind+32(FP), R3
 	MOVD out+40(FP), R4
 	MOVD room+48(FP), R5
 	CALL_ADDRESS
 	MOVD R0, ret+56(FP)
 	RET
 
-// func callOfMany(at, kind uintptr, names unsafe.Pointer, length, flags, end uintptr, out unsafe.Pointer, room uintptr) uintptr
+// func callOfMany(at uintptr, names unsafe.Pointer, length, flags, kind, end uintptr, out unsafe.Pointer, room uintptr) uintptr
 TEXT ·callOfMany(SB), 0, $2048-72
 	ADDRESS
-	MOVD kind+8(FP), R0
-	MOVD names+16(FP), R1
-	MOVD length+24(FP), R2
-	MOVD flags+32(FP), R3
+	MOVD names+8(FP), R0
+	MOVD length+16(FP), R1
+	MOVD flags+24(FP), R2
+	MOVD kind+32(FP), R3
 	MOVD end+40(FP), R4
 	MOVD out+48(FP), R5
 	MOVD room+56(FP), R6

@@ -12,33 +12,33 @@ func block()
 // declared as one, since Go moves stacks.)
 
 //go:noescape
-func callForNumber(at, kind uintptr, name unsafe.Pointer, length, flags uintptr) uintptr
+func callForNumber(at uintptr, name unsafe.Pointer, length, flags, kind uintptr) uintptr
 
 //go:noescape
-func callOfKind(at, kind uintptr, name unsafe.Pointer, length, flags uintptr, out unsafe.Pointer, room uintptr) uintptr
+func callOfKind(at uintptr, name unsafe.Pointer, length, flags, kind uintptr, out unsafe.Pointer, room uintptr) uintptr
 
 //go:noescape
-func callOfMany(at, kind uintptr, names unsafe.Pointer, length, flags, end uintptr, out unsafe.Pointer, room uintptr) uintptr
+func callOfMany(at uintptr, names unsafe.Pointer, length, flags, kind, end uintptr, out unsafe.Pointer, room uintptr) uintptr
 
 //go:noescape
 func callOfName(at uintptr, name unsafe.Pointer, length uintptr, out unsafe.Pointer, room uintptr) uintptr
 
 // numberOf calls a function that is about a name of a kind.
-func numberOf(at, kind uintptr, name string, flags uintptr) uintptr {
+func numberOf(at uintptr, name string, flags, kind uintptr) uintptr {
 	needProcessor()
-	return callForNumber(at, kind, start(name), uintptr(len(name)), flags)
+	return callForNumber(at, start(name), uintptr(len(name)), flags, kind)
 }
 
 // invokeOfKind calls a function that is about a name of a kind, and may write.
-func invokeOfKind(at, kind uintptr, name string, flags uintptr, out []byte) uintptr {
+func invokeOfKind(at uintptr, name string, flags, kind uintptr, out []byte) uintptr {
 	needProcessor()
-	return callOfKind(at, kind, start(name), uintptr(len(name)), flags, startOf(out), uintptr(len(out)))
+	return callOfKind(at, start(name), uintptr(len(name)), flags, kind, startOf(out), uintptr(len(out)))
 }
 
 // invokeOfMany calls a function that is about many names of a kind, and writes.
-func invokeOfMany(at, kind uintptr, names string, flags uintptr, end byte, out []byte) uintptr {
+func invokeOfMany(at uintptr, names string, flags, kind uintptr, end byte, out []byte) uintptr {
 	needProcessor()
-	return callOfMany(at, kind, start(names), uintptr(len(names)), flags, uintptr(end), startOf(out), uintptr(len(out)))
+	return callOfMany(at, start(names), uintptr(len(names)), flags, kind, uintptr(end), startOf(out), uintptr(len(out)))
 }
 
 // invokeOfName calls a function that is about a name, and may write.

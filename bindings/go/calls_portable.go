@@ -47,22 +47,22 @@ func (s *state) invoke(at uintptr, x [7]uint64, from uint64, out []byte) uintptr
 }
 
 // numberOf calls a function that is about a name of a kind.
-func numberOf(at, kind uintptr, name string, flags uintptr) uintptr {
-	return invokeOfKind(at, kind, name, flags, nil)
+func numberOf(at uintptr, name string, flags, kind uintptr) uintptr {
+	return invokeOfKind(at, name, flags, kind, nil)
 }
 
 // invokeOfKind calls a function that is about a name of a kind, and may write.
-func invokeOfKind(at, kind uintptr, name string, flags uintptr, out []byte) uintptr {
+func invokeOfKind(at uintptr, name string, flags, kind uintptr, out []byte) uintptr {
 	s, to := stateWith(name, out)
-	x := [7]uint64{uint64(kind), uint64(nameAt), uint64(len(name)), uint64(flags), to, uint64(len(out))}
+	x := [7]uint64{uint64(nameAt), uint64(len(name)), uint64(flags), uint64(kind), to, uint64(len(out))}
 	return s.invoke(at, x, to, out)
 }
 
 // invokeOfMany calls a function that is about many names of a kind, and writes.
-func invokeOfMany(at, kind uintptr, names string, flags uintptr, end byte, out []byte) uintptr {
+func invokeOfMany(at uintptr, names string, flags, kind uintptr, end byte, out []byte) uintptr {
 	s, to := stateWith(names, out)
 	x := [7]uint64{
-		uint64(kind), uint64(nameAt), uint64(len(names)), uint64(flags), uint64(end), to, uint64(len(out)),
+		uint64(nameAt), uint64(len(names)), uint64(flags), uint64(kind), uint64(end), to, uint64(len(out)),
 	}
 	return s.invoke(at, x, to, out)
 }

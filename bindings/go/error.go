@@ -6,8 +6,7 @@ import (
 	"unicode/utf8"
 )
 
-// An Error says why a name is invalid. The text and the offset are computed when you call Error or
-// Offset.
+// An Error says why a name is invalid, and where. The text is made when you call Error.
 type Error struct {
 	// Kind is what the name was checked as.
 	Kind Kind
@@ -16,6 +15,7 @@ type Error struct {
 	Fault Fault
 
 	protect Protections
+	offset  int
 
 	// Name is the name.
 	Name string
@@ -40,11 +40,11 @@ func (e *Error) Is(target error) bool {
 // Offset is where the fault is in the name, in bytes: in a..b that of the second dot. If
 // something is missing at the end, it is the length of the name.
 func (e *Error) Offset() int {
-	return offsetOf(e.Kind, e.Name, e.protect)
+	return e.offset
 }
 
 func (e *Error) appendPlace(text []byte) []byte {
-	at := e.Offset()
+	at := e.offset
 	if at == len(e.Name) {
 		return append(text, "at the end"...)
 	}

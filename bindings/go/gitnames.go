@@ -163,8 +163,8 @@ func check[T Name](kind Kind, name T, protect Protections) error {
 
 // checkView checks a name. That of a []byte may change later.
 func checkView(kind Kind, name string, protect Protections, mayChange bool) error {
-	if fault := Fault(numberOf(atFaultOf, uintptr(kind), name, uintptr(protect))); fault != Valid {
-		return newError(Error{Kind: kind, Fault: fault, protect: protect, Name: name}, mayChange)
+	if fault, offset := faultAt(kind, name, protect); fault != Valid {
+		return newError(Error{Kind: kind, Fault: fault, protect: protect, offset: offset, Name: name}, mayChange)
 	}
 	return nil
 }

@@ -43,5 +43,5 @@ func (k Kind) String() string {
 func FaultOf[T Name](kind Kind, name T, protect Protections) Fault {
 	protect = protect.whole()
 	needKind(kind)
-	return Fault(numberOf(atFaultOf, uintptr(kind), view(name), uintptr(protect)))
+	return Fault(numberOf(atFaultOf, view(name), uintptr(protect), uintptr(kind)))
 }

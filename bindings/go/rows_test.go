@@ -147,7 +147,7 @@ func testCall(t *testing.T, it row, call call) {
 		}
 		invalid := errorOf(t, it, err)
 		at := invalid.Offset()
-		if *invalid != (Error{Kind: call.kind, Fault: fault, Name: it.name, protect: protect}) {
+		if *invalid != (Error{Kind: call.kind, Fault: fault, Name: it.name, protect: protect, offset: at}) {
 			t.Errorf("%q: %#v", it, invalid)
 		}
 		if !errors.Is(err, faultError(fault)) || errors.Is(err, faultError(fault+1)) {

@@ -22,6 +22,7 @@ export const FAULTS = /* @__PURE__ */ Object.freeze([null,
     "PathSeparator", "WindowsPathPrefix", "WindowsReservedName", "WindowsIllegalCharacter", "DotGitDir",
     "SymlinkedGitModules", "Relative", "StartsWithDash", "EmptyPart", "Nul", "OutsideRefs", "Disguised"
 ]);
+const OFFSET_SIZE = 8;
 const TEXT_MAX = 134;
 
 // The kinds by their numbers. Those from safeRef on have protections.
@@ -52,10 +53,11 @@ const LONE_TEXT =
 
 // What the first call makes: the module's functions, which have no allocator,
 // and whose stack and constants end at __heap_base. From there on the memory is
-// this file's: the text of a fault is at TEXT, the name at NAME, and a name
-// that is longer than what is left lets the memory grow. (A length that a
-// function returns is unsigned, and JavaScript reads it as signed.)
-let proved, memory, room, TEXT, NAME;
+// this file's: the offset of a fault is at OFFSET, its text at TEXT, the name
+// at NAME, and a name that is longer than what is left lets the memory grow. (A
+// length that a function returns is unsigned, and JavaScript reads it as
+// signed.)
+let proved, memory, room, written, OFFSET, TEXT, NAME;
 let encoder, decoder, texts, typeOf, lengthOf;
 
 /** Takes an instance of the module, unless there is one. */
@@ -63,7 +65,8 @@ function use({exports}) {
   if (proved !== undefined) {
     return;
   }
-  TEXT = exports.__heap_base.value;
+  OFFSET = exports.__heap_base.value;
+  TEXT = OFFSET + OFFSET_SIZE;
   NAME = TEXT + TEXT_MAX;
   encoder = new TextEncoder();
   decoder = new TextDecoder("utf-8", {ignoreBOM: true});
@@ -79,6 +82,7 @@ function use({exports}) {
 /** Makes views of the memory, which has another buffer after it grew. */
 function viewMemory() {
   memory = new Uint8Array(proved.memory.buffer);
+  written = new DataView(proved.memory.buffer);
   room = memory.subarray(NAME);
 }
 
@@ -201,15 +205,17 @@ function textOf(number, kind, length, flags, offset) {
   if (texts.has(key)) {
     return texts.get(key);
   }
-  const written =
-      proved.gix_validate_text_of(kind, NAME, length, flags, TEXT, TEXT_MAX);
-  const text = decoder.decode(memory.subarray(TEXT, TEXT + written));
+  const size =
+      proved.gix_validate_text_of(NAME, length, flags, kind, TEXT, TEXT_MAX);
+  const text = decoder.decode(memory.subarray(TEXT, TEXT + size));
   return number === RESERVED ? text : texts.set(key, text).get(key);
 }
 
-/** What is wrong with a name, which is at NAME. */
+/**
+ * What is wrong with a name, which is at NAME, and where, which is at OFFSET.
+ */
 function explained(number, kind, name, length, flags) {
-  const offset = proved.gix_validate_offset_of(kind, NAME, length, flags) >>> 0;
+  const offset = written.getUint32(OFFSET, true);
   const text = textOf(number, kind, length, flags, offset),
         fault = FAULTS[number];
   if (typeof name !== "string") {
@@ -228,7 +234,8 @@ function check(kind, name, flags) {
     const message = placed(LONE_TEXT, name, index, "index", index);
     return {fault: "LoneSurrogate", message, index};
   }
-  const number = proved.gix_validate_fault_of(kind, NAME, length, flags);
+  const number =
+      proved.gix_validate_fault_at(NAME, length, flags, kind, OFFSET);
   return number === 0 ? null : explained(number, kind, name, length, flags);
 }
 
@@ -314,17 +321,17 @@ export function isWindowsDevice(name) {
 function repaired(kind, name, call) {
   const isString = typeof name === "string";
   const length = put(isString ? name.replace(/\p{Surrogate}/gu, " ") : name);
-  if (proved.gix_validate_fault_of(kind, NAME, length, 0) === 0) {
+  if (proved.gix_validate_fault_of(NAME, length, 0, kind) === 0) {
     return name;
   }
   const free = Math.max(1, length);
   reserve(length + free);
-  const written = proved[call](NAME, length, NAME + length, free) >>> 0;
-  if (written === 0) {
+  const size = proved[call](NAME, length, NAME + length, free) >>> 0;
+  if (size === 0) {
     return null;
   }
-  return isString ? decoded(length, length + written) :
-                    room.slice(length, length + written);
+  return isString ? decoded(length, length + size) :
+                    room.slice(length, length + size);
 }
 
 export function suggestBranch(name) {
@@ -351,7 +358,7 @@ function numberOf(kind) {
 function numbersOf(kind, flags, length, end) {
   reserve(2 * length);
   const count = proved.gix_validate_faults_of(
-                    kind, NAME, length, flags, end, NAME + length, length) >>>
+                    NAME, length, flags, kind, end, NAME + length, length) >>>
       0;
   return room.slice(length, length + count);
 }

@@ -211,6 +211,10 @@ class InvalidName(ValueError):
     """Raised for an invalid name. It has the `name` as it was passed, its first `fault`,
     and the `kind` and the protections (`protect`) by which it was checked.
 
+    `offset` is where in the name the fault is, from 0. It counts code points if the name is
+    a str, and bytes if it is bytes. If a part is missing at the end, it is the length of the
+    name.
+
     str() returns one line of English: what is wrong, the character or byte at the offset,
     and the part between slashes that it is in. It shows at most 200 characters of that
     part.
@@ -222,22 +226,15 @@ class InvalidName(ValueError):
         kind: Kind,
         fault: Fault,
         protect: Protect = _DEFAULT,
-    ) -> None:
-        super().__init__(name, kind, fault, protect)
+        offset: Optional[int] = None,
+    ) -> None:  # (BaseException keeps the arguments itself.)
+        if offset is None:
+            offset = _offset(name, kind, protect)
         self.name = name
         self.kind = kind
         self.fault = fault
         self.protect = protect
-
-    @property
-    def offset(self) -> int:
-        """Where in the name the fault is, from 0. It counts code points if the name is a
-        str, and bytes if it is bytes. If a part is missing at the end, it is the length of
-        the name."""
-        given = _encoded(self.name)
-        kind, flags = _number_of(self.kind), _flags_of(self.protect)
-        at: int = _offset_of(kind, given, _size_of(given), flags)
-        return _index(self.name, at) if isinstance(self.name, str) else at
+        self.offset = offset
 
     def __str__(self) -> str:
         text = _text(self.name, self.kind, self.protect)
@@ -284,11 +281,11 @@ _loaded = _library()
 _short = ctypes.PyDLL(_loaded._name, handle=_loaded._handle)
 _SIZE, _NUMBER, _BYTE = ctypes.c_size_t, ctypes.c_uint32, ctypes.c_uint8
 _BYTES = ctypes.c_void_p, _SIZE  # (takes bytes, and an address)
-_GIVEN = _NUMBER, *_BYTES, _NUMBER  # a kind, a name or a buffer, and flags
+_GIVEN = *_BYTES, _NUMBER, _NUMBER  # a name or a buffer, flags, and a kind
 # (What is called for one name declares no types, with which each argument takes twice as
-# long: a kind and flags are C's int, a name is a pointer, and a length is of `_size_of`.)
+# long: flags and a kind are C's int, a name is a pointer, and a length is of `_size_of`.)
 _fault_of = _function(_short, "fault_of", _NUMBER)
-_offset_of = _function(_short, "offset_of", _SIZE)
+_fault_at = _function(_short, "fault_at", _NUMBER)
 _text_of = _function(_short, "text_of", _SIZE)
 _faults_of = _function(_loaded, "faults_of", _SIZE, *_GIVEN, _BYTE, *_BYTES)
 _is_windows_device = _function(_short, "is_windows_device", ctypes.c_bool, *_BYTES)
@@ -299,6 +296,8 @@ _SIZES = [*map(_SIZE, range(256))]
 _KINDS = {kind.value: kind for kind in Kind}
 _FAULTS: List[Optional[Fault]] = [None, *Fault]
 _Text = ctypes.c_char * _TEXT_MAX
+_Place = _SIZE * 1
+_PLACES: List[Any] = []  # for offsets, while no call uses them
 _PART = 4096
 
 
@@ -611,22 +610,47 @@ def _number(name: Union[str, bytes], kind: KindName, protect: Protect) -> int:
     else:
         given = name if type(name) is bytes else _encoded(name)
     flags = protect if protect is _DEFAULT else _flags_of(protect)
-    number: int = _fault_of(_number_of(kind), given, _size_of(given), flags)
+    number: int = _fault_of(given, _size_of(given), flags, _number_of(kind))
     return number
 
 
 def _validated(name: Name, kind: KindName, protect: Protect = _DEFAULT) -> Name:
-    fault = _FAULTS[_number(name, kind, protect)]
+    """The name if it has no fault. (It begins as `_number` does, for the same reason.)"""
+    if type(name) is str:
+        given = name.encode("utf-8", "surrogateescape")
+    else:
+        given = name if type(name) is bytes else _encoded(name)
+    flags = protect if protect is _DEFAULT else _flags_of(protect)
+    try:
+        place = _PLACES.pop()
+    except IndexError:
+        place = _Place()
+    fault = _FAULTS[_fault_at(given, _size_of(given), flags, _number_of(kind), place)]
+    offset: int = 0 if fault is None else place[0]
+    _PLACES.append(place)
     if fault is None:
         return name
-    raise InvalidName(name, _KINDS[kind], fault, protect)
+    offset = _position(name, offset)
+    raise InvalidName(name, _KINDS[kind], fault, protect, offset)
+
+
+def _offset(name: Union[str, bytes], kind: KindName, protect: Protect) -> int:
+    """Where a name's fault is."""
+    given, place = _encoded(name), _Place()
+    _fault_at(given, _size_of(given), _flags_of(protect), _number_of(kind), place)
+    return _position(name, place[0])
+
+
+def _position(name: Union[str, bytes], at: int) -> int:
+    """The offset in a name for one in its bytes."""
+    return _index(name, at) if isinstance(name, str) else at
 
 
 def _text(name: Union[str, bytes], kind: KindName, protect: Protect) -> str:
     """The printed text of a name's fault."""
     given, text = _encoded(name), _Text()
     flags = _flags_of(protect)
-    _text_of(_number_of(kind), given, _size_of(given), flags, text, _SIZE(_TEXT_MAX))
+    _text_of(given, _size_of(given), flags, _number_of(kind), text, _SIZE(_TEXT_MAX))
     return text.value.decode("ascii")
 
 
@@ -709,7 +733,7 @@ def _numbers(
 ) -> bytes:
     """The number of each name of a buffer, which has at most as many as bytes."""
     numbers = ctypes.create_string_buffer(length)
-    given = _number_of(kind), names, length, _flags_of(protect)
+    given = names, length, _flags_of(protect), _number_of(kind)
     return ctypes.string_at(numbers, _faults_of(*given, end, numbers, length))
 
 

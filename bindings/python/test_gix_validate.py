@@ -279,7 +279,8 @@ def test_the_exception_is_a_value_error_that_can_be_copied():
     copied = pickle.loads(pickle.dumps(error))
     assert type(copied) is InvalidName
     assert copied.args == error.args
-    assert copied.args == (error.name, error.kind, error.fault, error.protect)
+    given = error.name, error.kind, error.fault, error.protect, error.offset
+    assert copied.args == given
     assert (copied.offset, str(copied)) == (error.offset, str(error))
 
 

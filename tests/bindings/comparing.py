@@ -123,7 +123,7 @@ def given_to(params, of):
     for kind, word in params:
         if word.startswith("*"):
             pointer = "it->name" if kind.startswith("const ") else "out->buffer"
-            yield pointer
+            yield f"({kind} *){pointer}"
         elif kind == "size_t":
             yield "it->room" if pointer == "out->buffer" else "it->length"
             pointer = ""

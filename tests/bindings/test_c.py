@@ -118,8 +118,8 @@ int main(void) {
   char name[] = "a..b", text[GIX_VALIDATE_TEXT_MAX];
   uint8_t bytes[GIX_VALIDATE_TEXT_MAX];
   size_t length =
-      gix_validate_text_of(GIX_VALIDATE_KIND_TAG, name, 4, 0, text, sizeof text);
-  bool is_same = length == gix_validate_text_of(GIX_VALIDATE_KIND_TAG, name, 4, 0,
+      gix_validate_text_of(name, 4, 0, GIX_VALIDATE_KIND_TAG, text, sizeof text);
+  bool is_same = length == gix_validate_text_of(name, 4, 0, GIX_VALIDATE_KIND_TAG,
                                                 bytes, sizeof bytes) &&
                  memcmp(text, bytes, length) == 0;
   bool is_repaired = gix_validate_suggest(name, 4, text, sizeof text) == 3 &&
@@ -150,8 +150,8 @@ int main(int count, char **arguments) {
   gix_validate_result result;
   gix_validate_name names[] = {{"a", 1}, {"a..b", 4}};
   const char *joined = count > 0 ? "a\\na..b\\n" : arguments[0];
-  gix_validate_faults_of(GIX_VALIDATE_KIND_TAG, joined, 7, 0, '\\n', faults, 4);
-  gix_validate_text_of(GIX_VALIDATE_KIND_TAG, "a..b", 4, 0, text, sizeof text);
+  gix_validate_faults_of(joined, 7, 0, GIX_VALIDATE_KIND_TAG, '\\n', faults, 4);
+  gix_validate_text_of("a..b", 4, 0, GIX_VALIDATE_KIND_TAG, text, sizeof text);
   gix_validate_suggest_str("a..b", suggested, sizeof suggested);
   gix_validate_check(GIX_VALIDATE_KIND_TAG, "a..b", 4, 0, &result);
   gix_validate_check_array(GIX_VALIDATE_KIND_TAG, names, 2, 0, each);

@@ -53,8 +53,8 @@ def accepts():
     need("git", LIBRARY)
     function = ctypes.CDLL(str(LIBRARY)).gix_validate_fault_of
     number = ctypes.c_uint32
-    function.argtypes = [number, ctypes.c_char_p, ctypes.c_size_t, number]
-    return lambda name: function(BRANCH, name, len(name), 0) == 0
+    function.argtypes = [ctypes.c_char_p, ctypes.c_size_t, number, number]
+    return lambda name: function(name, len(name), 0, BRANCH) == 0
 
 
 def test_git_accepts_the_same_short_names(accepts, tmp_path):

@@ -35,11 +35,17 @@ SHAKEN = {
         ["function", FUNCTIONS],
     ),
     'import { checkBranch } from "gix-validate"; console.log(checkBranch("a"))': (
-        ["gix_validate_fault_of", FUNCTIONS],
-        ["gix_validate_s", "gix_validate_faults_of", "symlinkPath", "windows"],
+        ["gix_validate_fault_at", FUNCTIONS],
+        [
+            "gix_validate_s",
+            "gix_validate_fault_of",
+            "gix_validate_faults_of",
+            "symlinkPath",
+            "windows",
+        ],
     ),
     'import { checkBranch } from "gix-validate/slim"; console.log(checkBranch("a"))': (
-        ["gix_validate_fault_of"],
+        ["gix_validate_fault_at"],
         ["gix_validate_suggest", FUNCTIONS],
     ),
 }

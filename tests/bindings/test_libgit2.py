@@ -62,9 +62,9 @@ def accepts():
     """Whether the library accepts a name of a kind."""
     need(LIBRARY)
     function = ctypes.CDLL(str(LIBRARY)).gix_validate_fault_of
-    function.argtypes = [ctypes.c_uint32, ctypes.c_char_p, ctypes.c_size_t]
-    function.argtypes += [ctypes.c_uint32]
-    return lambda kind, name: function(KINDS[kind], name, len(name), 7) == 0
+    function.argtypes = [ctypes.c_char_p, ctypes.c_size_t]
+    function.argtypes += [ctypes.c_uint32, ctypes.c_uint32]
+    return lambda kind, name: function(name, len(name), 7, KINDS[kind]) == 0
 
 
 def test_the_page_names_these_functions():

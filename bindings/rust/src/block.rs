@@ -45,15 +45,21 @@ mod functions {
         ($abi:literal) => {
             extern $abi {
                 #[link_name = "git_names_fault_of"]
-                pub(super) fn gix_validate_fault_of(kind: u32, name: *const u8, len: size_t, flags: u32) -> u32;
-                #[link_name = "git_names_offset_of"]
-                pub(super) fn gix_validate_offset_of(kind: u32, name: *const u8, len: size_t, flags: u32) -> size_t;
-                #[link_name = "git_names_text_of"]
-                pub(super) fn gix_validate_text_of(
-                    kind: u32,
+                pub(super) fn gix_validate_fault_of(name: *const u8, len: size_t, flags: u32, kind: u32) -> u32;
+                #[link_name = "git_names_fault_at"]
+                pub(super) fn gix_validate_fault_at(
                     name: *const u8,
                     len: size_t,
                     flags: u32,
+                    kind: u32,
+                    offset: *mut size_t,
+                ) -> u32;
+                #[link_name = "git_names_text_of"]
+                pub(super) fn gix_validate_text_of(
+                    name: *const u8,
+                    len: size_t,
+                    flags: u32,
+                    kind: u32,
                     text: *mut u8,
                     text_len: size_t,
                 ) -> size_t;
@@ -147,13 +153,17 @@ use functions::*;
 #[inline]
 pub(crate) fn fault_of(kind: u32, name: &[u8], flags: u32) -> u32 {
     check_processor();
-    unsafe { gix_validate_fault_of(kind, name.as_ptr(), name.len(), flags) }
+    unsafe { gix_validate_fault_of(name.as_ptr(), name.len(), flags, kind) }
 }
 
-/// Where that fault is, or the length of the name.
-pub(crate) fn offset_of(kind: u32, name: &[u8], flags: u32) -> usize {
+/// The same, and where that fault is, or the length of the name.
+#[inline]
+pub(crate) fn fault_at(kind: u32, name: &[u8], flags: u32) -> (u32, usize) {
     check_processor();
-    unsafe { gix_validate_offset_of(kind, name.as_ptr(), name.len(), flags) }
+    let mut offset = 0;
+    let number =
+        unsafe { gix_validate_fault_at(name.as_ptr(), name.len(), flags, kind, &mut offset) };
+    (number, offset)
 }
 
 /// Writes the text of that fault to the buffer if it fits, and returns its length.
@@ -161,10 +171,10 @@ pub(crate) fn text_of(kind: u32, name: &[u8], flags: u32, text: &mut [u8]) -> us
     check_processor();
     unsafe {
         gix_validate_text_of(
-            kind,
             name.as_ptr(),
             name.len(),
             flags,
+            kind,
             text.as_mut_ptr(),
             text.len(),
         )

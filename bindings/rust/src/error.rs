@@ -25,16 +25,24 @@ pub struct Error {
     kind: Kind,
     protections: Protections,
     fault: Fault,
+    offset: usize,
     name: Box<[u8]>,
 }
 
 impl Error {
     #[cold]
-    pub(crate) fn new(kind: Kind, protections: Protections, number: u32, name: &[u8]) -> Self {
+    pub(crate) fn new(
+        kind: Kind,
+        protections: Protections,
+        number: u32,
+        offset: usize,
+        name: &[u8],
+    ) -> Self {
         Error {
             kind,
             protections,
             fault: Fault::of(number),
+            offset,
             name: name.into(),
         }
     }
@@ -44,9 +52,9 @@ impl Error {
         self.fault
     }
 
-    /// Where in the name that is, in bytes. The offset is never more than the length of the name. Each call looks for it.
+    /// Where in the name that is, in bytes. The offset is never more than the length of the name.
     pub fn offset(&self) -> usize {
-        block::offset_of(self.kind.number(), &self.name, self.protections.flags())
+        self.offset
     }
 
     /// The name.
@@ -56,17 +64,16 @@ impl Error {
 
     /// The byte at the offset. There is none if the name is empty, or lacks something at its end.
     pub fn byte(&self) -> Option<u8> {
-        self.name.get(self.offset()).copied()
+        self.name.get(self.offset).copied()
     }
 
     /// The part between the slashes around the offset, or the whole name if it has no slash.
     pub fn piece(&self) -> &[u8] {
         let is_slash = |byte: &u8| *byte == b'/';
-        let offset = self.offset();
-        let (before, after) = self.name.split_at(offset);
+        let (before, after) = self.name.split_at(self.offset);
         let start = before.iter().rposition(is_slash).map_or(0, |at| at + 1);
         let end = after.iter().position(is_slash).unwrap_or(after.len());
-        &self.name[start..offset + end]
+        &self.name[start..self.offset + end]
     }
 
     fn fmt_place(&self, f: &mut fmt::Formatter<'_>) -> fmt::Result {
@@ -76,7 +83,7 @@ impl Error {
             Some(b'"') => write!(f, " ('\"'")?,
             Some(byte) => write!(f, " ('{}'", core::ascii::escape_default(byte))?,
         }
-        write!(f, " at byte {}", self.offset())?;
+        write!(f, " at byte {}", self.offset)?;
         let piece = self.piece();
         if !piece.is_empty() && piece.len() < self.name.len() && self.byte() != Some(b'/') {
             f.write_str(", in ")?;

@@ -80,9 +80,9 @@ impl Kind {
         protections: Protections,
     ) -> Result<(), Error> {
         let name = name.as_ref();
-        match block::fault_of(self.number(), name, protections.flags()) {
-            0 => Ok(()),
-            number => Err(Error::new(self, protections, number, name)),
+        match block::fault_at(self.number(), name, protections.flags()) {
+            (0, _) => Ok(()),
+            (number, offset) => Err(Error::new(self, protections, number, offset, name)),
         }
     }
 }

@@ -5,7 +5,7 @@
 
 ghost use Rattle.std.specs.Prelude.{◌≡◌, ◌==◌, ◌≢◌, ◌↔◌, ◌⊎◌, ◌+◌, ◌≤◌, [], ◌∷◌, ◌++◌, length};
 ghost use Rattle.std.specs.Prelude.{codes, All, Contains, IsOk, IfOk, IsTrue, MatchResult, vec_len};
-ghost use Rattle.std.specs.Prelude.{vec_capacity, Some};
+ghost use Rattle.std.specs.Prelude.{vec_capacity, Some, None};
 ghost use Rattle.std.specs.List.{list_all};
 ghost use Rattle.std.specs.Str.{byte};
 ghost use Rattle.bstr.specs.BStr.{bstr_bytes};
@@ -17,8 +17,9 @@ ghost use Rattle.gix_validate.specs.Reference.{full_fault_of, branch_fault_of, t
 ghost use Rattle.gix_validate.specs.Faults.{Validates};
 ghost use Rattle.gix_validate.specs.Printed.{printed};
 ghost use Rattle.gix_validate.specs.Pieces.{joined};
-ghost use Rattle.gix_validate.specs.Tag.{is_tag_name};
+ghost use Rattle.gix_validate.specs.Tag.{fault_of as tag_fault_of, is_tag_name};
 
+use crate::adjacent::is_clear;
 use crate::pieces::{Slash, joined};
 use crate::text::Text;
 use crate::{scan, tag};
@@ -154,7 +155,7 @@ pub fn name_partial<'a>(path: BStr<'a>) -> Result<BStr<'a>, NameError>
 /// # Errors
 ///
 /// The error of [`name_partial`] if there is one, and otherwise `SomeLowercase`.
-#[tactic(auto, using(crate::proofs::References::standing), unfolding(crate::specs::Reference::full_fault_of, crate::specs::Reference::is_full_name))]
+#[tactic(auto, using(crate::proofs::References::standing, crate::proofs::TagNames::ClearTexts::clear_has_no_fault), unfolding(crate::specs::Reference::is_full_name))]
 #[inline(always)]
 pub fn name<'a>(path: BStr<'a>) -> Result<BStr<'a>, NameError>
     ensures answer { Validates full_fault_of (bstr_bytes path.entry) result }
@@ -166,7 +167,37 @@ pub fn name<'a>(path: BStr<'a>) -> Result<BStr<'a>, NameError>
         ↔ (IsTrue (is_partial_name x)
         × (Contains x (byte "/") ⊎ All (λ b. IsTrue (is_standalone_byte b)) x)) }
 {
-    let name = name_partial(path)?;
+    if is_clear(path.as_bytes()) {
+        return full_name(path);
+    }
+    match name_on_walk(path) {
+        Ok(name) => Ok(name),
+        Err(fault) => Err(fault),
+    }
+}
+
+/// The result of `name` for a name that isn't clear. (As a part of `name` it would make a frame for
+/// each name, and so would a call that writes to the place of the result.)
+#[inline(never)]
+#[tactic(auto, using(crate::proofs::TagNames::Grammar::tag_grammar_law), unfolding(crate::specs::Reference::full_fault_of, crate::specs::Reference::partial_fault_of, crate::specs::Reference::is_full_name, crate::specs::Reference::is_partial_name))]
+fn name_on_walk<'a>(path: BStr<'a>) -> Result<BStr<'a>, NameError>
+    ensures answer { Validates full_fault_of (bstr_bytes path.entry) result }
+    ensures grammar { IsOk result ↔ IsTrue (is_full_name (bstr_bytes path.entry)) }
+    ensures same { IfOk result (λ name. name ≡ path.entry) }
+{
+    full_name(tag::name_on_walk(path)?)
+}
+
+/// Returns a tag name if it is a full name.
+#[inline(always)]
+#[tactic(auto, using(crate::proofs::References::reserved_names, crate::proofs::TagNames::Grammar::tag_grammar_law), unfolding(crate::specs::Reference::full_fault_of, crate::specs::Reference::partial_fault_of, crate::specs::Reference::is_full_name, crate::specs::Reference::is_partial_name))]
+fn full_name<'a>(name: BStr<'a>) -> Result<BStr<'a>, NameError>
+    requires { tag_fault_of (bstr_bytes name) ≡ None }
+    ensures answer { Validates full_fault_of (bstr_bytes name.entry) result }
+    ensures grammar { IsOk result ↔ IsTrue (is_full_name (bstr_bytes name.entry)) }
+    ensures same { IfOk result (λ full. full ≡ name.entry) }
+{
+    let name = unless_reserved(name, b"@")?;
     if has_slash_or_stands_alone(name.as_bytes()) {
         Ok(name)
     } else {

@@ -43,13 +43,24 @@ pub(crate) fn first<P: Pattern>(front: &[u8], back: &[u8]) -> Option<usize>
     ensures { Finds (at_both P.hit front.now back.now) (length front.now) (length front.now) result }
 {
     let len = front.len();
-    if len >= LANES {
-        return first_by_blocks::<P>(front, back);
+    if len < 8 {
+        return first_of_few::<P>(front, back);
     }
-    if len >= 8 {
+    if len < LANES {
         let at = len - 8;
         return first_of_parts::<P>(front, back, 8, halves(front, 0, at), halves(back, 0, at));
     }
+    first_by_blocks::<P>(front, back)
+}
+
+/// The first hit in byte strings of less than eight bytes.
+#[inline(always)]
+fn first_of_few<P: Pattern>(front: &[u8], back: &[u8]) -> Option<usize>
+    requires same { length back.now ≡ length front.now }
+    requires few { length front.now < 8 }
+    ensures { Finds (at_both P.hit front.now back.now) (length front.now) (length front.now) result }
+{
+    let len = front.len();
     if len >= 4 {
         return first_of_parts::<P>(
             front,

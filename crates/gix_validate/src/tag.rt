@@ -9,7 +9,8 @@ ghost use Rattle.gix_validate.specs.TagLaws.{HasAtMostOneFaultPerOffset, PiecesA
 ghost use Rattle.gix_validate.specs.Bytes.{ends};
 ghost use Rattle.gix_validate.specs.Faults.{Validates, at_first_offset};
 ghost use Rattle.gix_validate.specs.Printed.{printed};
-ghost use Rattle.gix_validate.specs.Private.Adjacent.{fault_of_byte, may_be_faulty};
+ghost use Rattle.gix_validate.specs.Private.Adjacent.{fault_of_byte, may_be_faulty, suspect_at};
+ghost use Rattle.gix_validate.specs.Private.Scan.{NoneBelow};
 
 use crate::adjacent::{clear_front, is_clear};
 use crate::bytes::may_be_faulty;
@@ -123,13 +124,14 @@ pub fn name<'a>(input: BStr<'a>) -> Result<BStr<'a>, NameError>
 /// The result of `name` for a name that isn't clear. (As a part of `name` it would make clear names
 /// four instructions slower.)
 #[inline(always)]
-fn name_on_walk<'a>(input: BStr<'a>) -> Result<BStr<'a>, NameError>
+#[tactic(auto, unfolding(crate::specs::Tag::fault_of))]
+pub(crate) fn name_on_walk<'a>(input: BStr<'a>) -> Result<BStr<'a>, NameError>
     ensures answer { Validates fault_of (bstr_bytes input.entry) result }
     ensures same { IfOk result (λ name. name ≡ input.entry) }
 {
-    match first_fault(input.as_bytes()) {
+    match fault_on_walk(input.as_bytes()) {
         None => Ok(input),
-        Some(fault) => Err(fault),
+        Some((fault, _)) => Err(fault),
     }
 }
 
@@ -141,7 +143,7 @@ fn name_on_walk<'a>(input: BStr<'a>) -> Result<BStr<'a>, NameError>
 /// tag::fault_offset(BStr::from("v1..2")); // Some(3), the second dot
 /// tag::fault_offset(BStr::from("v1.2")); // None
 /// ```
-#[tactic(auto, using(crate::proofs::TagNames::Grammar::offset_grammar_law, crate::proofs::TagNames::ClearTexts::offset_within, crate::proofs::TagNames::Grammar::halves_law))]
+#[tactic(auto, using(crate::proofs::TagNames::Grammar::offset_grammar_law, crate::proofs::TagNames::ClearTexts::offset_within, crate::proofs::TagNames::Grammar::halves_law), unfolding(crate::specs::Tag::fault_offset_of))]
 pub fn fault_offset(input: BStr<'_>) -> Option<usize>
     ensures offset { result ≡ fault_offset_of (bstr_bytes input.entry) }
     // The error that `name` returns is at this offset.
@@ -150,96 +152,97 @@ pub fn fault_offset(input: BStr<'_>) -> Option<usize>
     ensures grammar { IsNone result ↔ IsTrue (is_tag_name (bstr_bytes input.entry)) }
     ensures within { IfSome result (λ i. i ≤ length (bstr_bytes input.entry) - 1) }
 {
-    offset_of_fault(input.as_bytes())
+    match first_fault(input) {
+        None => None,
+        Some((_, offset)) => Some(offset),
+    }
 }
 
-/// The offset of the first error, in the order of docs/RULES.md, "Tag names".
-#[tactic(auto, unfolding(crate::specs::Tag::first_fault, crate::specs::Tag::fault_offset_of))]
-fn offset_of_fault(bytes: &[u8]) -> Option<usize>
-    ensures { result ≡ fault_offset_of bytes.now }
+/// A tag name's first error and the offset of that, as [`fault_offset`] returns it, or `None` if the
+/// name is valid. The function doesn't allocate.
+///
+/// ```
+/// tag::first_fault(BStr::from("v1..2")); // Some((RepeatedDot, 3))
+/// tag::first_fault(BStr::from("v1.2")); // None
+/// ```
+#[inline(always)]
+#[tactic(auto, using(crate::proofs::TagNames::Grammar::first_fault_law, crate::proofs::TagNames::ClearTexts::first_fault_within, crate::proofs::TagNames::ClearTexts::clear_has_no_first_fault, crate::proofs::TagNames::ClearTexts::first_fault_of_empty))]
+pub fn first_fault(input: BStr<'_>) -> Option<(NameError, usize)>
+    ensures fault { result ≡ option_map (λ fault. (fault.error, fault.offset)) (first_fault (bstr_bytes input.entry)) }
+    ensures grammar { IsNone result ↔ IsTrue (is_tag_name (bstr_bytes input.entry)) }
+    ensures within { IfSome result (λ fault. fault.1 ≤ length (bstr_bytes input.entry) - 1) }
+{
+    let bytes = input.as_bytes();
+    if bytes.is_empty() {
+        return Some((NameError::Empty, 0));
+    }
+    let front = clear_front(bytes);
+    if front == bytes.len() {
+        return None;
+    }
+    fault_past(bytes, front)
+}
+
+/// The first error of a name, in the order of docs/RULES.md, "Tag names", and its offset.
+#[inline(never)]
+#[tactic(auto, unfolding(crate::specs::Tag::first_fault))]
+fn fault_on_walk(bytes: &[u8]) -> Option<(NameError, usize)>
+    ensures { result ≡ option_map (λ fault. (fault.error, fault.offset)) (first_fault bytes.now) }
 {
     if bytes.is_empty() {
-        return Some(0);
+        return Some((NameError::Empty, 0));
     }
+    fault_past(bytes, clear_front(bytes))
+}
+
+/// The same, if so many bytes at the front of a name need no closer check.
+#[inline(never)]
+#[tactic(auto, unfolding(crate::specs::Tag::first_fault))]
+fn fault_past(bytes: &[u8], front: usize) -> Option<(NameError, usize)>
+    requires some { 0 < length bytes.now }
+    requires within { front ≤ length bytes.now }
+    requires quiet { NoneBelow (suspect_at bytes.now) front }
+    ensures { result ≡ option_map (λ fault. (fault.error, fault.offset)) (first_fault bytes.now) }
+{
     let last = bytes.len() - 1;
     if bytes[last] == b'/' {
-        return Some(last);
+        return Some((NameError::EndsWithSlash, last));
     }
     if bytes[0] == b'/' {
-        return Some(0);
+        return Some((NameError::StartsWithSlash, 0));
     }
-    if let Some(offset) = first_offset(bytes) {
-        return Some(offset);
-    }
-    match (bytes[0], bytes[last]) {
-        (b'.', _) => Some(0),
-        (_, b'.') => Some(last),
-        _ => None,
-    }
-}
-
-#[tactic(auto, using(crate::proofs::TagNames::ClearTexts::least_offset))]
-fn first_offset(bytes: &[u8]) -> Option<usize>
-    requires { 0 < length bytes.now }
-    ensures { result ≡ option_map Fault.offset (at_first_offset (fault_at bytes.now) (length bytes.now)) }
-{
-    for offset in 0..bytes.len() {
-        let byte = bytes[offset];
-        if may_be_faulty(byte) && fault_of_byte(&bytes[..offset], byte).is_some() {
-            return Some(offset);
-        }
-    }
-    if bytes.ends_with(b".lock") && bytes.len() != 5 {
-        return Some(bytes.len() - 1);
-    }
-    None
-}
-
-/// The first error of a name, in the order of docs/RULES.md, "Tag names".
-#[inline(never)]
-#[tactic(auto, unfolding(crate::specs::Tag::first_fault, crate::specs::Tag::fault_of))]
-fn first_fault(bytes: &[u8]) -> Option<NameError>
-    ensures { result ≡ fault_of bytes.now }
-{
-    if bytes.is_empty() {
-        return Some(NameError::Empty);
-    }
-    let first = bytes[0];
-    let last = bytes[bytes.len() - 1];
-    if last == b'/' {
-        return Some(NameError::EndsWithSlash);
-    }
-    if first == b'/' {
-        return Some(NameError::StartsWithSlash);
-    }
-    if let Some(fault) = fault_at_first_offset(bytes) {
+    if let Some(fault) = fault_at_first_offset(bytes, front) {
         return Some(fault);
     }
-    if first == b'.' {
-        return Some(NameError::StartsWithDot);
+    if bytes[0] == b'.' {
+        return Some((NameError::StartsWithDot, 0));
     }
-    if last == b'.' {
-        return Some(NameError::EndsWithDot);
+    if bytes[last] == b'.' {
+        return Some((NameError::EndsWithDot, last));
     }
     None
 }
 
-/// The error at the lowest offset that has one. Most bytes need one look into a table.
+/// The error at the lowest offset that has one, and that offset. Most bytes need one look into a
+/// table.
 #[tactic(auto, using(crate::proofs::TagNames::ClearTexts::least_fault))]
-fn fault_at_first_offset(bytes: &[u8]) -> Option<NameError>
-    requires { 0 < length bytes.now }
-    ensures { result ≡ option_map Fault.error (at_first_offset (fault_at bytes.now) (length bytes.now)) }
+fn fault_at_first_offset(bytes: &[u8], front: usize) -> Option<(NameError, usize)>
+    requires some { 0 < length bytes.now }
+    requires within { front ≤ length bytes.now }
+    requires quiet { NoneBelow (suspect_at bytes.now) front }
+    ensures { result ≡ option_map (λ fault. (fault.error, fault.offset))
+        (at_first_offset (fault_at bytes.now) (length bytes.now)) }
 {
-    for offset in clear_front(bytes)..bytes.len() {
+    for offset in front..bytes.len() {
         let byte = bytes[offset];
         if may_be_faulty(byte) {
             if let Some(fault) = fault_of_byte(&bytes[..offset], byte) {
-                return Some(fault);
+                return Some((fault, offset));
             }
         }
     }
     if bytes.ends_with(b".lock") && bytes.len() != 5 {
-        return Some(NameError::LockFileSuffix);
+        return Some((NameError::LockFileSuffix, bytes.len() - 1));
     }
     None
 }

@@ -6,9 +6,8 @@ ghost use Rattle.bstr.specs.BStr.{bstr_bytes};
 ghost use Rattle.gix_validate.specs.Pieces.{names_in};
 ghost use Rattle.gix_validate_c.specs.Kinds.{kind_of, number_by};
 
-use crate::names::{kind_of, number_by};
+use crate::names::number_by;
 use bstr::BStr;
-use git_names::Kind;
 use memchr::memchr;
 
 /// Checks many names as [`gix_validate_fault_of`](crate::names::gix_validate_fault_of) checks one.
@@ -23,13 +22,13 @@ use memchr::memchr;
 /// fit isn't checked, so an empty array only counts the names.
 ///
 /// ```c
-/// gix_validate_faults_of(2, "v1\na..b\n", 8, 0, '\n', faults, sizeof faults); // 2: 0, and 4, RepeatedDot
+/// gix_validate_faults_of("v1\na..b\n", 8, 0, 2, '\n', faults, sizeof faults); // 2: 0, and 4, RepeatedDot
 /// ```
 #[unsafe(no_mangle)]
 pub extern "C" fn gix_validate_faults_of(
-    kind: u32,
     names: &[u8],
     flags: u32,
+    kind: u32,
     end: u8,
     faults: &mut [u8],
 ) -> usize
@@ -39,7 +38,6 @@ pub extern "C" fn gix_validate_faults_of(
     ensures rest { drop result faults.new ≡ drop result faults.old }
     ensures bounds { result ≤ length names.now }
 {
-    let kind = kind_of(kind);
     let mut count = 0;
     let mut rest = names;
     while let Some((name, after)) = first_name(rest, end) {
@@ -54,8 +52,8 @@ pub extern "C" fn gix_validate_faults_of(
 
 /// The number of the name's fault as a byte.
 #[inline(always)]
-fn byte_by(kind: Option<Kind>, name: BStr<'_>, flags: u32) -> u8
-    ensures number { result ≡ number_by kind flags (bstr_bytes name.entry) }
+fn byte_by(kind: u32, name: BStr<'_>, flags: u32) -> u8
+    ensures number { result ≡ number_by (kind_of kind) flags (bstr_bytes name.entry) }
 {
     number_by(kind, name, flags) as u8
 }

@@ -1,6 +1,6 @@
 //! Validation of one name.
 //!
-//! The parameters are the number of a kind, a name, and flags (docs/RULES.md, "Calls for C"):
+//! The parameters are a name, flags, and the number of a kind (docs/RULES.md, "Calls for C"):
 //!
 //! | Number | Kind | Rule |
 //! |---|---|---|
@@ -20,62 +20,67 @@
 //! The flags are 1 for the rules for Windows, 2 for those for HFS+ and 4 for those for NTFS. Other
 //! bits are ignored, and so are all flags for kinds 0 to 5.
 
-ghost use Rattle.std.specs.Prelude.{◌≡◌, ◌⊎◌, ◌↔◌, ◌≤◌, ◌%◌, IsTrue, MatchOption, Some, length};
+ghost use Rattle.std.specs.Prelude.{◌≡◌, ◌⊎◌, ◌↔◌, ◌<◌, ◌≤◌, ◌%◌, ℕ, IsTrue, Some, length};
 ghost use Rattle.bstr.specs.BStr.{bstr_bytes};
 ghost use Rattle.gix_validate.specs.Windows.{is_device};
-ghost use Rattle.git_names.specs.Kinds.{is_name, reason_of};
+ghost use Rattle.gix_validate.specs.declared.tag.NameError.TheVariants.{LockFileSuffix};
 ghost use Rattle.git_names.specs.declared.faults.Kind.TheVariants as kind;
 ghost use Rattle.gix_validate_c.specs.Flags.{options_of};
 ghost use Rattle.gix_validate_c.specs.Kinds.{kind_of, is_of_kind, number_by, offset_by};
-ghost use Rattle.gix_validate_c.specs.Numbers.{code_by, reason_number};
 
-use crate::fault::code;
+use crate::fault::{Fault, code};
 use crate::flags::options_of;
 use bstr::BStr;
 use git_names::Kind;
 use gix_validate::path::{ComponentMode, component_is_windows_device};
-use gix_validate::submodule;
+use gix_validate::{submodule, tag as tag_names};
 
 /// Returns 0 if the name is a valid name of this kind, and otherwise the number of its fault. 255
 /// means that there is no such kind.
 ///
 /// ```c
-/// gix_validate_fault_of(0, "main", 4, 0);     // 0: a branch
-/// gix_validate_fault_of(0, "a..b", 4, 0);     // 4, RepeatedDot
-/// gix_validate_fault_of(7, "src/.git", 8, 7); // 19, DotGitDir: no path
+/// gix_validate_fault_of("main", 4, 0, 0);     // 0: a branch
+/// gix_validate_fault_of("a..b", 4, 0, 0);     // 4, RepeatedDot
+/// gix_validate_fault_of("src/.git", 8, 7, 7); // 19, DotGitDir: no path
 /// ```
 #[tactic(auto, using(crate::proofs::FlagLemmas::low_flags))]
 #[unsafe(no_mangle)]
-pub extern "C" fn gix_validate_fault_of(kind: u32, name: &[u8], flags: u32) -> u32
+pub extern "C" fn gix_validate_fault_of(name: &[u8], flags: u32, kind: u32) -> u32
     ensures answer { result ≡ number_by (kind_of kind) flags name.now }
     ensures grammar { (result ≡ 0) ↔ IsTrue (is_of_kind (kind_of kind) flags name.now) }
     ensures range { (result ≤ 26) ⊎ (result ≡ 255) }
     ensures low_bits { result ≡ number_by (kind_of kind) (flags % 8) name.now }
 {
-    number_by(kind_of(kind), BStr::new(name), flags)
+    number_by(kind, BStr::new(name), flags)
 }
 
-/// Returns the offset in bytes of the fault for which [`gix_validate_fault_of`] refuses the name
-/// (docs/RULES.md, "Offsets"), the length of the name if it is valid, and 0 if there is no such
+/// Returns what [`gix_validate_fault_of`] returns, and writes where that fault is (docs/RULES.md,
+/// "Offsets"): its offset in bytes, the length of the name if it is valid, and 0 if there is no such
 /// kind.
 ///
 /// ```c
-/// gix_validate_offset_of(2, "v1..2", 5, 0);     // 3, the second dot
-/// gix_validate_offset_of(7, "src/aux.c", 9, 7); // 4, where the device begins
-/// gix_validate_offset_of(2, "v1.2", 4, 0);      // 4: valid
+/// gix_validate_fault_at("v1..2", 5, 0, 2, &at);     // 4, RepeatedDot, and `at` is 3, the second dot
+/// gix_validate_fault_at("src/aux.c", 9, 7, 7, &at); // 17, and `at` is 4, where the device begins
+/// gix_validate_fault_at("v1.2", 4, 0, 2, &at);      // 0, and `at` is 4: valid
 /// ```
 #[unsafe(no_mangle)]
-pub extern "C" fn gix_validate_offset_of(kind: u32, name: &[u8], flags: u32) -> usize
-    ensures offset { result ≡ offset_by (kind_of kind) flags name.now }
-    ensures bounds { result ≤ length name.now }
+pub extern "C" fn gix_validate_fault_at(
+    name: &[u8],
+    flags: u32,
+    kind: u32,
+    offset: &mut usize,
+) -> u32
+    ensures answer { result ≡ number_by (kind_of kind) flags name.now }
+    ensures offset { offset.new ≡ offset_by (kind_of kind) flags name.now }
+    ensures bounds { offset.new ≤ length name.now }
 {
-    match kind_of(kind) {
-        None => 0,
-        Some(kind) => match git_names::check(kind, BStr::new(name), options_of(flags)) {
-            Ok(_) => name.len(),
-            Err(fault) => fault.offset,
-        },
-    }
+    let (number, at) = if kind < 6 {
+        reference_fault_at(kind, BStr::new(name))
+    } else {
+        other_fault_at(kind, BStr::new(name), flags)
+    };
+    *offset = at;
+    number
 }
 
 /// Whether Windows takes the name for a device, in any ASCII letter case (docs/RULES.md, "Path
@@ -114,31 +119,120 @@ pub(crate) fn kind_of(number: u32) -> Option<Kind>
     }
 }
 
-/// The number of the name's fault, 0 if it has none, and 255 if there is no kind.
-// (Each kind has a function of its own, and `fault_of` ends in a jump to it. In one function all
-// kinds would set up the frame that the largest needs, which takes some fifty instructions.)
+/// The number of the name's fault, 0 if it has none, and 255 if there is no such kind.
+// (Each kind has a function of its own, and `fault_of` ends in a jump to it that moves no argument.
+// In one function all kinds would set up the frame that the largest needs, which takes some fifty
+// instructions. The comparisons find most kinds sooner than a table of jumps would.)
 #[inline(always)]
-pub(crate) fn number_by(kind: Option<Kind>, name: BStr<'_>, flags: u32) -> u32
-    ensures unknown { MatchOption kind (result ≡ 255) (λ kind.
-        result ≡ code_by reason_number (reason_of (options_of flags) kind (bstr_bytes name.entry))) }
-    ensures grammar { MatchOption kind (result ≡ 255) (λ kind.
-        (result ≡ 0) ↔ IsTrue (is_name (options_of flags) kind (bstr_bytes name.entry))) }
+pub(crate) fn number_by(kind: u32, name: BStr<'_>, flags: u32) -> u32
+    ensures number { result ≡ number_by (kind_of kind) flags (bstr_bytes name.entry) }
+    ensures grammar { (result ≡ 0) ↔ IsTrue (is_of_kind (kind_of kind) flags (bstr_bytes name.entry)) }
     ensures range { (result ≤ 26) ⊎ (result ≡ 255) }
 {
-    match kind {
-        None => 255,
-        Some(Kind::Branch) => branch(name),
-        Some(Kind::BranchRef) => branch_ref(name),
-        Some(Kind::Tag) => tag(name),
-        Some(Kind::Reference) => reference(name),
-        Some(Kind::Partial) => partial(name),
-        Some(Kind::TagName) => tag_name(name),
-        Some(Kind::SafeRef) => safe_ref(name, flags),
-        Some(Kind::Path) => path(name, flags),
-        Some(Kind::SymlinkPath) => symlink_path(name, flags),
-        Some(Kind::Component) => component(name, flags),
-        Some(Kind::Symlink) => symlink(name, flags),
-        Some(Kind::Submodule) => submodule(name, flags),
+    if kind < 6 {
+        number_of_reference(kind, name)
+    } else {
+        number_under(kind, name, flags)
+    }
+}
+
+/// The same of the kinds without flags.
+#[inline(always)]
+fn number_of_reference(kind: u32, name: BStr<'_>) -> u32
+    requires { kind < 6 }
+    ensures number { (flags : ℕ) → result ≡ number_by (kind_of kind) flags (bstr_bytes name.entry) }
+    ensures grammar { (flags : ℕ) → (result ≡ 0) ↔ IsTrue (is_of_kind (kind_of kind) flags (bstr_bytes name.entry)) }
+    ensures range { result ≤ 26 }
+{
+    if kind == 5 {
+        tag_name(name)
+    } else if kind < 3 {
+        match kind {
+            0 => branch(name),
+            1 => branch_ref(name),
+            _ => tag(name),
+        }
+    } else if kind == 3 {
+        reference(name)
+    } else {
+        partial(name)
+    }
+}
+
+/// The same of the kinds that have flags.
+#[inline(always)]
+fn number_under(kind: u32, name: BStr<'_>, flags: u32) -> u32
+    requires { 6 ≤ kind }
+    ensures number { result ≡ number_by (kind_of kind) flags (bstr_bytes name.entry) }
+    ensures grammar { (result ≡ 0) ↔ IsTrue (is_of_kind (kind_of kind) flags (bstr_bytes name.entry)) }
+    ensures range { (result ≤ 26) ⊎ (result ≡ 255) }
+{
+    if kind == 11 {
+        submodule(name, flags)
+    } else if kind == 9 {
+        component(name, flags)
+    } else if kind < 8 {
+        match kind {
+            7 => path(name, flags),
+            _ => safe_ref(name, flags),
+        }
+    } else {
+        match kind {
+            8 => symlink_path(name, flags),
+            10 => symlink(name, flags),
+            _ => 255,
+        }
+    }
+}
+
+/// The number and the offset of the name's fault as one of the first six kinds. A fault that is one
+/// of the tag name comes with its offset.
+#[inline(always)]
+fn reference_fault_at(kind: u32, name: BStr<'_>) -> (u32, usize)
+    requires { kind < 6 }
+    ensures number { (flags : ℕ) → result.0 ≡ number_by (kind_of kind) flags (bstr_bytes name.entry) }
+    ensures offset { (flags : ℕ) → result.1 ≡ offset_by (kind_of kind) flags (bstr_bytes name.entry) }
+    ensures bounds { result.1 ≤ length (bstr_bytes name.entry) }
+{
+    match tag_names::first_fault(name) {
+        Some((fault, offset)) if !is_lock(&fault) => (fault.number().into(), offset),
+        _ => other_fault_at(kind, name, 0),
+    }
+}
+
+/// Whether the fault is `.lock` at the end of a piece, whose offset is that where it begins.
+fn is_lock(fault: &tag_names::NameError) -> bool
+    ensures { IsTrue result ↔ (fault.now ≡ LockFileSuffix) }
+{
+    matches!(fault, tag_names::NameError::LockFileSuffix)
+}
+
+/// The number and the offset of the name's fault, by a look for each.
+#[inline(always)]
+fn other_fault_at(kind: u32, name: BStr<'_>, flags: u32) -> (u32, usize)
+    ensures number { result.0 ≡ number_by (kind_of kind) flags (bstr_bytes name.entry) }
+    ensures offset { result.1 ≡ offset_by (kind_of kind) flags (bstr_bytes name.entry) }
+    ensures bounds { result.1 ≤ length (bstr_bytes name.entry) }
+{
+    let number = number_by(kind, name, flags);
+    if number == 0 {
+        return (0, name.as_bytes().len());
+    }
+    (number, offset_of_fault(kind, name, flags))
+}
+
+/// The offset of the fault of a name that has one, or 0 if there is no such kind.
+#[inline(never)]
+fn offset_of_fault(kind: u32, name: BStr<'_>, flags: u32) -> usize
+    ensures offset { result ≡ offset_by (kind_of kind) flags (bstr_bytes name.entry) }
+    ensures bounds { result ≤ length (bstr_bytes name.entry) }
+{
+    match kind_of(kind) {
+        None => 0,
+        Some(kind) => match git_names::check(kind, name, options_of(flags)) {
+            Ok(_) => name.as_bytes().len(),
+            Err(fault) => fault.offset,
+        },
     }
 }
 
@@ -233,6 +327,9 @@ fn symlink_path(name: BStr<'_>, flags: u32) -> u32
 }
 
 /// The number of the name's fault as a path component.
+// (It isn't cold. But so `fault_of` first compares its kind with that of submodules, which have
+// fewer instructions to spare.)
+#[cold]
 #[inline(never)]
 fn component(name: BStr<'_>, flags: u32) -> u32
     ensures number { result ≡ number_by (Some kind.Component) flags (bstr_bytes name.entry) }

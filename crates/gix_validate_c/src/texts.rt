@@ -21,10 +21,10 @@ use gix_validate::text::{Text, escape};
 /// isn't NUL-terminated.
 ///
 /// ```c
-/// gix_validate_text_of(2, "a..b", 4, 0, text, sizeof text); // 61
+/// gix_validate_text_of("a..b", 4, 0, 2, text, sizeof text); // 61
 /// ```
 #[unsafe(no_mangle)]
-pub extern "C" fn gix_validate_text_of(kind: u32, name: &[u8], flags: u32, text: &mut [u8]) -> usize
+pub extern "C" fn gix_validate_text_of(name: &[u8], flags: u32, kind: u32, text: &mut [u8]) -> usize
     ensures length { result ≡ length (printed_by (kind_of kind) flags name.now) }
     ensures bytes { text.new ≡ with_text (printed_by (kind_of kind) flags name.now) text.old }
     ensures longest { result ≤ MAX_TEXT }

@@ -15,25 +15,27 @@ package clibrary
 // (The shared object calls its own functions, and not those of this program's block.)
 static void *opened(const char *path) { return dlopen(path, RTLD_NOW | RTLD_LOCAL | RTLD_DEEPBIND); }
 
-static uint32_t fault(void *function, uint32_t kind, _GoString_ name, uint32_t flags) {
-    uint32_t (*call)(uint32_t, const void *, size_t, uint32_t) = function;
-    return call(kind, _GoStringPtr(name), _GoStringLen(name), flags);
+static uint32_t fault(void *function, _GoString_ name, uint32_t flags, uint32_t kind) {
+    uint32_t (*call)(const void *, size_t, uint32_t, uint32_t) = function;
+    return call(_GoStringPtr(name), _GoStringLen(name), flags, kind);
 }
 
-static size_t offset(void *function, uint32_t kind, _GoString_ name, uint32_t flags) {
-    size_t (*call)(uint32_t, const void *, size_t, uint32_t) = function;
-    return call(kind, _GoStringPtr(name), _GoStringLen(name), flags);
+static size_t offset(void *function, _GoString_ name, uint32_t flags, uint32_t kind) {
+    uint32_t (*call)(const void *, size_t, uint32_t, uint32_t, size_t *) = function;
+    size_t offset = SIZE_MAX;
+    call(_GoStringPtr(name), _GoStringLen(name), flags, kind, &offset);
+    return offset;
 }
 
-static size_t text(void *function, uint32_t kind, _GoString_ name, uint32_t flags, char *text, size_t room) {
-    size_t (*call)(uint32_t, const void *, size_t, uint32_t, char *, size_t) = function;
-    return call(kind, _GoStringPtr(name), _GoStringLen(name), flags, text, room);
+static size_t text(void *function, _GoString_ name, uint32_t flags, uint32_t kind, char *text, size_t room) {
+    size_t (*call)(const void *, size_t, uint32_t, uint32_t, char *, size_t) = function;
+    return call(_GoStringPtr(name), _GoStringLen(name), flags, kind, text, room);
 }
 
-static size_t faults(void *function, uint32_t kind, _GoString_ names, uint32_t flags, uint8_t end, char *faults,
+static size_t faults(void *function, _GoString_ names, uint32_t flags, uint32_t kind, uint8_t end, char *faults,
                      size_t room) {
-    size_t (*call)(uint32_t, const void *, size_t, uint32_t, uint8_t, char *, size_t) = function;
-    return call(kind, _GoStringPtr(names), _GoStringLen(names), flags, end, faults, room);
+    size_t (*call)(const void *, size_t, uint32_t, uint32_t, uint8_t, char *, size_t) = function;
+    return call(_GoStringPtr(names), _GoStringLen(names), flags, kind, end, faults, room);
 }
 
 static size_t changed(void *function, _GoString_ name, char *buffer, size_t room) {
@@ -79,25 +81,25 @@ func (l Library) function(name string) unsafe.Pointer {
 
 // Fault is the number of the fault of a name of the kind.
 func (l Library) Fault(kind uint32, name string, flags uint32) uint32 {
-	return uint32(C.fault(l.function("fault_of"), C.uint32_t(kind), name, C.uint32_t(flags)))
+	return uint32(C.fault(l.function("fault_of"), name, C.uint32_t(flags), C.uint32_t(kind)))
 }
 
 // Offset is where that fault is.
 func (l Library) Offset(kind uint32, name string, flags uint32) int {
-	return int(C.offset(l.function("offset_of"), C.uint32_t(kind), name, C.uint32_t(flags)))
+	return int(C.offset(l.function("fault_at"), name, C.uint32_t(flags), C.uint32_t(kind)))
 }
 
 // Text is the text of that fault.
 func (l Library) Text(kind uint32, name string, flags uint32) string {
 	var buffer [256]C.char
-	length := C.text(l.function("text_of"), C.uint32_t(kind), name, C.uint32_t(flags), &buffer[0], C.size_t(len(buffer)))
+	length := C.text(l.function("text_of"), name, C.uint32_t(flags), C.uint32_t(kind), &buffer[0], C.size_t(len(buffer)))
 	return C.GoStringN(&buffer[0], C.int(length))
 }
 
 // Faults are the numbers of the faults of the names in a buffer.
 func (l Library) Faults(kind uint32, names string, flags uint32, end byte) []byte {
 	buffer := make([]C.char, len(names)+1)
-	count := C.faults(l.function("faults_of"), C.uint32_t(kind), names, C.uint32_t(flags), C.uint8_t(end),
+	count := C.faults(l.function("faults_of"), names, C.uint32_t(flags), C.uint32_t(kind), C.uint8_t(end),
 		&buffer[0], C.size_t(len(buffer)))
 	return C.GoBytes(unsafe.Pointer(&buffer[0]), C.int(count))
 }

@@ -12,7 +12,7 @@ use Rattle.gix_validate.proofs.TagNames.FaultTable.{byte_fault_at, fault_of_byte
 use Rattle.gix_validate.proofs.Texts.Endings.{ends_read, lock_read}
 use Rattle.gix_validate.proofs.TagNames.Grammar.{tag_grammar_law}
 use Rattle.gix_validate.specs.declared.tag.NameError.{NameError}
-use Rattle.gix_validate.specs.declared.tag.NameError.TheVariants.{LockFileSuffix}
+use Rattle.gix_validate.specs.declared.tag.NameError.TheVariants.{Empty, LockFileSuffix}
 use Rattle.gix_validate.specs.Bytes.{is_among, ends}
 use Rattle.gix_validate.specs.Tag.{Fault, ◌at◌, first_fault, fault_of, fault_offset_of, fault_at}
 use Rattle.gix_validate.specs.Reference.{is_partial_name}
@@ -64,6 +64,14 @@ clear_has_no_fault x clear =
     grind
     (arith, nat_tests, take_all, at_first_offset_split, offsets, lock, clear.end, clear.some, clear.quiet 0)
 
+pub clear_has_no_first_fault : (x : List ℕ) → IsClear x → first_fault x ≡ None
+unfolding fault_of
+clear_has_no_first_fault x clear = grind (arith, clear_has_no_fault x clear)
+
+pub first_fault_of_empty : (x : List ℕ) → length x ≡ 0 → first_fault x ≡ (Some Empty at 0)
+unfolding first_fault
+first_fault_of_empty x e = grind arith
+
 -- A clear text of two bytes or more is a partial name.
 pub clear_is_partial : (x : List ℕ) → 1 < length x → IsClear x → is_partial_name x ≡ true
 unfolding is_partial_name
@@ -103,6 +111,9 @@ pub offset_within : (x : List ℕ) (i : ℕ) → fault_offset_of x ≡ Some i �
 unfolding first_fault fault_offset_of
 offset_within x i found = grind (arith, offset_below x (length x))
 
-pub ruleset least_fault = (none_more, quiet)
+pub first_fault_within : (x : List ℕ) (fault : Fault) → first_fault x ≡ Some fault
+    → fault.offset ≤ length x - 1
+unfolding fault_offset_of
+first_fault_within x fault found = offset_within x fault.offset (grind (arith, found))
 
-pub ruleset least_offset = (none_more, fault_none, fault_found, quiet)
+pub ruleset least_fault = (none_more, quiet)

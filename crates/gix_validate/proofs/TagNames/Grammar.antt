@@ -151,6 +151,11 @@ pub offset_grammar_law : (x : List ℕ) → is_tag_name x ≡ is_none (fault_off
 unfolding fault_of fault_offset_of
 offset_grammar_law x = grind (arith, tag_grammar_law x)
 
+-- and a first fault of both
+pub first_fault_law : (x : List ℕ) → is_tag_name x ≡ is_none (first_fault x)
+unfolding fault_of
+first_fault_law x = grind (arith, tag_grammar_law x)
+
 -- the two halves of the first fault, put together again
 pub halves_law : (x : List ℕ) (i : ℕ) → fault_offset_of x ≡ Some i → first_fault x ≡ (fault_of x at i)
 unfolding fault_of fault_offset_of

@@ -4,7 +4,7 @@ use Rattle.gix_validate.proofs.tag.fault_at_first_offset.Goals as goal
 
 pub loop-offset-init : goal.loop-offset-init
 loop-offset-init c =
-    none_to_suspect c.args.bytes.now _ c.clear_front-offset.ensures.within c.clear_front-offset.ensures.quiet
+    none_to_suspect c.args.bytes.now _ c.requires.within c.requires.quiet
 
 pub returns-in-Some : goal.returns-in-Some
 returns-in-Some c = grind (

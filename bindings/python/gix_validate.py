@@ -625,12 +625,13 @@ def _validated(name: Name, kind: KindName, protect: Protect = _DEFAULT) -> Name:
         place = _PLACES.pop()
     except IndexError:
         place = _Place()
-    fault = _FAULTS[_fault_at(given, _size_of(given), flags, _number_of(kind), place)]
+    fault = _FAULTS[_fault_at(given, _size_of(given), flags, _NUMBERS[kind], place)]
     offset: int = 0 if fault is None else place[0]
     _PLACES.append(place)
     if fault is None:
         return name
-    offset = _position(name, offset)
+    if not given.isascii():
+        offset = _position(name, offset)
     raise InvalidName(name, _KINDS[kind], fault, protect, offset)
 
 

@@ -10,16 +10,13 @@ check may not name each clause.) It is 1 if
 - braces around a body, which change nothing, are refused.
 
 Edits are tried together, one of each function in a check. An edit that its line doesn't
-explain there is tried alone. Each is printed with what refuses it.
+explain there is tried alone. Each is printed with what refuses it. An edit that only a
+search that gave up refuses, or one that came to its limit, tells less than the others.
 
 A *control* is a right body that changes as much of the text as the edit. (Lines 'right:'
 have it, one after each 'new:'.) The check has to accept it: otherwise the edit may be
 refused for its form, and tells nothing of the contract. An edit that has no such control
 is *hollow*, and its line 'hollow:' says why.
-
-If only a search that gave up refuses an edit, or one that came to its limit, no values are
-known at which it is wrong. Then a control has to be accepted, too: its own, or braces
-around what it changes.
 
 With --turns it tries the edits of mutants/ in crates that changed since the commit in
 .ci/edits-tried, for which `.ci/run --all-edits` tried all, and thirty more, drawn by the
@@ -465,8 +462,6 @@ def try_all(chosen, others):
         of_controls = pool.map(accepted, [[around_body(same)], *controls])
         results = [it for batch in pool.map(tried, plan) for it in batch]
         [[of_same], *of_controls] = of_controls
-        of_braces = pool.map(accepted, batches(map(around_line, unclear(results))))
-        of_controls += of_braces
     results = {it.edit.file: it for it in results}
     said = {it.file: it.said for batch in of_controls for it in batch}
     ends = [end_of(it, results.get(it.file), said.get(it.file)) for it in every]
@@ -487,15 +482,6 @@ def try_all(chosen, others):
         "REFUSED" if of_same.said else "accepted",
     )
     return not of_same.said and not any(is_failed for is_failed, _ in ends)
-
-
-def unclear(results):
-    """The edits without a control of which it isn't known why they are refused."""
-    return [
-        it.edit
-        for it in results
-        if it.way == LIMIT and not (it.wrong or it.edit.control or it.edit.hollow)
-    ]
 
 
 def controls_counted(said):

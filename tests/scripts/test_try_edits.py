@@ -134,12 +134,10 @@ def app(tmp_path):
 
 
 class Refused(NamedTuple):
-    """What a check says, and how it then refuses the edit of `other`. The checks are one
-    without an edit, one with braces that change nothing, and one with both edits."""
+    """What a check says, and how it then refuses the edit of `other`."""
 
     said: str
     way: str
-    checks: int = 3
 
 
 REFUSED = {
@@ -165,14 +163,11 @@ REFUSED = {
     "an old proof, of which only one part came to its limit": Refused(
         f"{AT_LIMIT}\n{OPEN}\nfn app::other: not proved", "by its old proof"
     ),
-    # Then braces in its place have to be accepted, in one more check.
     "an old proof that came to its limit": Refused(
-        f"{AT_LIMIT}\nfn app::other: not proved",
-        "by a search that gave up, control accepted",
-        4,
+        f"{AT_LIMIT}\nfn app::other: not proved", "by a search that gave up"
     ),
     "a search that gave up": Refused(
-        not_proved("other", GAVE_UP), "by a search that gave up, control accepted", 4
+        not_proved("other", GAVE_UP), "by a search that gave up"
     ),
 }
 
@@ -186,7 +181,8 @@ def test_an_edit_is_refused_by(app, refused):
     assert ended.output.endswith(
         "2 refused as their lines say, 0 failed, in 1 checks; a harmless one is accepted\n"
     )
-    assert len(app.calls) == refused.checks
+    # Once without an edit, once with braces that change nothing, once with both edits.
+    assert len(app.calls) == 3
 
 
 def test_an_edit_may_write_what_another_replaces(app):
@@ -460,16 +456,6 @@ def test_a_control_that_is_refused_fails_and_is_shown(app):
     assert "\n  fn app::other: not proved\n" in ended.output
     assert "\n0 controls accepted, 1 refused; 0 hollow\n" in ended.output
     assert "2 refused as their lines say, 1 failed" in ended.output
-
-
-def test_an_edit_fails_if_a_search_gave_up_and_braces_are_refused_like_it(app):
-    app.add("eins", "zwei")
-    app.says(1, not_proved("other", GAVE_UP) + "logic=not-proved\n")
-    ended = app.try_edits("--built", "added")
-    assert ended.status == 1
-    said = "refused as its line says, by a search that gave up, control REFUSED"
-    assert f"{ADDED}: {said}\n" in ended.output
-    assert "1 refused as their lines say, 1 failed" in ended.output
 
 
 def test_controls_of_two_functions_are_tried_together_and_alone_if_one_is_refused(app):

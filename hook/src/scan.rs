@@ -28,12 +28,16 @@ use std::process::{Command, Stdio};
 const UPLOAD: &str = "GIT_ALLOW_PROTOCOL=none GIT_NO_LAZY_FETCH=1 git -c 'safe.directory=*' \
                       -c transfer.hideRefs=!refs/ upload-pack";
 /// Makes a directory that nobody else can read, and removes it when standard input ends, as when the scan
-/// is killed. (Git may go on then, and make it again.)
+/// is killed. (Git may go on then, or only begin, and make it again.)
 const KEEP: &str = "trap '' HUP INT PIPE TERM
 directory=$(mktemp -d -t scan-names.XXXXXX) || exit
 echo \"$directory\"
 while read -r line; do :; done
-while [ -e \"$directory\" ]; do rm -rf -- \"$directory\"; sleep 1; done";
+gone=0
+while [ -e \"$directory\" ] || [ $((gone += 1)) -lt 10 ]; do
+    rm -rf -- \"$directory\"
+    sleep 1
+done";
 /// The variables by which Git's commands would find another repository.
 const OF_A_REPOSITORY: &str = "GIT_DIR GIT_WORK_TREE GIT_INDEX_FILE GIT_OBJECT_DIRECTORY \
                                GIT_ALTERNATE_OBJECT_DIRECTORIES GIT_COMMON_DIR GIT_NAMESPACE GIT_PREFIX";

@@ -220,6 +220,8 @@ class InvalidName(ValueError):
     part.
     """
 
+    __slots__ = "name", "kind", "fault", "protect", "offset"
+
     def __init__(
         self,
         name: Union[str, bytes],

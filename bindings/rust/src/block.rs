@@ -101,29 +101,25 @@ mod functions {
         );
     }
 
-    /// Whether the processor has SSE 4.2. It is asked once.
+    /// Whether the processor has SSE 4.2. If it has, it is asked once.
     #[cfg(target_arch = "x86_64")]
     #[inline]
     fn has_sse42() -> bool {
-        use core::sync::atomic::{AtomicU8, Ordering};
+        use core::sync::atomic::{AtomicBool, Ordering};
 
-        const UNKNOWN: u8 = 2;
-        static HAS: AtomicU8 = AtomicU8::new(UNKNOWN);
+        static HAS: AtomicBool = AtomicBool::new(false);
 
         #[cold]
-        fn ask() -> u8 {
+        fn ask() -> bool {
             // SAFETY: each x86-64 processor has the instruction CPUID, and its leaf 1.
             #[allow(unused_unsafe)]
             let features = unsafe { core::arch::x86_64::__cpuid(1) }.ecx;
-            let has = u8::from(features & 1 << 20 != 0);
+            let has = features & 1 << 20 != 0;
             HAS.store(has, Ordering::Relaxed);
             has
         }
 
-        match HAS.load(Ordering::Relaxed) {
-            UNKNOWN => ask() != 0,
-            has => has != 0,
-        }
+        HAS.load(Ordering::Relaxed) || ask()
     }
 }
 

@@ -8,6 +8,8 @@ use crate::{block, Fault};
 
 /// No text of a fault has more bytes.
 const TEXT_MAX: usize = 134;
+/// So long a name is kept without an allocation.
+const SHORT: usize = 46;
 
 /// What is wrong with a name, and where.
 ///
@@ -24,13 +26,43 @@ const TEXT_MAX: usize = 134;
 pub struct Error {
     kind: Kind,
     protections: Protections,
-    fault: Fault,
+    number: u32,
     offset: usize,
-    name: Box<[u8]>,
+    name: Name,
+}
+
+/// A copy of a name.
+#[derive(Clone, PartialEq, Eq)]
+enum Name {
+    Short(u8, [u8; SHORT]),
+    Long(Box<[u8]>),
+}
+
+impl Name {
+    fn new(name: &[u8]) -> Self {
+        if name.len() > SHORT {
+            return Name::long(name);
+        }
+        let mut bytes = [0; SHORT];
+        bytes[..name.len()].copy_from_slice(name);
+        Name::Short(name.len() as u8, bytes)
+    }
+
+    #[cold]
+    fn long(name: &[u8]) -> Self {
+        Name::Long(name.into())
+    }
+
+    fn as_bytes(&self) -> &[u8] {
+        match self {
+            Name::Short(len, bytes) => &bytes[..usize::from(*len)],
+            Name::Long(bytes) => bytes,
+        }
+    }
 }
 
 impl Error {
-    #[cold]
+    #[inline]
     pub(crate) fn new(
         kind: Kind,
         protections: Protections,
@@ -41,15 +73,15 @@ impl Error {
         Error {
             kind,
             protections,
-            fault: Fault::of(number),
+            number,
             offset,
-            name: name.into(),
+            name: Name::new(name),
         }
     }
 
     /// Why the name is refused.
     pub fn fault(&self) -> Fault {
-        self.fault
+        Fault::of(self.number)
     }
 
     /// Where in the name that is, in bytes. The offset is never more than the length of the name.
@@ -59,21 +91,21 @@ impl Error {
 
     /// The name.
     pub fn name(&self) -> &[u8] {
-        &self.name
+        self.name.as_bytes()
     }
 
     /// The byte at the offset. There is none if the name is empty, or lacks something at its end.
     pub fn byte(&self) -> Option<u8> {
-        self.name.get(self.offset).copied()
+        self.name().get(self.offset).copied()
     }
 
     /// The part between the slashes around the offset, or the whole name if it has no slash.
     pub fn piece(&self) -> &[u8] {
         let is_slash = |byte: &u8| *byte == b'/';
-        let (before, after) = self.name.split_at(self.offset);
+        let (before, after) = self.name().split_at(self.offset);
         let start = before.iter().rposition(is_slash).map_or(0, |at| at + 1);
         let end = after.iter().position(is_slash).unwrap_or(after.len());
-        &self.name[start..self.offset + end]
+        &self.name()[start..self.offset + end]
     }
 
     fn fmt_place(&self, f: &mut fmt::Formatter<'_>) -> fmt::Result {
@@ -85,7 +117,7 @@ impl Error {
         }
         write!(f, " at byte {}", self.offset)?;
         let piece = self.piece();
-        if !piece.is_empty() && piece.len() < self.name.len() && self.byte() != Some(b'/') {
+        if !piece.is_empty() && piece.len() < self.name().len() && self.byte() != Some(b'/') {
             f.write_str(", in ")?;
             fmt_quoted(piece, f)?;
         }
@@ -105,9 +137,9 @@ impl fmt::Display for Error {
     fn fmt(&self, f: &mut fmt::Formatter<'_>) -> fmt::Result {
         let mut text = [0; TEXT_MAX];
         let flags = self.protections.flags();
-        let len = block::text_of(self.kind.number(), &self.name, flags, &mut text);
+        let len = block::text_of(self.kind.number(), self.name(), flags, &mut text);
         f.write_str(core::str::from_utf8(&text[..len]).map_err(|_| fmt::Error)?)?;
-        if self.name.is_empty() {
+        if self.name().is_empty() {
             return Ok(());
         }
         self.fmt_place(f)
@@ -120,9 +152,9 @@ impl fmt::Debug for Error {
         f.debug_struct("Error")
             .field("kind", &self.kind)
             .field("protections", &self.protections)
-            .field("fault", &self.fault)
+            .field("fault", &self.fault())
             .field("offset", &self.offset())
-            .field("name", &format_args!("\"{}\"", self.name.escape_ascii()))
+            .field("name", &format_args!("\"{}\"", self.name().escape_ascii()))
             .finish()
     }
 }

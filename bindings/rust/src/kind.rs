@@ -72,7 +72,7 @@ impl Kind {
     ///
     /// # Errors
     ///
-    /// The first fault of the name. Only an error allocates.
+    /// The first fault of the name. Only the error of a name with more than 46 bytes allocates.
     #[inline]
     pub fn check<N: AsRef<[u8]> + ?Sized>(
         self,

@@ -57,7 +57,7 @@ macro_rules! names {
         ///
         /// # Errors
         ///
-        /// The first fault of the name. Only an error allocates.
+        /// The first fault of the name. Only the error of a name with more than 46 bytes allocates.
         #[inline]
         pub fn $function<N: AsRef<[u8]> + ?Sized>(name: &N) -> Result<$name<'_>, Error> {
             Kind::$name.check(name, Protections::NONE)?;
@@ -97,7 +97,7 @@ macro_rules! protected_names {
         ///
         /// # Errors
         ///
-        /// The first fault of the name. Only an error allocates.
+        /// The first fault of the name. Only the error of a name with more than 46 bytes allocates.
         #[inline]
         pub fn $function<N: AsRef<[u8]> + ?Sized>(
             name: &N,

@@ -59,6 +59,15 @@ const SEPARATOR: &[u8] = b"Path separators like / or \\ are not allowed";
 const SYMLINK: &[u8] = b"The .gitmodules file must not be a symlink";
 const REPLACEMENT: &[u8] = b"replacement references are not allowed";
 
+const ALLOW: &str = "An administrator can allow refs/replace/: git config names.replace true";
+const PUSH_OTHER: &str =
+    "Push a refused reference under another name: git push origin YOURS:refs/heads/OTHER";
+const NO_SYMLINK: &str = "Make .gitmodules a file, not a symlink, in the commit that changes it.";
+const RENAME: &str =
+    "Rename a refused file or directory in the commit that adds it, not in a later one.";
+const CORRECT: &str =
+    "Correct a .gitmodules file, or rename a submodule in it, in the commit that changes it.";
+
 impl<'a> Line<'a> {
     pub fn of(text: &'a [u8]) -> Self {
         let quote = text.iter().position(|byte| *byte == b'"');
@@ -170,21 +179,11 @@ impl Finding {
     /// What the author of a push can do about it.
     pub fn advice(&self) -> &'static str {
         match (&self.kind, &self.reason[..]) {
-            (Kind::Reference, REPLACEMENT) => {
-                "An administrator can allow refs/replace/: git config names.replace true"
-            }
-            (Kind::Reference, _) => {
-                "Push a refused reference under another name: git push origin YOURS:refs/heads/OTHER"
-            }
-            (Kind::Entry { .. }, SYMLINK) => {
-                "Make .gitmodules a file, not a symlink, in the commit that changes it."
-            }
-            (Kind::Entry { .. }, _) => {
-                "Rename a refused file or directory in the commit that adds it, not in a later one."
-            }
-            (Kind::Submodule { .. }, _) => {
-                "Correct a .gitmodules file, or rename a submodule in it, in the commit that changes it."
-            }
+            (Kind::Reference, REPLACEMENT) => ALLOW,
+            (Kind::Reference, _) => PUSH_OTHER,
+            (Kind::Entry { .. }, SYMLINK) => NO_SYMLINK,
+            (Kind::Entry { .. }, _) => RENAME,
+            (Kind::Submodule { .. }, _) => CORRECT,
         }
     }
 }
@@ -231,18 +230,4 @@ pub fn id(text: &[u8]) -> Option<Id> {
 pub fn split_once(text: &[u8], byte: u8) -> Option<(&[u8], &[u8])> {
     let at = text.iter().position(|it| *it == byte)?;
     Some((&text[..at], &text[at + 1..]))
-}
-
-#[cfg(test)]
-mod tests {
-    use super::Line;
-
-    #[test]
-    fn a_line_is_split_at_the_quotes_of_its_name_and_may_have_none() {
-        let line = Line::of(b"1f 100644 \"a\\\"\\\\ \\x00\\xff\\n\" \"no\" (in \"b\")");
-        assert_eq!(line.front, b"1f 100644 ");
-        assert_eq!(line.name, b"a\"\\ \x00\xff\n");
-        assert_eq!(line.rest, b"\"no\" (in \"b\")");
-        assert_eq!(Line::of(b"abc").front, b"abc");
-    }
 }

@@ -1,7 +1,5 @@
 //! The limits of time and memory. The standard library can't set them, so the one unsafe block is here.
-//!
-//! (The calls are as unsafe in the crate libc. That would have to be installed in the one version that
-//! `Cargo.lock` names, and each release would carry its licence.)
+//! (hook/README.md says why this isn't the crate libc.)
 
 use crate::failure::{OrFail, Result};
 use std::io;

@@ -3,18 +3,25 @@
 
 use crate::answer::{keep, text_of};
 use crate::child::{at_once, Child};
-use crate::failure::{OrFail, Result};
+use crate::failure::{failed, OrFail, Result};
 use crate::finding::id;
 use crate::git::Git;
 use crate::pipeline::{Pipeline, TreeCheck};
 use crate::settings::{read_config, Settings};
 use crate::text::say;
 use crate::verdict::{Verdict, WITHOUT_PATHS};
+use std::collections::HashMap;
 use std::env;
 use std::ffi::OsStr;
 use std::fs::{self, File};
-use std::io::{self, Read, Write};
+use std::io::{self, BufRead, BufReader, Read, Write};
 use std::path::{Path, PathBuf};
+use std::process::Stdio;
+
+/// The longest chain of deltas that Git makes.
+const LONGEST_CHAIN: u64 = 4095;
+const TOO_LONG: &str = "the push has a chain of more than 4095 deltas, which Git never makes";
+const UNLISTED: &str = "the deltas of the push could not be listed";
 
 /// Checks the push whose lines are on standard input. Returns nothing if that failed.
 pub fn run(program: PathBuf) -> Option<Verdict> {
@@ -38,21 +45,19 @@ fn check(program: PathBuf, settings: &mut Settings) -> Result<Verdict> {
     let mut lines = Vec::new();
     io::stdin().read_to_end(&mut lines).or_fail("the lines of the push could not be read")?;
     let mut kept = Vec::new();
-    let (references, mut ids, modules) =
-        Pipeline::references(references, &lines, &mut |it| keep(&mut kept, it))?;
-    if !kept.is_empty() {
+    let mut found = |it| keep(&mut kept, it);
+    let (references, mut ids, mut modules) = Pipeline::references(references, &lines, &mut found)?;
+    if references.refuses() {
         // (a refused reference doesn't hide what its files would be refused for)
         ids = new_ids(&lines);
     }
-    let (trees, modules) = if ids.is_empty() {
-        drop(trees); // (this kills them)
-        (None, modules)
-    } else {
-        let checked = Pipeline::trees(trees, &ids, modules, &mut |it| keep(&mut kept, it))?;
-        (Some(checked.0), checked.1)
-    };
-    let submodules = pipeline.submodules(modules, &mut |it| keep(&mut kept, it))?;
-    let verdict = Verdict::of(Some(references), trees, submodules);
+    let mut of_trees = None;
+    if !ids.is_empty() {
+        let (report, more) = Pipeline::trees(trees, &ids, modules, &mut found)?;
+        (of_trees, modules) = (Some(report), more);
+    }
+    let submodules = pipeline.submodules(modules, &mut found)?;
+    let verdict = Verdict::of(&[Some(references), of_trees, submodules]);
     if let Verdict::Refused = verdict {
         let text = text_of(kept, &pipeline, &ids);
         // (refused all the same, if nobody reads why)
@@ -78,6 +83,9 @@ fn start(program: PathBuf, settings: &mut Settings) -> Result<(Pipeline, Child, 
         pipeline.settings = settings.clone();
         started = start_checks(&pipeline)?;
     }
+    if objects > LONGEST_CHAIN {
+        check_chains(&pipeline.git)?;
+    }
     let (references, trees) = started;
     Ok((pipeline, references, trees))
 }
@@ -95,6 +103,30 @@ fn new_ids(lines: &[u8]) -> Vec<u8> {
     let ids = lines.filter_map(|line| id(line.split(|byte| *byte == b' ').nth(1)?));
     let new = ids.filter(|id| id.iter().any(|digit| *digit != b'0'));
     new.flat_map(|id| [&id, &b"\n"[..]].concat()).collect()
+}
+
+/// Fails if the push has a longer chain of deltas. To print an object, Git first follows its whole chain, so
+/// a small pack could keep it busy for minutes.
+fn check_chains(git: &Git) -> Result<()> {
+    let quarantine = git.without("GIT_ALTERNATE_OBJECT_DIRECTORIES");
+    let mut command = quarantine.command("cat-file --batch-all-objects --unordered --buffer");
+    command.arg("--batch-check=%(objectname) %(deltabase)");
+    let mut cat_file = Child::start("git cat-file", command, Stdio::null())?;
+    let number = |id: &str| u64::from_str_radix(id.get(..16)?, 16).ok();
+    // How many deltas lead to an object, by the first digits of its id.
+    let mut lengths = HashMap::new();
+    for line in BufReader::new(cat_file.output()?).lines() {
+        let line = line.or_fail(UNLISTED)?;
+        let ids = line.split_once(' ').and_then(|(id, base)| Some((number(id)?, number(base)?)));
+        let (object, base) = ids.or_fail(UNLISTED)?;
+        // (a delta comes after its base, unless that is one which Git has added, and so is whole)
+        let length = if base == 0 { 0 } else { *lengths.entry(base).or_insert(0) + 1 };
+        let before = lengths.insert(object, length);
+        if length > LONGEST_CHAIN || before.map_or(false, |it| it < length) {
+            return failed(TOO_LONG);
+        }
+    }
+    cat_file.end()?.succeeded().map(drop)
 }
 
 /// How many objects the push has, in a pack or each in a file.

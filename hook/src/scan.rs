@@ -130,13 +130,13 @@ fn check(pipeline: &Pipeline, options: &Options, found: OnFinding) -> Result<Ver
             return failed("the revisions select no commit, so nothing was checked");
         }
         say("the repository is empty");
-        return Ok(Verdict::of(references, None, None));
+        return Ok(Verdict::of(&[references, None, None]));
     }
     words.push("--".into());
     let trees = pipeline.start_trees(&words)?;
     let (trees, modules) = Pipeline::trees(trees, b"", modules, found)?;
     let submodules = pipeline.submodules(modules, found)?;
-    Ok(Verdict::of(references, Some(trees), submodules))
+    Ok(Verdict::of(&[references, Some(trees), submodules]))
 }
 
 /// Checks the names of all references, if there are any. (Their objects are those of `--all`.)

@@ -43,17 +43,11 @@ pub struct Evidence(());
 impl Verdict {
     /// `Clean` is made here alone: if each report was read to its end, and refuses nothing. There is no
     /// report about a kind of name that nothing has.
-    pub fn of(
-        references: Option<Report>,
-        trees: Option<Report>,
-        submodules: Option<Report>,
-    ) -> Self {
-        let reports = [references, trees, submodules];
-        if reports.iter().flatten().all(|report| report.refused == 0) {
-            Self::Clean(Evidence(()))
-        } else {
-            Self::Refused
+    pub fn of(reports: &[Option<Report>; 3]) -> Self {
+        if reports.iter().flatten().any(Report::refuses) {
+            return Self::Refused;
         }
+        Self::Clean(Evidence(()))
     }
 }
 
@@ -96,5 +90,9 @@ impl Report {
             }
         };
         at_once(give, read).map(|((), report)| report)
+    }
+
+    pub fn refuses(&self) -> bool {
+        self.refused > 0
     }
 }

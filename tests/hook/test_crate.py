@@ -1,7 +1,6 @@
-"""The crate of the hook and the scan: its own tests, and its build."""
+"""The crate of the hook and the scan: what clippy says of it, and its build."""
 
 import os
-import re
 import shutil
 import subprocess
 
@@ -18,12 +17,6 @@ def cargo(*words, cwd=ROOT / "hook", **env):
         ["cargo", *words], cwd=cwd, capture_output=True, text=True, env=os.environ | env
     )
     return ran.returncode, ran.stdout + ran.stderr
-
-
-def test_its_own_tests_pass():
-    status, said = cargo("test", *OFFLINE)
-    assert status == 0, said
-    assert re.search(r"test result: ok\. [1-9]\d* passed; 0 failed; 0 ignored", said)
 
 
 def test_clippy_finds_nothing():

@@ -539,6 +539,47 @@ def measured_push(measured, source, incoming):
     return run
 
 
+@pytest.fixture
+def chain_of(incoming):
+    """Makes a commit of trees in a chain of so many deltas. The pack has each after its
+    base, or before it."""
+
+    def make(deltas, order):
+        pack, base, trees = Pack(incoming.object_format), None, []
+        blob = bytes.fromhex(incoming.text)
+        for n in range(deltas + 1):
+            tree = b"100644 f%06d\0%s" % (n, blob)
+            base = pack.add("tree", tree, base, len(blob)), len(tree)
+            trees.append((0o40000, b"d%06d" % n, base[0]))
+        pack.parts = pack.parts[::order]
+        commit = pack.commit(pack.tree(*trees))
+        path = incoming.path / f"objects/pack/pack-{deltas}.pack"
+        path.write_bytes(pack.data())
+        incoming.git("index-pack", str(path))
+        return commit.hex()
+
+    return make
+
+
+@pytest.mark.parametrize("order", [1, -1], ids=["forwards", "backwards"])
+def test_a_chain_with_more_deltas_than_git_makes_is_refused_and_no_shorter_one(
+    hook, source, incoming, chain_of, order
+):
+    """Git would follow the whole chain of each tree that it prints."""
+
+    def result(deltas):
+        return hook.run(
+            source.push_of(chain_of(deltas, order)),
+            GIT_OBJECT_DIRECTORY=incoming.path / "objects",
+            GIT_ALTERNATE_OBJECT_DIRECTORIES=source.path / "objects",
+        )
+
+    reason = "the push has a chain of more than 4095 deltas, which Git never makes"
+    if order == 1:
+        assert result(4095) == ACCEPTED
+    assert result(4096) == not_checked(reason)
+
+
 def spellings(source, count, size):
     """A tree with so many spellings of .gitmodules for HFS+, which ignores some
     characters, each of so many bytes."""

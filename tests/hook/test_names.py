@@ -164,6 +164,22 @@ def test_a_submodule_is_first_in_the_commit_that_brings_it(server, source):
     )
 
 
+def test_any_bytes_of_a_name_are_shown_as_git_quotes_them(server, source):
+    modules = source.blob('[submodule "\1/.."]')
+    odd = file(b'a"\n\t\r\1\x7f\xff', source.text)
+    commit = source.commit_of(file(".gitmodules", modules), odd, on=[source.clean])
+    place = r'.gitmodules: submodule "\001/.."'
+    assert server.push(commit) == Result(
+        1,
+        bad_name(r'"a\"\n\t\r\001\177\377"', ILLEGAL, r"\"", commit)
+        + bad_name(place, "Submodules names must not contains '..'", None, commit)
+        + "push refused: 2 names are not allowed\n"
+        + RENAME_THE_FILE
+        + CORRECT_THE_FILE
+        + change(commit),
+    )
+
+
 def test_a_name_of_2_MB_is_cut_and_takes_no_minutes(hook, source):
     modules = source.blob('[submodule "' + 2_000_000 * "\1" + '/.."]\n')
     commit = source.commit_of(file(".gitmodules", modules))

@@ -96,3 +96,17 @@ fn names_of_any_type_of_bytes_are_checked() {
     assert_eq!(parsed.to_str(), Ok("main"));
     assert_eq!(format!("{parsed:?}"), r#"Branch("main")"#);
 }
+
+#[test]
+fn an_error_keeps_a_name_of_up_to_46_bytes_in_itself_and_a_longer_one_whole() {
+    for length in (0..=50).chain([1000]) {
+        let name = " ".repeat(length);
+        let error = branch(&name).unwrap_err();
+        let place = &error as *const Error as usize;
+        let within = place..place + std::mem::size_of::<Error>();
+        let is_within = within.contains(&(error.name().as_ptr() as usize));
+        assert_eq!(is_within, length <= 46, "{length}");
+        assert_eq!(error.name(), name.as_bytes());
+        assert_eq!(error.clone(), error);
+    }
+}

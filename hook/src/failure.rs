@@ -85,9 +85,15 @@ impl Failure {
 
     /// What may help. Apart from a limit of time, that depends on what Git or the system say.
     fn help(&self, what: &str, limits: Option<Limits>) -> Option<String> {
-        match (self, limits) {
-            (Self::Ended(it), Some(Limits { seconds, .. })) if it.status.signal() == Some(SIGXCPU) => Some(format!("A process may use {seconds} s, and one more for each 4000 objects of the push: an administrator can raise names.seconds.")),
-            (_, Some(Limits { megabytes, .. })) if what.to_lowercase().contains("memory") => Some(format!("A process may use {megabytes} MB of memory: an administrator can raise names.megabytes.")),
+        let more_time = |Limits { seconds, .. }| {
+            format!("A process may use {seconds} s, and one more for each 4000 objects of the push: an administrator can raise names.seconds.")
+        };
+        let more_memory = |Limits { megabytes, .. }| {
+            format!("A process may use {megabytes} MB of memory: an administrator can raise names.megabytes.")
+        };
+        match self {
+            Self::Ended(it) if it.status.signal() == Some(SIGXCPU) => limits.map(more_time),
+            _ if what.to_lowercase().contains("memory") => limits.map(more_memory),
             _ if what.contains("Failed to traverse parents of commit") => Some(FULL_CLONE.into()),
             _ if what.contains("dubious ownership") => Some(COPY_IT.into()),
             _ => None,

@@ -580,6 +580,28 @@ def test_a_chain_with_more_deltas_than_git_makes_is_refused_and_no_shorter_one(
     assert result(4096) == not_checked(reason)
 
 
+@pytest.mark.parametrize(
+    "way, reason",
+    [
+        ("kill -9 $$", "git cat-file failed (signal 9)"),
+        ("exit 3", "git cat-file failed (status 3)"),
+        ("echo 12; exit 0", "the deltas of the push could not be listed"),
+    ],
+    ids=["killed", "failed", "cut"],
+)
+@pytest.mark.one_format
+def test_if_the_deltas_of_a_push_are_not_listed_it_is_refused(
+    hook, source, incoming, chain_of, way, reason
+):
+    hook.stand_in("git cat-file*deltabase", way)
+    result = hook.run(
+        source.push_of(chain_of(4095, 1)),
+        GIT_OBJECT_DIRECTORY=incoming.path / "objects",
+        GIT_ALTERNATE_OBJECT_DIRECTORIES=source.path / "objects",
+    )
+    assert result == not_checked(reason)
+
+
 def spellings(source, count, size):
     """A tree with so many spellings of .gitmodules for HFS+, which ignores some
     characters, each of so many bytes."""

@@ -41,11 +41,18 @@ def test_a_command_proves_its_program_and_passes_on_its_words_and_its_input(
     program = command.replace("-", "_")
     assert ended.status == 0
     assert ended.output == f"{program}|--help|two words|tag a\ntag b\n"
-    assert ended.errors.splitlines() == [
-        first_line_of(program),
-        "rt: waiting for another rt in /a/b",
-        f"{program}: proving {program}",
+    said = ended.errors.splitlines()
+    assert said[0] == first_line_of(program)
+    assert "rt: waiting for another rt in /a/b" in said
+    libraries = ["gix_validate", "typed_names"]
+    if program == "git_check_names":
+        libraries += ["git_names", "programs"]
+    proved = [it for it in said if it.startswith(f"{program}: proving ")]
+    assert list(dict.fromkeys(proved))[1:] == [
+        f"{program}: proving {crate}" for crate in [*libraries, program]
     ]
+    built = [it for it in copy.calls if it.endswith(" rt lib --jobs 1")]
+    assert built == [f"{crate}: rt lib --jobs 1" for crate in libraries]
 
 
 def test_a_command_whose_proof_fails_says_what_is_not_proved_and_no_more(copy):
@@ -53,11 +60,12 @@ def test_a_command_whose_proof_fails_says_what_is_not_proved_and_no_more(copy):
     ended = copy.run("check_names", "--version")
     assert (ended.status, ended.output) == (2, "")
     assert ended.errors.splitlines()[1:] == [
+        "check_names: proving gix_validate",
         "./proofs/f/Answers.antt:3:7: error: they differ",
         "note: src/lib.rt:12:1: it is not proved that it holds",
         "rt: the library low did not build",
-        "check_names: it was not built; run `rt run --jobs 1 -- --version` in "
-        f"{copy.path}/crates/check_names for the whole message",
+        "check_names: it was not built; run `rt lib --jobs 1` in "
+        f"{copy.path}/crates/gix_validate for the whole message",
     ]
 
 

@@ -147,7 +147,7 @@ fn first_line(text: &[u8]) -> Option<(&[u8], &[u8])>
 
 /// Appends the result for one line. The kinds are compared one after the other, and full reference
 /// names come first.
-#[tactic(auto, using(crate::proofs::AnswerLemmas::asked_otherwise), unfolding(crate::specs::Answers::answer_of, crate::specs::Answers::kinds))]
+#[tactic(auto, unfolding(crate::specs::Answers::answer_of, crate::specs::Answers::kinds))]
 fn push_answer(alloc: Global, line: &[u8], answers: &mut Vec<u8>) -> Result<(), AllocError>
     ensures ok { OnOk result (answers.new.items ≡ answers.old.items ++ answer_of line.now) }
     ensures full { request_of line.now ≡ None → OnErr result
@@ -161,7 +161,23 @@ fn push_answer(alloc: Global, line: &[u8], answers: &mut Vec<u8>) -> Result<(), 
         push_verdict(PartialName::new(name), answers)
     } else if let Some(name) = name_after(b"branch ", line) {
         push_verdict(reference::branch_name(name), answers)
-    } else if let Some(name) = name_after(b"submodule ", line) {
+    } else {
+        push_other_answer(alloc, line, answers)
+    }
+}
+
+/// The same for a line of none of these kinds.
+#[tactic(auto, using(crate::proofs::AnswerLemmas::asked_otherwise), unfolding(crate::specs::Answers::answer_of, crate::specs::Answers::kinds))]
+fn push_other_answer(alloc: Global, line: &[u8], answers: &mut Vec<u8>) -> Result<(), AllocError>
+    requires no_ref { (name : List ℕ) → line.now ≢ codes "ref " ++ name }
+    requires no_tag { (name : List ℕ) → line.now ≢ codes "tag " ++ name }
+    requires no_partial { (name : List ℕ) → line.now ≢ codes "partial " ++ name }
+    requires no_branch { (name : List ℕ) → line.now ≢ codes "branch " ++ name }
+    ensures ok { OnOk result (answers.new.items ≡ answers.old.items ++ answer_of line.now) }
+    ensures full { request_of line.now ≡ None → OnErr result
+        (vec_capacity answers.old < vec_len answers.old + length unknown_kind) }
+{
+    if let Some(name) = name_after(b"submodule ", line) {
         push_verdict(submodule::name(name), answers)
     } else if let Some(name) = name_after(b"path ", line) {
         push_component(name, None, answers)

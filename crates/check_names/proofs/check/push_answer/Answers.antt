@@ -12,8 +12,3 @@ returns-in-Some-name_after-clause-ok c =
     (on_ok_weaker _ (verdict-of_kept name_text Tag.fault_of _
     c.in-Some-name_after.name _ _ _ c.new-in-Some-name_after.ensures.answer)
     c.push_verdict-in-Some-name_after.ensures.ok)
-
-pub returns-in-Some-name_after-6-clause-ok : goal.returns-in-Some-name_after-6-clause-ok
-unfolding answer_of kinds
-returns-in-Some-name_after-6-clause-ok c =
-    rw c.in-Some-name_after-6.ensures c.push_component-in-Some-name_after-6.ensures.ok

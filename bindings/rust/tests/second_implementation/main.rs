@@ -9,7 +9,7 @@
 mod path;
 mod reference;
 
-use git_names::{Fault, Kind, Protections};
+use git_names::{Kind, Protections};
 use path::{DEVICES, IGNORED_CHARACTERS, SEQUENCES};
 
 /// Compares the results for a name, and panics if one differs.
@@ -19,8 +19,17 @@ fn check(name: &[u8]) {
     check_repair(name);
 }
 
-fn word(fault: Option<Fault>) -> String {
-    fault.map_or(String::new(), |fault| format!("{fault:?}"))
+/// Panics unless this is the fault; none if its name is empty.
+fn expect(kind: Kind, name: &[u8], flags: u32, fault: &str) {
+    let is_right = match kind.fault_under(name, flags) {
+        None => fault.is_empty(),
+        Some(given) => format!("{given:?}") == fault,
+    };
+    assert!(
+        is_right,
+        "{kind:?} {flags} of {}: {fault}",
+        name.escape_ascii()
+    );
 }
 
 /// The four kinds of reference names, and submodule names.
@@ -33,25 +42,19 @@ fn check_references(name: &[u8]) {
     ];
     let accepting = reference::accepting(name);
     for (number, (kind, fault)) in kinds.into_iter().zip(reference::faults(name)).enumerate() {
-        let shown = name.escape_ascii();
+        expect(kind, name, 0, fault);
         assert_eq!(
-            word(kind.fault(name, Protections::NONE)),
-            fault,
-            "{kind:?} of {shown}"
+            number < accepting,
+            fault.is_empty(),
+            "{kind:?} of {}",
+            name.escape_ascii()
         );
-        assert_eq!(number < accepting, fault.is_empty(), "{kind:?} of {shown}");
         if fault == "InvalidByte" {
             let byte = kind.check(name, Protections::NONE).unwrap_err().byte();
-            assert_eq!(byte, reference::first_bad(name), "{shown}");
+            assert_eq!(byte, reference::first_bad(name), "{}", name.escape_ascii());
         }
     }
-    let fault = Kind::Submodule.fault(name, Protections::NONE);
-    assert_eq!(
-        word(fault),
-        reference::submodule_fault(name),
-        "{}",
-        name.escape_ascii()
-    );
+    expect(Kind::Submodule, name, 0, reference::submodule_fault(name));
 }
 
 /// A component under each of the sixteen settings, and whether it is a device.
@@ -64,13 +67,7 @@ fn check_component(name: &[u8]) {
         } else {
             Kind::Component
         };
-        let fault = word(kind.fault_under(name, flags % 8));
-        assert_eq!(
-            fault,
-            path::fault(&holds, settings),
-            "{settings} {}",
-            name.escape_ascii()
-        );
+        expect(kind, name, flags % 8, path::fault(&holds, settings));
     }
     let is_device = git_names::is_windows_device(name);
     assert_eq!(

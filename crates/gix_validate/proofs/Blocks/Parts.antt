@@ -83,28 +83,28 @@ any_in_chunk p x i n found = grind (arith, any_with_chunk, any_overlap p x 0 (i 
 
 -- ---- a block of parts of a text
 
+read_part : (n first second r : ℕ) (x : List ℕ) → r < n + n → first + n ≤ length x
+    → get_or (chunk first n x ++ chunk second n x) r 0
+    ≡ get_or x (cond (ltb r n) (first + r) (second + (r - n))) 0
+read_part n first second r x small f = grind (
+  arith,
+  nat_tests,
+  get_or_append_left (chunk first n x) (chunk second n x) 0 r,
+  get_or-append_right (chunk first n x) (chunk second n x) n r 0,
+  length-chunk first n x f,
+  get_or-chunk first n x r 0,
+  get_or-chunk second n x (r - n) 0,
+)
+
 pub has_parts : (n first second : ℕ) (x ks : List ℕ) → 0 < n → first + n ≤ length x → second + n ≤ length x
     → length ks ≡ 16 → agree_below (λ k. eqb (get_or ks k 0) (k % (n + n))) (λ _. true) 16 ≡ true
     → HasParts n first second x (pick_l 0 (chunk first n x ++ chunk second n x) ks)
 has_parts n first second x ks some f s long all k small =
-    let r = k % (n + n) in
-    let front = chunk first n x in
-    let back = chunk second n x in
-    let lane : get_or ks k 0 ≡ r =
+    let both = chunk first n x ++ chunk second n x in
+    let lane : get_or ks k 0 ≡ k % (n + n) =
     eqb-true _ _ (agree_below_at (λ k. eqb (get_or ks k 0) (k % (n + n))) (λ _. true) 16 k all small) in
-    let read = get_or-map (λ j. get_or (front ++ back) j 0) ks k 0 0 (omega arith) in
-    grind (
-      arith,
-      nat_tests,
-      mod-lt,
-      read,
-      lane,
-      get_or_append_left front back 0 r,
-      get_or-append_right front back n r 0,
-      length-chunk first n x f,
-      get_or-chunk first n x r 0,
-      get_or-chunk second n x (r - n) 0,
-    )
+    get_or-map (λ j. get_or both j 0) ks k 0 0 (omega arith) ∙ ap (λ j. get_or both j 0) lane
+    ∙ read_part n first second (k % (n + n)) x (omega arith) f
 
 -- a block of two parts
 any_of_parts : (n a b : ℕ) (x block : List ℕ)

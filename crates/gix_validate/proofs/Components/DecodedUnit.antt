@@ -30,11 +30,18 @@ row_fits b x = grind (arith, nat_tests)
 second_is : (b c : ℕ) → second b c ≡ is_within (second_range b) c
 second_is b c = grind (arith, nat_tests)
 
+decoded_of_three : (b c d : ℕ) → (decoded (b ∷ c ∷ d ∷ [])).size ≡ 1 + fitting_len (ranges b) (c ∷ d ∷ [])
+decoded_of_three b c d = rw (second_is b c) (grind (arith, nat_tests))
+
+decoded_of_more : (b c d e : ℕ) (x : List ℕ)
+    → (decoded (b ∷ c ∷ d ∷ e ∷ x)).size ≡ 1 + fitting_len (ranges b) (c ∷ d ∷ e ∷ x)
+decoded_of_more b c d e x = rw (second_is b c) (grind (arith, nat_tests))
+
 decoded_by_ranges : (b : ℕ) (x : List ℕ) → (decoded (b ∷ x)).size ≡ 1 + fitting_len (ranges b) x
 decoded_by_ranges b [] = grind arith
 decoded_by_ranges b (c ∷ []) = rw (second_is b c) (grind arith)
-decoded_by_ranges b (c ∷ d ∷ []) = rw (second_is b c) (grind arith)
-decoded_by_ranges b (c ∷ d ∷ e ∷ x) = rw (second_is b c) (grind (arith, nat_tests))
+decoded_by_ranges b (c ∷ d ∷ []) = decoded_of_three b c d
+decoded_by_ranges b (c ∷ d ∷ e ∷ x) = decoded_of_more b c d e x
 
 pub first_unit_law : (x : List ℕ) → FirstUnitIsDecoded x
 first_unit_law [] some = grind arith

@@ -12,16 +12,23 @@ abbrev pub row_for : List (List (ℕ × ℕ)) → ℕ → List (ℕ × ℕ)
 row_for [] b = (b, b) ∷ []
 row_for (row ∷ rows) b = cond (begins_row row b) row (row_for rows b)
 
+begun_by_row : (b : ℕ) (x : List ℕ) → first_unit_len (b ∷ x) ≡ fitting_len (row_for whole_sequences b) (b ∷ x)
+unfolding first_unit_len whole_sequences
+begun_by_row b x = grind (arith, nat_tests)
+
+begun_of_one : (b : ℕ) (x : List ℕ) → (b < 0xC2) ⊎ (0xF4 < b) → first_unit_len (b ∷ x) ≡ 1
+unfolding first_unit_len whole_sequences
+begun_of_one b x outside = grind (arith, nat_tests)
+
 pub unit_by_row : (x : List ℕ) → 1 ≤ length x
     → first_unit_len x ≡ fitting_len (row_for whole_sequences (get_or x 0 0)) x
-unfolding first_unit_len whole_sequences
-unit_by_row [] some = grind arith
-unit_by_row (b ∷ x) some = grind (arith, nat_tests)
+unit_by_row [] some = absurd (omega arith)
+unit_by_row (b ∷ x) some = begun_by_row b x
 
 pub unit_of_one : (x : List ℕ) → (get_or x 0 0 < 0xC2) ⊎ (0xF4 < get_or x 0 0) → first_unit_len x ≡ 1
 unfolding first_unit_len whole_sequences
 unit_of_one [] outside = refl
-unit_of_one (b ∷ x) outside = grind (arith, nat_tests)
+unit_of_one (b ∷ x) outside = begun_of_one b x outside
 
 pub unit_of_none : (x : List ℕ) → length x < 1 → first_unit_len x ≡ 1
 unfolding first_unit_len whole_sequences

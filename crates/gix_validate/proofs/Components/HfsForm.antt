@@ -91,22 +91,30 @@ hfs_form-front : (n b : ℕ) (x : List ℕ) → 1 ≤ n → HasTail n x → begi
     → hfs_form (b ∷ x) ≡ take n (b ∷ x) ++ hfs_form (drop n (b ∷ x))
 hfs_form-front n b x some goes begins = grind (arith, hfs_form-kept, hfs_form-next)
 
--- The HFS form is the kept units, wherever there are enough steps to reach the end:
--- the first unit is kept or not, and the form of the rest follows.
-pub hfs_form-units : (n : ℕ) (x : List ℕ) → length x ≤ n
-    → hfs_form x ≡ concat (filter (λ unit. not (is_ignored_unit unit)) (units_within n x))
-unfolding units_within hfs_form
-hfs_form-units (suc n) (b ∷ x) enough = grind (
+-- the first unit is kept or not, and the form of the rest follows
+hfs_form-unit : (b : ℕ) (x : List ℕ) (units : List (List ℕ))
+    → hfs_form (drop (first_unit_len (b ∷ x)) (b ∷ x))
+    ≡ concat (filter (λ unit. not (is_ignored_unit unit)) units)
+    → hfs_form (b ∷ x)
+    ≡ concat (filter (λ unit. not (is_ignored_unit unit)) (take (first_unit_len (b ∷ x)) (b ∷ x) ∷ units))
+unfolding hfs_form
+hfs_form-unit b x units rest = grind (
   arith,
   nat_tests,
   first_unit_len-pos,
-  length-drop,
   three,
   hfs_form-front,
   HasTail-first_unit,
   begins_from_unit,
-  hfs_form-units n,
 )
+
+-- The HFS form is the kept units, wherever there are enough steps to reach the end.
+pub hfs_form-units : (n : ℕ) (x : List ℕ) → length x ≤ n
+    → hfs_form x ≡ concat (filter (λ unit. not (is_ignored_unit unit)) (units_within n x))
+unfolding units_within hfs_form
+hfs_form-units (suc n) (b ∷ x) enough =
+    hfs_form-unit b x _
+    (hfs_form-units n _ (simp length-drop (omega (arith, first_unit_len-pos (b ∷ x)))))
 hfs_form-units _ _ enough = grind arith
 
 -- one byte of the form and one of a word, put off

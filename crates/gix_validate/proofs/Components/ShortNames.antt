@@ -72,16 +72,22 @@ other_is_plain : (w : List ℕ) → bytes_eq w (codes ".gitmodules") ≡ false �
 unfolding is_modules_form
 other_is_plain w other modules =
     elim (or_cases _ (list_any (λ k. is_short_name k w) (range_with_len 0 7)) modules) [
-      | inl numbered ↦ numbered_is_plain w (grind arith)
+      | inl numbered ↦ numbered_is_plain w (rw other at numbered)
       | inr short ↦ any_gives (λ k. is_short_name k w) (λ k. short_is_plain k w) (range_with_len 0 7) short
     ]
+
+front_further : (b : ℕ) (x : List ℕ) → ntfs_form x ≡ take (length (ntfs_form x)) x
+    → is_empty (ntfs_form (drop (length (ntfs_form x)) x)) ≡ true
+    → (ntfs_form (b ∷ x) ≡ take (length (ntfs_form (b ∷ x))) (b ∷ x))
+    × (is_empty (ntfs_form (drop (length (ntfs_form (b ∷ x))) (b ∷ x))) ≡ true)
+front_further b x is none = grind (arith, ntfs_form-at)
 
 -- the form is a front of the text, and nothing of it is in what follows that front
 form_is_front : (x : List ℕ)
     → (ntfs_form x ≡ take (length (ntfs_form x)) x)
     × (is_empty (ntfs_form (drop (length (ntfs_form x)) x)) ≡ true)
 form_is_front [] = grind (arith, ntfs_form-none)
-form_is_front (b ∷ x) = grind (arith, ntfs_form-at, form_is_front x)
+form_is_front (b ∷ x) = let front = form_is_front x in front_further b x front.0 front.1
 
 -- plain bytes after which nothing of the form is left are the form
 plain_front : (n : ℕ) (x : List ℕ) → list_all stays_in_form (take n x) ≡ true

@@ -9,13 +9,25 @@ use Rattle.gix_validate.specs.Bytes.{ends}
 use Rattle.gix_validate.specs.Pieces.{has_no_slash}
 use Rattle.gix_validate.specs.Sanitized.{cut, is_locks}
 
+after_one : (a : ℕ) (r : List ℕ) → is_locks r ≡ true → is_locks (a ∷ r) ≡ false
+after_one a r h = grind arith
+
+after_two : (a b : ℕ) (r : List ℕ) → is_locks r ≡ true → is_locks (a ∷ b ∷ r) ≡ false
+after_two a b r h = grind arith
+
+after_three : (a b c : ℕ) (r : List ℕ) → is_locks r ≡ true → is_locks (a ∷ b ∷ c ∷ r) ≡ false
+after_three a b c r h = grind arith
+
+after_four : (a b c d : ℕ) (r : List ℕ) → is_locks r ≡ true → is_locks (a ∷ b ∷ c ∷ d ∷ r) ≡ false
+after_four a b c d r h = grind arith
+
 -- More `.lock`s follow `.lock`s.
 is_locks-append : (x r : List ℕ) → is_locks r ≡ true → is_locks (x ++ r) ≡ is_locks x
 is_locks-append [] r h = h
-is_locks-append (a ∷ []) r h = grind arith
-is_locks-append (a ∷ b ∷ []) r h = grind arith
-is_locks-append (a ∷ b ∷ c ∷ []) r h = grind arith
-is_locks-append (a ∷ b ∷ c ∷ d ∷ []) r h = grind arith
+is_locks-append (a ∷ []) r h = after_one a r h
+is_locks-append (a ∷ b ∷ []) r h = after_two a b r h
+is_locks-append (a ∷ b ∷ c ∷ []) r h = after_three a b c r h
+is_locks-append (a ∷ b ∷ c ∷ d ∷ []) r h = after_four a b c d r h
 is_locks-append (a ∷ b ∷ c ∷ d ∷ e ∷ t) r h =
     ap (λ v. bytes_eq (a ∷ b ∷ c ∷ d ∷ e ∷ []) (codes ".lock") && v) (is_locks-append t r h)
 

@@ -99,11 +99,16 @@ length-added : (before : Option ℕ) (p : List ℕ) → length (added_by before 
 length-added before [] = grind arith
 length-added before (b ∷ p) = grind (arith, length-added (Some b) p)
 
+added-own : (before : Option ℕ) (b : ℕ) → may_follow before b ≡ true → added before b ≡ b ∷ []
+unfolding is_refused
+added-own before b h = grind (arith, nat_tests)
+
 -- A piece whose bytes may each follow the one before stays as it is.
 added_by-own : (before : Option ℕ) (p : List ℕ) → each_may_follow before p ≡ true → added_by before p ≡ p
-unfolding is_refused
-added_by-own before [] h = grind arith
-added_by-own before (b ∷ p) h = grind (arith, nat_tests, added_by-own (Some b) p)
+added_by-own before [] h = refl
+added_by-own before (b ∷ p) h =
+    let parts = and_parts (may_follow before b) (each_may_follow (Some b) p) h in
+    rw (added-own before b parts.0, added_by-own (Some b) p parts.1)
 
 -- an allowed byte is one that a good piece may have, and is a dot, `@` or `{` only if the byte is
 allowed_kept : (b : ℕ) → (is_refused (allowed b) ≡ false) × ((allowed b == byte ".") ≡ (b == byte "."))

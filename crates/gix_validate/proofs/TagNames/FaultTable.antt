@@ -154,12 +154,15 @@ unfolding walked
 walked_push before [] b = grind (arith, append-nil)
 walked_push before (c ∷ x) b = grind (arith, append_assoc, walked_push (before ++ c ∷ []) x b)
 
+walked_more : (x : List ℕ) (n : ℕ) → n < length x
+    → walked [] (take (suc n) x) ≡ (walked [] (take n x) orelse fault_of_byte_at x n)
+walked_more x n h = grind (arith, take_more, walked_push [] (take n x))
+
 walked_offsets : (x : List ℕ) (n : ℕ) → n ≤ length x
     → at_first_offset (fault_of_byte_at x) n ≡ walked [] (take n x)
 unfolding walked
 walked_offsets x zero h = at_first_offset_none (fault_of_byte_at x) zero (λ k small. absurd (omega arith))
-walked_offsets x (suc n) h =
-    grind (arith, at_first_offset_more, take_more, walked_push [] (take n x), walked_offsets x n)
+walked_offsets x (suc n) h = grind (arith, at_first_offset_more, walked_more x n, walked_offsets x n)
 
 pub at_first_offset_walked : (x : List ℕ) → at_first_offset (fault_of_byte_at x) (length x) ≡ walked [] x
 at_first_offset_walked x = grind (arith, take_all, walked_offsets)

@@ -43,22 +43,29 @@ good_piece_parts p = grind arith
 
 -- a part of two bytes is in the text already, or comes with the new byte
 holds_push : (p : List ℕ) (b a c : ℕ)
-    → holds (p ++ b ∷ []) (a ∷ c ∷ []) ≡ (holds p (a ∷ c ∷ []) || (ends p (a ∷ []) && eqb c b))
+    → holds (p ++ b ∷ []) (a ∷ c ∷ []) ≡ (holds p (a ∷ c ∷ []) || (ends p (a ∷ []) && eqb b c))
 holds_push [] b a c = grind arith
-holds_push (x ∷ []) b a c = grind arith
+holds_push (x ∷ []) b a c = grind (arith, nat_tests)
 holds_push (x ∷ y ∷ p) b a c = grind (arith, ends_cons (a ∷ []) x (y ∷ p), holds_push (y ∷ p) b a c)
 
-goes_on_regrouped : (a x g c e k d f m : Bool)
-    → (not (a || x) && not g && not (c || (e && k)) && not (d || (f && m)))
-    ≡ ((not a && not g && not c && not d) && not (x || ((k && e) || (m && f))))
-goes_on_regrouped a x g c e k d f m = grind arith
+begins_push : (p : List ℕ) (b c : ℕ)
+    → begins (p ++ b ∷ []) (c ∷ []) ≡ (begins p (c ∷ []) || (is_empty p && eqb b c))
+begins_push [] b c = grind (arith, nat_tests)
+begins_push (x ∷ p) b c = grind arith
+
+goes_on_regrouped : (a x g z e c k d m f : Bool)
+    → (not (a || (x || false)) && not (g || (z && e)) && not (c || (k && e)) && not (d || (m && f)))
+    ≡ ((not a && not g && not c && not d) && not (x || ((e && (z || k)) || (f && m))))
+goes_on_regrouped a x g z e c k d m f = grind arith
 
 goes_on_push : (p : List ℕ) (b : ℕ) → goes_on (p ++ b ∷ []) ≡ (goes_on p && not (breaks p b))
 unfolding goes_on breaks
-goes_on_push p b =
-    let any : list_any is_refused (p ++ b ∷ []) ≡ (list_any is_refused p || is_refused b) =
-    grind (arith, list_any-append is_refused p) in
-    grind (arith, nat_tests, any, holds_push, goes_on_regrouped)
+goes_on_push p b = rw (
+  list_any-append is_refused p (b ∷ []),
+  begins_push p b (byte "."),
+  holds_push p b (byte ".") (byte "."),
+  holds_push p b (byte "@") (byte "{"),
+) (grind (arith, goes_on_regrouped))
 
 -- The table says no more of a byte than the piece before it does.
 no_fault_of_byte : (y : List ℕ) (b : ℕ) → is_empty y ≡ false

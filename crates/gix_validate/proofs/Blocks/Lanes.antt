@@ -9,11 +9,12 @@ use Rattle.gix_validate.proofs.Common.{get_or-map, get_or_past, length-map, and_
 use Rattle.gix_validate.proofs.Common.{le_or_r, get_or-zip2, zip2_splat, zip2-map, length-zip2}
 use Rattle.gix_validate.proofs.Common.{mask_l-lt, mask_l-mod, bit_mask_l, bitmask_splat, swz_l}
 use Rattle.gix_validate.proofs.Common.{SwzOk, bit_at, list_any, codes, ◌==◌, if◌then◌else◌, byte}
+use Rattle.gix_validate.proofs.Common.{false≢true}
 use lib.Lanes.{zip2, mask_l, fold_l, top, Each1, sel_l}
 use Rattle.gix_validate.specs.declared.adjacent.TheConstants.{CLASSES_BY_LOW_NIBBLE}
 use Rattle.gix_validate.specs.declared.adjacent.TheConstants.{CLASSES_BY_HIGH_NIBBLE, SUSPECT_AFTER}
 use Rattle.gix_validate.specs.declared.adjacent.TheConstants.{AFTER_DOT, AFTER_SLASH, ANYWHERE}
-use Rattle.gix_validate.specs.Private.Scan.{is_nonzero, NoneBelow}
+use Rattle.gix_validate.specs.Private.Scan.{is_nonzero, NoneBelow, IsFirst}
 use Rattle.gix_validate.specs.Bytes.{is_bad, is_among, ends}
 use Rattle.gix_validate.specs.Private.Adjacent.{is_suspect, may_be_faulty, suspect_at, IsClear}
 
@@ -245,3 +246,8 @@ pub clear_by_looks : (x : List ℕ) → 0 < length x
     ↔ ((may_be_faulty (get_or x 0 0) ≡ false)
     × ((ends x (codes ".") || ends x (codes "/")) ≡ false) × NoneBelow (at_pair is_suspect x) (length x - 1))
 clear_by_looks x some = grind (arith, nat_tests, first_look, add-one, quiet_by_looks)
+
+-- With a suspect pair it is not clear.
+pub unclear_by_pair : (x : List ℕ) (i : ℕ) → IsFirst (at_pair is_suspect x) (length x - 1) i
+    → (i + 1 ≡ length x) ↔ IsClear x
+unclear_by_pair x i found = grind (arith, clear_by_looks, false≢true)

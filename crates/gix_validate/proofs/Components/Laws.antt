@@ -168,6 +168,3 @@ basic_law options mode x none = grind (arith, has_no_slash-from_none, git_forms)
 -- The HFS form is the units without the ignored characters, put one after the other.
 pub units_law : (x : List ℕ) → FormIsKeptUnits x
 units_law x = hfs_form-units (length x) x (omega arith)
-
--- what `component` takes from above
-pub ruleset component_laws = (component_grammar_law, fewer_law, case_law, units_law, basic_law)

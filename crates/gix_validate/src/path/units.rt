@@ -8,7 +8,6 @@ const TAIL: (u8, u8) = (0x80, 0xBF);
 
 /// How many bytes the first unit has: the whole sequence at the start, or else what begins one, or
 /// else one byte.
-#[tactic(auto, using(crate::proofs::Components::FirstUnit::by_row), unfolding(crate::specs::Units::whole_sequences))]
 pub(super) fn first_unit_len(text: &[u8]) -> usize
     ensures { result ≡ first_unit_len text.now }
 {
@@ -26,7 +25,6 @@ pub(super) fn first_unit_len(text: &[u8]) -> usize
 }
 
 /// How many bytes at the start fit the row, one for each range.
-#[tactic(auto, using(std::proofs::lemmas::Bool::Decides::nat_tests, crate::proofs::Components::FirstUnit::fits_past))]
 fn fitting_len(row: &[(u8, u8)], text: &[u8]) -> usize
     ensures { result ≡ fitting_len row.now text.now }
 {

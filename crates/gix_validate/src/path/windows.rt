@@ -72,7 +72,6 @@ const BY_LETTER: [[u8; 32]; 3] = [
 /// Whether a name may be a device, `.git` or `.gitmodules` in any ASCII case, by its first three
 /// letters and its length.
 #[inline(always)]
-#[tactic(auto, using(crate::proofs::Components::Devices::special_bits), unfolding(crate::proofs::Components::Devices::bits, crate::specs::Bytes::lower_byte))]
 pub(super) fn may_be_special(name: &[u8]) -> bool
     ensures { result ≡ false
         → (is_device name.now
@@ -100,7 +99,6 @@ pub(super) fn is_device(name: &[u8]) -> bool
 
 /// Whether the name is a device, by its first three letters and what follows them.
 #[inline(always)]
-#[tactic(auto, using(crate::proofs::Components::Devices::by_letters), unfolding(crate::proofs::Components::Devices::are_letters))]
 pub(super) fn is_device_by_letters(name: &[u8]) -> bool
     ensures { result ≡ is_device name.now }
 {

@@ -207,7 +207,6 @@ fn length_of_cut(text: &[u8]) -> usize
 
 /// Makes the last three repairs to the first `end` bytes of `buf`, and returns the length of the
 /// result.
-#[tactic(auto, using(crate::proofs::Sanitizing::OneBuffer::repaired_none))]
 fn repair_end(buf: &mut [u8], end: usize) -> usize
     requires some { 1 ≤ length buf.old }
     requires within { end ≤ length buf.old }

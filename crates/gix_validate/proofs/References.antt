@@ -3,7 +3,7 @@ use Rattle.gix_validate.proofs.Common.{◌≡◌, ℕ, true, false, IsTrue, List
 use Rattle.gix_validate.proofs.Common.{length, All, Contains, ◌==◌, Option, is_some, list_any, byte}
 use Rattle.gix_validate.proofs.Common.{bytes_eq-Decides, list_any_at, list_all-append, codes}
 use Rattle.gix_validate.proofs.Common.{list_any-append, Any-from_list_any, AllPass-from_list_all}
-use Rattle.gix_validate.proofs.Common.{list_all-from_AllPass, common_steps, nat_tests}
+use Rattle.gix_validate.proofs.Common.{list_all-from_AllPass, common_steps, nat_tests, ◌↔◌}
 use Rattle.gix_validate.proofs.Blocks.Parts.{none_at}
 use Rattle.gix_validate.proofs.Texts.Pieces.{pieces_some}
 use Rattle.gix_validate.proofs.Texts.Endings.{ends_read}
@@ -29,8 +29,12 @@ pub may_not_stand : (x : List ℕ) → has_slash_or_stands_alone x ≡ false
     → ¬ (Contains x (byte "/") ⊎ All (λ b. IsTrue (is_standalone_byte b)) x)
 may_not_stand x h t = grind (arith, list_any_at, list_all-from_AllPass)
 
--- which names may stand alone
-pub ruleset standing = (may_stand, may_not_stand)
+-- A full name is a partial name that has a slash, or whose bytes may each stand alone.
+pub full_name_parts : (x : List ℕ) → IsTrue (is_full_name x)
+    ↔ (IsTrue (is_partial_name x)
+    × (Contains x (byte "/") ⊎ All (λ b. IsTrue (is_standalone_byte b)) x))
+unfolding is_full_name
+full_name_parts x = grind (arith, may_stand x, may_not_stand x)
 
 -- what a comparison with a reserved name takes
 pub ruleset reserved_names = (bytes_eq-Decides)

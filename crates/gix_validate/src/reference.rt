@@ -155,7 +155,6 @@ pub fn name_partial<'a>(path: BStr<'a>) -> Result<BStr<'a>, NameError>
 /// # Errors
 ///
 /// The error of [`name_partial`] if there is one, and otherwise `SomeLowercase`.
-#[tactic(auto, using(crate::proofs::References::standing, crate::proofs::TagNames::ClearTexts::clear_has_no_fault), unfolding(crate::specs::Reference::is_full_name))]
 #[inline(always)]
 pub fn name<'a>(path: BStr<'a>) -> Result<BStr<'a>, NameError>
     ensures answer { Validates full_fault_of (bstr_bytes path.entry) result }

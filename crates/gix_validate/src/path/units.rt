@@ -8,6 +8,7 @@ const TAIL: (u8, u8) = (0x80, 0xBF);
 
 /// How many bytes the first unit has: the whole sequence at the start, or else what begins one, or
 /// else one byte.
+#[tactic(auto, using(crate::proofs::Components::FirstUnit::by_row), unfolding(crate::specs::Units::whole_sequences))]
 pub(super) fn first_unit_len(text: &[u8]) -> usize
     ensures { result ≡ first_unit_len text.now }
 {

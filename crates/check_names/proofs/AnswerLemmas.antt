@@ -3,7 +3,8 @@ use Rattle.gix_validate.proofs.Common.{◌≡◌, ◌≢◌, ℕ, List, [], ◌�
 use Rattle.gix_validate.proofs.Common.{IfSome, Result, MatchResult, codes, refl, sym, ap, ◌∙◌}
 use Rattle.gix_validate.proofs.Common.{append_assoc, append-nil, arith, AllByRecursion, byte}
 use Rattle.gix_validate.proofs.Common.{bytes_eq, cond-false, false_from_ne_true, bytes_eq-Decides}
-use Rattle.gix_validate.proofs.Common.{nat_tests, common_steps, take_rest}
+use Rattle.gix_validate.proofs.Common.{nat_tests, common_steps, take_rest, Ok, Err, OnOk, is_ok}
+use Rattle.gix_validate.proofs.Common.{if◌then◌else◌}
 use Rattle.gix_validate.proofs.Texts.NamesIn.{names_in-cut, names_in-last}
 use Rattle.bstr.specs.declared.bstr.BStr.{BStr}
 use Rattle.bstr.specs.BStr.{bstr_bytes}
@@ -53,6 +54,12 @@ unfolding answer_of kinds
 asked_otherwise line n1 n2 n3 n4 n5 n6 n7 n8 n9 =
     asks_none line (request_of line)
     (n2, (n3, (n1, (n4, (n5, (n6, (n7, (n8, (n9, tt))))))))) (kind_and_name line)
+
+-- bytes that are appended, if memory for them was found
+pub appended : {T E : Type 0} (r : Result T E) (new old bytes : List ℕ)
+    → new ≡ (if is_ok r then old ++ bytes else old) → OnOk r (new ≡ old ++ bytes)
+appended (Ok done) new old bytes e = e
+appended (Err error) new old bytes e = tt
 
 -- If a constructor of a typed name returns by this rule of faults, and its result is printed,
 -- the verdict of the rule was printed.

@@ -167,7 +167,7 @@ fn push_answer(alloc: Global, line: &[u8], answers: &mut Vec<u8>) -> Result<(), 
 }
 
 /// The same for a line of none of these kinds.
-#[tactic(auto, using(crate::proofs::AnswerLemmas::asked_otherwise), unfolding(crate::specs::Answers::answer_of, crate::specs::Answers::kinds))]
+#[tactic(auto, unfolding(crate::specs::Answers::answer_of, crate::specs::Answers::kinds))]
 fn push_other_answer(alloc: Global, line: &[u8], answers: &mut Vec<u8>) -> Result<(), AllocError>
     requires no_ref { (name : List ℕ) → line.now ≢ codes "ref " ++ name }
     requires no_tag { (name : List ℕ) → line.now ≢ codes "tag " ++ name }

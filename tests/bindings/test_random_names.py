@@ -166,7 +166,7 @@ def seen(gix):
 
 
 @settings(
-    max_examples=1500,
+    max_examples=500,
     deadline=None,
     database=None,
     suppress_health_check=HealthCheck.all(),

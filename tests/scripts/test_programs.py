@@ -9,7 +9,7 @@ import pytest
 
 def first_line_of(program):
     """What is said at once."""
-    minutes = 8 if program == "check_names" else 15
+    minutes = 7 if program == "check_names" else 15
     return (
         f"{program}: proving it and the crates that it uses, in about {minutes} minutes"
     )

@@ -37,7 +37,6 @@ ALLOWED = {
     # Texts that tests compare with.
     "bindings/rust/gix-validate/tests/recorded.rs": {"include_str"},
     "bindings/rust/tests/rows.rs": {"include_str"},
-    "bindings/rust/tests/second_implementation/main.rs": {"include_str"},
     # The code that replays rows, which the tests share.
     "bindings/rust/examples/replay_rows.rs": {"path"},
     # Prose, the list of files of a package, and a folder for Cargo.

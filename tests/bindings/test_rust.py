@@ -53,16 +53,16 @@ def portable_program():
 
 
 # The test programs that have a test, in Cargo's order.
-TESTS = [True, True, True, True, False, True, True]
+TESTS = [True, True, True, False, True, True]
 # What passes the tests of both crates.
 BOTH = ["test", "--quiet", "--package", "git-names", "--package", "gix-validate"]
 
 
 def passed(said):
     """How many tests passed in each of the test programs, if none failed or was left out.
-    Those of git-names: the sources, the errors, the rows, the second implementation. Of
-    gix-validate: the sources, which have none, the front page, the record. At last, unless
-    they were left out, the examples in the comments of each."""
+    Those of git-names: the sources, the errors, the rows. Of gix-validate: the sources,
+    which have none, the front page, the record. At last, unless they were left out, the
+    examples in the comments of each."""
     found = re.findall(
         r"(?m)^test result: ok\. (\d+) passed; 0 failed; 0 ignored", said
     )

@@ -256,10 +256,10 @@ REFUSED = {
     ),
     "the body of a test is empty": Refused(
         "check-tests",
-        "crates/name_vectors/src/rows.rt",
-        r"(?s)(fn checks_references.*?\{\n).*?\n\}",
+        "crates/name_vectors/src/tests.rt",
+        r"(?s)(fn agrees_on_names_of_few_parts.*?\{\n).*?\n\}",
         r"\1    Ok(())\n}",
-        "rows.rt: the test checks_references asserts nothing",
+        "tests.rt: the test agrees_on_names_of_few_parts asserts nothing",
     ),
     "there is unsafe code": Refused(
         "check-unsafe",

@@ -1,6 +1,6 @@
 //! The kinds of names in `git_names`: worked names, the offset of each error, and suggestions.
 
-use crate::results::{expect, expect_bool, options};
+use crate::agree::{expect, expect_bool, options};
 use crate::rows::{Names, listed};
 use crate::text::Host;
 use bstr::BStr;

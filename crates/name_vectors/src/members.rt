@@ -13,8 +13,8 @@ ghost use Rattle.gix_validate.specs.Submodule.{text_of as submodule_text_of};
 ghost use Rattle.gix_validate.specs.Tag.{text_of as tag_text_of};
 ghost use Rattle.typed_names.specs.Names.{name_bytes, name_text, component_bytes};
 
+use crate::agree::{expect, expect_bool, expect_error, options};
 use crate::printed::{component_texts, reference_texts};
-use crate::results::{expect, expect_bool, expect_error, options};
 use crate::text::Host;
 use bstr::BStr;
 use gix_validate::path::{ComponentError, ComponentMode, ComponentOptions};

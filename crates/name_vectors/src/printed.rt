@@ -1,12 +1,7 @@
 //! What errors print (docs/RULES.md, "Printed texts"), with a quoted byte or name.
 
+use crate::reference::Fault;
 use crate::text::{Host, joined};
-
-/// An error of a name, as docs/RULES.md calls it, and what is quoted after its text, if anything
-/// is. For a valid name both are empty.
-pub(crate) type Fault<'a> = (&'static [u8], &'a [u8]);
-
-pub(crate) const VALID: Fault<'static> = (b"", b"");
 
 /// Errors of one kind of name, and their texts. Each table is returned by a function of its own, so
 /// that it is part of that function's proof alone.

@@ -5,7 +5,7 @@
 //! allocations of its own as it takes for this one to be the one that fails. In the last test none
 //! of the calls' allocations fails.
 
-use crate::results::{expect, expect_bool};
+use crate::agree::{expect, expect_bool};
 use crate::rows::{joined_names, part};
 use crate::text::{Host, joined};
 use bstr::{BStr, BString};

@@ -1,9 +1,10 @@
 //! Short branch names and whole paths: worked names, and what docs/RULES.md gives for each.
 
-use crate::printed::{Fault, VALID, branch_texts, component_texts, path_texts, reference_texts};
-use crate::results::{expect, expect_bool, expect_error, expect_text, expect_valid, mode, options};
+use crate::agree::{expect, expect_bool, expect_error, expect_text, expect_valid, mode, options};
+use crate::printed::{branch_texts, component_texts, path_texts, reference_texts};
+use crate::reference::{Fault, VALID, of_references};
 use crate::rows::{Names, listed, part};
-use crate::text::Host;
+use crate::text::{Host, joined};
 use bstr::BStr;
 use git_names::{PathError, ShortName, ShortNameError};
 
@@ -68,10 +69,20 @@ fn for_short_names(rt: &impl Host, rows: &[(Fault<'static>, Names)]) {
     }
 }
 
+/// Each name is valid if and only if the second implementation accepts it as part of a full branch
+/// name, and it doesn't start with a dash.
 fn for_names(rt: &impl Host, fault: Fault<'static>, names: &[&[u8]]) {
     for name in names {
         expect_short(rt, name, fault);
+        let is_valid = is_branch(rt, name) && !name.starts_with(b"-");
+        expect_bool(rt, ("short_name", name), is_valid, fault == VALID);
     }
+}
+
+/// Whether the second implementation accepts `refs/heads/` followed by this name as a branch name.
+fn is_branch(rt: &impl Host, name: &[u8]) -> bool {
+    let full = joined(rt, &[b"refs/heads/", name]);
+    of_references(&full)[3] == VALID
 }
 
 #[test]

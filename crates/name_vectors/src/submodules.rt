@@ -1,7 +1,7 @@
 //! Submodule names in a `.gitmodules` file: that reading them can succeed, and what an error
 //! prints. (The contract says what is returned.)
 
-use crate::results::{expect, expect_bool};
+use crate::agree::{expect, expect_bool};
 use gitmodules::submodule_names;
 
 /// Files that are refused, and what the error prints.

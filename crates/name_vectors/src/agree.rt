@@ -1,8 +1,12 @@
-//! Passes a name to the functions of the library, and compares what they return with what a table
-//! gives.
+//! Passes a name to the functions of the library, and compares what they return with what is
+//! expected: the result of the second implementation, or of a table.
 
+use crate::path::{SETTINGS, conditions, hfs_form, is_device, of_component};
 use crate::printed::{
-    Fault, Texts, VALID, component_texts, printed, reference_texts, submodule_texts, tag_texts,
+    Texts, component_texts, printed, reference_texts, submodule_texts, tag_texts,
+};
+use crate::reference::{
+    Fault, VALID, accepting, between_slashes, of_references, of_submodule, sanitized,
 };
 use crate::text::{Host, before_first, joined};
 use bstr::BStr;
@@ -13,6 +17,44 @@ use gix_validate::reference::{
 use gix_validate::{submodule, tag};
 use std::fmt::{Debug, Display};
 use std::process::Abort;
+
+/// Passes the name to the functions of the library, and panics if a result isn't that of the second
+/// implementation.
+pub(crate) fn check(rt: &impl Host, text: &[u8]) {
+    check_uncut(rt, text, &between_slashes(rt, text));
+    check_component(rt, text);
+    expect_repair(rt, text, &sanitized(rt, text));
+}
+
+/// Does so with the functions for reference names and submodule names.
+fn check_uncut(rt: &impl Host, text: &[u8], between_slashes: &[u8]) {
+    let faults = of_references(text);
+    expect_accepting(rt, text, accepting(text, between_slashes), &faults);
+    expect_references(rt, text, faults);
+    expect_submodule(rt, text, of_submodule(text, between_slashes));
+}
+
+/// Panics unless exactly the first so many rules find no error.
+fn expect_accepting(rt: &impl Abort, text: &[u8], accepting: usize, faults: &[Fault<'_>]) {
+    for (kind, fault) in faults.iter().enumerate() {
+        expect_bool(rt, ("a rule", text), kind < accepting, *fault == VALID);
+    }
+}
+
+/// Does so with the functions for components.
+fn check_component(rt: &impl Host, text: &[u8]) {
+    let lower = text.to_ascii_lowercase(rt.alloc()).expect(rt, "memory");
+    let holds = conditions(&lower, &hfs_form(rt, &lower));
+    expect_components(rt, text, &holds);
+    expect_device(rt, text, is_device(&lower));
+}
+
+/// Checks the results under all settings for a component of which this holds.
+fn expect_components(rt: &impl Host, text: &[u8], holds: &[bool; 13]) {
+    for settings in SETTINGS {
+        expect_component(rt, (settings, text), of_component(holds, settings));
+    }
+}
 
 /// Panics if the call with this name returned something other than what is expected.
 pub(crate) fn expect(rt: &impl Abort, call: (&str, &[u8]), wanted: &[u8], came: &[u8]) {

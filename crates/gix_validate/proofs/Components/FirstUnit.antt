@@ -1,6 +1,8 @@
 -- The first unit by the row of the table that has its first byte.
-use Rattle.gix_validate.proofs.Common.{◌≡◌, ℕ, ◌<◌, ◌≤◌, Bool, true, cond, List, [], ◌∷◌, length}
-use Rattle.gix_validate.proofs.Common.{drop, get_or, ◌⊎◌, ◌∙◌, refl, arith, at_drop_all, nat_tests}
+use Rattle.gix_validate.proofs.Common.{◌≡◌, ℕ, zero, suc, ◌<◌, ◌≤◌, Bool, true, cond, List, []}
+use Rattle.gix_validate.proofs.Common.{◌∷◌, length, drop, get_or, ◌⊎◌, ◌∙◌, refl, sym, ap, arith}
+use Rattle.gix_validate.proofs.Common.{at_drop_all, nat_tests, take, list_all, nat_lt, false}
+use Rattle.gix_validate.proofs.Common.{false≢true}
 use Rattle.gix_validate.specs.Units.{is_within, fitting_len, whole_sequences, first_unit_len}
 
 abbrev pub begins_row : List (ℕ × ℕ) → ℕ → Bool
@@ -34,7 +36,37 @@ pub unit_of_none : (x : List ℕ) → length x < 1 → first_unit_len x ≡ 1
 unfolding first_unit_len whole_sequences
 unit_of_none x none = grind arith
 
-pub ruleset by_row = (nat_tests, unit_by_row, unit_of_one, unit_of_none)
+-- the range of the first byte of a row
+abbrev pub first_range : List (ℕ × ℕ) → ℕ × ℕ
+first_range [] = (1, 0)
+first_range (range ∷ row) = range
+
+abbrev pub ends_below : ℕ → List (ℕ × ℕ) → Bool
+ends_below b [] = false
+ends_below b (range ∷ row) = nat_lt range.1 b
+
+-- The row at an index is that for a byte of its first range, where the rows before it have lower bytes.
+row_at : (k : ℕ) (rows : List (List (ℕ × ℕ))) (b : ℕ)
+    → list_all (ends_below (first_range (get_or rows k [])).0) (take k rows) ≡ true
+    → (first_range (get_or rows k [])).0 ≤ b → b ≤ (first_range (get_or rows k [])).1
+    → row_for rows b ≡ get_or rows k []
+row_at _ [] b lower least most = absurd (omega arith)
+row_at zero ([] ∷ rows) b lower least most = refl
+row_at zero ((range ∷ row) ∷ rows) b lower least most = grind (arith, nat_tests)
+row_at (suc k) ([] ∷ rows) b lower least most = absurd (false≢true lower)
+row_at (suc k) ((range ∷ row) ∷ rows) b lower least most = grind (arith, nat_tests, row_at k rows b)
+
+-- the first unit by the row of the table that has its first byte
+pub unit_of_row : (k : ℕ) (x : List ℕ) → let row = get_or whole_sequences k [] in
+    list_all (ends_below (first_range row).0) (take k whole_sequences) ≡ true → 1 ≤ length x
+    → (first_range row).0 ≤ get_or x 0 0 → get_or x 0 0 ≤ (first_range row).1
+    → fitting_len row x ≡ first_unit_len x
+unit_of_row k x lower some least most =
+    sym (unit_by_row x some
+    ∙ ap (λ row. fitting_len row x) (row_at k whole_sequences (get_or x 0 0) lower least most))
+
+-- what the search takes from here for a row
+pub ruleset by_row = (nat_tests, unit_by_row)
 
 -- nothing is left of a text past its end
 pub fits_past : (row : List (ℕ × ℕ)) (x : List ℕ) (i : ℕ) → length x ≤ i

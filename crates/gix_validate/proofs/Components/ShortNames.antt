@@ -192,5 +192,13 @@ short_end k w past = grind (arith, common_steps)
 -- what stands for `.gitmodules`, by its first byte
 pub ruleset modules_by_first = (common_steps, modules_at_dot, modules_elsewhere, modules_too_short)
 
--- the seven kinds of short names, one after the other
-pub ruleset short_by_letters = (short_from_none, short_step, short_end)
+-- a name that is found with k letters, and one that isn't
+pub short_found : (k : ℕ) (w : List ℕ) → k < 7 → is_short_from 0 w ≡ is_short_from k w
+    → is_short_name k w ≡ true → list_any (λ j. is_short_name j w) (range_with_len 0 7) ≡ true
+short_found k w few upto at =
+    sym (short_from_none w) ∙ upto ∙ short_step k w few ∙ ap (λ b. b || is_short_from (k + 1) w) at
+
+pub short_passed : (k : ℕ) (w : List ℕ) → k < 7 → is_short_from 0 w ≡ is_short_from k w
+    → is_short_name k w ≡ false → is_short_from 0 w ≡ is_short_from (k + 1) w
+short_passed k w few upto other =
+    upto ∙ short_step k w few ∙ ap (λ b. b || is_short_from (k + 1) w) other

@@ -6,9 +6,6 @@ use Rattle.gix_validate.proofs.Common.{bytes_eq, cond-false, false_from_ne_true,
 use Rattle.gix_validate.proofs.Common.{nat_tests, common_steps, take_rest, Ok, Err, OnOk, is_ok}
 use Rattle.gix_validate.proofs.Common.{if◌then◌else◌}
 use Rattle.gix_validate.proofs.Texts.NamesIn.{names_in-cut, names_in-last}
-use Rattle.bstr.specs.declared.bstr.BStr.{BStr}
-use Rattle.bstr.specs.BStr.{bstr_bytes}
-use Rattle.typed_names.specs.Names.{NewChecks}
 use Rattle.gix_validate.specs.Pieces.{names_in}
 use Rattle.check_names.specs.Answers.{answer_by, answer_of, answer_to, answers, kinds, lines}
 use Rattle.check_names.specs.Answers.{line_end, request_of, unknown_kind, verdict}
@@ -61,14 +58,13 @@ pub appended : {T E : Type 0} (r : Result T E) (new old bytes : List ℕ)
 appended (Ok done) new old bytes e = e
 appended (Err error) new old bytes e = tt
 
--- If a constructor of a typed name returns by this rule of faults, and its result is printed,
--- the verdict of the rule was printed.
-pub verdict-of_kept : {Name E : Type 0} (kept : Name → BStr) (fault : List ℕ → Option E)
-    (text_of : E → List ℕ) (text : BStr) (result : Result Name E)
-    (old new : List ℕ) → NewChecks kept fault text result
+-- If a result is that of a rule of faults, and it is printed, the verdict of the rule was printed.
+pub verdict-of_checked : {Name E : Type 0} (P : Name → Type 0) (fault : List ℕ → Option E)
+    (text_of : E → List ℕ) (x : List ℕ) (result : Result Name E) (old new : List ℕ)
+    → MatchResult result (λ name. (fault x ≡ None) × P name) (λ e. fault x ≡ Some e)
     → MatchResult result (λ _. new ≡ old ++ codes "ok") (λ e. new ≡ old ++ codes "error: " ++ text_of e)
-    → new ≡ old ++ verdict (fault (bstr_bytes text)) text_of
-verdict-of_kept kept fault text_of text result old new checks printed = grind (arith, nat_tests, append_assoc)
+    → new ≡ old ++ verdict (fault x) text_of
+verdict-of_checked P fault text_of x result old new checks printed = grind (arith, nat_tests, append_assoc)
 
 -- ---- all lines
 

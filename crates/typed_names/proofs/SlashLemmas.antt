@@ -1,10 +1,12 @@
 -- The first slash of a text: what a search for it finds, and what it means for the pieces.
 use Rattle.gix_validate.proofs.Common.{◌≡◌, ◌≢◌, ℕ, ◌+◌, true, not, List, [], ◌∷◌, ◌++◌, length}
-use Rattle.gix_validate.proofs.Common.{take, drop, arith, take_rest, All-from_get_or}
+use Rattle.gix_validate.proofs.Common.{take, drop, arith, All-from_get_or}
 use Rattle.gix_validate.proofs.Common.{slice_split_none, slice_split_first}
 use Rattle.gix_validate.proofs.Common.{join_with_byte-slice_split, position_or_len_is}
 use Rattle.gix_validate.proofs.Common.{AllPass-from_list_all, list_all-from_AllPass, list_all}
 use Rattle.gix_validate.proofs.Common.{after_first, position_or_len, byte}
+use Rattle.gix_validate.proofs.Common.{false, ap}
+use Rattle.std.proofs.lemmas.List.Folds.{list_all_at}
 use Rattle.bstr.specs.Find.{Nowhere, NoneBefore, Passes, is_byte}
 use Rattle.gix_validate.specs.Pieces.{is_slash, pieces, has_no_slash}
 
@@ -17,6 +19,9 @@ nowhere_slash x nowhere =
 -- a search that finds the first slash
 abbrev pub FindsSlash : List ℕ → ℕ → Type 0
 FindsSlash x k = NoneBefore (Passes (is_byte 47) x) 0 (length x) k × Passes (is_byte 47) x k
+
+pub found_slash : (x : List ℕ) (k : ℕ) → FindsSlash x k → has_no_slash x ≡ false
+found_slash x k found = list_all_at (λ b. not (is_slash b)) x k 0 found.0.high (ap not found.1)
 
 first_slash : (x : List ℕ) (k : ℕ) → FindsSlash x k → position_or_len is_slash x ≡ k
 first_slash x k found = grind (arith, position_or_len_is)
@@ -45,6 +50,3 @@ pieces_some (b ∷ x) = grind arith
 pub whole_from_pieces : (x p rest : List ℕ) → pieces x ≡ p ∷ pieces rest → x ≡ p ++ byte "/" ∷ rest
 whole_from_pieces x p rest e =
     grind (arith, join_with_byte-slice_split 47 x, join_with_byte-slice_split 47 rest, pieces_some)
-
--- what `split_at_first_slash` takes from above
-pub ruleset first_slash_found = (nowhere_slash, pieces_alone, after_found, pieces_found, take_rest)

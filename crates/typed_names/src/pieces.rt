@@ -60,7 +60,6 @@ impl<'a> Iterator for Pieces<'a> {
 impl<'a> FusedIterator for Pieces<'a> {}
 
 /// The bytes before the first slash and those after it, if there is a slash.
-#[tactic(auto, using(crate::proofs::SlashLemmas::first_slash_found))]
 pub(crate) fn split_at_first_slash<'a>(text: BStr<'a>) -> Option<(BStr<'a>, BStr<'a>)>
     ensures none { IsNone result ↔ IsTrue (has_no_slash (bstr_bytes text.entry)) }
     ensures rest { IfSome result (λ parts. bstr_bytes parts.1

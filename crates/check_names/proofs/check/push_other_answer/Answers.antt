@@ -1,6 +1,15 @@
-use Rattle.check_names.proofs.AnswerLemmas.{asked_otherwise, appended}
+use Rattle.gix_validate.proofs.Common.{on_ok_weaker}
+use Rattle.gix_validate.specs.Submodule
+use Rattle.check_names.proofs.AnswerLemmas.{asked_otherwise, appended, verdict-of_checked}
 use Rattle.check_names.specs.Answers.{answer_of, kinds}
 use Rattle.check_names.proofs.check.push_other_answer.Goals as goal
+
+pub returns-in-Some-clause-ok : goal.returns-in-Some-clause-ok
+unfolding answer_of kinds
+returns-in-Some-clause-ok c =
+    rw c.in-Some.ensures
+    (on_ok_weaker _ (verdict-of_checked _ Submodule.fault_of _ _ _ _ _ c.name.ensures.answer)
+    c.push_verdict.ensures.ok)
 
 pub returns-in-Some-name_after-clause-ok : goal.returns-in-Some-name_after-clause-ok
 unfolding answer_of kinds

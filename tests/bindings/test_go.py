@@ -94,14 +94,14 @@ def minor_version():
     return int(re.match(r"go1\.(\d+)", printed)[1])
 
 
-def run_tests(*flags, **environment):
-    """Fails unless all tests and examples of the package run and pass."""
-    chosen = "Test|Example"
+def run_tests(*flags, chosen="Test|Example", least=16, **environment):
+    """Fails unless the tests and examples of the package whose names have this run, and pass,
+    and are at least so many."""
     listed, _ = go("test", f"-list={chosen}", *flags, ".", **environment)
-    wanted = re.findall(rf"(?m)^(?:{chosen})\w*", listed)
+    wanted = re.findall(r"(?m)^(?:Test|Example)\w*", listed)
     how = ["-count=1", "-v", f"-run={chosen}", *flags]
     printed, _ = go("test", *how, ".", **environment)
-    assert len(wanted) > 15
+    assert len(wanted) >= least
     assert re.findall(r"(?m)^--- PASS: (\w+)", printed) == wanted
 
 
@@ -126,9 +126,14 @@ def test_its_tests_pass_under_the_race_detector():
     run_tests("-race")
 
 
-def test_its_tests_pass_in_pure_go_under_the_race_detector():
+def test_its_tests_pass_in_pure_go():
     need(PORTABLE_GO)
-    run_tests("-race", "-tags=purego")
+    run_tests("-tags=purego", **PURE_GO)
+
+
+def test_its_tests_with_goroutines_pass_in_pure_go_under_the_race_detector():
+    need(PORTABLE_GO)
+    run_tests("-race", "-tags=purego", chosen="Goroutines|Stacks", least=2)
 
 
 def test_its_tests_pass_for_windows(wine):

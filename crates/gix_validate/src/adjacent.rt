@@ -78,7 +78,6 @@ const SUSPECT_AFTER: [u8; 16] = [
 
 /// Whether a name is clear, and so a tag name. Any other name may be a tag name too.
 #[inline(always)]
-#[tactic(auto, using(crate::proofs::Blocks::Lanes::clear_by_looks))]
 pub(crate) fn is_clear(text: &[u8]) -> bool
     ensures { IsTrue result ↔ IsClear text.now }
 {

@@ -166,7 +166,6 @@ pub fn fault_offset(input: BStr<'_>) -> Option<usize>
 /// tag::first_fault(BStr::from("v1.2")); // None
 /// ```
 #[inline(always)]
-#[tactic(auto, using(crate::proofs::TagNames::Grammar::first_fault_law, crate::proofs::TagNames::ClearTexts::first_fault_within, crate::proofs::TagNames::ClearTexts::clear_has_no_first_fault, crate::proofs::TagNames::ClearTexts::first_fault_of_empty))]
 pub fn first_fault(input: BStr<'_>) -> Option<(NameError, usize)>
     ensures fault { result ≡ option_map (λ fault. (fault.error, fault.offset)) (first_fault (bstr_bytes input.entry)) }
     ensures grammar { IsNone result ↔ IsTrue (is_tag_name (bstr_bytes input.entry)) }
@@ -197,7 +196,6 @@ fn fault_on_walk(bytes: &[u8]) -> Option<(NameError, usize)>
 
 /// The same, if so many bytes at the front of a name need no closer check.
 #[inline(never)]
-#[tactic(auto, unfolding(crate::specs::Tag::first_fault))]
 fn fault_past(bytes: &[u8], front: usize) -> Option<(NameError, usize)>
     requires some { 0 < length bytes.now }
     requires within { front ≤ length bytes.now }

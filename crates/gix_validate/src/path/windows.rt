@@ -136,7 +136,6 @@ fn device_form_is(name: &[u8], word: &[u8]) -> bool
 }
 
 #[inline(always)]
-#[tactic(auto, using(std::proofs::lemmas::Grind::common_steps, crate::proofs::Components::Devices::ends_in_digit))]
 fn ends_in_digit(rest: &[u8]) -> bool
     ensures { result
         ≡ list_any (λ digit. bytes_eq (lower (device_form rest.now)) (digit ∷ [])) (codes "0123456789") }
@@ -145,7 +144,6 @@ fn ends_in_digit(rest: &[u8]) -> bool
 }
 
 #[inline(always)]
-#[tactic(auto, using(std::proofs::lemmas::Grind::common_steps, crate::proofs::Components::Devices::ends_in_nonzero_digit))]
 fn ends_in_nonzero_digit(rest: &[u8]) -> bool
     ensures { result
         ≡ list_any (λ digit. bytes_eq (lower (device_form rest.now)) (digit ∷ [])) (codes "123456789") }

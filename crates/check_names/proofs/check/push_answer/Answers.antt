@@ -9,7 +9,8 @@ pub returns-in-Some-clause-ok : goal.returns-in-Some-clause-ok
 unfolding answer_of kinds
 returns-in-Some-clause-ok c =
     rw c.in-Some.ensures
-    (on_ok_weaker _ (verdict-of_checked _ full_fault_of _ _ _ _ _ c.new.ensures.answer) c.push_verdict.ensures.ok)
+    (on_ok_weaker _ (verdict-of_checked _ full_fault_of _ _ _ _ _ c.new.ensures.answer)
+    c.push_verdict.ensures.ok)
 
 pub returns-in-Some-name_after-clause-ok : goal.returns-in-Some-name_after-clause-ok
 unfolding answer_of kinds

@@ -21,7 +21,8 @@ named x none = tag_grammar_law x ∙ ap is_none none
 named_by : (x : List ℕ) (r : Result BStr NameError) → Validates fault_of x r → IsOk r ↔ IsTrue (is_tag_name x)
 named_by x (Ok name) valid = (λ ok. named x valid.0, λ is. refl)
 named_by x (Err e) valid =
-    (λ ok. absurd (false≢true ok), λ is. absurd (false≢true (sym (tag_grammar_law x ∙ ap is_none valid) ∙ is)))
+    let invalid = sym (tag_grammar_law x ∙ ap is_none valid) in
+    (λ ok. absurd (false≢true ok), λ is. absurd (false≢true (invalid ∙ is)))
 
 pub returns-then-is_clear-clause-answer : goal.returns-then-is_clear-clause-answer
 returns-then-is_clear-clause-answer c = (no_fault _ _ (cc) (c.is_clear.ensures.0 c.if-is_clear.true), refl)

@@ -166,6 +166,7 @@ pub fn fault_offset(input: BStr<'_>) -> Option<usize>
 /// tag::first_fault(BStr::from("v1.2")); // None
 /// ```
 #[inline(always)]
+#[tactic(auto, using(crate::proofs::TagNames::Grammar::first_fault_law, crate::proofs::TagNames::ClearTexts::clear_has_no_first_fault))]
 pub fn first_fault(input: BStr<'_>) -> Option<(NameError, usize)>
     ensures fault { result ≡ option_map (λ fault. (fault.error, fault.offset)) (first_fault (bstr_bytes input.entry)) }
     ensures grammar { IsNone result ↔ IsTrue (is_tag_name (bstr_bytes input.entry)) }

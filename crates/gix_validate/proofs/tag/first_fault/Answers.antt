@@ -3,12 +3,10 @@ use Rattle.gix_validate.proofs.Common.{◌≡◌, ℕ, ◌-◌, ◌<◌, ◌≤�
 use Rattle.gix_validate.proofs.Common.{option_map, is_none, IfSome, IsTrue, eqb, eqb-true, true}
 use Rattle.gix_validate.proofs.Common.{false, refl, sym, ap, ◌∙◌, arith, nat_tests}
 use Rattle.std.specs.Prelude.{IsNone}
-use Rattle.gix_validate.proofs.TagNames.ClearTexts.{first_fault_within, clear_has_no_first_fault}
-use Rattle.gix_validate.proofs.TagNames.ClearTexts.{first_fault_of_empty}
+use Rattle.gix_validate.proofs.TagNames.ClearTexts.{first_fault_within, first_fault_of_empty}
 use Rattle.gix_validate.proofs.TagNames.Grammar.{first_fault_law}
 use Rattle.gix_validate.specs.declared.tag.NameError.{NameError}
 use Rattle.gix_validate.specs.declared.tag.NameError.TheVariants.{Empty}
-use Rattle.gix_validate.specs.Private.Adjacent.{IsClear}
 use Rattle.gix_validate.specs.Tag.{Fault, first_fault, is_tag_name}
 use Rattle.gix_validate.proofs.tag.first_fault.Goals as goal
 
@@ -18,10 +16,6 @@ as_pair o = option_map (λ fault. (fault.error, fault.offset)) o
 of_empty : (x y : List ℕ) → x ≡ y → eqb (length x) 0 ≡ true → Some (Empty, 0) ≡ as_pair (first_fault y)
 of_empty x y same empty =
     sym (ap as_pair (first_fault_of_empty y (ap length (sym same) ∙ eqb-true (length x) 0 empty)))
-
-of_clear : (x y : List ℕ) → x ≡ y → IsClear x → None ≡ as_pair (first_fault y)
-of_clear x y same clear =
-    sym (ap (λ v. as_pair (first_fault v)) (sym same) ∙ ap as_pair (clear_has_no_first_fault x clear))
 
 some_left : (x : List ℕ) → eqb (length x) 0 ≡ false → 0 < length x
 some_left x some = grind (arith, nat_tests)
@@ -56,18 +50,6 @@ returns-then-is_empty-clause-within c = omega arith
 
 pub clear_front-front-requires : goal.clear_front-front-requires
 clear_front-front-requires c = some_left _ (sym c.is_empty.ensures ∙ c.if-is_empty.false)
-
-pub returns-then-front-bytes-clause-fault : goal.returns-then-front-bytes-clause-fault
-returns-then-front-bytes-clause-fault c =
-    let whole : c.clear_front-front.result ≡ length c.as_bytes-bytes.result.now =
-    omega (arith, c.clear_front-front.ensures.within) in
-    of_clear _ _ c.as_bytes-bytes.ensures (c.clear_front-front.ensures.all.0 whole)
-
-pub returns-then-front-bytes-clause-grammar : goal.returns-then-front-bytes-clause-grammar
-returns-then-front-bytes-clause-grammar c =
-    let whole : c.clear_front-front.result ≡ length c.as_bytes-bytes.result.now =
-    omega (arith, c.clear_front-front.ensures.within) in
-    by_grammar _ None (of_clear _ _ c.as_bytes-bytes.ensures (c.clear_front-front.ensures.all.0 whole))
 
 pub fault_past-requires-clause-some : goal.fault_past-requires-clause-some
 fault_past-requires-clause-some c = some_left _ (sym c.is_empty.ensures ∙ c.if-is_empty.false)

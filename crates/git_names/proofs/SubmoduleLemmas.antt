@@ -11,6 +11,7 @@ use Rattle.gix_validate.specs.Ntfs.{ntfs_form}
 use Rattle.gix_validate.specs.Pieces.{pieces}
 use Rattle.gix_validate.specs.Submodule.{fault_of as name_fault_of, is_submodule_name}
 use Rattle.gix_validate.specs.declared.path.ComponentOptions.{ComponentOptions}
+use Rattle.gix_validate.specs.declared.submodule.NameError.{NameError}
 use Rattle.git_names.proofs.NulLemmas.{path_grammar_law}
 use Rattle.git_names.proofs.SlashLemmas.{last_piece_from, piece_from}
 use Rattle.git_names.specs.Private.Slashes.{IsFirstSlash, NoSlash}
@@ -31,6 +32,12 @@ pub submodule_grammar_law : (options : ComponentOptions) (x : List ℕ)
 unfolding is_submodule fault_of
 submodule_grammar_law options x =
     grind (arith, name_grammar x, path_grammar_law options None x, no_disguise options 0 (pieces x))
+
+-- a text that is no submodule name under no protection is none under any
+pub other_submodule : (options : ComponentOptions) (x : List ℕ) (e : NameError) → name_fault_of x ≡ Some e
+    → is_submodule options x ≡ false
+unfolding is_submodule
+other_submodule options x e fault = grind (arith, fault, name_grammar x)
 
 -- what is left of a form
 pub ntfs_left : (x : List ℕ) (i : ℕ) → i < length x

@@ -1,9 +1,10 @@
 -- The laws of suggestions: what becomes of a name is a short name, unless it is nothing, `@` or `HEAD`.
-use Rattle.gix_validate.proofs.Common.{◌≡◌, ◌≢◌, ℕ, ◌+◌, ◌≤◌, Bool, true, false, List, [], ◌∷◌, ◌++◌}
+use Rattle.gix_validate.proofs.Common.{◌≡◌, ◌≢◌, ℕ, zero, suc, subst, take, drop, append-nil}
+use Rattle.gix_validate.proofs.Common.{take-append-drop, ◌+◌, ◌≤◌, Bool, true, false, List, [], ◌∷◌, ◌++◌}
 use Rattle.gix_validate.proofs.Common.{length, refl, sym, ap, ◌∙◌, arith, codes, reverse, not, ◌&&◌}
 use Rattle.gix_validate.proofs.Common.{◌==◌, Option, Some, None, byte, bytes_eq, nat_tests}
 use Rattle.gix_validate.proofs.Common.{length-append, bytes_eq-Decides, list_all}
-use Rattle.gix_validate.proofs.Common.{list_all-append, if◌then◌else◌, IsTrue}
+use Rattle.gix_validate.proofs.Common.{list_all-append, if◌then◌else◌, IsTrue, false_from_ne_true}
 use Rattle.gix_validate.proofs.Common.{join_with_byte-slice_split, ◌↔◌, ◌⊎◌}
 use Rattle.std.proofs.lemmas.List.{reverse-append, reverse-reverse}
 use Rattle.gix_validate.proofs.Texts.Endings.{ends-false, ends_cons}
@@ -15,7 +16,7 @@ use Rattle.gix_validate.specs.Bytes.{begins, ends, is_bad, is_empty}
 use Rattle.gix_validate.specs.Pieces.{has_no_slash, is_slash, joined, pieces}
 use Rattle.gix_validate.specs.Tag.{is_good_piece, is_tag_name}
 use Rattle.git_names.proofs.ShortNameLemmas.{short_parts}
-use Rattle.git_names.proofs.SuggestionLemmas.{left_of}
+use Rattle.git_names.proofs.SuggestionLemmas.{left_of, stripped-mark, stripped-own}
 use Rattle.git_names.specs.ShortNames.{is_short_name}
 use Rattle.git_names.specs.Suggestions.{becomes_dash, dashed, has_nothing_to_keep, is_dot_or_dash}
 use Rattle.git_names.specs.Suggestions.{is_no_branch, repaired, stripped}
@@ -25,11 +26,33 @@ use Rattle.git_names.specs.Suggestions.{suggested_piece, suggestion, thinned, tr
 abbrev replaced : Bool → ℕ → ℕ
 replaced at b = if becomes_dash at b then byte "-" else b
 
+-- No dash replaces `@`.
+at_stays : (at : Bool) → becomes_dash at (byte "@") ≡ false
+unfolding is_bad
+at_stays true = refl
+at_stays false = refl
+
+no_at : (at : Bool) (b : ℕ) → becomes_dash at b ≡ true → (b == byte "@") ≡ false
+no_at at b dash = false_from_ne_true (b == byte "@") (λ e.
+    let same : b ≡ byte "@" = grind (arith, nat_tests, e) in
+    let stays : becomes_dash at b ≡ false = subst (λ c. becomes_dash at c ≡ false) (sym same) (at_stays at) in
+    cc)
+
+dash_kept : is_refused (byte "-") ≡ false
+unfolding is_bad is_refused
+dash_kept = refl
+
+replaced_by : (at : Bool) (b : ℕ) (dash : Bool) → becomes_dash at b ≡ dash
+    → (is_refused (replaced at b) ≡ false)
+    × ((replaced at b == byte "@") ≡ (b == byte "@")) × ((at && replaced at b == byte "{") ≡ false)
+unfolding is_refused
+replaced_by at b true dash = grind (arith, dash, dash_kept, no_at at b dash)
+replaced_by at b false dash = grind (arith, dash)
+
 -- it is one that a good piece may have, is `@` only if the byte is, and `{` only if that doesn't follow `@`
 replaced_kept : (at : Bool) (b : ℕ) → (is_refused (replaced at b) ≡ false)
     × ((replaced at b == byte "@") ≡ (b == byte "@")) × ((at && replaced at b == byte "{") ≡ false)
-unfolding is_bad is_refused
-replaced_kept at b = grind (arith, nat_tests)
+replaced_kept at b = replaced_by at b (becomes_dash at b) refl
 
 -- Of what is thinned each byte may follow the one before.
 thinned_follows : (kept : Option ℕ) (at : Bool) (t : List ℕ) → (is_after (byte "@") kept ≡ true → at ≡ true)
@@ -80,63 +103,135 @@ length-thinned kept at (b ∷ t) = grind (
   length-thinned (Some (replaced at b)) (b == byte "@") t,
 )
 
--- what is stripped of a text that is read from its end
-abbrev stripped_off : List ℕ → List ℕ
-stripped_off [] = []
-stripped_off (a ∷ b ∷ c ∷ d ∷ e ∷ t) =
-    if is_dot_or_dash a then a ∷ stripped_off (b ∷ c ∷ d ∷ e ∷ t)
-    else (if bytes_eq (a ∷ b ∷ c ∷ d ∷ e ∷ []) (codes "kcol.")
-    then a ∷ b ∷ c ∷ d ∷ e ∷ stripped_off t else [])
-stripped_off (a ∷ t) = if is_dot_or_dash a then a ∷ stripped_off t else []
+-- What is stripped, as an induction: a dot or dash goes, `.lock` goes, and other texts stay. (A `grind` over
+-- variables is much faster than one in a clause that matches five bytes.)
+record Strips (P : List ℕ → List ℕ → Type 0) : Type 0 where
+  pub nothing : P [] []
+  pub mark : (a : ℕ) (t s : List ℕ) → is_dot_or_dash a ≡ true → P t s → P (a ∷ t) s
+  pub lock : (t s : List ℕ) → P t s → P (codes "kcol." ++ t) s
+  pub own : (a : ℕ) (t : List ℕ) → is_dot_or_dash a ≡ false → ((s : List ℕ) → a ∷ t ≢ codes "kcol." ++ s)
+      → P (a ∷ t) (a ∷ t)
 
-stripped_split : (x : List ℕ) → stripped_off x ++ stripped x ≡ x
-stripped_split [] = refl
-stripped_split (a ∷ []) = grind arith
-stripped_split (a ∷ b ∷ []) = grind (arith, stripped_split (b ∷ []))
-stripped_split (a ∷ b ∷ c ∷ []) = grind (arith, stripped_split (b ∷ c ∷ []))
-stripped_split (a ∷ b ∷ c ∷ d ∷ []) = grind (arith, stripped_split (b ∷ c ∷ d ∷ []))
-stripped_split (a ∷ b ∷ c ∷ d ∷ e ∷ t) =
-    grind (arith, stripped_split (b ∷ c ∷ d ∷ e ∷ t), stripped_split t)
+strip_other : (P : List ℕ → List ℕ → Type 0) → Strips P → (a : ℕ) (t : List ℕ) → is_dot_or_dash a ≡ false
+    → ((s : List ℕ) → a ∷ t ≡ codes "kcol." ++ s → P s (stripped s))
+    → (is_lock : Bool) → bytes_eq (take 5 (a ∷ t)) (codes "kcol.") ≡ is_lock
+    → P (a ∷ t) (stripped (a ∷ t))
+strip_other P steps a t h below true e =
+    let s = drop 5 (a ∷ t) in
+    let front : take 5 (a ∷ t) ≡ codes "kcol." = (bytes_eq-Decides (take 5 (a ∷ t)) (codes "kcol.")).0 e in
+    let whole : a ∷ t ≡ codes "kcol." ++ s = sym (take-append-drop 5 (a ∷ t)) ∙ ap (λ f. f ++ s) front in
+    subst (λ x. P x (stripped x)) (sym whole) (steps.lock s (stripped s) (below s whole))
+strip_other P steps a t h below false e =
+    let other : (s : List ℕ) → a ∷ t ≢ codes "kcol." ++ s =
+    λ s whole. grind (
+      arith,
+      e,
+      (bytes_eq-Decides (take 5 (a ∷ t)) (codes "kcol.")).1 (ap (take 5) whole),
+    ) in
+    subst (P (a ∷ t)) (sym (stripped-own a t h other)) (steps.own a t h other)
+
+strip_one : (P : List ℕ → List ℕ → Type 0) → Strips P → (a : ℕ) (t : List ℕ) → P t (stripped t)
+    → ((s : List ℕ) → a ∷ t ≡ codes "kcol." ++ s → P s (stripped s))
+    → (is_mark : Bool) → is_dot_or_dash a ≡ is_mark → P (a ∷ t) (stripped (a ∷ t))
+strip_one P steps a t more below true h =
+    subst (P (a ∷ t)) (sym (stripped-mark a t h)) (steps.mark a t (stripped t) h more)
+strip_one P steps a t more below false h =
+    strip_other P steps a t h below (bytes_eq (take 5 (a ∷ t)) (codes "kcol.")) refl
+
+strip_short : (P : List ℕ → List ℕ → Type 0) → Strips P → (n : ℕ) (x : List ℕ) → length x ≤ n
+    → P x (stripped x)
+strip_short P steps n [] short = steps.nothing
+strip_short P steps zero (a ∷ t) short = absurd (omega (arith, short))
+strip_short P steps (suc n) (a ∷ t) short =
+    strip_one P steps a t (strip_short P steps n t (omega (arith, short)))
+    (λ s whole. strip_short P steps n s (omega (arith, short, ap length whole))) (is_dot_or_dash a) refl
+
+strip_all : (P : List ℕ → List ℕ → Type 0) → Strips P → (x : List ℕ) → P x (stripped x)
+strip_all P steps x = strip_short P steps (length x) x (omega arith)
+
+-- the last byte is a dot or dash, if there is one
+abbrev last_is_mark : List ℕ → Bool
+last_is_mark [] = true
+last_is_mark (a ∷ []) = is_dot_or_dash a
+last_is_mark (a ∷ b ∷ t) = last_is_mark (b ∷ t)
+
+last_below : (a : ℕ) (t : List ℕ) → is_dot_or_dash a ≡ true → last_is_mark t ≡ true
+    → last_is_mark (a ∷ t) ≡ true
+last_below a [] h last = h
+last_below a (b ∷ t) h last = last
+
+last_below_lock : (t : List ℕ) → last_is_mark t ≡ true → last_is_mark (codes "kcol." ++ t) ≡ true
+last_below_lock [] last = refl
+last_below_lock (b ∷ t) last = last
+
+last_pushed : (x : List ℕ) (m : ℕ) → last_is_mark (x ++ m ∷ []) ≡ is_dot_or_dash m
+last_pushed [] m = refl
+last_pushed (a ∷ []) m = refl
+last_pushed (a ∷ b ∷ x) m = last_pushed (b ∷ x) m
+
+-- what is stripped of a text that is read from its end
+record Split (x s : List ℕ) : Type 0 where
+  pub off : List ℕ
+  pub whole : off ++ s ≡ x
+  pub last : last_is_mark off ≡ true
+
+split_steps : Strips Split
+split_steps = record {
+  nothing = record { off = []; whole = refl; last = refl };
+  mark = λ a t s h more. record {
+    off = a ∷ more.off;
+    whole = ap (λ y. a ∷ y) more.whole;
+    last = last_below a more.off h more.last;
+  };
+  lock = λ t s more. record {
+    off = codes "kcol." ++ more.off;
+    whole = ap (λ y. codes "kcol." ++ y) more.whole;
+    last = last_below_lock more.off more.last;
+  };
+  own = λ a t h other. record { off = []; whole = refl; last = refl };
+}
+
+stripped_split : (x : List ℕ) → Split x (stripped x)
+stripped_split x = strip_all Split split_steps x
 
 -- What is left begins with no dot, no dash and no `.lock`.
-stripped_mark : (x : List ℕ) (m : ℕ) (s : List ℕ) → stripped x ≡ m ∷ s → is_dot_or_dash m ≡ false
-stripped_mark [] m s h = grind (arith, h)
-stripped_mark (a ∷ []) m s h = grind (arith, h)
-stripped_mark (a ∷ b ∷ []) m s h = grind (arith, h, stripped_mark (b ∷ []) m s)
-stripped_mark (a ∷ b ∷ c ∷ []) m s h = grind (arith, h, stripped_mark (b ∷ c ∷ []) m s)
-stripped_mark (a ∷ b ∷ c ∷ d ∷ []) m s h = grind (arith, h, stripped_mark (b ∷ c ∷ d ∷ []) m s)
-stripped_mark (a ∷ b ∷ c ∷ d ∷ e ∷ t) m s h =
-    grind (arith, h, stripped_mark (b ∷ c ∷ d ∷ e ∷ t) m s, stripped_mark t m s)
+record Left (x s : List ℕ) : Type 0 where
+  pub mark : (m : ℕ) (t : List ℕ) → s ≡ m ∷ t → is_dot_or_dash m ≡ false
+  pub lock : (t : List ℕ) → s ≢ codes "kcol." ++ t
 
-stripped_lock : (x s : List ℕ) → stripped x ≢ codes "kcol." ++ s
-stripped_lock [] s h = grind (arith, h)
-stripped_lock (a ∷ []) s h = grind (arith, h)
-stripped_lock (a ∷ b ∷ []) s h = grind (arith, h, stripped_lock (b ∷ []) s)
-stripped_lock (a ∷ b ∷ c ∷ []) s h = grind (arith, h, stripped_lock (b ∷ c ∷ []) s)
-stripped_lock (a ∷ b ∷ c ∷ d ∷ []) s h = grind (arith, h, stripped_lock (b ∷ c ∷ d ∷ []) s)
-stripped_lock (a ∷ b ∷ c ∷ d ∷ e ∷ t) s h =
-    grind (arith, nat_tests, bytes_eq-Decides, h, stripped_lock (b ∷ c ∷ d ∷ e ∷ t) s, stripped_lock t s)
+left_steps : Strips Left
+left_steps = record {
+  nothing = record { mark = λ m t e. absurd (cc); lock = λ t e. cc };
+  mark = λ a t s h more. record { mark = more.mark; lock = more.lock };
+  lock = λ t s more. record { mark = more.mark; lock = more.lock };
+  own = λ a t h other. record { mark = λ m u e. cc; lock = other };
+}
+
+stripped_left : (x : List ℕ) → Left x (stripped x)
+stripped_left x = strip_all Left left_steps x
 
 -- The byte that is read last stays if it is no dot and no dash.
+last_kept : (f s x : List ℕ) (m : ℕ) → last_is_mark f ≡ true → f ++ s ≡ x ++ m ∷ [] → is_dot_or_dash m ≡ false
+    → is_empty s ≡ false
+last_kept f [] x m last e h =
+    let same = sym last ∙ ap last_is_mark (sym (append-nil f) ∙ e) ∙ last_pushed x m ∙ h in
+    absurd (cc same)
+last_kept f (b ∷ s) x m last e h = refl
+
 stripped_last : (x : List ℕ) (m : ℕ) → is_dot_or_dash m ≡ false → is_empty (stripped (x ++ m ∷ [])) ≡ false
-stripped_last [] m h = grind arith
-stripped_last (a ∷ []) m h = grind (arith, stripped_last [] m h)
-stripped_last (a ∷ b ∷ []) m h = grind (arith, stripped_last (b ∷ []) m h)
-stripped_last (a ∷ b ∷ c ∷ []) m h = grind (arith, stripped_last (b ∷ c ∷ []) m h)
-stripped_last (a ∷ b ∷ c ∷ d ∷ []) m h =
-    grind (arith, nat_tests, bytes_eq-Decides, stripped_last (b ∷ c ∷ d ∷ []) m h)
-stripped_last (a ∷ b ∷ c ∷ d ∷ e ∷ t) m h =
-    grind (arith, stripped_last (b ∷ c ∷ d ∷ e ∷ t) m h, stripped_last t m h)
+stripped_last x m h =
+    let split = stripped_split (x ++ m ∷ []) in
+    last_kept split.off (stripped (x ++ m ∷ [])) x m split.last split.whole h
 
 -- what is trimmed from the end of a text
 abbrev trimmed_off : List ℕ → List ℕ
-trimmed_off t = reverse (stripped_off (reverse t))
+trimmed_off t = reverse (stripped_split (reverse t)).off
 
 trimmed_split : (t : List ℕ) → trimmed t ++ trimmed_off t ≡ t
 unfolding trimmed
 trimmed_split t =
-    sym (reverse-append (stripped_off (reverse t)) (stripped (reverse t)))
-    ∙ ap reverse (stripped_split (reverse t)) ∙ reverse-reverse t
+    let split = stripped_split (reverse t) in
+    sym (reverse-append split.off (stripped (reverse t))) ∙ ap reverse split.whole ∙ reverse-reverse t
 
 -- what is left, read from its end
 trimmed_turned : (t : List ℕ) → stripped (reverse t) ≡ reverse (trimmed t)
@@ -145,12 +240,12 @@ trimmed_turned t = sym (reverse-reverse (stripped (reverse t)))
 
 trimmed_no_lock : (t : List ℕ) → ends (trimmed t) (codes ".lock") ≡ false
 trimmed_no_lock t = ends-false (trimmed t) (codes ".lock") (λ f e.
-    stripped_lock (reverse t) (reverse f)
+    (stripped_left (reverse t)).lock (reverse f)
     (trimmed_turned t ∙ ap reverse e ∙ reverse-append f (codes ".lock")))
 
 trimmed_no_dot : (t : List ℕ) → ends (trimmed t) (codes ".") ≡ false
 trimmed_no_dot t = ends-false (trimmed t) (codes ".") (λ f e.
-    let mark = stripped_mark (reverse t) (byte ".") (reverse f)
+    let mark = (stripped_left (reverse t)).mark (byte ".") (reverse f)
     (trimmed_turned t ∙ ap reverse e ∙ reverse-append f (codes ".")) in
     grind (arith, mark))
 

@@ -21,7 +21,7 @@ use Rattle.git_names.specs.Suggestions.{becomes_dash, dashed, is_dot_or_dash}
 use Rattle.git_names.specs.Suggestions.{repaired, stripped, suggested_piece, thinned, trimmed}
 
 -- A dot or dash is stripped.
-stripped-mark : (a : ℕ) (t : List ℕ) → is_dot_or_dash a ≡ true → stripped (a ∷ t) ≡ stripped t
+pub stripped-mark : (a : ℕ) (t : List ℕ) → is_dot_or_dash a ≡ true → stripped (a ∷ t) ≡ stripped t
 stripped-mark a [] h = grind arith
 stripped-mark a (b ∷ []) h = grind arith
 stripped-mark a (b ∷ c ∷ []) h = grind arith
@@ -33,7 +33,7 @@ stripped-lock : (t : List ℕ) → stripped (codes "kcol." ++ t) ≡ stripped t
 stripped-lock t = refl
 
 -- A text that begins with neither is left as it is.
-stripped-own : (a : ℕ) (t : List ℕ) → is_dot_or_dash a ≡ false → ((s : List ℕ) → a ∷ t ≢ codes "kcol." ++ s)
+pub stripped-own : (a : ℕ) (t : List ℕ) → is_dot_or_dash a ≡ false → ((s : List ℕ) → a ∷ t ≢ codes "kcol." ++ s)
     → stripped (a ∷ t) ≡ a ∷ t
 stripped-own a [] h other = grind arith
 stripped-own a (b ∷ []) h other = grind arith

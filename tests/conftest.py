@@ -1,5 +1,6 @@
 """What all tests share. A fixture is what a test gets if it names it as an argument."""
 
+import os
 import shutil
 import subprocess
 from pathlib import Path
@@ -13,7 +14,7 @@ def pytest_addoption(parser):
     parser.addoption(
         "--built",
         action="store_true",
-        help="tests/hook: install the programs that `rt ci` has just built",
+        help="tests/hook without --release: install the programs that `rt ci` has just built",
     )
     parser.addoption(
         "--build",
@@ -38,3 +39,17 @@ def busybox(tmp_path_factory):
     made = tmp_path_factory.mktemp("busybox")
     subprocess.run(["busybox", "--install", "-s", made], check=True)
     return made
+
+
+@pytest.fixture(scope="session")
+def devices(tmp_path_factory):
+    """The library in which reads, writes and allocations are slow or fail, for LD_PRELOAD.
+    (A static program loads none.)"""
+    compiler = shutil.which(os.environ.get("CC", "cc"))
+    if not compiler:
+        pytest.skip("needs a C compiler (Debian: gcc)")
+    library = tmp_path_factory.mktemp("devices") / "devices.so"
+    flags = ["-std=c11", "-Wall", "-Wextra", "-Werror", "-O2", "-shared", "-fPIC"]
+    source = Path(__file__).with_name("devices.c")
+    subprocess.run([compiler, *flags, "-o", library, source], check=True)
+    return library

@@ -1,6 +1,7 @@
-/* Devices that are slow or fail, for tests/programs. Loaded before the C
-   library (LD_PRELOAD), this stands in a program for reads of standard input,
-   writes to standard output and requests for memory, as these variables say:
+/* Devices that are slow or fail, for tests/programs and tests/memory. Loaded
+   before the C library (LD_PRELOAD), this stands in a program for reads of
+   standard input, writes to standard output and requests for memory, as these
+   variables say:
 
    DEVICES_SLOW=1      each read and each write moves one byte, and is
                        interrupted once before it does

@@ -13,6 +13,8 @@ from tests.built_site import Site, is_elsewhere
 
 ROOT = Path(__file__).resolve().parent.parent
 CHECKER = "docs/names.html"
+# (One process builds the site for all tests.)
+pytestmark = pytest.mark.xdist_group("site")
 
 
 @pytest.fixture(scope="module")

@@ -102,11 +102,10 @@ PAGE = """
 TSC = (
     "--strict --noEmit --noUncheckedIndexedAccess --exactOptionalPropertyTypes".split()
 )
-# How tsc looks for the types, and the file that imports them.
+# How tsc looks for the types, and the files that import them.
 RESOLUTIONS = [
     ("node", "commonjs", "types.ts"),
-    ("node16", "node16", "types.mts"),
-    ("node16", "node16", "types.cts"),
+    ("node16", "node16", "types.mts types.cts"),
     ("nodenext", "nodenext", "types.mts"),
 ]
 
@@ -229,12 +228,14 @@ def test_a_bundle_has_only_what_the_program_calls(project, program):
     assert [it for it in gone if it in bundle] == []
 
 
-@pytest.mark.parametrize("resolution, module, source", RESOLUTIONS)
-def test_the_types_are_those_that_callers_need(project, resolution, module, source):
+@pytest.mark.parametrize("resolution, module, sources", RESOLUTIONS)
+def test_the_types_are_those_that_callers_need(project, resolution, module, sources):
     need("tsc")
-    shutil.copy(JS / "types.ts", project / source)
+    for source in sources.split():
+        shutil.copy(JS / "types.ts", project / source)
     options = f"--target es2022 --module {module} --moduleResolution {resolution}"
-    assert output("tsc", *TSC, *options.split(), source, cwd=project) == ""
+    words = [*options.split(), *sources.split()]
+    assert output("tsc", *TSC, *words, cwd=project) == ""
 
 
 @pytest.mark.parametrize("resolution", ["node", "node16"])

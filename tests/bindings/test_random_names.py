@@ -183,7 +183,7 @@ def test_all_languages_return_the_same_for_random_names(gix, replayers, seen, na
 
 
 @settings(
-    max_examples=1500,
+    max_examples=500,
     deadline=None,
     database=None,
     suppress_health_check=HealthCheck.all(),

@@ -12,7 +12,7 @@ from tests.hook.processes import end, start
 
 pytestmark = pytest.mark.one_format
 
-KILLS = 100
+KILLS = 50
 
 
 def descendants(pid):

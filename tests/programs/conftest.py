@@ -9,14 +9,11 @@ most of what they print; these tests are for what no clause says.
   program.
 - `check_names` or another program's name, or `check_push_trees` for a subcommand: the
   builds of this one alone.
-- `devices`: for `program.run(.., devices=devices, READ=3)`, reads, writes and
-  allocations that fail (tests/devices.c).
+- `devices` of tests/conftest.py: for `program.run(.., devices=devices, READ=3)`.
 """
 
 import functools
 import os
-import shutil
-import subprocess
 import warnings
 
 import pytest
@@ -111,19 +108,6 @@ def program(request):
 
 check_names = git_check_names = program
 check_push_trees = check_push_submodules = check_push_refs = program
-
-
-@pytest.fixture(scope="session")
-def devices(request, tmp_path_factory):
-    """The library whose devices are slow or fail. (A static program loads none.)"""
-    compiler = shutil.which(os.environ.get("CC", "cc"))
-    if not compiler:
-        pytest.skip("needs a C compiler (Debian: gcc)")
-    library = tmp_path_factory.mktemp("devices") / "devices.so"
-    flags = ["-std=c11", "-Wall", "-Wextra", "-Werror", "-O2", "-shared", "-fPIC"]
-    source = ROOT / "tests/devices.c"
-    subprocess.run([compiler, *flags, "-o", library, source], check=True)
-    return library
 
 
 def pytest_assertrepr_compare(op, left, right):

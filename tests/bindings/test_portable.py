@@ -149,7 +149,7 @@ def test_the_rows_hold_as_either_translator_has_the_functions(
 
 
 @of_libraries
-def test_a_million_names_have_the_results_of_machine_code_and_of_another_translator(
+def test_300_000_names_have_the_results_of_machine_code_and_of_another_translator(
     libraries, tmp_path
 ):
     (tmp_path / "compare.c").write_text(comparing.program())
@@ -158,5 +158,5 @@ def test_a_million_names_have_the_results_of_machine_code_and_of_another_transla
     run(CC, *words)
     seed = random.getrandbits(63)
     faults = re.search(r"(?s)enum gix_validate_fault \{(.*?)\n\};", HEADER.read_text())
-    said = output(program, 1_000_000, seed, *libraries)
+    said = output(program, 300_000, seed, *libraries)
     assert said == f"0 differ, {faults[1].count(' = ') - 2} faults\n"

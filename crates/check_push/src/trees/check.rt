@@ -205,7 +205,6 @@ enum Finding {
 }
 
 /// The result for an entry with these options.
-#[tactic(auto, using(crate::proofs::trees::Findings::valid_as_symlink))]
 fn finding_of(options: &Options<'_>, front: EntryHeader<'_>) -> Finding
     ensures { result ≡ finding_of (as_options options.now) (as_entry_header front.entry) }
 {

@@ -14,7 +14,7 @@ def pytest_addoption(parser):
     parser.addoption(
         "--built",
         action="store_true",
-        help="tests/hook without --release: install the programs that `rt ci` has just built",
+        help="tests/hook: install the programs that `rt ci` has just built",
     )
     parser.addoption(
         "--build",

@@ -10,7 +10,7 @@ def pytest_addoption(parser):
         "--release",
         type=lambda name: Path(name).resolve(strict=True),
         metavar="FILE.tar.gz",
-        help="the release that is to be tested, its packages next to it",
+        help="the release for tests/release and tests/pages, its packages next to it",
     )
 
 

@@ -8,7 +8,7 @@ is for what no id plays a part in, such as a program that fails.
   tags, also those that Git refuses to make.
 - `server`: an empty one with the hook. `server.push(commit)` is a real push,
   `server.already_has(commit)` brings it past the hook.
-- `hook`, `scan`: what hook/install or the release installs. A test may break it:
+- `hook`, `scan`: what hook/install installs. A test may break it:
   `hook.stand_in("git config", "exit 9")`.
 - `push`, `hostile_push`: pushes of all kinds, as Git gives them to the hook.
 - `two_hooks`: a server that keeps another hook.
@@ -58,18 +58,10 @@ def object_format(request):
 
 @pytest.fixture(scope="session")
 def installed(request, tmp_path_factory):
-    """What hook/install installs. If a release is to be tested, what that installs, which
-    is built already."""
-    room = tmp_path_factory.mktemp("hook")
-    folder = room / "installed"
-    if release := request.config.getoption("release"):
-        subprocess.run(["tar", "xzf", release, "-C", room], check=True)
-        [tree] = room.glob("*/")
-        shutil.move(tree / "libexec/gix-validate", folder)
-        shutil.rmtree(tree)
-    else:
-        built = ["--built"] if request.config.getoption("built") else []
-        subprocess.run([ROOT / "hook/install", folder, *built], check=True)
+    """What hook/install installs."""
+    folder = tmp_path_factory.mktemp("hook") / "installed"
+    built = ["--built"] if request.config.getoption("built") else []
+    subprocess.run([ROOT / "hook/install", folder, *built], check=True)
     return folder
 
 

@@ -9,6 +9,7 @@ function that a language exports. A link between pages leads to a file and to a 
 it.
 """
 
+import os
 import re
 from glob import glob
 from pathlib import Path
@@ -58,9 +59,13 @@ def without_code(page):
 def pages(root):
     """The pages of the repository, without those that a tool has left. (release/ has pages
     for the places of a release.)"""
-    is_left_out = re.compile(r"(^|/)(\.[^/]*|out|release|target)/").search
-    every = root.glob("**/*.md")
-    return sorted(it for it in every if not is_left_out(str(it.relative_to(root))))
+    is_left_out = re.compile(r"\..*|out|release|target").fullmatch
+    found = []
+    for folder, folders, files in os.walk(root):
+        # (what is left out isn't entered: builds and edits make and remove folders there)
+        folders[:] = [it for it in folders if not is_left_out(it)]
+        found += [Path(folder, it) for it in files if it.endswith(".md")]
+    return sorted(found)
 
 
 def slug(heading):

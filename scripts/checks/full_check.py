@@ -184,11 +184,10 @@ def check_all(commit, edits):
         archives = Path(RELEASE).glob("gix-validate-*.tar.gz")
         release = [f"--release={file}" for file in archives]
     targets = {"ALL_TARGETS": "true"} if edits == ["all"] else {}
-    # The edits need the processors now and then, and the tests wait now and then.
-    edits = start("edits", "scripts/dev", "try-edits", "--after-gate", *edits)
     early = [f"--ignore={it}" for it in EARLY]
     yield run("tests", *PYTEST, "tests", *early, "--built", *release, **targets)
-    yield finish(edits)
+    # (Not beside the tests, since then both take more of the processors' time.)
+    yield run("edits", "scripts/dev", "try-edits", "--after-gate", *edits)
 
 
 def check_some(crates):

@@ -340,20 +340,26 @@ def head():
     return commit
 
 
-def drawn(chosen, number, seed):
-    """As many of these edits, drawn by lot. With the same seed they are the same."""
-    by_lot = sorted(
+def by_lot(chosen, seed):
+    """These edits in an order that is drawn by lot."""
+    return sorted(
         chosen,
         key=lambda it: hashlib.sha256(f"{seed} {it.file}".encode()).digest(),
     )
-    return sorted(by_lot[:number])
+
+
+def drawn(chosen, number, seed):
+    """As many of these edits, drawn by lot. With the same seed they are the same."""
+    return sorted(by_lot(chosen, seed)[:number])
 
 
 def drawn_by_crate(chosen, number, seed):
-    """As many of these edits, those of a crate together, drawn by lot."""
-    lot = lambda it: hashlib.sha256(f"{seed} {it}".encode()).digest()
-    order = sorted(chosen, key=lambda it: (lot(it.crate), lot(it.file)))
-    return sorted(order[:number])
+    """As many of these edits, drawn by lot: first those of the crate of the first. (A crate
+    with many edits mostly comes first, and then no other has to be proved once more.)
+    """
+    order = by_lot(chosen, seed)
+    crates = [it.crate for it in order]
+    return sorted(sorted(order, key=lambda it: crates.index(it.crate))[:number])
 
 
 def changed_since(commit):

@@ -58,7 +58,7 @@ def program(name, default_features=True, by_debian=False, features=(), **setting
     shutil.rmtree(copy, ignore_errors=True)
     (copy / ".cargo").mkdir(parents=True)
     subprocess.run(
-        ["cp", "-a", "--parents", "tests/rows", "crates/upstream_record/stdin"]
+        ["cp", "-a", "--parents", "tests/rows", "tests/recorded/results"]
         + ["bindings/rust", copy],
         cwd=ROOT,
         check=True,

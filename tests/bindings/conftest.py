@@ -6,7 +6,19 @@ from contextlib import contextmanager
 import pytest
 
 from .cargo import program
-from .tools import ARCHIVE, BINDINGS, CC, CXX, OUT, ROOT, STRICT, need, run
+from .tools import (
+    ARCHIVE,
+    BINDINGS,
+    CC,
+    CXX,
+    OUT,
+    PORTABLE,
+    ROOT,
+    SANITIZED,
+    STRICT,
+    need,
+    run,
+)
 
 SOURCES = OUT / "sources"
 
@@ -40,6 +52,17 @@ def rows_program_of_cpp(tmp_path_factory):
     words = ["-std=c++17", *STRICT, f"-I{BINDINGS}/cpp", "-O1", "-o", program]
     run(CXX, *words, BINDINGS / "cpp/rows.cpp", ARCHIVE)
     return program
+
+
+@pytest.fixture(scope="session")
+def sanitized_functions(tmp_path_factory):
+    """The functions translated to C, compiled with sanitizers, because a sanitizer sees only
+    reads in code that was compiled with it. (A test that takes them is in the group
+    "sanitizers", so that one process compiles them for all.)"""
+    need(PORTABLE)
+    functions = tmp_path_factory.mktemp("sanitized") / "functions.o"
+    run(CC, "-std=c99", *SANITIZED, *STRICT, "-c", "-o", functions, PORTABLE)
+    return functions
 
 
 @pytest.fixture(scope="session")

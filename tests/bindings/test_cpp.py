@@ -6,10 +6,9 @@ import pytest
 from .tools import (
     ARCHIVE,
     BINDINGS,
-    CC,
     CXX,
-    PORTABLE,
     ROWS,
+    SANITIZED,
     STRICT,
     as_msvc,
     need,
@@ -63,8 +62,7 @@ def test_the_rows_hold(compiler, version, tmp_path):
 def test_the_rows_hold_with_sanitizers(tmp_path):
     need(CXX)
     program = tmp_path / "rows"
-    words = ["-std=c++17", "-fsanitize=address,undefined", "-fno-sanitize-recover"]
-    run(CXX, *words, *WORDS, "-o", program, SOURCE, ARCHIVE)
+    run(CXX, "-std=c++17", *SANITIZED, *WORDS, "-o", program, SOURCE, ARCHIVE)
     assert output(program, ROWS) == f"{ALL_HOLD}\n"
 
 
@@ -94,16 +92,15 @@ int main() {
 """
 
 
-def test_check_all_reads_no_freed_memory_of_views_that_make_or_choose_names(tmp_path):
-    # (The sanitizer sees what the functions read only if it compiles them.)
-    need(CXX, PORTABLE)
+@pytest.mark.xdist_group("sanitizers")
+def test_check_all_reads_no_freed_memory_of_views_that_make_or_choose_names(
+    sanitized_functions, tmp_path
+):
+    need(CXX)
     source, program = tmp_path / "views.cpp", tmp_path / "views"
-    functions = tmp_path / "functions.o"
     source.write_text(VIEWS, "ascii")
-    sanitized = ["-g", "-fsanitize=address,undefined", "-fno-sanitize-recover"]
-    run(CC, "-std=c99", *sanitized, *STRICT, "-c", "-o", functions, PORTABLE)
-    words = ["-std=c++20", *sanitized, *WORDS]
-    run(CXX, *words, "-o", program, source, functions)
+    words = ["-std=c++20", *SANITIZED, *WORDS, "-o", program]
+    run(CXX, *words, source, sanitized_functions)
     assert run(program).stderr == ""
 
 

@@ -14,6 +14,7 @@ from .tools import (
     PORTABLE,
     PORTABLE_MODULE,
     ROWS,
+    SANITIZED,
     STRICT,
     as_msvc,
     need,
@@ -70,9 +71,15 @@ def test_the_rows_hold_on_windows(tmp_path, wine):
     assert replayed(tmp_path, compiler, by=["wine"], env=wine) == ALL_HOLD
 
 
-def test_the_rows_hold_with_sanitizers(tmp_path):
-    flags = ["-fsanitize=address,undefined", "-fno-sanitize-recover"]
-    assert replayed(tmp_path, [CC, *flags]) == ALL_HOLD
+with_sanitizers = pytest.mark.xdist_group("sanitizers")
+
+
+@with_sanitizers
+def test_the_rows_hold_with_sanitizers(sanitized_functions, tmp_path):
+    program = tmp_path / "rows"
+    words = ["-std=gnu11", *SANITIZED, f"-I{HEADER.parent}", "-o", program]
+    run(CC, *words, SOURCE, sanitized_functions)
+    assert output(program, ROWS) == ALL_HOLD
 
 
 # Says that a name is longer than its memory.
@@ -86,11 +93,11 @@ int main(void) {
 """
 
 
-def test_address_sanitizer_sees_what_the_functions_read(tmp_path):
+@with_sanitizers
+def test_address_sanitizer_sees_what_the_functions_read(sanitized_functions, tmp_path):
     source, program = tmp_path / "overread.c", tmp_path / "overread"
     source.write_text(OVERREAD)
-    words = ["-fsanitize=address", *STRICT, "-o", program, source, PORTABLE]
-    run(CC, *words)
+    run(CC, *SANITIZED, *STRICT, "-o", program, source, sanitized_functions)
     said = run(program, status=1).stderr
     assert "AddressSanitizer: heap-buffer-overflow" in said
 

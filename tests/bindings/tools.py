@@ -33,6 +33,7 @@ CXX = os.environ.get("CXX", "c++")
 STRICT = "-Wall -Wextra -Wpedantic -Wconversion -Werror".split() + [
     f"-I{HEADER.parent}"
 ]
+SANITIZED = ["-fsanitize=address,undefined", "-fno-sanitize-recover"]
 
 
 def as_msvc(processor, *words):

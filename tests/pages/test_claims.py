@@ -82,7 +82,7 @@ def test_ASSURANCE_counts_the_must_fail_edits():
 
 def test_ASSURANCE_counts_what_was_recorded_and_the_rows_of_the_bindings():
     text = (ROOT / "docs/ASSURANCE.md").read_text("utf-8")
-    record = (ROOT / "crates/upstream_record/stdin").read_text("utf-8").splitlines()
+    record = (ROOT / "tests/recorded/results").read_text("utf-8").splitlines()
     results = 0
     for line in record:
         kind, _, *given = line.split(" ")

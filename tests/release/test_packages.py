@@ -7,6 +7,9 @@ import pytest
 
 from tests.release.commands import NUMBERS, PYTHON, ROOT, VERSION, need, run
 
+# (One process installs them for all tests.)
+pytestmark = pytest.mark.xdist_group("packages")
+
 
 @pytest.fixture(scope="module")
 def venv(session_room):

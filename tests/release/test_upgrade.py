@@ -81,6 +81,30 @@ def kill_after(seconds, room, *command):
     ran.wait()
 
 
+# A `mkdir` that kills what called it, once it has made the hook's directory.
+MKDIR_THAT_KILLS = """#!/bin/sh
+PATH=${PATH#*:}
+mkdir "$@"
+case $* in
+*libexec*) kill -KILL "$PPID" ;;
+esac
+"""
+
+
+def test_an_upgrade_that_is_killed_once_it_made_its_directory_leaves_nothing_for_ever(
+    upgraded, one, other, fresh, room
+):
+    (room / "bin").mkdir()
+    (room / "bin/mkdir").write_text(MKDIR_THAT_KILLS)
+    (room / "bin/mkdir").chmod(0o755)
+    path = f"{room}/bin:{ENVIRONMENT['PATH']}"
+    killed = run(other / "install", upgraded, PATH=path, TMPDIR=str(room))
+    assert killed == (-signal.SIGKILL, "")
+    assert folder_of(upgraded / "libexec/gix-validate", "other").is_dir()
+    assert run(one / "install", upgraded).status == 0
+    assert differences(fresh, upgraded, "installed") == (0, "")
+
+
 # Fills a disk but for 1 MB, and upgrades what is installed there.
 ON_A_FULL_DISK = """set -e
 mount -t tmpfs -o size=20m none "$1"

@@ -77,6 +77,9 @@ WAITS = ("no proof: it ", "not proved; it ")
 SHOWN = re.compile(r"(?m)^(?:fn \S+: (?!proved$)|\./proofs/|note: .* not proved).*")
 
 
+# What stands for the file of the edit that puts braces around a body.
+HARMLESS = Path("a harmless edit")
+
 # A line with the value of a `let`, an arm or a field, or with a statement, an argument or the
 # value at the end of a block.
 VALUE_IN_LINE = re.compile(
@@ -462,14 +465,15 @@ def run(args):
 def try_all(chosen, others):
     """Tries edits, and the controls of these and of others."""
     every = [*chosen, *others]
-    controls = batches(by_control(it) for it in every if it.control)
-    same, plan = shortest(every), batches(chosen)
+    harmless = around_body(shortest(every))._replace(file=HARMLESS)
+    controls = batches([harmless, *(by_control(it) for it in every if it.control)])
+    plan = batches(chosen)
     with ThreadPoolExecutor(len(os.sched_getaffinity(0))) as pool:
-        of_controls = pool.map(accepted, [[around_body(same)], *controls])
+        of_controls = pool.map(accepted, controls)
         results = [it for batch in pool.map(tried, plan) for it in batch]
-        [[of_same], *of_controls] = of_controls
     results = {it.edit.file: it for it in results}
     said = {it.file: it.said for batch in of_controls for it in batch}
+    of_harmless = said.pop(HARMLESS)
     ends = [end_of(it, results.get(it.file), said.get(it.file)) for it in every]
     for is_failed, lines in sorted(ends, key=lambda it: it[0]):
         print(*lines, sep="\n  ")
@@ -478,16 +482,16 @@ def try_all(chosen, others):
         ", ".join(f"{ways[way]} {way}" for way in WAYS if ways[way]) or "none refused"
     )
     print(f"{controls_counted(said)}; {sum(bool(it.hollow) for it in every)} hollow")
-    if of_same.said:
-        head_line = f"braces around the body of {same.function} FAILED"
-        print(head_line, *of_same.said, sep="\n  ")
+    if of_harmless:
+        head_line = f"braces around the body of {harmless.function} FAILED"
+        print(head_line, *of_harmless, sep="\n  ")
     print(
         f"{sum(ways.values())} refused as their lines say,",
         f"{sum(is_failed for is_failed, _ in ends)} failed, in {len(plan)} checks;",
         "a harmless one is",
-        "REFUSED" if of_same.said else "accepted",
+        "REFUSED" if of_harmless else "accepted",
     )
-    return not of_same.said and not any(is_failed for is_failed, _ in ends)
+    return not of_harmless and not any(is_failed for is_failed, _ in ends)
 
 
 def controls_counted(said):

@@ -436,15 +436,15 @@ def test_a_crate_has_to_be_proved_without_an_edit(app):
     )
 
 
-def test_a_control_is_tried_in_a_check_of_its_own_and_accepted(app):
+def test_a_control_is_tried_together_with_the_harmless_edit_and_accepted(app):
     app.control("zwei")
     ended = app.try_edits("--built", "all")
     assert ended.status == 0, ended.output
     said = "refused as its line says, by a search that ended, control accepted"
     assert f"{ADDED}: {said}\n" in ended.output
     assert "\n1 controls accepted, 0 refused; 0 hollow\n" in ended.output
-    # Once with braces that change nothing, once with both edits, once with the control.
-    assert len(app.calls) == 3
+    # Once with both edits, once with the control and with braces that change nothing.
+    assert len(app.calls) == 2
 
 
 def test_a_control_that_is_refused_fails_and_is_shown(app):

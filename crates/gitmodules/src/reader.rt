@@ -3,8 +3,9 @@
 ghost use Rattle.std.specs.Prelude.{◌≡◌, ◌+◌, ◌<◌, ◌≤◌, ◌++◌, [], ◌∷◌, MatchOption, drop, length};
 ghost use Rattle.std.specs.Prelude.{⊤};
 ghost use Rattle.gitmodules.specs.Sections.{begun, header_after_bracket, header_after_word};
-ghost use Rattle.gitmodules.specs.Sections.{sections, without_blanks};
+ghost use Rattle.gitmodules.specs.Sections.{is_word_byte, quoted_header, sections, without_blanks};
 ghost use Rattle.gitmodules.specs.Headers.{header_of};
+ghost use Rattle.gitmodules.specs.declared.reader.Header.TheVariants.{Submodule};
 ghost use Rattle.gitmodules.specs.Spelled.{IsEachHeaderGiven, IsEachNameSpelled};
 ghost use Rattle.gitmodules.specs.Spelled.{IsEachSectionFound, IsInOrder, IsNamedAfterEachBlank};
 
@@ -153,12 +154,27 @@ fn header_after_word(bytes: &[u8]) -> Header<'_>
     ensures { header_of result ≡ header_after_word bytes.now }
 {
     match bytes {
-        [b' ' | b'\t' | b'\r', after @ ..] => match without_blanks(after) {
-            [b'"', quoted @ ..] => Header::Submodule(EscapedName::after_quote(quoted)),
-            _ => Header::Submodule(None),
-        },
-        [b']' | b'a'..=b'z' | b'A'..=b'Z' | b'0'..=b'9' | b'-', ..] => Header::Other,
+        [b' ' | b'\t' | b'\r', after @ ..] => Header::Submodule(name_after_blanks(after)),
+        [byte, ..] if *byte == b']' || is_word_byte(*byte) => Header::Other,
         _ => Header::Submodule(None),
+    }
+}
+
+/// Whether the word at the start of a header can have this byte.
+fn is_word_byte(byte: u8) -> bool
+    ensures { result ≡ is_word_byte byte }
+{
+    byte.is_ascii_alphanumeric() || byte == b'-'
+}
+
+/// The name that these bytes begin with, in double quotes and perhaps after blanks; `None` if there
+/// is none that can be read.
+fn name_after_blanks(bytes: &[u8]) -> Option<EscapedName<'_>>
+    ensures { header_of (Submodule result) ≡ quoted_header (without_blanks bytes.now) }
+{
+    match without_blanks(bytes) {
+        [b'"', quoted @ ..] => EscapedName::after_quote(quoted),
+        _ => None,
     }
 }
 

@@ -61,7 +61,6 @@ impl<'a> EscapedName<'a> {
     /// # Memory
     ///
     /// It allocates what `name` needs to hold the bytes, from the allocator of `name`.
-    #[tactic(auto, using(crate::proofs::ReadNames::on_err))]
     pub fn push_to(&self, name: &mut Vec<u8>) -> Result<(), AllocError>
         ensures ok { OnOk result (name.new.items ≡ name.old.items ++ self.now) }
         ensures err { OnErr result ((front : List ℕ) × (name.new.items ≡ name.old.items ++ front)

@@ -12,8 +12,8 @@ ghost use Rattle.programs.specs.Promises.{Runs, FollowsRule, ReadsWithin, as_obj
 ghost use Rattle.gix_validate.specs.Component.{fault_of};
 ghost use Rattle.check_push.specs.Trees.Report.{finding_of, finding_said, is_gitmodules, report, tree_rule};
 ghost use Rattle.check_push.specs.Trees.Spelled.{IsAcceptedStream, IsMarkedIfAcceptable, IsReadAsItems};
-ghost use Rattle.check_push.specs.Trees.Private.{EntryGives, EntryReads, ReadsOrSkipsId, Says};
-ghost use Rattle.check_push.specs.Trees.Private.{as_entry_header, tree_report};
+ghost use Rattle.check_push.specs.Trees.Private.{EntryGives, EntryReads, FrontReads, PassesId, Says};
+ghost use Rattle.check_push.specs.Trees.Private.{ReadsOrSkipsId, as_entry_header, tree_report};
 ghost use Rattle.check_push.specs.Trees.Arguments.{as_options, protections_for, without_windows};
 
 use crate::trees::entry::{EntryHeader, parse_entry_header};
@@ -159,26 +159,14 @@ fn check_entry<R: BufRead, W: Write>(
         (W.contents output.old) (W.contents output.new) result) }
     ensures within { EntryReads left (R.remaining input.old) (R.remaining input.new) result }
 {
-    let limit = left.min(MAX_LINE);
-    match read_before(input, 0, limit as usize, &mut buffers.read)? {
-        Found::Byte => {}
-        Found::Limit if left < MAX_LINE => return Err(Stop::Malformed(Malformation::Entry)),
-        Found::Limit => return Err(Stop::Malformed(Malformation::TooLong)),
-        Found::End => return Err(Stop::Malformed(Malformation::Ended)),
-    }
+    read_front(left, input, &mut buffers.read)?;
     let Some(front) = parse_entry_header(&buffers.read) else {
         return Err(Stop::Malformed(Malformation::Entry));
     };
     let finding = finding_of(options, front);
     let front_len = buffers.read.len() as u64 + 1;
     let id_len = tree.id.len() as u64 / 2;
-    let id_left = id_len.min(left - front_len);
-    if !read_or_skip_id(&finding, input, id_left, &mut buffers.part)? {
-        return Err(Stop::Malformed(Malformation::Ended));
-    }
-    if id_left < id_len {
-        return Err(Stop::Malformed(Malformation::Entry));
-    }
+    pass_id(&finding, id_len, left - front_len, input, &mut buffers.part)?;
     let refused = write_finding(
         finding,
         tree,
@@ -189,6 +177,43 @@ fn check_entry<R: BufRead, W: Write>(
     )?;
     let len = front_len + id_len;
     Ok(Checked { len, refused })
+}
+
+/// Reads the bytes before the NUL of the first entry of the last `left` bytes of a tree, and the NUL.
+fn read_front<R: BufRead>(left: u64, input: &mut R, front: &mut Vec<u8>) -> Result<(), Stop>
+    ensures front { FrontReads left
+        (R.remaining input.old) (R.remaining input.new) front.new.items result }
+    ensures within { ReadsWithin left (R.remaining input.old) (R.remaining input.new) result }
+{
+    let limit = left.min(MAX_LINE);
+    match read_before(input, 0, limit as usize, front)? {
+        Found::Byte => Ok(()),
+        Found::Limit if left < MAX_LINE => Err(Stop::Malformed(Malformation::Entry)),
+        Found::Limit => Err(Stop::Malformed(Malformation::TooLong)),
+        Found::End => Err(Stop::Malformed(Malformation::Ended)),
+    }
+}
+
+/// Reads the id of an entry if the entry is listed, and skips it otherwise. It has `len` bytes, of
+/// which the tree has `left`.
+fn pass_id<R: BufRead>(
+    finding: &Finding,
+    len: u64,
+    left: u64,
+    input: &mut R,
+    id: &mut Vec<u8>,
+) -> Result<(), Stop>
+    ensures id { PassesId finding.now len left
+        (R.remaining input.old) (R.remaining input.new) id.new.items result }
+    ensures within { ReadsWithin left (R.remaining input.old) (R.remaining input.new) result }
+{
+    if !read_or_skip_id(finding, input, len.min(left), id)? {
+        return Err(Stop::Malformed(Malformation::Ended));
+    }
+    if left < len {
+        return Err(Stop::Malformed(Malformation::Entry));
+    }
+    Ok(())
 }
 
 /// The result for an entry.
@@ -298,22 +323,15 @@ fn write_finding<W: Write>(
         (record { front = as_entry_header front.entry; id = id.now }) finding)
         (W.contents output.old) (W.contents output.new) result }
 {
-    match finding {
-        Finding::Accepted => Ok(false),
-        Finding::Modules => {
-            set_modules(line, tree, front, id).map_err(|_| RunError::Memory)?;
-            output.write_all(line).map_err(|_| RunError::Write)?;
-            Ok(false)
-        }
-        Finding::Refused(fault) => {
-            set_refused(line, tree, front, fault).map_err(|_| RunError::Memory)?;
-            output.write_all(line).map_err(|_| RunError::Write)?;
-            Ok(true)
-        }
+    let (set, refused) = match finding {
+        Finding::Accepted => return Ok(false),
+        Finding::Modules => (set_modules(line, tree, front, id), false),
+        Finding::Refused(fault) => (set_refused(line, tree, front, fault), true),
         Finding::RefusedByWindows(fault) => {
-            set_refused_by_windows(line, tree, front, fault).map_err(|_| RunError::Memory)?;
-            output.write_all(line).map_err(|_| RunError::Write)?;
-            Ok(true)
+            (set_refused_by_windows(line, tree, front, fault), true)
         }
-    }
+    };
+    set.map_err(|_| RunError::Memory)?;
+    output.write_all(line).map_err(|_| RunError::Write)?;
+    Ok(refused)
 }

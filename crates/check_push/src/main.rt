@@ -31,17 +31,26 @@ fn main(rt: HostRuntime) -> ExitCode {
         let what = "give refs, trees or submodules, see check_push --help";
         return fail(NAME, what, &mut errors);
     };
-    match word.as_str() {
-        "-h" | "--help" => return print(NAME, HELP, &mut rt.stdout(), &mut errors),
+    execute(&rt, word, rest, &mut errors)
+}
+
+/// Does what the first argument says, with the others.
+fn execute<E: Write>(
+    rt: &HostRuntime,
+    word: &str,
+    rest: &[String],
+    errors: &mut Messages<E>,
+) -> ExitCode {
+    match word {
+        "-h" | "--help" => print(NAME, HELP, &mut rt.stdout(), errors),
         "--version" => {
             let version = format_args!("{NAME} {VERSION}");
-            return print(NAME, version, &mut rt.stdout(), &mut errors);
+            print(NAME, version, &mut rt.stdout(), errors)
         }
-        _ => {}
-    }
-    match subcommand_of(word) {
-        Some(subcommand) => check(&rt, subcommand, rest, &mut errors),
-        None => fail_arguments(NAME, ArgumentError::Unknown(word), &mut errors),
+        _ => match subcommand_of(word) {
+            Some(subcommand) => check(rt, subcommand, rest, errors),
+            None => fail_arguments(NAME, ArgumentError::Unknown(word), errors),
+        },
     }
 }
 

@@ -12,8 +12,8 @@ ghost use Rattle.programs.specs.Promises.{Runs, FollowsRule, ReadsWithin, as_obj
 ghost use Rattle.gix_validate.specs.Component.{fault_of};
 ghost use Rattle.check_push.specs.Trees.Report.{finding_of, finding_said, is_gitmodules, report, tree_rule};
 ghost use Rattle.check_push.specs.Trees.Spelled.{IsAcceptedStream, IsMarkedIfAcceptable, IsReadAsItems};
-ghost use Rattle.check_push.specs.Trees.Private.{EntryGives, EntryReads, FrontReads, PassesId, Says};
-ghost use Rattle.check_push.specs.Trees.Private.{ReadsOrSkipsId, as_entry_header, tree_report};
+ghost use Rattle.check_push.specs.Trees.Private.{EntryGives, EntryReads, FrontReads, PassesId};
+ghost use Rattle.check_push.specs.Trees.Private.{ReadsOrSkipsId, Says, as_entry_header, tree_report};
 ghost use Rattle.check_push.specs.Trees.Arguments.{as_options, protections_for, without_windows};
 
 use crate::trees::entry::{EntryHeader, parse_entry_header};
@@ -179,7 +179,8 @@ fn check_entry<R: BufRead, W: Write>(
     Ok(Checked { len, refused })
 }
 
-/// Reads the bytes before the NUL of the first entry of the last `left` bytes of a tree, and the NUL.
+/// Reads the bytes before the NUL of the first entry of the last `left` bytes of a tree, and then
+/// the NUL.
 fn read_front<R: BufRead>(left: u64, input: &mut R, front: &mut Vec<u8>) -> Result<(), Stop>
     ensures front { FrontReads left
         (R.remaining input.old) (R.remaining input.new) front.new.items result }

@@ -1,5 +1,7 @@
 //! The subcommand's options (check_push(1)).
 
+ghost use Rattle.std.specs.Prelude.{◌≡◌, None, Some};
+ghost use Rattle.programs.specs.Arguments.{effect_of};
 ghost use Rattle.check_push.specs.Trees.Arguments.{no_options, rule};
 ghost use Rattle.check_push.specs.Trees.Arguments.{Options, as_options};
 
@@ -84,18 +86,41 @@ impl<'a> ParseOptions<'a> for Options<'a> {
         }
     }
 
-    fn set(mut self, name: &str, value: Option<&'a str>) -> Setting<'a, Self> {
-        match (name, value) {
-            ("--modules", None) => self.modules = true,
-            ("--end", None) => self.needs_end = true,
-            ("--protect" | "--accept", None) => return Setting::NeedsValue,
-            ("--protect", Some(list)) => match protections_of(list.as_bytes()) {
+    fn set(self, name: &str, value: Option<&'a str>) -> Setting<'a, Self> {
+        match value {
+            None => self.set_flag(name),
+            Some(value) => self.set_value(name, value),
+        }
+    }
+}
+
+impl<'a> Options<'a> {
+    /// What the option `name` does without a value.
+    fn set_flag(mut self, name: &str) -> Setting<'a, Self>
+        ensures { effect_of as_options result ≡ rule name.now None (as_options self.entry) }
+    {
+        match name {
+            "--modules" => self.modules = true,
+            "--end" => self.needs_end = true,
+            "--protect" | "--accept" => return Setting::NeedsValue,
+            _ => return Setting::Unknown,
+        }
+        Setting::Set(self)
+    }
+
+    /// What the option `name` does with a value.
+    fn set_value(mut self, name: &str, value: &'a str) -> Setting<'a, Self>
+        ensures { effect_of as_options result
+            ≡ rule name.now (Some value.entry.now) (as_options self.entry) }
+    {
+        match name {
+            "--protect" => match protections_of(value.as_bytes()) {
                 Some(protections) => self.protections = protections,
-                None => return Setting::Invalid(list, PROTECTIONS),
+                None => return Setting::Invalid(value, PROTECTIONS),
             },
-            ("--accept", Some(names)) => match self.accepted.with(names) {
+            "--accept" => match self.accepted.with(value) {
                 Some(accepted) => self.accepted = accepted,
-                None => return Setting::Invalid(names, FEWER_LISTS),
+                None => return Setting::Invalid(value, FEWER_LISTS),
             },
             _ => return Setting::Unknown,
         }

@@ -15,7 +15,7 @@ ghost use Rattle.gix_validate.specs.Quoted.{escape_of, quoted};
 ghost use Rattle.programs.specs.Promises.{as_object};
 ghost use Rattle.check_push.specs.Trees.Report.{modules_line, path_of, place, refused_line};
 ghost use Rattle.check_push.specs.Trees.Report.{shown_directory, windows_line};
-ghost use Rattle.check_push.specs.Trees.Private.{as_entry_header};
+ghost use Rattle.check_push.specs.Trees.Private.{as_entry_header, before_name};
 
 use crate::trees::entry::EntryHeader;
 use gix_validate::path::ComponentError;
@@ -105,11 +105,18 @@ fn push_place(
     ensures { OnOk result
         (line.new.items ≡ line.old.items ++ place (as_object tree.entry) (as_entry_header front.entry)) }
 {
-    line.extend_from_slice(tree.id)?;
-    line.push(b' ')?;
-    line.extend_from_slice(front.digits)?;
-    line.push(b' ')?;
+    push_word(line, tree.id)?;
+    push_word(line, front.digits)?;
     push_path(line, tree.rest, front.name)
+}
+
+/// Appends these bytes and a space.
+fn push_word(line: &mut Vec<u8>, word: &[u8]) -> Result<(), AllocError>
+    ensures { OnOk result (line.new.items ≡ line.old.items ++ word.now ++ codes " ") }
+{
+    line.extend_from_slice(word)?;
+    line.push(b' ')?;
+    Ok(())
 }
 
 /// Appends a quoted path: the directory, if it is known, a slash and the name.
@@ -118,13 +125,23 @@ fn push_path(line: &mut Vec<u8>, directory: Option<&[u8]>, name: &[u8]) -> Resul
         ++ quoted (path_of (option_map (λ directory. directory.now) directory.entry) name.now)) }
 {
     line.push(b'"')?;
-    match directory {
-        Some(directory) if !directory.is_empty() => push_directory(line, directory)?,
-        _ => {}
-    }
+    push_known_directory(line, directory)?;
     push_escaped(line, name)?;
     line.push(b'"')?;
     Ok(())
+}
+
+/// Appends the escaped bytes of a directory, as far as they are shown, and a slash. It appends
+/// nothing if the directory is not known.
+fn push_known_directory(line: &mut Vec<u8>, directory: Option<&[u8]>) -> Result<(), AllocError>
+    ensures { OnOk result (line.new.items ≡ line.old.items
+        ++ flat_map escape_of
+        (before_name (option_map (λ directory. directory.now) directory.entry))) }
+{
+    match directory {
+        Some(directory) if !directory.is_empty() => push_directory(line, directory),
+        _ => Ok(()),
+    }
 }
 
 /// Appends the escaped bytes of a directory, or the first [`MAX_DIRECTORY`] of them and dots, and a

@@ -1,12 +1,16 @@
 //! What is printed for a name.
 
 ghost use Rattle.std.specs.Prelude.{◌≡◌, ◌++◌, codes, false, IfOk, IfSome, IsTrue, OnOk, option_map};
+ghost use Rattle.std.specs.Prelude.{is_none};
 ghost use Rattle.std.specs.List.{list_all};
 ghost use Rattle.gix_validate.specs.Bytes.{holds};
+ghost use Rattle.gix_validate.specs.Faults.{when};
+ghost use Rattle.gix_validate.specs.Sanitized.{sanitized};
 ghost use Rattle.bstr.specs.Owned.{bstring_bytes};
-ghost use Rattle.git_check_names.specs.Faults.{is_name};
-ghost use Rattle.git_check_names.specs.Names.{fault_text, is_plain_byte, is_unclear, name_report};
-ghost use Rattle.git_check_names.specs.Names.{print_end, repair_of, shown};
+ghost use Rattle.git_check_names.specs.Faults.{fault_of, is_name};
+ghost use Rattle.git_check_names.specs.Names.{checked_report, details, fault_text, is_plain_byte};
+ghost use Rattle.git_check_names.specs.Names.{is_unclear, name_report, print_end, repair_of};
+ghost use Rattle.git_check_names.specs.Names.{repair_report, shown};
 ghost use Rattle.git_check_names.specs.Options.{as_options};
 ghost use Rattle.git_check_names.specs.Private.{IsCutAtColon};
 ghost use Rattle.git_check_names.specs.Problems.{message_start};
@@ -41,21 +45,58 @@ pub(crate) fn push_report(
         refused ≡ (name_report (as_options options.now) kind name.now).refused) }
     ensures failed { (name_report (as_options options.now) kind name.now).failed ≡ false }
 {
-    let fault = fault_of(options, kind, name);
-    if !options.repair {
-        let Some(fault) = fault else {
-            return Ok(false);
-        };
-        push_fault(options, name, &fault, lines)?;
-        lines.push(b'\n')?;
-        return Ok(true);
+    if options.repair {
+        push_repair(alloc, options, kind, name, lines, messages)
+    } else {
+        push_checked(options, name, fault_of(options, kind, name), lines)
     }
+}
+
+/// Appends the line to print for a name with this fault, and returns whether it has one.
+fn push_checked(
+    options: &CheckOptions<'_>,
+    name: &[u8],
+    fault: Option<Fault>,
+    lines: &mut Vec<u8>,
+) -> io::Result<bool>
+    ensures lines { OnOk result (lines.new.items
+        ≡ lines.old.items ++ (checked_report (as_options options.now) name.now fault).lines) }
+    ensures refused { IfOk result (λ refused.
+        refused ≡ (checked_report (as_options options.now) name.now fault).refused) }
+{
+    let Some(fault) = fault else {
+        return Ok(false);
+    };
+    push_fault(options, name, &fault, lines)?;
+    lines.push(b'\n')?;
+    Ok(true)
+}
+
+/// Appends the repair of a name, or the message that it has none, and returns whether it has none.
+fn push_repair(
+    alloc: Global,
+    options: &CheckOptions<'_>,
+    kind: Kind,
+    name: &[u8],
+    lines: &mut Vec<u8>,
+    messages: &mut Vec<u8>,
+) -> io::Result<bool>
+    ensures lines { OnOk result (lines.new.items ≡ lines.old.items
+        ++ (repair_report (as_options options.now) name.now
+        (fault_of (as_options options.now) kind name.now) (repair_of (as_options options.now) kind name.now)).lines) }
+    ensures messages { OnOk result (messages.new.items ≡ messages.old.items
+        ++ (repair_report (as_options options.now) name.now
+        (fault_of (as_options options.now) kind name.now) (repair_of (as_options options.now) kind name.now)).messages) }
+    ensures refused { IfOk result (λ refused.
+        refused ≡ (repair_report (as_options options.now) name.now
+        (fault_of (as_options options.now) kind name.now) (repair_of (as_options options.now) kind name.now)).refused) }
+{
     if let Some(repair) = repair_of(alloc, options, kind, name)? {
         lines.extend_from_slice(repair.as_slice())?;
         lines.push(print_end(options))?;
         return Ok(false);
     }
-    let Some(fault) = fault else {
+    let Some(fault) = fault_of(options, kind, name) else {
         return Ok(false);
     };
     push_unrepaired(options, name, &fault, messages)?;
@@ -75,14 +116,29 @@ fn repair_of(
     ensures valid { IfOk result (λ found. IfSome found (λ repair.
         IsTrue (is_name (as_options options.now) kind (bstring_bytes repair)))) }
 {
-    let name = BStr::new(name);
     if kind == Kind::Branch {
-        return suggest(alloc, name);
+        return suggest(alloc, BStr::new(name));
     }
-    if fault_of(options, kind, name.as_bytes()).is_none() {
-        return Ok(Some(BString::new(copied(alloc, name.as_bytes())?)));
+    if fault_of(options, kind, name).is_none() {
+        return Ok(Some(BString::new(copied(alloc, name)?)));
     }
-    let repaired = name_partial_or_sanitize(alloc, name)?;
+    sanitized(alloc, options, kind, name)
+}
+
+/// The sanitised name, if that is valid.
+#[tactic(auto, using(crate::proofs::Repairs::repair_laws))]
+fn sanitized(
+    alloc: Global,
+    options: &CheckOptions<'_>,
+    kind: Kind,
+    name: &[u8],
+) -> Result<Option<BString>, AllocError>
+    ensures repair { IfOk result (λ found. option_map bstring_bytes found
+        ≡ when (is_none (fault_of (as_options options.now) kind (sanitized name.now))) (sanitized name.now)) }
+    ensures valid { IfOk result (λ found. IfSome found (λ repair.
+        IsTrue (is_name (as_options options.now) kind (bstring_bytes repair)))) }
+{
+    let repaired = name_partial_or_sanitize(alloc, BStr::new(name))?;
     if fault_of(options, kind, repaired.as_slice()).is_none() {
         Ok(Some(repaired))
     } else {
@@ -126,6 +182,13 @@ fn push_fault(
 {
     push_shown(line, name)?;
     write!(line, ": {}", fault.message(BStr::new(name)))?;
+    push_details(options, fault, line)
+}
+
+/// Appends the name of the error and its offset, if they are asked for.
+fn push_details(options: &CheckOptions<'_>, fault: &Fault, line: &mut Vec<u8>) -> io::Result<()>
+    ensures { OnOk result (line.new.items ≡ line.old.items ++ details (as_options options.now) fault.now) }
+{
     if options.verbose {
         let word = reason_word(&fault.reason);
         write!(line, " ({word} at {})", fault.offset)?;

@@ -2,7 +2,10 @@
 
 ghost use Rattle.std.specs.Prelude.{◌≡◌, [], map};
 ghost use Rattle.std.specs.String.{string_bytes};
-ghost use Rattle.git_check_names.specs.Options.{Options, as_options, rule, without_options};
+ghost use Rattle.programs.specs.Arguments.{effect_of};
+ghost use Rattle.programs.specs.Protections.{protections_of};
+ghost use Rattle.git_check_names.specs.Options.{Options, accepting, as_options, protected_by, rule};
+ghost use Rattle.git_check_names.specs.Options.{without_options};
 
 use gix_validate::path::ComponentOptions;
 use programs::accepted::AcceptedNames;
@@ -94,6 +97,29 @@ impl<'a> CheckOptions<'a> {
             accepted: AcceptedNames::none(),
         }
     }
+
+    /// Protects the file systems of this list.
+    fn with_protections(mut self, list: &'a str) -> Setting<'a, Self>
+        ensures { effect_of as_options result
+            ≡ protected_by list.now (as_options self.entry) (protections_of list.now) }
+    {
+        match protections_of(list.as_bytes()) {
+            Some(protections) => self.protections = protections,
+            None => return Setting::Invalid(list, PROTECTIONS),
+        }
+        Setting::Set(self)
+    }
+
+    /// Accepts the names of one list more.
+    fn with_accepted(mut self, names: &'a str) -> Setting<'a, Self>
+        ensures { effect_of as_options result ≡ accepting names.now (as_options self.entry) }
+    {
+        match self.accepted.with(names) {
+            Some(accepted) => self.accepted = accepted,
+            None => return Setting::Invalid(names, FEWER_LISTS),
+        }
+        Setting::Set(self)
+    }
 }
 
 impl<'a> ParseOptions<'a> for CheckOptions<'a> {
@@ -116,14 +142,8 @@ impl<'a> ParseOptions<'a> for CheckOptions<'a> {
             ("--repair", None) => self.repair = true,
             ("-v" | "--verbose", None) => self.verbose = true,
             ("--protect" | "--accept", None) => return Setting::NeedsValue,
-            ("--protect", Some(list)) => match protections_of(list.as_bytes()) {
-                Some(protections) => self.protections = protections,
-                None => return Setting::Invalid(list, PROTECTIONS),
-            },
-            ("--accept", Some(names)) => match self.accepted.with(names) {
-                Some(accepted) => self.accepted = accepted,
-                None => return Setting::Invalid(names, FEWER_LISTS),
-            },
+            ("--protect", Some(list)) => return self.with_protections(list),
+            ("--accept", Some(names)) => return self.with_accepted(names),
             _ => return Setting::Unknown,
         }
         Setting::Set(self)

@@ -8,7 +8,7 @@ ghost use Rattle.std.specs.String.{string_bytes};
 ghost use Rattle.programs.specs.Command.{EndsAs, Ran, SaysIf};
 ghost use Rattle.programs.specs.Messages.{AppendsPrefixOf};
 ghost use Rattle.git_check_names.specs.Names.{Runs, as_outcome, asked_of, ended_of, failed_by};
-ghost use Rattle.git_check_names.specs.Names.{given_report, has_nul, input_report, name_end};
+ghost use Rattle.git_check_names.specs.Names.{given_report, has_nul, input_report, name_end, name_report};
 ghost use Rattle.git_check_names.specs.Names.{outcome_of, shown, text_for, unknown_in, wrong_by};
 ghost use Rattle.git_check_names.specs.Options.{as_options};
 ghost use Rattle.git_check_names.specs.Problems.{end_of, said_of, status_of};
@@ -83,8 +83,8 @@ impl<'a> Command<'a> for CheckOptions<'a> {
 fn say_messages<E: Write>(name: &str, messages: &[u8], errors: &mut Messages<E>)
     ensures { SaysIf E.contents name.now errors.old errors.new (said_of messages.now) }
 {
-    if messages.len() >= MESSAGE_START.len() {
-        errors.say_bytes(name, &messages[MESSAGE_START.len()..]);
+    if let Some(said) = messages.get(MESSAGE_START.len()..) {
+        errors.say_bytes(name, said);
     }
 }
 
@@ -270,12 +270,36 @@ fn check_input<R: BufRead, W: Write>(
         if has_nul(options, &name) {
             return stopped_by(messages, Problem::Nul { number });
         }
-        lines.clear();
-        let found = push_report(alloc, options, kind, &name, &mut lines, &mut messages)
-            .map_err(|_| RunError::Memory)?;
-        output.write_all(&lines).map_err(|_| RunError::Write)?;
-        refused |= found;
+        refused |= write_report(alloc, options, kind, &name, &mut lines, &mut messages, output)?;
     })
+}
+
+/// Writes the lines for a name, which are put in `lines` first, appends the messages about it, and
+/// returns whether the name is refused.
+fn write_report<W: Write>(
+    alloc: Global,
+    options: &CheckOptions<'_>,
+    kind: Kind,
+    name: &[u8],
+    lines: &mut Vec<u8>,
+    messages: &mut Vec<u8>,
+    output: &mut W,
+) -> Result<bool, RunError>
+    ensures lines { IfOk result (λ _. Appends (W.contents output.old) (W.contents output.new)
+        (name_report (as_options options.now) kind name.now).lines) }
+    ensures messages { OnOk result (messages.new.items
+        ≡ messages.old.items ++ (name_report (as_options options.now) kind name.now).messages) }
+    ensures refused { IfOk result (λ refused.
+        refused ≡ (name_report (as_options options.now) kind name.now).refused) }
+    ensures failed { (name_report (as_options options.now) kind name.now).failed ≡ false }
+    ensures stopped { result ≢ Err RunError.Write → OnErr result (output.new ≡ output.old) }
+{
+    lines.clear();
+    let refused = push_report(alloc, options, kind, name, lines, messages).map_err(
+        |_| RunError::Memory,
+    )?;
+    output.write_all(lines).map_err(|_| RunError::Write)?;
+    Ok(refused)
 }
 
 /// The verdict of a run that stops with a problem, after these messages.

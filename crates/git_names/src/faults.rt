@@ -1,6 +1,7 @@
 //! One check for all kinds of names, whose error has an offset.
 
-ghost use Rattle.std.specs.Prelude.{◌≡◌, ◌↔◌, ◌≤◌, IsOk, IfOk, IfSome, IsTrue, IfErr, None, Some, length};
+ghost use Rattle.std.specs.Prelude.{◌≡◌, ◌↔◌, ◌≤◌, IsOk, IfOk, IfSome, IsTrue, IfErr, None, Some, length, option_map};
+ghost use Rattle.std.specs.Result.{result_err};
 ghost use Rattle.bstr.specs.BStr.{bstr_bytes};
 ghost use Rattle.gix_validate.specs.Faults.{Validates};
 ghost use Rattle.gix_validate.specs.Printed.{printed};
@@ -145,26 +146,11 @@ fn reason_by_kind(kind: Kind, name: BStr<'_>, options: ComponentOptions) -> Opti
     ensures within { IfSome result (λ reason. path_start reason ≤ length (bstr_bytes name.entry)) }
 {
     match kind {
-        Kind::Branch => match branch(name) {
-            Err(error) => Some(Reason::Short(error)),
-            Ok(_) => None,
-        },
-        Kind::BranchRef => match reference::branch_name(name) {
-            Err(error) => Some(Reason::Reference(error)),
-            Ok(_) => None,
-        },
-        Kind::Tag => match tag(name) {
-            Err(error) => Some(Reason::Short(error)),
-            Ok(_) => None,
-        },
-        Kind::Reference => match reference::name(name) {
-            Err(error) => Some(Reason::Reference(error)),
-            Ok(_) => None,
-        },
-        Kind::Partial => match reference::name_partial(name) {
-            Err(error) => Some(Reason::Reference(error)),
-            Ok(_) => None,
-        },
+        Kind::Branch => short_reason(branch(name)),
+        Kind::BranchRef => reference_reason(reference::branch_name(name)),
+        Kind::Tag => short_reason(tag(name)),
+        Kind::Reference => reference_reason(reference::name(name)),
+        Kind::Partial => reference_reason(reference::name_partial(name)),
         Kind::TagName => match tag_names::name(name) {
             Err(error) => Some(Reason::TagName(error)),
             Ok(_) => None,
@@ -173,26 +159,54 @@ fn reason_by_kind(kind: Kind, name: BStr<'_>, options: ComponentOptions) -> Opti
             Err(error) => Some(Reason::SafeRef(error)),
             Ok(_) => None,
         },
-        Kind::Path => match path(name, None, options) {
-            Err(error) => Some(Reason::Path(error)),
-            Ok(_) => None,
-        },
-        Kind::SymlinkPath => match path(name, Some(ComponentMode::Symlink), options) {
-            Err(error) => Some(Reason::Path(error)),
-            Ok(_) => None,
-        },
-        Kind::Component => match component(name, options) {
-            Err(error) => Some(Reason::Component(error)),
-            Ok(_) => None,
-        },
-        Kind::Symlink => match symlink(name, options) {
-            Err(error) => Some(Reason::Component(error)),
-            Ok(_) => None,
-        },
+        Kind::Path => path_reason(path(name, None, options)),
+        Kind::SymlinkPath => path_reason(path(name, Some(ComponentMode::Symlink), options)),
+        Kind::Component => component_reason(component(name, options)),
+        Kind::Symlink => component_reason(symlink(name, options)),
         Kind::Submodule => match submodule(name, options) {
             Err(error) => Some(Reason::Submodule(error)),
             Ok(_) => None,
         },
+    }
+}
+
+/// The error of a short name as a reason; `None` if the name is valid.
+fn short_reason(checked: Result<BStr<'_>, ShortNameError>) -> Option<Reason>
+    ensures { result ≡ option_map (λ e. Reason.Short e) (result_err checked.entry) }
+{
+    match checked {
+        Err(error) => Some(Reason::Short(error)),
+        Ok(_) => None,
+    }
+}
+
+/// The error of a full or partial reference name as a reason; `None` if the name is valid.
+fn reference_reason(checked: Result<BStr<'_>, reference::NameError>) -> Option<Reason>
+    ensures { result ≡ option_map (λ e. Reason.Reference e) (result_err checked.entry) }
+{
+    match checked {
+        Err(error) => Some(Reason::Reference(error)),
+        Ok(_) => None,
+    }
+}
+
+/// The error of a path as a reason; `None` if the path is valid.
+fn path_reason(checked: Result<BStr<'_>, PathError>) -> Option<Reason>
+    ensures { result ≡ option_map (λ e. Reason.Path e) (result_err checked.entry) }
+{
+    match checked {
+        Err(error) => Some(Reason::Path(error)),
+        Ok(_) => None,
+    }
+}
+
+/// The error of a component as a reason; `None` if the component is valid.
+fn component_reason(checked: Result<BStr<'_>, ComponentError>) -> Option<Reason>
+    ensures { result ≡ option_map (λ e. Reason.Component e) (result_err checked.entry) }
+{
+    match checked {
+        Err(error) => Some(Reason::Component(error)),
+        Ok(_) => None,
     }
 }
 

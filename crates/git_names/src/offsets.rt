@@ -237,14 +237,18 @@ fn has_parent_at(name: &[u8], offset: usize) -> bool
     requires { offset < length name.now }
     ensures { result ≡ has_parent_at name.now offset }
 {
-    let starts = offset == 0 || is_separator(name[offset - 1]);
-    let rest = &name[offset..];
-    starts
-        && match rest {
-            [b'.', b'.'] => true,
-            [b'.', b'.', after, ..] => is_separator(*after),
-            _ => false,
-        }
+    (offset == 0 || is_separator(name[offset - 1])) && starts_with_parent(&name[offset..])
+}
+
+/// Whether the first part is `..`.
+fn starts_with_parent(name: &[u8]) -> bool
+    ensures { result ≡ has_parent_at name.now 0 }
+{
+    match name {
+        [b'.', b'.'] => true,
+        [b'.', b'.', after, ..] => is_separator(*after),
+        _ => false,
+    }
 }
 
 fn is_separator(byte: u8) -> bool

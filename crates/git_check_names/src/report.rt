@@ -83,13 +83,16 @@ fn push_repair(
 ) -> io::Result<bool>
     ensures lines { OnOk result (lines.new.items ≡ lines.old.items
         ++ (repair_report (as_options options.now) name.now
-        (fault_of (as_options options.now) kind name.now) (repair_of (as_options options.now) kind name.now)).lines) }
+        (fault_of (as_options options.now) kind name.now)
+        (repair_of (as_options options.now) kind name.now)).lines) }
     ensures messages { OnOk result (messages.new.items ≡ messages.old.items
         ++ (repair_report (as_options options.now) name.now
-        (fault_of (as_options options.now) kind name.now) (repair_of (as_options options.now) kind name.now)).messages) }
+        (fault_of (as_options options.now) kind name.now)
+        (repair_of (as_options options.now) kind name.now)).messages) }
     ensures refused { IfOk result (λ refused.
         refused ≡ (repair_report (as_options options.now) name.now
-        (fault_of (as_options options.now) kind name.now) (repair_of (as_options options.now) kind name.now)).refused) }
+        (fault_of (as_options options.now) kind name.now)
+        (repair_of (as_options options.now) kind name.now)).refused) }
 {
     if let Some(repair) = repair_of(alloc, options, kind, name)? {
         lines.extend_from_slice(repair.as_slice())?;
@@ -134,7 +137,8 @@ fn sanitized(
     name: &[u8],
 ) -> Result<Option<BString>, AllocError>
     ensures repair { IfOk result (λ found. option_map bstring_bytes found
-        ≡ when (is_none (fault_of (as_options options.now) kind (sanitized name.now))) (sanitized name.now)) }
+        ≡ when (is_none (fault_of (as_options options.now) kind (sanitized name.now)))
+        (sanitized name.now)) }
     ensures valid { IfOk result (λ found. IfSome found (λ repair.
         IsTrue (is_name (as_options options.now) kind (bstring_bytes repair)))) }
 {
@@ -187,7 +191,8 @@ fn push_fault(
 
 /// Appends the name of the error and its offset, if they are asked for.
 fn push_details(options: &CheckOptions<'_>, fault: &Fault, line: &mut Vec<u8>) -> io::Result<()>
-    ensures { OnOk result (line.new.items ≡ line.old.items ++ details (as_options options.now) fault.now) }
+    ensures { OnOk result (line.new.items
+        ≡ line.old.items ++ details (as_options options.now) fault.now) }
 {
     if options.verbose {
         let word = reason_word(&fault.reason);

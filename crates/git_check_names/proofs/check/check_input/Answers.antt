@@ -53,7 +53,8 @@ pub returns-then-has_nul-clause-verdict : goal.returns-then-has_nul-clause-verdi
 returns-then-has_nul-clause-verdict g c =
     IfOk-weaker _ _ _ (λ verdict is. nul_stops _ _ _ _ c.loop-of-until_returned.invariant _
     (as_outcome verdict) is (rw (c.name_end.ensures, c.in-Name.is) at c.in_ok-next_name.ensures.next)
-    (rw c.deref.ensures.value at (sym c.has_nul.ensures ∙ c.if-has_nul.true))) c.stopped_by-then-has_nul.ensures.verdict
+    (rw c.deref.ensures.value at (sym c.has_nul.ensures ∙ c.if-has_nul.true)))
+    c.stopped_by-then-has_nul.ensures.verdict
 
 pub returns-then-has_nul-clause-stopped : goal.returns-then-has_nul-clause-stopped
 returns-then-has_nul-clause-stopped g c = λ _.
@@ -68,7 +69,8 @@ passed (Err x) e stop is same = cc
 pub returns-in_err-refused-clause-stopped : goal.returns-in_err-refused-clause-stopped
 returns-in_err-refused-clause-stopped g c = λ other.
     let same : c.write_report.new.output ≡ c.loop-of-until_returned.output =
-    c.in_err-refused.ensures.stopped (λ is. other (passed _ _ _ c.from_residual-in_err-refused.ensures.1 is)) in
+    c.in_err-refused.ensures.stopped
+    (λ is. other (passed _ _ _ c.from_residual-in_err-refused.ensures.1 is)) in
     on_err _ _ (rw (← same) at (names_pause _ _ _ (0 ∷ []) c.loop-of-until_returned.invariant))
 
 pub returns-clause-stopped : goal.returns-clause-stopped

@@ -11,7 +11,8 @@ ghost use Rattle.programs.specs.Messages.{AppendsPrefixOf};
 ghost use Rattle.gix_validate.specs.Bytes.{is_empty};
 ghost use Rattle.programs.specs.Reports.{LeavesTheEnd, LineRule, Reach};
 ghost use Rattle.programs.specs.Reports.{malformation_at_end, is_malformed, report, verdict_of};
-ghost use Rattle.programs.specs.Promises.{FollowsRule, ReadsWithin, StopsWithin, is_end_word};
+ghost use Rattle.programs.specs.Promises.{FollowsRule, ReadsNextLine, ReadsWithin, StopsWithin};
+ghost use Rattle.programs.specs.Promises.{is_end_word};
 
 use crate::error::RunError;
 use crate::input::{Found, is_at_end, read_before, until_returned};
@@ -114,32 +115,45 @@ pub fn run<C: LineCheck, R: BufRead, W: Write>(
     let mut refused = false;
     until_returned!(before => {
         let number = before + 1;
-        let malformation = match read_before(input, b'\n', MAX_LINE as usize, &mut line)? {
-            Found::Byte => {
-                if is_last(ending, &line, input)? {
-                    return Ok(whole_input(refused));
-                }
-                match check.check_line(&line, input, output, &mut buffers) {
-                    Ok(more) => {
-                        refused |= more;
-                        continue;
-                    }
-                    Err(Stop::Malformed(malformation)) => malformation,
-                    Err(Stop::Run(stop)) => return Err(stop),
-                }
+        match check_next(check, ending, number, input, output, &mut line, &mut buffers) {
+            Ok(Some(more)) => refused |= more,
+            Ok(None) => return Ok(whole_input(refused)),
+            Err(Stop::Malformed(malformation)) => {
+                return Ok(Verdict::Malformed {
+                    number,
+                    malformation,
+                });
             }
-            Found::Limit => Malformation::TooLong,
-            Found::End if !line.is_empty() => Malformation::Ended,
-            Found::End => match malformation_at_end(ending, number) {
-                Some(malformation) => malformation,
-                None => return Ok(whole_input(refused)),
-            },
-        };
-        return Ok(Verdict::Malformed {
-            number,
-            malformation,
-        });
+            Err(Stop::Run(stop)) => return Err(stop),
+        }
     })
+}
+
+/// Reads and checks the line with this number, and returns whether something in it is refused.
+/// Returns `None` if the input has ended as it has to, before this line or with it.
+fn check_next<C: LineCheck, R: BufRead, W: Write>(
+    check: C,
+    ending: Ending,
+    number: u64,
+    input: &mut R,
+    output: &mut W,
+    line: &mut Vec<u8>,
+    buffers: &mut Buffers,
+) -> Result<Option<bool>, Stop>
+    ensures { ReadsNextLine (C.line_rule check) (C.line_reach check) ending number
+        (R.remaining input.old) (R.remaining input.new)
+        (W.contents output.old) (W.contents output.new) result }
+{
+    match read_before(input, b'\n', MAX_LINE as usize, line)? {
+        Found::Byte if is_last(ending, line, input)? => Ok(None),
+        Found::Byte => check.check_line(line, input, output, buffers).map(Some),
+        Found::Limit => Err(Stop::Malformed(Malformation::TooLong)),
+        Found::End if !line.is_empty() => Err(Stop::Malformed(Malformation::Ended)),
+        Found::End => match malformation_at_end(ending, number) {
+            Some(malformation) => Err(Stop::Malformed(malformation)),
+            None => Ok(None),
+        },
+    }
 }
 
 /// Whether the line is the one that has to end the input, and nothing follows it.

@@ -104,9 +104,35 @@ pub(crate) fn expect_error<E: Debug + Display>(
     wanted: (Texts, Fault<'_>),
     error: &E,
 ) {
-    let came = format!(in rt.alloc(); "{error:?}").expect(rt, "memory");
+    let came = debugged(rt, error);
     expect(rt, call, wanted.1.0, before_first(came.as_bytes(), b" "));
     expect_text(rt, call, wanted, error);
+}
+
+/// What `Debug` prints.
+fn debugged<T: Debug>(rt: &impl Host, value: &T) -> String {
+    format!(in rt.alloc(); "{value:?}").expect(rt, "memory")
+}
+
+/// Panics if `Debug` prints something else.
+pub(crate) fn expect_debug<T: Debug>(
+    rt: &impl Host,
+    call: (&str, &[u8]),
+    wanted: &[u8],
+    value: &T,
+) {
+    expect(rt, call, wanted, debugged(rt, value).as_bytes());
+}
+
+/// Panics if `Display` prints something else.
+pub(crate) fn expect_display<T: Display>(
+    rt: &impl Host,
+    call: (&str, &[u8]),
+    wanted: &[u8],
+    value: &T,
+) {
+    let came = value.to_string(rt.alloc()).expect(rt, "memory");
+    expect(rt, call, wanted, came.as_bytes());
 }
 
 /// Panics if the error prints something other than its text.
@@ -116,8 +142,7 @@ pub(crate) fn expect_text<E: Display>(
     (texts, fault): (Texts, Fault<'_>),
     error: &E,
 ) {
-    let came = error.to_string(rt.alloc()).expect(rt, "memory");
-    expect(rt, call, &printed(rt, texts, fault), came.as_bytes());
+    expect_display(rt, call, &printed(rt, texts, fault), error);
 }
 
 /// Checks the results for a tag name and for the three kinds of reference names.

@@ -1,6 +1,6 @@
 //! The kinds of names in `git_names`: worked names, the offset of each error, and suggestions.
 
-use crate::agree::{expect, expect_bool, options};
+use crate::agree::{expect, expect_bool, expect_debug, options};
 use crate::rows::{Names, listed};
 use crate::text::Host;
 use bstr::BStr;
@@ -8,8 +8,11 @@ use git_names::{Fault, Kind, check, suggest};
 
 /// The kind; settings, as those of `rows`; the error, as `Debug` prints it; its offset; and the names.
 /// For a valid name there is no error, and no offset.
+type Row = (Kind, &'static str, &'static [u8], usize, Names);
+
+/// Names of branches, tags and references.
 #[rattlefmt::skip]
-const KINDS: &[(Kind, &str, &[u8], usize, Names)] = &[
+const REFERENCES: &[Row] = &[
     (Kind::Branch, "----", b"", 0, b"main,a/b-,@,a/HEAD,refs/heads/main"),
     (Kind::Branch, "----", b"Short(Name(Reserved { name: [72, 69, 65, 68] }))", 0, b"HEAD"),
     (Kind::Branch, "----", b"Short(StartsWithDash)", 0, b"-d,-/a"),
@@ -29,6 +32,11 @@ const KINDS: &[(Kind, &str, &[u8], usize, Names)] = &[
     (Kind::Partial, "----", b"Reference(LockFileSuffix)", 1, b"x.lock/y,x.lock,a.lock/b.lock"),
     (Kind::TagName, "----", b"", 0, b"v1.0,@,HEAD,-d"),
     (Kind::TagName, "----", b"TagName(RepeatedDot)", 3, b"v1..2,v1..."),
+];
+
+/// References that are safe as paths.
+#[rattlefmt::skip]
+const SAFE_REFS: &[Row] = &[
     (Kind::SafeRef, "----", b"", 0, b"refs/heads/main,HEAD,FETCH_HEAD,_,refs/heads/aux,refs/a./b"),
     (Kind::SafeRef, "whn-", b"", 0, b"refs/heads/main,HEAD,ORIG_HEAD,refs/stash"),
     (Kind::SafeRef, "----", b"SafeRef(OutsideRefs)", 0, b"notrefs/foo,hooks/post-update,objects/info/alternates"),
@@ -38,6 +46,11 @@ const KINDS: &[(Kind, &str, &[u8], usize, Names)] = &[
     (Kind::SafeRef, "w-n-", b"SafeRef(Piece(InvalidPart { offset: 5, error: WindowsIllegalCharacter }))", 6, b"refs/a./b,refs/a|b,refs/a>/b"),
     (Kind::SafeRef, "--n-", b"SafeRef(Name(InvalidByte { byte: 126 }))", 8, b"refs/git~1"),
     (Kind::SafeRef, "-h--", b"SafeRef(Piece(InvalidPart { offset: 5, error: DotGitDir }))", 5, b"refs/\xE2\x80\x8C.git"),
+];
+
+/// Paths and their components.
+#[rattlefmt::skip]
+const PATHS: &[Row] = &[
     (Kind::Path, "whn-", b"", 0, b"src/main.rs,.gitmodules"),
     (Kind::Path, "w-n-", b"Path(InvalidPart { offset: 4, error: WindowsIllegalCharacter })", 5, b"src/a?b/c,src/a. /d"),
     (Kind::Path, "----", b"Path(EmptyPart { offset: 4 })", 4, b"src/,src//a"),
@@ -58,7 +71,7 @@ const KINDS: &[(Kind, &str, &[u8], usize, Names)] = &[
 
 /// Submodule names, among them disguised ones from the tests of other programs.
 #[rattlefmt::skip]
-const SUBMODULES: &[(Kind, &str, &[u8], usize, Names)] = &[
+const SUBMODULES: &[Row] = &[
     (Kind::Submodule, "----", b"", 0, b"a,vendor/lib,/,...,.. ,..:foo,.,C:\\win,a\0b"),
     (Kind::Submodule, "whn-", b"", 0, b"a,vendor/lib,a..b,.a"),
     (Kind::Submodule, "----", b"Submodule(Name(ParentComponent))", 2, b"a/..,a\\..,a/../b"),
@@ -101,14 +114,23 @@ fn expect_fault(
     fault: &Fault,
     (reason, offset): (&[u8], usize),
 ) {
-    let came = format!(in rt.alloc(); "{:?}", fault.reason).expect(rt, "memory");
-    expect(rt, call, reason, came.as_bytes());
+    expect_debug(rt, call, reason, &fault.reason);
     expect_bool(rt, ("the offset", call.1), true, fault.offset == offset);
 }
 
 #[test]
-fn checks_names_of_each_kind(rt: HostRuntime) {
-    for_kinds(&rt, KINDS);
+fn checks_references_of_each_kind(rt: HostRuntime) {
+    for_kinds(&rt, REFERENCES);
+}
+
+#[test]
+fn checks_safe_references(rt: HostRuntime) {
+    for_kinds(&rt, SAFE_REFS);
+}
+
+#[test]
+fn checks_paths_of_each_kind(rt: HostRuntime) {
+    for_kinds(&rt, PATHS);
 }
 
 #[test]
@@ -116,7 +138,7 @@ fn checks_submodule_names_under_switches(rt: HostRuntime) {
     for_kinds(&rt, SUBMODULES);
 }
 
-fn for_kinds(rt: &impl Host, rows: &[(Kind, &str, &[u8], usize, Names)]) {
+fn for_kinds(rt: &impl Host, rows: &[Row]) {
     for (kind, settings, reason, offset, names) in rows {
         for_names(rt, (*kind, settings), (reason, *offset), &listed(rt, names));
     }

@@ -13,7 +13,7 @@ ghost use Rattle.gix_validate.specs.Submodule.{text_of as submodule_text_of};
 ghost use Rattle.gix_validate.specs.Tag.{text_of as tag_text_of};
 ghost use Rattle.typed_names.specs.Names.{name_bytes, name_text, component_bytes};
 
-use crate::agree::{expect, expect_bool, expect_error, options};
+use crate::agree::{expect, expect_bool, expect_debug, expect_error, options};
 use crate::printed::{component_texts, reference_texts};
 use crate::text::Host;
 use bstr::BStr;
@@ -145,22 +145,21 @@ fn parts_of<'a>(rt: &impl Abort, text: &'a [u8]) -> (Pieces<'a>, Option<TagName<
 }
 
 /// Checks what `Debug` prints of a name, which no contract says.
-fn expect_debug<R: Rule>(rt: &impl Host, wanted: &[u8])
+fn expect_type<R: Rule>(rt: &impl Host, wanted: &[u8])
 where
     R::Fault: Debug + Drop,
 {
     let name = Name::<'_, R>::new(BStr::from("refs/a")).expect(rt, "a name");
-    let text = format!(in rt.alloc(); "{name:?}").expect(rt, "memory");
-    expect(rt, ("Debug", b"refs/a"), wanted, text.as_bytes());
+    expect_debug(rt, ("Debug", b"refs/a"), wanted, &name);
 }
 
 #[test]
 fn prints_typed_names_with_their_type(rt: HostRuntime) {
-    expect_debug::<Tag>(&rt, b"TagName { name: \"refs/a\" }");
-    expect_debug::<Partial>(&rt, b"PartialName { name: \"refs/a\" }");
-    expect_debug::<Full>(&rt, b"FullName { name: \"refs/a\" }");
-    expect_debug::<Branch>(&rt, b"BranchName { name: \"refs/a\" }");
-    expect_debug::<Submodule>(&rt, b"SubmoduleName { name: \"refs/a\" }");
+    expect_type::<Tag>(&rt, b"TagName { name: \"refs/a\" }");
+    expect_type::<Partial>(&rt, b"PartialName { name: \"refs/a\" }");
+    expect_type::<Full>(&rt, b"FullName { name: \"refs/a\" }");
+    expect_type::<Branch>(&rt, b"BranchName { name: \"refs/a\" }");
+    expect_type::<Submodule>(&rt, b"SubmoduleName { name: \"refs/a\" }");
 }
 
 #[test]

@@ -46,22 +46,25 @@ fn at_offset<'a>(before: &[u8], here: &'a [u8]) -> Fault<'a> {
 }
 
 /// The error, or if there is none, the next one if its condition holds.
-fn or<'a>(fault: Fault<'a>, holds: bool, next: Fault<'a>) -> Fault<'a> {
+pub(crate) fn or<'a>(fault: Fault<'a>, holds: bool, next: Fault<'a>) -> Fault<'a> {
     if fault == VALID && holds { next } else { fault }
 }
 
 /// The first error as a tag name.
 fn of_tag(text: &[u8]) -> Fault<'_> {
-    let lowest = at_lowest_offset(text);
     match text {
         b"" => (b"Empty", b""),
         [.., b'/'] => (b"EndsWithSlash", b""),
         [b'/', ..] => (b"StartsWithSlash", b""),
-        _ if lowest != VALID => lowest,
-        [b'.', ..] => (b"StartsWithDot", b""),
-        [.., b'.'] => (b"EndsWithDot", b""),
-        _ => VALID,
+        _ => between_dots(text),
     }
+}
+
+/// The error at the lowest offset, or if there is none, that of a dot at the start or the end.
+fn between_dots(text: &[u8]) -> Fault<'_> {
+    let lowest = at_lowest_offset(text);
+    let fault = or(lowest, text.starts_with(b"."), (b"StartsWithDot", b""));
+    or(fault, text.ends_with(b"."), (b"EndsWithDot", b""))
 }
 
 /// The first error as a tag name, a partial name, a full name and a branch name.

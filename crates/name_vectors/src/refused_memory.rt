@@ -34,9 +34,9 @@ fn given(rt: &impl Host, call: usize) -> Result<BString, AllocError> {
 
 /// Three components, joined.
 fn joined_parts(rt: &impl Host) -> Result<BString, AllocError> {
-    let src = part(b"src").expect(rt, "a component");
-    let inner = part(b".github").expect(rt, "a component");
-    let file = part(b"a.rs").expect(rt, "a component");
+    let src = part(rt, b"src");
+    let inner = part(rt, b".github");
+    let file = part(rt, b"a.rs");
     path::join(
         rt.alloc(),
         &[src.as_bstr(), inner.as_bstr(), file.as_bstr()],

@@ -1,6 +1,9 @@
 //! Short branch names and whole paths: worked names, and what docs/RULES.md gives for each.
 
-use crate::agree::{expect, expect_bool, expect_error, expect_text, expect_valid, mode, options};
+use crate::agree::{
+    expect, expect_bool, expect_debug, expect_display, expect_error, expect_text, expect_valid,
+    mode, options,
+};
 use crate::printed::{branch_texts, component_texts, path_texts, reference_texts};
 use crate::reference::{Fault, VALID, of_references};
 use crate::rows::{Names, listed, part};
@@ -45,17 +48,17 @@ fn expect_short_error(
     fault: Fault<'_>,
     error: &ShortNameError,
 ) {
-    let is_dash = fault.0 == b"StartsWithDash".as_slice();
-    let texts = if is_dash {
-        branch_texts()
-    } else {
-        reference_texts()
+    let texts = match error {
+        ShortNameError::Name(error) => {
+            expect_error(rt, call, (reference_texts(), fault), error);
+            reference_texts()
+        }
+        ShortNameError::StartsWithDash => {
+            expect(rt, call, fault.0, b"StartsWithDash");
+            branch_texts()
+        }
     };
     expect_text(rt, call, (texts, fault), error);
-    match error {
-        ShortNameError::Name(error) => expect_error(rt, call, (reference_texts(), fault), error),
-        ShortNameError::StartsWithDash => expect(rt, call, fault.0, b"StartsWithDash"),
-    }
 }
 
 #[test]
@@ -96,9 +99,9 @@ fn puts_refs_heads_before_a_short_name(rt: HostRuntime) {
 #[test]
 fn prints_a_short_name(rt: HostRuntime) {
     let name = ShortName::new(BStr::from("topic/a")).expect(&rt, "a short name");
-    let text = format!(in rt.alloc(); "{name:?} {name}").expect(&rt, "memory");
-    let wanted = b"ShortName { name: \"topic/a\" } topic/a";
-    expect(&rt, ("Debug", b"topic/a"), wanted, text.as_bytes());
+    let wanted = b"ShortName { name: \"topic/a\" }";
+    expect_debug(&rt, ("Debug", b"topic/a"), wanted, &name);
+    expect_display(&rt, ("Display", b"topic/a"), b"topic/a", &name);
 }
 
 #[test]
@@ -114,12 +117,20 @@ const PATHS: &[(&str, &[u8], usize, Names)] = &[
     ("whns", b"", 0, b"src/main.rs,a,a/b/c/d,.gitmodules/a,a/.gitignore,.git2/x"),
     ("whn-", b"", 0, b".gitmodules,a/.gitmodules"),
     ("----", b"", 0, b"git~1/CON/c:,a\\b/.git /\xFF"),
-    ("whns", b"SymlinkedGitModules", 0, b".gitmodules"),
-    ("whns", b"SymlinkedGitModules", 2, b"a/.gitmodules,a/GITMOD~1"),
     ("whn-", b"EmptyPart", 0, b",/,//,/a,//a,/.git"),
     ("whn-", b"EmptyPart", 2, b"a/,a//,a//b,a//.git,a//b/"),
     ("----", b"EmptyPart", 13, b"src/lib/core/,src/lib/core//x"),
     ("----", b"EmptyPart", 18, b"a-longer-folder16/,a-longer-folder16//x"),
+    ("----", b"Nul", 4, b".git\0x,.git\0,.git\0/b\0,src/\0"),
+    ("w---", b"Nul", 1, b"a\0b"),
+    ("-hns", b"Nul", 18, b"a-longer-folder16/\0"),
+];
+
+/// The same for paths with an invalid component.
+#[rattlefmt::skip]
+const PATHS_OF_COMPONENTS: &[(&str, &[u8], usize, Names)] = &[
+    ("whns", b"SymlinkedGitModules", 0, b".gitmodules"),
+    ("whns", b"SymlinkedGitModules", 2, b"a/.gitmodules,a/GITMOD~1"),
     ("----", b"Relative", 0, b".,..,./a,../a,.//"),
     ("----", b"Relative", 2, b"a/.,a/..,a/../b,a/..//b"),
     ("----", b"DotGitDir", 0, b".git,.GIT/config"),
@@ -131,9 +142,6 @@ const PATHS: &[(&str, &[u8], usize, Names)] = &[
     ("--n-", b"DotGitDir", 16, b"0123456789abcde/git~1"),
     ("--n-", b"DotGitDir", 34, b"0123456789abcdef/0123456789abcdef/git~1/x"),
     ("-h--", b"DotGitDir", 2, b"a/.g\xE2\x80\x8Cit/x"),
-    ("----", b"Nul", 4, b".git\0x,.git\0,.git\0/b\0,src/\0"),
-    ("w---", b"Nul", 1, b"a\0b"),
-    ("-hns", b"Nul", 18, b"a-longer-folder16/\0"),
     ("w-n-", b"WindowsIllegalCharacter", 2, b"a/.git\0x"),
 ];
 
@@ -156,25 +164,31 @@ fn expect_whole(
 
 /// Checks the error, which prints the text of the error in it.
 fn expect_path_error(rt: &impl Host, call: (&str, &[u8]), fault: Fault<'_>, error: &PathError) {
-    let is_own = fault.0 == b"EmptyPart".as_slice() || fault.0 == b"Nul".as_slice();
-    let texts = if is_own {
-        path_texts()
-    } else {
-        component_texts()
-    };
-    expect_text(rt, call, (texts, fault), error);
-    match error {
+    let texts = match error {
         PathError::InvalidPart { error, .. } => {
             expect_error(rt, call, (component_texts(), fault), error);
+            component_texts()
         }
-        PathError::EmptyPart { .. } => expect(rt, call, fault.0, b"EmptyPart"),
-        PathError::Nul { .. } => expect(rt, call, fault.0, b"Nul"),
-    }
+        PathError::EmptyPart { .. } => {
+            expect(rt, call, fault.0, b"EmptyPart");
+            path_texts()
+        }
+        PathError::Nul { .. } => {
+            expect(rt, call, fault.0, b"Nul");
+            path_texts()
+        }
+    };
+    expect_text(rt, call, (texts, fault), error);
 }
 
 #[test]
 fn checks_whole_paths(rt: HostRuntime) {
     for_paths(&rt, PATHS);
+}
+
+#[test]
+fn checks_the_components_of_whole_paths(rt: HostRuntime) {
+    for_paths(&rt, PATHS_OF_COMPONENTS);
 }
 
 fn for_paths(rt: &impl Host, rows: &[(&str, &'static [u8], usize, Names)]) {
@@ -197,8 +211,7 @@ fn expect_all_whole(
 /// What joins valid components is a valid path.
 #[test]
 fn checks_a_joined_path(rt: HostRuntime) {
-    let src = part(b"src").expect(&rt, "a component");
-    let file = part(b"a.rs").expect(&rt, "a component");
-    let joined = git_names::join(rt.alloc(), &[src, file]).expect(&rt, "memory");
+    let parts = [part(&rt, b"src"), part(&rt, b"a.rs")];
+    let joined = git_names::join(rt.alloc(), &parts).expect(&rt, "memory");
     expect_whole(&rt, ("whn-", joined.as_bytes()), (b"", 0));
 }

@@ -1,7 +1,7 @@
 //! Submodule names in a `.gitmodules` file: that reading them can succeed, and what an error
 //! prints. (The contract says what is returned.)
 
-use crate::agree::{expect, expect_bool};
+use crate::agree::{expect_bool, expect_display};
 use gitmodules::submodule_names;
 
 /// Files that are refused, and what the error prints.
@@ -24,7 +24,6 @@ fn refuses_the_first_section_whose_name_is_invalid_or_unreadable(rt: HostRuntime
         let error = submodule_names(rt.alloc(), file)
             .err()
             .expect(&rt, "an error");
-        let came = error.to_string(rt.alloc()).expect(&rt, "memory");
-        expect(&rt, ("submodule_names", file), wanted, came.as_bytes());
+        expect_display(&rt, ("submodule_names", file), wanted, &error);
     }
 }

@@ -134,26 +134,33 @@ const SHORT_NAMES: &[&[u8]] = &[
     b"gi7~1000", b"gi7e~100", b"gi7eb~10", b"gi7eba~1", b"com1", b"lpt1",
 ];
 
-/// The devices, short names and ignored characters of the tables of component names, and their
-/// neighbours. The names of each line are written in three ways, and changed by these words, each
-/// instead of so many bytes, which gives so many names. If a table of the library lacks an element,
-/// the test fails.
-#[rattlefmt::skip]
-const CHANGES: &[(&[&[u8]], usize, &[&[u8]], usize)] = &[
-    (DEVICES, 0, &[b"", b".x", b" :x", b"x"], 3 * 126 * 4),
-    (&[b".git", b".GitModules"], 0, IGNORED_CHARACTERS, 3 * (5 + 12) * 16),
-    (SHORT_NAMES, 1, DIGITS, 3 * (59 + 46) * 13),
-];
+/// What is written after a device.
+const AFTER_DEVICES: &[&[u8]] = &[b"", b".x", b" :x", b"x"];
+
+/// Names among whose bytes ignored characters are written.
+const GIT_NAMES: &[&[u8]] = &[b".git", b".GitModules"];
+
+// These tests check each element of the tables of component names, and its neighbours. If a table of
+// the library lacks a device, an ignored character or a short name, one of them fails.
 
 #[test]
-fn agrees_on_each_element_of_tables(rt: HostRuntime) {
-    for (names, len, words, wanted) in CHANGES {
-        assert_eq!(rt; check_spelled(&rt, names, *len, words), *wanted);
-    }
+fn agrees_on_each_device(rt: HostRuntime) {
+    check_spelled(&rt, DEVICES, (0, AFTER_DEVICES), 3 * 126 * 4);
 }
 
-/// Checks these names, written in three ways, with such changes. Returns how many names that were.
-fn check_spelled(rt: &impl Host, names: &[&[u8]], len: usize, words: &[&[u8]]) -> usize {
+#[test]
+fn agrees_on_each_ignored_character(rt: HostRuntime) {
+    check_spelled(&rt, GIT_NAMES, (0, IGNORED_CHARACTERS), 3 * (5 + 12) * 16);
+}
+
+#[test]
+fn agrees_on_each_short_name(rt: HostRuntime) {
+    check_spelled(&rt, SHORT_NAMES, (1, DIGITS), 3 * (59 + 46) * 13);
+}
+
+/// Checks these names, written in three ways, and changed by these words, each instead of so many
+/// bytes, which has to give so many names.
+fn check_spelled(rt: &impl Host, names: &[&[u8]], (len, words): (usize, &[&[u8]]), wanted: usize) {
     let mut checked: usize = 0;
     for name in names {
         for uppercase in 0..3 {
@@ -161,7 +168,7 @@ fn check_spelled(rt: &impl Host, names: &[&[u8]], len: usize, words: &[&[u8]]) -
             checked = checked.saturating_add(more);
         }
     }
-    checked
+    assert_eq!(rt; checked, wanted);
 }
 
 /// Does so with a name written in one way.

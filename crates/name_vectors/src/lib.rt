@@ -1,8 +1,8 @@
 //! The tests of `gix_validate`, `typed_names`, `git_names` and `gitmodules`:
 //!
 //! - Tables of worked names, and what docs/RULES.md gives for each (`rows`, and of typed names
-//!   `members`, of short and whole ones `short_and_whole`), and of the texts of errors (`printed`).
-//!   Those of each kind of `git_names` are in tests/rows.
+//!   `members`, of short and whole ones `short_and_whole`, and of
+//!   each kind of `git_names` `kinds`), and of the texts of errors (`printed`).
 //! - An independent second implementation of docs/RULES.md. (The first is the definitions in
 //!   `crates/gix_validate/specs`, against which the library is proved.) It uses nothing from the
 //!   library, and its algorithms are different: it searches names for what they may not have

@@ -134,10 +134,10 @@ const SHORT_NAMES: &[&[u8]] = &[
     b"gi7~1000", b"gi7e~100", b"gi7eb~10", b"gi7eba~1", b"com1", b"lpt1",
 ];
 
-/// What is written after a device.
-const AFTER_DEVICES: &[&[u8]] = &[b"", b".x", b" :x", b"x"];
+/// What is written into a device, at each offset.
+const IN_DEVICES: &[&[u8]] = &[b"", b".x", b" :x", b"x"];
 
-/// Names among whose bytes ignored characters are written.
+/// Names into which ignored characters are written, at each offset.
 const GIT_NAMES: &[&[u8]] = &[b".git", b".GitModules"];
 
 // These tests check each element of the tables of component names, and its neighbours. If a table of
@@ -145,7 +145,7 @@ const GIT_NAMES: &[&[u8]] = &[b".git", b".GitModules"];
 
 #[test]
 fn agrees_on_each_device(rt: HostRuntime) {
-    check_spelled(&rt, DEVICES, (0, AFTER_DEVICES), 3 * 126 * 4);
+    check_spelled(&rt, DEVICES, (0, IN_DEVICES), 3 * 126 * 4);
 }
 
 #[test]

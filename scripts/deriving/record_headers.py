@@ -19,11 +19,13 @@ TABLE = "tests/headers"
 BYTE = "<byte>"
 
 
-def git(*words):
+def git(*words, stdin=""):
     """What Git prints, or None if it refuses."""
     alone = {"GIT_CONFIG_NOSYSTEM": "1", "HOME": "/nonexistent", "LC_ALL": "C"}
     env = {**os.environ, **alone}
-    ran = subprocess.run(["git", *words], env=env, capture_output=True)
+    ran = subprocess.run(
+        ["git", *words], env=env, input=stdin.encode(), capture_output=True
+    )
     return ran.stdout.decode("latin-1") if ran.returncode == 0 else None
 
 
@@ -40,12 +42,9 @@ def answer(keys, place, byte):
     return " ".join(f'"{name}"' for name in sorted({*found})) or "none"
 
 
-def answers(place, byte, file, repository):
+def answers(place, byte, repository, file, blob):
     """What Git reads from the place with this byte: in a file, and in a blob, if that
     differs."""
-    text = place.replace(BYTE, byte) + "\n\tpath = x\n"
-    file.write_bytes(text.encode("latin-1"))
-    blob = git("-C", repository, "hash-object", "-w", file).strip()
     said = []
     for source in ["--file", file], ["--blob", blob]:
         command = ["-C", repository, "config", *source, "--list", "-z", "--name-only"]
@@ -63,9 +62,15 @@ def ranges(numbers):
 
 def rows(place, room):
     """The lines of a place: bytes, and what Git reads with each of them."""
+    files = [Path(room, f"{number:02x}") for number in range(256)]
+    for number, file in enumerate(files):
+        text = place.replace(BYTE, chr(number)) + "\n\tpath = x\n"
+        file.write_bytes(text.encode("latin-1"))
+    paths = "".join(f"{file}\n" for file in files)
+    blobs = git("-C", room, "hash-object", "-w", "--stdin-paths", stdin=paths).split()
 
     def with_byte(number):
-        return answers(place, chr(number), Path(room, f"{number:02x}"), room)
+        return answers(place, chr(number), room, files[number], blobs[number])
 
     with ThreadPoolExecutor() as pool:
         found = list(pool.map(with_byte, range(256)))

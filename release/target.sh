@@ -18,7 +18,7 @@ quiet() {
 # Proves the functions, and builds an archive of them. (What one system's build has proved is kept
 # for the next, where it is the same.) compile BACKEND TOOLCHAIN FILE
 compile() {
-    quiet ../../scripts/rattle build ${target:+--target "$target"} --jobs 2 --backend "$1" \
+    quiet ../../scripts/rattle build ${target:+--target "$target"} --jobs 1 --backend "$1" \
         --toolchain "$2" -o "$3"
     grep -q '^logic=proved ' "$room/log" || {
         tail -n 20 -- "$room/log" >&2

@@ -1,198 +1,145 @@
 //! The kinds of names in `git_names`: worked names, the offset of each error, and suggestions.
 
-use crate::agree::{expect, expect_bool, expect_debug, options};
-use crate::rows::{Names, listed};
+use crate::agree::{expect, expect_valid, options};
+use crate::table::{Table, rows, settings_of};
 use crate::text::Host;
 use bstr::BStr;
 use git_names::{Fault, Kind, check, suggest};
 
-/// The kind; settings, as those of `rows`; the error, as `Debug` prints it; its offset; and the names.
-/// For a valid name there is no error, and no offset.
-type Row = (Kind, &'static str, &'static [u8], usize, Names);
-
-/// Names of branches, tags and references.
+/// The names of each kind, among submodule names disguised ones from the tests of other programs.
+/// Before them are settings, as those of `rows`, and the error, as `Debug` prints it, at its offset.
+/// For a valid name there is no error.
 #[rattlefmt::skip]
-const REFERENCES: &[Row] = &[
-    (Kind::Branch, "----", b"", 0, b"main,a/b-,@,a/HEAD,refs/heads/main"),
-    (Kind::Branch, "----", b"Short(Name(Reserved { name: [72, 69, 65, 68] }))", 0, b"HEAD"),
-    (Kind::Branch, "----", b"Short(StartsWithDash)", 0, b"-d,-/a"),
-    (Kind::Branch, "----", b"Short(Name(LockFileSuffix))", 5, b"topic.lock,topic.lock/a"),
-    (Kind::Branch, "----", b"Short(Name(InvalidByte { byte: 32 }))", 2, b"my branch,-d e"),
-    (Kind::Branch, "----", b"Short(Name(EndsWithDot))", 3, b"abc."),
-    (Kind::Branch, "----", b"Short(Name(Empty))", 0, b""),
-    (Kind::BranchRef, "----", b"", 0, b"refs/heads/main,HEAD,refs/tags/v1"),
-    (Kind::BranchRef, "----", b"Reference(SomeLowercase)", 0, b"main,mAIN"),
-    (Kind::Tag, "----", b"", 0, b"v1.2.3,a/b,@"),
-    (Kind::Tag, "----", b"Short(Name(Reserved { name: [72, 69, 65, 68] }))", 0, b"HEAD"),
-    (Kind::Tag, "----", b"Short(StartsWithDash)", 0, b"-d"),
-    (Kind::Reference, "----", b"", 0, b"HEAD,refs/heads/main,notrefs/foo"),
-    (Kind::Reference, "----", b"Reference(SomeLowercase)", 4, b"HEAD1,HEADs"),
-    (Kind::Reference, "----", b"Reference(Reserved { name: [64] })", 0, b"@"),
-    (Kind::Partial, "----", b"", 0, b"main,a/b"),
-    (Kind::Partial, "----", b"Reference(LockFileSuffix)", 1, b"x.lock/y,x.lock,a.lock/b.lock"),
-    (Kind::TagName, "----", b"", 0, b"v1.0,@,HEAD,-d"),
-    (Kind::TagName, "----", b"TagName(RepeatedDot)", 3, b"v1..2,v1..."),
+const KINDS: &[(Kind, Table)] = &[
+    (Kind::Branch, b"\
+        ----|main,a/b-,@,a/HEAD,refs/heads/main\n\
+        ---- Short(Name(Reserved { name: [72, 69, 65, 68] })) at 0|HEAD\n\
+        ---- Short(StartsWithDash) at 0|-d,-/a\n\
+        ---- Short(Name(LockFileSuffix)) at 5|topic.lock,topic.lock/a\n\
+        ---- Short(Name(InvalidByte { byte: 32 })) at 2|my branch,-d e\n\
+        ---- Short(Name(EndsWithDot)) at 3|abc.\n\
+        ---- Short(Name(Empty)) at 0|\n"),
+    (Kind::BranchRef, b"\
+        ----|refs/heads/main,HEAD,refs/tags/v1\n\
+        ---- Reference(SomeLowercase) at 0|main,mAIN\n"),
+    (Kind::Tag, b"\
+        ----|v1.2.3,a/b,@\n\
+        ---- Short(Name(Reserved { name: [72, 69, 65, 68] })) at 0|HEAD\n\
+        ---- Short(StartsWithDash) at 0|-d\n"),
+    (Kind::Reference, b"\
+        ----|HEAD,refs/heads/main,notrefs/foo\n\
+        ---- Reference(SomeLowercase) at 4|HEAD1,HEADs\n\
+        ---- Reference(Reserved { name: [64] }) at 0|@\n"),
+    (Kind::Partial, b"\
+        ----|main,a/b\n\
+        ---- Reference(LockFileSuffix) at 1|x.lock/y,x.lock,a.lock/b.lock\n"),
+    (Kind::TagName, b"\
+        ----|v1.0,@,HEAD,-d\n\
+        ---- TagName(RepeatedDot) at 3|v1..2,v1...\n"),
+    (Kind::SafeRef, b"\
+        ----|refs/heads/main,HEAD,FETCH_HEAD,_,refs/heads/aux,refs/a./b\n\
+        whn-|refs/heads/main,HEAD,ORIG_HEAD,refs/stash\n\
+        ---- SafeRef(OutsideRefs) at 0|notrefs/foo,hooks/post-update,objects/info/alternates\n\
+        ---- SafeRef(Name(SomeLowercase)) at 0|config,refs\n\
+        ---- SafeRef(Name(StartsWithDot)) at 5|refs/../foo,refs/.git\n\
+        w-n- SafeRef(Piece(InvalidPart { offset: 11, error: WindowsReservedName })) at 11|refs/heads/aux,refs/heads/con.a/b\n\
+        w-n- SafeRef(Piece(InvalidPart { offset: 5, error: WindowsIllegalCharacter })) at 6|refs/a./b,refs/a|b,refs/a>/b\n\
+        --n- SafeRef(Name(InvalidByte { byte: 126 })) at 8|refs/git~1\n\
+        -h-- SafeRef(Piece(InvalidPart { offset: 5, error: DotGitDir })) at 5|refs/\xE2\x80\x8C.git\n"),
+    (Kind::Path, b"\
+        whn-|src/main.rs,.gitmodules\n\
+        w-n- Path(InvalidPart { offset: 4, error: WindowsIllegalCharacter }) at 5|src/a?b/c,src/a. /d\n\
+        ---- Path(EmptyPart { offset: 4 }) at 4|src/,src//a\n\
+        ---- Path(Nul { offset: 4 }) at 4|.git\0x,a/bc\0\n"),
+    (Kind::Component, b"\
+        whn-|a,.gitmodules\n\
+        w--- Component(PathSeparator) at 1|a\\b/c,a/b\\c\n\
+        ---- Component(PathSeparator) at 3|a\\b/c\n\
+        w--- Component(WindowsPathPrefix) at 1|C:a,c:\n\
+        w--- Component(WindowsPathPrefix) at 2|\xC3\xA9:a\n\
+        w-n- Component(WindowsIllegalCharacter) at 2|ab.,ab ,ab. .,ab?,ab:.\n\
+        w-n- Component(WindowsReservedName) at 0|aux.c:1,NUL\n\
+        ---- Component(Relative) at 0|.,..\n"),
+    (Kind::Symlink, b"\
+        whn- Component(SymlinkedGitModules) at 0|.gitmodules,GITMOD~1\n\
+        whn-|latest\n"),
+    (Kind::SymlinkPath, b"\
+        whn- Path(InvalidPart { offset: 2, error: SymlinkedGitModules }) at 2|a/.gitmodules,a/GITMOD~1\n\
+        whn-|a/latest,.gitmodules/a\n"),
+    (Kind::Submodule, b"\
+        ----|a,vendor/lib,/,...,.. ,..:foo,.,C:\\win,a\0b\n\
+        whn-|a,vendor/lib,a..b,.a\n\
+        ---- Submodule(Name(ParentComponent)) at 2|a/..,a\\..,a/../b\n\
+        ---- Submodule(Name(ParentComponent)) at 4|..a/..,a../..\\..,.../..\\a\n\
+        ---- Submodule(Name(ParentComponent)) at 0|..,../a,..\\a/..\n\
+        ---- Submodule(Name(Empty)) at 0|\n\
+        w-n- Submodule(Part(InvalidPart { offset: 0, error: WindowsIllegalCharacter })) at 0|....,.. .,.. \n\
+        w-n- Submodule(Part(InvalidPart { offset: 0, error: WindowsIllegalCharacter })) at 2|..:foo,..::$INDEX_ALLOCATION\n\
+        w-n- Submodule(Part(InvalidPart { offset: 2, error: WindowsIllegalCharacter })) at 2|a/.. /b\n\
+        --n- Submodule(Disguised { offset: 0 }) at 0|.. ,.. .,....,..:foo,..::$INDEX_ALLOCATION\n\
+        --n- Submodule(Disguised { offset: 2 }) at 2|a/.. /b,a/ \n\
+        -h-- Submodule(Disguised { offset: 0 }) at 0|..\xE2\x80\x8C,\xE2\x80\x8D..,.\xE2\x80\x8E.,\xE2\x80\x8F.\n\
+        whn- Submodule(Disguised { offset: 2 }) at 2|a/..\xE2\x80\x8C\n\
+        whn- Submodule(Part(InvalidPart { offset: 0, error: Relative })) at 0|.,./a\n\
+        w--- Submodule(Part(InvalidPart { offset: 0, error: PathSeparator })) at 2|C:\\win\n\
+        -hn- Submodule(Part(Nul { offset: 1 })) at 1|a\0b\n\
+        -h-- Submodule(Part(EmptyPart { offset: 2 })) at 2|a/,a//b\n\
+        -h-- Submodule(Part(InvalidPart { offset: 2, error: DotGitDir })) at 2|a/.git\n"),
 ];
 
-/// References that are safe as paths.
-#[rattlefmt::skip]
-const SAFE_REFS: &[Row] = &[
-    (Kind::SafeRef, "----", b"", 0, b"refs/heads/main,HEAD,FETCH_HEAD,_,refs/heads/aux,refs/a./b"),
-    (Kind::SafeRef, "whn-", b"", 0, b"refs/heads/main,HEAD,ORIG_HEAD,refs/stash"),
-    (Kind::SafeRef, "----", b"SafeRef(OutsideRefs)", 0, b"notrefs/foo,hooks/post-update,objects/info/alternates"),
-    (Kind::SafeRef, "----", b"SafeRef(Name(SomeLowercase))", 0, b"config,refs"),
-    (Kind::SafeRef, "----", b"SafeRef(Name(StartsWithDot))", 5, b"refs/../foo,refs/.git"),
-    (Kind::SafeRef, "w-n-", b"SafeRef(Piece(InvalidPart { offset: 11, error: WindowsReservedName }))", 11, b"refs/heads/aux,refs/heads/con.a/b"),
-    (Kind::SafeRef, "w-n-", b"SafeRef(Piece(InvalidPart { offset: 5, error: WindowsIllegalCharacter }))", 6, b"refs/a./b,refs/a|b,refs/a>/b"),
-    (Kind::SafeRef, "--n-", b"SafeRef(Name(InvalidByte { byte: 126 }))", 8, b"refs/git~1"),
-    (Kind::SafeRef, "-h--", b"SafeRef(Piece(InvalidPart { offset: 5, error: DotGitDir }))", 5, b"refs/\xE2\x80\x8C.git"),
-];
+#[test]
+fn checks_names_of_each_kind(rt: HostRuntime) {
+    for (kind, table) in KINDS {
+        for_kind(&rt, *kind, table);
+    }
+}
 
-/// Paths and their components.
-#[rattlefmt::skip]
-const PATHS: &[Row] = &[
-    (Kind::Path, "whn-", b"", 0, b"src/main.rs,.gitmodules"),
-    (Kind::Path, "w-n-", b"Path(InvalidPart { offset: 4, error: WindowsIllegalCharacter })", 5, b"src/a?b/c,src/a. /d"),
-    (Kind::Path, "----", b"Path(EmptyPart { offset: 4 })", 4, b"src/,src//a"),
-    (Kind::Path, "----", b"Path(Nul { offset: 4 })", 4, b".git\0x,a/bc\0"),
-    (Kind::Component, "whn-", b"", 0, b"a,.gitmodules"),
-    (Kind::Component, "w---", b"Component(PathSeparator)", 1, b"a\\b/c,a/b\\c"),
-    (Kind::Component, "----", b"Component(PathSeparator)", 3, b"a\\b/c"),
-    (Kind::Component, "w---", b"Component(WindowsPathPrefix)", 1, b"C:a,c:"),
-    (Kind::Component, "w---", b"Component(WindowsPathPrefix)", 2, b"\xC3\xA9:a"),
-    (Kind::Component, "w-n-", b"Component(WindowsIllegalCharacter)", 2, b"ab.,ab ,ab. .,ab?,ab:."),
-    (Kind::Component, "w-n-", b"Component(WindowsReservedName)", 0, b"aux.c:1,NUL"),
-    (Kind::Component, "----", b"Component(Relative)", 0, b".,.."),
-    (Kind::Symlink, "whn-", b"Component(SymlinkedGitModules)", 0, b".gitmodules,GITMOD~1"),
-    (Kind::Symlink, "whn-", b"", 0, b"latest"),
-    (Kind::SymlinkPath, "whn-", b"Path(InvalidPart { offset: 2, error: SymlinkedGitModules })", 2, b"a/.gitmodules,a/GITMOD~1"),
-    (Kind::SymlinkPath, "whn-", b"", 0, b"a/latest,.gitmodules/a"),
-];
-
-/// Submodule names, among them disguised ones from the tests of other programs.
-#[rattlefmt::skip]
-const SUBMODULES: &[Row] = &[
-    (Kind::Submodule, "----", b"", 0, b"a,vendor/lib,/,...,.. ,..:foo,.,C:\\win,a\0b"),
-    (Kind::Submodule, "whn-", b"", 0, b"a,vendor/lib,a..b,.a"),
-    (Kind::Submodule, "----", b"Submodule(Name(ParentComponent))", 2, b"a/..,a\\..,a/../b"),
-    (Kind::Submodule, "----", b"Submodule(Name(ParentComponent))", 4, b"..a/..,a../..\\..,.../..\\a"),
-    (Kind::Submodule, "----", b"Submodule(Name(ParentComponent))", 0, b"..,../a,..\\a/.."),
-    (Kind::Submodule, "----", b"Submodule(Name(Empty))", 0, b""),
-    (Kind::Submodule, "w-n-", b"Submodule(Part(InvalidPart { offset: 0, error: WindowsIllegalCharacter }))", 0, b"....,.. .,.. "),
-    (Kind::Submodule, "w-n-", b"Submodule(Part(InvalidPart { offset: 0, error: WindowsIllegalCharacter }))", 2, b"..:foo,..::$INDEX_ALLOCATION"),
-    (Kind::Submodule, "w-n-", b"Submodule(Part(InvalidPart { offset: 2, error: WindowsIllegalCharacter }))", 2, b"a/.. /b"),
-    (Kind::Submodule, "--n-", b"Submodule(Disguised { offset: 0 })", 0, b".. ,.. .,....,..:foo,..::$INDEX_ALLOCATION"),
-    (Kind::Submodule, "--n-", b"Submodule(Disguised { offset: 2 })", 2, b"a/.. /b,a/ "),
-    (Kind::Submodule, "-h--", b"Submodule(Disguised { offset: 0 })", 0, b"..\xE2\x80\x8C,\xE2\x80\x8D..,.\xE2\x80\x8E.,\xE2\x80\x8F."),
-    (Kind::Submodule, "whn-", b"Submodule(Disguised { offset: 2 })", 2, b"a/..\xE2\x80\x8C"),
-    (Kind::Submodule, "whn-", b"Submodule(Part(InvalidPart { offset: 0, error: Relative }))", 0, b".,./a"),
-    (Kind::Submodule, "w---", b"Submodule(Part(InvalidPart { offset: 0, error: PathSeparator }))", 2, b"C:\\win"),
-    (Kind::Submodule, "-hn-", b"Submodule(Part(Nul { offset: 1 }))", 1, b"a\0b"),
-    (Kind::Submodule, "-h--", b"Submodule(Part(EmptyPart { offset: 2 }))", 2, b"a/,a//b"),
-    (Kind::Submodule, "-h--", b"Submodule(Part(InvalidPart { offset: 2, error: DotGitDir }))", 2, b"a/.git"),
-];
+fn for_kind(rt: &impl Host, kind: Kind, table: Table) {
+    for (wanted, name) in &rows(rt, table) {
+        let (settings, wanted) = settings_of(rt, wanted);
+        expect_kind(rt, kind, (settings, name), wanted);
+    }
+}
 
 /// Checks the result for a name, and the offset of its error.
-fn expect_kind(
-    rt: &impl Host,
-    (kind, settings, text): (Kind, &str, &[u8]),
-    (reason, offset): (&[u8], usize),
-) {
-    let call = (settings, text);
-    match check(kind, BStr::new(text), options(settings)) {
-        Ok(name) => {
-            expect(rt, call, b"", reason);
-            expect(rt, call, text, name.as_bytes());
-        }
-        Err(fault) => expect_fault(rt, call, &fault, (reason, offset)),
+fn expect_kind(rt: &impl Host, kind: Kind, call: (&str, &[u8]), wanted: &'static [u8]) {
+    match check(kind, BStr::new(call.1), options(call.0)) {
+        Ok(name) => expect_valid(rt, call, (wanted, b""), name.as_bytes()),
+        Err(fault) => expect(rt, call, wanted, printed(rt, &fault).as_bytes()),
     }
 }
 
-fn expect_fault(
-    rt: &impl Host,
-    call: (&str, &[u8]),
-    fault: &Fault,
-    (reason, offset): (&[u8], usize),
-) {
-    expect_debug(rt, call, reason, &fault.reason);
-    expect_bool(rt, ("the offset", call.1), true, fault.offset == offset);
+/// The error, as `Debug` prints it, and its offset.
+fn printed(rt: &impl Host, fault: &Fault) -> String {
+    let text = format!(in rt.alloc(); "{:?} at {}", fault.reason, fault.offset);
+    text.expect(rt, "memory")
 }
 
-#[test]
-fn checks_references_of_each_kind(rt: HostRuntime) {
-    for_kinds(&rt, REFERENCES);
-}
-
-#[test]
-fn checks_safe_references(rt: HostRuntime) {
-    for_kinds(&rt, SAFE_REFS);
-}
-
-#[test]
-fn checks_paths_of_each_kind(rt: HostRuntime) {
-    for_kinds(&rt, PATHS);
-}
-
-#[test]
-fn checks_submodule_names_under_switches(rt: HostRuntime) {
-    for_kinds(&rt, SUBMODULES);
-}
-
-fn for_kinds(rt: &impl Host, rows: &[Row]) {
-    for (kind, settings, reason, offset, names) in rows {
-        for_names(rt, (*kind, settings), (reason, *offset), &listed(rt, names));
-    }
-}
-
-fn for_names(
-    rt: &impl Host,
-    (kind, settings): (Kind, &str),
-    wanted: (&[u8], usize),
-    names: &[&[u8]],
-) {
-    for name in names {
-        expect_kind(rt, (kind, settings, name), wanted);
-    }
-}
-
-/// Names, and the suggestion for each, or nothing.
+/// The suggestion for each name, or nothing.
 #[rattlefmt::skip]
-const SUGGESTIONS: &[(&[u8], &[u8])] = &[
-    (b"main", b"main"),
-    (b"a--b", b"a--b"),
-    (b"@", b"@"),
-    (b"Fix: it's done..", b"Fix-it's-done"),
-    (b"feature/ABC: [x] done?", b"feature/ABC-x]-done"),
-    (b".hidden", b"hidden"),
-    (b"x.lock.", b"x"),
-    (b"  leading and trailing  ", b"leading-and-trailing"),
-    (b"-a--b", b"a-b"),
-    (b"a - b", b"a-b"),
-    (b"main@{1}", b"main@-1}"),
-    (b"a...b..c", b"a.b.c"),
-    (b"a//b/./c/", b"a/b/c"),
-    (b"/a.lock.lock-.lock/b.LOCK", b"a/b.LOCK"),
-    (b".lock", b"lock"),
-    (b"-.lock/x*y", b"lock/x-y"),
-    (b"HEAD.", b""),
-    (b"@ ", b""),
-    (b"HEAD", b""),
-    (b"", b""),
-    (b"~", b""),
-    (b"...", b""),
-    (b"/", b""),
-    (b"./-/~^.", b""),
-    (b"\xC3\xA9\0\xFF", b"\xC3\xA9-\xFF"),
-];
+const SUGGESTIONS: Table = b"\
+    main|main\n\
+    a--b|a--b\n\
+    @|@\n\
+    Fix-it's-done|Fix: it's done..\n\
+    feature/ABC-x]-done|feature/ABC: [x] done?\n\
+    hidden|.hidden\n\
+    x|x.lock.\n\
+    leading-and-trailing|  leading and trailing  \n\
+    a-b|-a--b,a - b\n\
+    main@-1}|main@{1}\n\
+    a.b.c|a...b..c\n\
+    a/b/c|a//b/./c/\n\
+    a/b.LOCK|/a.lock.lock-.lock/b.LOCK\n\
+    lock|.lock\n\
+    lock/x-y|-.lock/x*y\n\
+    |HEAD.,@ ,HEAD,,~,...,/,./-/~^.\n\
+    \xC3\xA9-\xFF|\xC3\xA9\0\xFF\n";
 
 #[test]
 fn suggests_a_branch_name(rt: HostRuntime) {
-    for_suggestions(&rt, SUGGESTIONS);
-}
-
-fn for_suggestions(rt: &impl Host, rows: &[(&[u8], &[u8])]) {
-    for (name, wanted) in rows {
-        expect_suggestion(rt, name, wanted);
+    for (wanted, name) in &rows(&rt, SUGGESTIONS) {
+        expect_suggestion(&rt, name, wanted);
     }
 }
 

@@ -14,14 +14,17 @@ ghost use Rattle.gix_validate.specs.Tag.{text_of as tag_text_of};
 ghost use Rattle.typed_names.specs.Names.{name_bytes, name_text, component_bytes};
 
 use crate::agree::{expect, expect_bool, expect_debug, expect_error, options};
-use crate::printed::{component_texts, reference_texts};
+use crate::printed::{Texts, component_texts, reference_texts};
+use crate::reference::Fault;
+use crate::rows::part;
+use crate::table::first_word;
 use crate::text::Host;
 use bstr::BStr;
 use gix_validate::path::{ComponentError, ComponentMode, ComponentOptions};
 use gix_validate::{reference, submodule, tag};
 use std::alloc::{AllocError, Global};
 use std::convert::AsSlice;
-use std::fmt::Debug;
+use std::fmt::{Debug, Display};
 use std::process::Abort;
 use typed_names::{
     Branch, BranchName, Component, Full, FullName, Name, Partial, PartialName, Pieces, Rule,
@@ -138,9 +141,14 @@ fn slices<'b, R: Rule>(a: &'b Name<'_, R>, b: &'b Component<'_>) -> (&'b [u8], &
     (a.as_slice(), b.as_slice())
 }
 
+/// The tag name with these bytes.
+pub(crate) fn tag_name<'a>(rt: &impl Abort, text: &'a [u8]) -> TagName<'a> {
+    TagName::new(BStr::new(text)).expect(rt, "a tag name")
+}
+
 /// The pieces of the name, and what follows its first slash. The `TagName` itself lives only here.
 fn parts_of<'a>(rt: &impl Abort, text: &'a [u8]) -> (Pieces<'a>, Option<TagName<'a>>) {
-    let name = TagName::new(BStr::new(text)).expect(rt, "a tag name");
+    let name = tag_name(rt, text);
     (name.pieces(), name.after_first_slash())
 }
 
@@ -164,9 +172,8 @@ fn prints_typed_names_with_their_type(rt: HostRuntime) {
 
 #[test]
 fn prints_names_that_are_not_utf_8(rt: HostRuntime) {
-    let name = TagName::new(BStr::new(b"caf\xC3\xA9/\xFF")).expect(&rt, "a tag name");
-    let component = Component::new(BStr::new(b"caf\xC3\xA9 \xFF"), None, options("whn-"));
-    let component = component.expect(&rt, "a component");
+    let name = tag_name(&rt, b"caf\xC3\xA9/\xFF");
+    let component = part(&rt, "whn-", b"caf\xC3\xA9 \xFF");
     let text = printed_names(rt.alloc(), &name, &component).expect(&rt, "memory");
     let wanted = b"caf\xC3\xA9/\xEF\xBF\xBDcaf\xC3\xA9 \xEF\xBF\xBD";
     expect(&rt, ("Display", b""), wanted, text.as_bytes());
@@ -174,37 +181,28 @@ fn prints_names_that_are_not_utf_8(rt: HostRuntime) {
 
 #[test]
 fn lists_the_pieces_of_a_name(rt: HostRuntime) {
-    let tag = TagName::new(BStr::from("refs/a")).expect(&rt, "a tag name");
-    let pieces = listed(rt.alloc(), tag).expect(&rt, "memory");
+    let pieces = listed(rt.alloc(), tag_name(&rt, b"refs/a")).expect(&rt, "memory");
     expect_bool(&rt, ("two pieces", b"refs/a"), true, pieces.len() == 2);
 }
 
-/// Names, their pieces, and what follows each slash, in order.
-#[rattlefmt::skip]
-const PARTS: &[(&[u8], &[&[u8]], &[&[u8]])] = &[
-    (b"refs/heads/main", &[b"refs", b"heads", b"main"], &[b"heads/main", b"main"]),
-    (b"a./b", &[b"a.", b"b"], &[b"b"]),
-    (b"v1.2.3", &[b"v1.2.3"], &[]),
-];
-
+/// Names, their pieces, with commas between them, and what follows each slash, in order.
 #[test]
 fn parts_outlive_the_name_that_gave_them(rt: HostRuntime) {
-    for (text, pieces, rests) in PARTS {
-        let (left, rest) = parts_of(&rt, text);
-        expect_pieces(&rt, text, left, pieces);
-        expect_rests(&rt, text, rest, rests);
-    }
+    expect_parts(
+        &rt,
+        b"refs/heads/main",
+        b"refs,heads,main",
+        &[b"heads/main", b"main"],
+    );
+    expect_parts(&rt, b"a./b", b"a.,b", &[b"b"]);
+    expect_parts(&rt, b"v1.2.3", b"v1.2.3", &[]);
 }
 
-/// Checks the pieces of a name.
-fn expect_pieces(rt: &impl Abort, text: &[u8], left: Pieces<'_>, wanted: &[&[u8]]) {
-    let mut left = left;
-    for piece in wanted {
-        let came = next_of(&mut left).expect(rt, "a piece");
-        expect(rt, ("pieces", text), piece, came.as_bytes());
-    }
-    let is_last = next_of(&mut left).is_none();
-    expect_bool(rt, ("no other piece", text), true, is_last);
+fn expect_parts(rt: &impl Host, text: &[u8], pieces: &[u8], rests: &[&[u8]]) {
+    let (left, rest) = parts_of(rt, text);
+    let joined = bstr::join(rt.alloc(), b",", left).expect(rt, "memory");
+    expect(rt, ("pieces", text), pieces, &joined);
+    expect_rests(rt, text, rest, rests);
 }
 
 /// Checks what follows the first slash of a name, of what follows that, and so on.
@@ -220,32 +218,34 @@ fn expect_rests(rt: &impl Abort, text: &[u8], rest: Option<TagName<'_>>, wanted:
 
 #[test]
 fn refuses_invalid_partial_names(rt: HostRuntime) {
-    let error = PartialName::new(BStr::from("@")).err();
-    let error = error.expect(&rt, "an error");
-    let wanted = (reference_texts(), (b"Reserved".as_slice(), b"@".as_slice()));
-    expect_error(&rt, ("PartialName", b"@"), wanted, &error);
+    let told = PartialName::new(BStr::from("@"));
+    let wanted = (reference_texts(), first_word(b"Reserved @"));
+    expect_refused(&rt, ("PartialName", b"@"), wanted, told);
 }
 
 #[test]
 fn refuses_invalid_full_names(rt: HostRuntime) {
-    let error = FullName::new(BStr::from("V1")).err();
-    let error = error.expect(&rt, "an error");
-    let wanted = (
-        reference_texts(),
-        (b"SomeLowercase".as_slice(), b"".as_slice()),
-    );
-    expect_error(&rt, ("FullName", b"V1"), wanted, &error);
+    let told = FullName::new(BStr::from("V1"));
+    let wanted = (reference_texts(), first_word(b"SomeLowercase"));
+    expect_refused(&rt, ("FullName", b"V1"), wanted, told);
 }
 
 #[test]
 fn refuses_invalid_components(rt: HostRuntime) {
-    let error = Component::new(BStr::from("CON"), None, options("whn-")).err();
-    let error = error.expect(&rt, "an error");
-    let wanted = (
-        component_texts(),
-        (b"WindowsReservedName".as_slice(), b"".as_slice()),
-    );
-    expect_error(&rt, ("Component", b"CON"), wanted, &error);
+    let told = Component::new(BStr::from("CON"), None, options("whn-"));
+    let wanted = (component_texts(), first_word(b"WindowsReservedName"));
+    expect_refused(&rt, ("Component", b"CON"), wanted, told);
+}
+
+/// Panics unless this error was returned.
+fn expect_refused<T: Drop, E: Debug + Display + Drop>(
+    rt: &impl Host,
+    call: (&str, &[u8]),
+    wanted: (Texts, Fault<'_>),
+    told: Result<T, E>,
+) {
+    let error = told.err().expect(rt, "an error");
+    expect_error(rt, call, wanted, &error);
 }
 
 #[test]
@@ -265,7 +265,6 @@ fn accepts_valid_branch_names(rt: HostRuntime) {
 
 #[test]
 fn accepts_valid_components(rt: HostRuntime) {
-    let name = Component::new(BStr::from("CON"), None, options("w---"));
-    let name = name.expect(&rt, "a component");
+    let name = part(&rt, "w---", b"CON");
     expect(&rt, ("Component", b"CON"), b"CON", name.as_slice());
 }

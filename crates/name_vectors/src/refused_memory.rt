@@ -6,10 +6,9 @@
 //! of the calls' allocations fails.
 
 use crate::agree::{expect, expect_bool};
-use crate::rows::{joined_names, part};
+use crate::rows::{joined_names, part, path_of};
 use crate::text::{Host, joined};
 use bstr::{BStr, BString};
-use gix_validate::path;
 use gix_validate::reference::name_partial_or_sanitize;
 use std::alloc::AllocError;
 use std::process::Abort;
@@ -34,13 +33,9 @@ fn given(rt: &impl Host, call: usize) -> Result<BString, AllocError> {
 
 /// Three components, joined.
 fn joined_parts(rt: &impl Host) -> Result<BString, AllocError> {
-    let src = part(rt, b"src");
-    let inner = part(rt, b".github");
-    let file = part(rt, b"a.rs");
-    path::join(
-        rt.alloc(),
-        &[src.as_bstr(), inner.as_bstr(), file.as_bstr()],
-    )
+    let src = part(rt, "----", b"src");
+    let inner = part(rt, "----", b".github");
+    path_of(rt.alloc(), &[src, inner, part(rt, "----", b"a.rs")])
 }
 
 /// Whether the allocation of the call succeeds. What it returns has to be this.

@@ -2,14 +2,8 @@
 //! prints. (The contract says what is returned.)
 
 use crate::agree::{expect_bool, expect_display};
+use crate::text::Host;
 use gitmodules::submodule_names;
-
-/// Files that are refused, and what the error prints.
-#[rattlefmt::skip]
-const REFUSED: &[(&[u8], &[u8])] = &[
-    (b"[submodule \"a\"]\n[submodule \"..\"]\n[submodule.b]\n", b"the section at offset 16: Submodules names must not contains '..'"),
-    (b"[core]\n[submodule.b]\n", b"the section at offset 7 can't be read"),
-];
 
 #[test]
 fn reads_the_names_of_a_file(rt: HostRuntime) {
@@ -20,10 +14,21 @@ fn reads_the_names_of_a_file(rt: HostRuntime) {
 
 #[test]
 fn refuses_the_first_section_whose_name_is_invalid_or_unreadable(rt: HostRuntime) {
-    for (file, wanted) in REFUSED {
-        let error = submodule_names(rt.alloc(), file)
-            .err()
-            .expect(&rt, "an error");
-        expect_display(&rt, ("submodule_names", file), wanted, &error);
-    }
+    expect_refused(
+        &rt,
+        b"[submodule \"a\"]\n[submodule \"..\"]\n[submodule.b]\n",
+        b"the section at offset 16: Submodules names must not contains '..'",
+    );
+    expect_refused(
+        &rt,
+        b"[core]\n[submodule.b]\n",
+        b"the section at offset 7 can't be read",
+    );
+}
+
+/// Checks what the error of a file prints.
+fn expect_refused(rt: &impl Host, file: &[u8], wanted: &[u8]) {
+    let error = submodule_names(rt.alloc(), file).err();
+    let error = error.expect(rt, "an error");
+    expect_display(rt, ("submodule_names", file), wanted, &error);
 }

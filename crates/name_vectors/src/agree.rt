@@ -5,10 +5,8 @@ use crate::path::{SETTINGS, conditions, hfs_form, is_device, of_component};
 use crate::printed::{
     Texts, component_texts, printed, reference_texts, submodule_texts, tag_texts,
 };
-use crate::reference::{
-    Fault, VALID, accepting, between_slashes, of_references, of_submodule, sanitized,
-};
-use crate::text::{Host, before_first, joined};
+use crate::reference::{Fault, accepting, of_references, of_submodule, sanitized};
+use crate::text::{Host, before_first, between, joined};
 use bstr::BStr;
 use gix_validate::path::{ComponentMode, ComponentOptions, component, component_is_windows_device};
 use gix_validate::reference::{
@@ -21,12 +19,13 @@ use std::process::Abort;
 /// Passes the name to the functions of the library, and panics if a result isn't that of the second
 /// implementation.
 pub(crate) fn check(rt: &impl Host, text: &[u8]) {
-    check_uncut(rt, text, &between_slashes(rt, text));
+    check_uncut(rt, text, &between(rt, b"/", text, b"/"));
     check_component(rt, text);
     expect_repair(rt, text, &sanitized(rt, text));
 }
 
-/// Does so with the functions for reference names and submodule names.
+/// Does so with the functions for reference names and submodule names. The name is also given
+/// between slashes, which are for what a piece may not start with or end in.
 fn check_uncut(rt: &impl Host, text: &[u8], between_slashes: &[u8]) {
     let faults = of_references(text);
     expect_accepting(rt, text, accepting(text, between_slashes), &faults);
@@ -35,9 +34,10 @@ fn check_uncut(rt: &impl Host, text: &[u8], between_slashes: &[u8]) {
 }
 
 /// Panics unless exactly the first so many rules find no error.
-fn expect_accepting(rt: &impl Abort, text: &[u8], accepting: usize, faults: &[Fault<'_>]) {
-    for (kind, fault) in faults.iter().enumerate() {
-        expect_bool(rt, ("a rule", text), kind < accepting, *fault == VALID);
+fn expect_accepting(rt: &impl Abort, text: &[u8], accepting: usize, faults: &[Fault<'_>; 4]) {
+    for kind in 0..4 {
+        let is_valid = faults[kind].0.is_empty();
+        expect_bool(rt, ("a rule", text), kind < accepting, is_valid);
     }
 }
 
@@ -57,15 +57,11 @@ fn expect_components(rt: &impl Host, text: &[u8], holds: &[bool; 13]) {
 }
 
 /// Panics if the call with this name returned something other than what is expected.
-pub(crate) fn expect(rt: &impl Abort, call: (&str, &[u8]), wanted: &[u8], came: &[u8]) {
+pub(crate) fn expect(rt: &impl Abort, (call, text): (&str, &[u8]), wanted: &[u8], came: &[u8]) {
     if came != wanted {
-        differs(rt, call, BStr::new(wanted), BStr::new(came));
+        let (text, came, wanted) = (BStr::new(text), BStr::new(came), BStr::new(wanted));
+        panic!(rt; "{call} of {text:?}: {came:?}, wanted: {wanted:?}");
     }
-}
-
-fn differs(rt: &impl Abort, (call, text): (&str, &[u8]), wanted: BStr<'_>, came: BStr<'_>) {
-    let text = BStr::new(text);
-    panic!(rt; "{call} of {text:?}: {came:?}, wanted: {wanted:?}");
 }
 
 /// The same for a call that returns whether something holds.
@@ -93,7 +89,7 @@ pub(crate) fn expect_told<E: Debug + Display + Drop>(
 
 /// Panics if the name isn't valid, or if something else was returned.
 pub(crate) fn expect_valid(rt: &impl Abort, call: (&str, &[u8]), fault: Fault<'_>, came: &[u8]) {
-    let wanted = if fault == VALID { call.1 } else { fault.0 };
+    let wanted = if fault.0.is_empty() { call.1 } else { fault.0 };
     expect(rt, call, wanted, came);
 }
 
@@ -104,14 +100,9 @@ pub(crate) fn expect_error<E: Debug + Display>(
     wanted: (Texts, Fault<'_>),
     error: &E,
 ) {
-    let came = debugged(rt, error);
+    let came = format!(in rt.alloc(); "{error:?}").expect(rt, "memory");
     expect(rt, call, wanted.1.0, before_first(came.as_bytes(), b" "));
-    expect_text(rt, call, wanted, error);
-}
-
-/// What `Debug` prints.
-fn debugged<T: Debug>(rt: &impl Host, value: &T) -> String {
-    format!(in rt.alloc(); "{value:?}").expect(rt, "memory")
+    expect_display(rt, call, &printed(rt, wanted.0, wanted.1), error);
 }
 
 /// Panics if `Debug` prints something else.
@@ -121,7 +112,8 @@ pub(crate) fn expect_debug<T: Debug>(
     wanted: &[u8],
     value: &T,
 ) {
-    expect(rt, call, wanted, debugged(rt, value).as_bytes());
+    let came = format!(in rt.alloc(); "{value:?}").expect(rt, "memory");
+    expect(rt, call, wanted, came.as_bytes());
 }
 
 /// Panics if `Display` prints something else.
@@ -133,16 +125,6 @@ pub(crate) fn expect_display<T: Display>(
 ) {
     let came = value.to_string(rt.alloc()).expect(rt, "memory");
     expect(rt, call, wanted, came.as_bytes());
-}
-
-/// Panics if the error prints something other than its text.
-pub(crate) fn expect_text<E: Display>(
-    rt: &impl Host,
-    call: (&str, &[u8]),
-    (texts, fault): (Texts, Fault<'_>),
-    error: &E,
-) {
-    expect_display(rt, call, &printed(rt, texts, fault), error);
 }
 
 /// Checks the results for a tag name and for the three kinds of reference names.
@@ -175,7 +157,7 @@ fn expect_reference(
 
 /// Checks the result for a submodule name.
 pub(crate) fn expect_submodule(rt: &impl Host, text: &[u8], error: &'static [u8]) {
-    let wanted = (submodule_texts(), (error, b"".as_slice()));
+    let wanted: (Texts, Fault<'_>) = (submodule_texts(), (error, b""));
     let told = submodule::name(BStr::new(text));
     expect_told(rt, ("submodule::name", text), wanted, told);
 }
@@ -202,7 +184,7 @@ pub(crate) fn expect_component(
     error: &'static [u8],
 ) {
     let told = component(BStr::new(text), mode(settings), options(settings));
-    let wanted = (component_texts(), (error, b"".as_slice()));
+    let wanted: (Texts, Fault<'_>) = (component_texts(), (error, b""));
     expect_told(rt, (settings, text), wanted, told);
 }
 
@@ -220,40 +202,36 @@ pub(crate) fn expect_repair(rt: &impl Host, text: &[u8], wanted: &[u8]) {
     for after in AFTER {
         expect_in_place(rt, (&joined(rt, &[text, after]), text.len()), wanted);
     }
+    expect_sanitized(rt, text, wanted);
+}
+
+/// Checks the sanitiser that returns a name of its own.
+fn expect_sanitized(rt: &impl Host, text: &[u8], wanted: &[u8]) {
     let name = name_partial_or_sanitize(rt.alloc(), BStr::new(text)).expect(rt, "memory");
     let call = ("name_partial_or_sanitize", text);
     expect(rt, call, wanted, name.as_bytes());
 }
 
 /// Checks what becomes of the name in the first `len` bytes of the buffer, and that the bytes after
-/// the name are unchanged. (A buffer has at least one byte.)
+/// the name, or after one byte if it is empty, are unchanged. (A buffer has at least one byte.)
 pub(crate) fn expect_in_place(rt: &impl Host, (given, len): (&[u8], usize), wanted: &[u8]) {
+    let mut buffer = joined(rt, &[given]);
+    expect_in_buffer(rt, (given, len), wanted, &mut buffer);
+}
+
+/// Does so with a copy of the buffer.
+fn expect_in_buffer(
+    rt: &impl Abort,
+    (given, len): (&[u8], usize),
+    wanted: &[u8],
+    buffer: &mut [u8],
+) {
     if !given.is_empty() {
-        let mut buffer = joined(rt, &[given]);
-        let left = left_of(rt, &mut buffer, len);
-        expect(
-            rt,
-            ("sanitize_in_place", given),
-            wanted,
-            front(&buffer, left),
-        );
+        let end = len.max(1);
+        assert!(rt; end <= given.len() && end <= buffer.len());
+        let left = sanitize_in_place(buffer, len);
+        expect(rt, ("sanitize_in_place", given), wanted, &buffer[..left]);
         let call = ("after sanitize_in_place", given);
-        expect(rt, call, back(given, len), back(&buffer, len));
+        expect(rt, call, &given[end..], &buffer[end..]);
     }
-}
-
-/// How many bytes the repaired name has.
-fn left_of(rt: &impl Abort, buffer: &mut [u8], len: usize) -> usize {
-    assert!(rt; !buffer.is_empty() && len <= buffer.len());
-    sanitize_in_place(buffer, len)
-}
-
-/// The first so many bytes of a buffer.
-fn front(buffer: &[u8], len: usize) -> &[u8] {
-    buffer.get(..len).unwrap_or(b"")
-}
-
-/// What is in a buffer after a name of this length, or of one byte if it is empty.
-fn back(buffer: &[u8], len: usize) -> &[u8] {
-    buffer.get(len.max(1)..).unwrap_or(b"")
 }

@@ -85,10 +85,12 @@ pub(crate) fn path_texts() -> Texts {
 /// The text of the error, followed by what is quoted after it, if anything is.
 pub(crate) fn printed(rt: &impl Host, texts: Texts, (error, quoted): Fault<'_>) -> Vec<u8> {
     let text = text_of(texts, error);
-    let mut printed = joined(rt, &[text]);
-    if text.ends_with(b": ") {
-        push_quoted(rt, &mut printed, quoted);
+    let mark: &[u8] = if text.ends_with(b": ") { b"\"" } else { b"" };
+    let mut printed = joined(rt, &[text, mark]);
+    for byte in quoted {
+        push_escaped(rt, &mut printed, *byte);
     }
+    printed.extend_from_slice(mark).expect(rt, "memory");
     printed
 }
 
@@ -102,39 +104,19 @@ fn text_of(texts: Texts, error: &[u8]) -> &'static [u8] {
     b""
 }
 
-/// Adds the quoted form.
-fn push_quoted(rt: &impl Host, printed: &mut Vec<u8>, quoted: &[u8]) {
-    printed.push(b'"').expect(rt, "memory");
-    for byte in quoted {
-        let form = escaped(rt, *byte);
-        printed
-            .extend_from_slice(form.as_bytes())
-            .expect(rt, "memory");
-    }
-    printed.push(b'"').expect(rt, "memory");
-}
-
-/// The byte as it is in a quoted form.
-fn escaped(rt: &impl Host, byte: u8) -> String {
-    let form = match byte {
-        _ if !after_backslash(byte).is_empty() => {
-            format!(in rt.alloc(); "\\{}", after_backslash(byte))
-        }
-        0x20..0x7F => format!(in rt.alloc(); "{}", char::from(byte)),
-        _ => format!(in rt.alloc(); "\\x{byte:02x}"),
+/// Adds the byte as it is in a quoted form.
+fn push_escaped(rt: &impl Host, printed: &mut Vec<u8>, byte: u8) {
+    let hex = format!(in rt.alloc(); "\\x{byte:02x}").expect(rt, "memory");
+    let itself = [byte];
+    let form: &[u8] = match byte {
+        0x00 => b"\\0",
+        b'\t' => b"\\t",
+        b'\n' => b"\\n",
+        b'\r' => b"\\r",
+        b'"' => b"\\\"",
+        b'\\' => b"\\\\",
+        0x20..0x7F => &itself,
+        _ => hex.as_bytes(),
     };
-    form.expect(rt, "memory")
-}
-
-/// What is after the backslash for this byte, if it has a short form.
-fn after_backslash(byte: u8) -> &'static str {
-    match byte {
-        0x00 => "0",
-        b'\t' => "t",
-        b'\n' => "n",
-        b'\r' => "r",
-        b'"' => "\"",
-        b'\\' => "\\",
-        _ => "",
-    }
+    printed.extend_from_slice(form).expect(rt, "memory");
 }

@@ -1,7 +1,7 @@
 //! Tag names, reference names, submodule names and sanitised names (docs/RULES.md, the sections of
 //! these names).
 
-use crate::text::{Host, before_first, contains_one, has_bad, is_bad, joined};
+use crate::text::{Host, before_first, contains_one, has_bad, is, is_bad};
 use bstr::ByteSlice;
 
 /// An error of a name, as docs/RULES.md calls it, and what is quoted after its text, if anything
@@ -20,16 +20,15 @@ const AT_OFFSET: &[(&[u8], &[u8], &[u8])] = &[
     (b".lock", b"/", b"LockFileSuffix"),
 ];
 
-/// The error at the lowest offset that has one. (The last byte of `.lock` at the end has no other.)
+/// The error at the lowest offset that has one.
 fn at_lowest_offset(text: &[u8]) -> Fault<'_> {
     for offset in 0..text.len() {
         let fault = at_offset(&text[..offset], &text[offset..]);
-        if fault != VALID {
+        if !fault.0.is_empty() {
             return fault;
         }
     }
-    let is_lock_file = text.ends_with(b".lock") && text != b".lock".as_slice();
-    or(VALID, is_lock_file, (b"LockFileSuffix", b""))
+    VALID
 }
 
 /// The error at an offset, given the bytes before it and those from it on.
@@ -47,7 +46,11 @@ fn at_offset<'a>(before: &[u8], here: &'a [u8]) -> Fault<'a> {
 
 /// The error, or if there is none, the next one if its condition holds.
 pub(crate) fn or<'a>(fault: Fault<'a>, holds: bool, next: Fault<'a>) -> Fault<'a> {
-    if fault == VALID && holds { next } else { fault }
+    if fault.0.is_empty() && holds {
+        next
+    } else {
+        fault
+    }
 }
 
 /// The first error as a tag name.
@@ -60,19 +63,22 @@ fn of_tag(text: &[u8]) -> Fault<'_> {
     }
 }
 
-/// The error at the lowest offset, or if there is none, that of a dot at the start or the end.
+/// The error at the lowest offset, or if there is none, that of `.lock` at the end, or of a dot at
+/// the start or the end. (The last byte of `.lock` at the end has no other error.)
 fn between_dots(text: &[u8]) -> Fault<'_> {
+    let is_lock_file = text.ends_with(b".lock") && text.len() > 5;
     let lowest = at_lowest_offset(text);
-    let fault = or(lowest, text.starts_with(b"."), (b"StartsWithDot", b""));
+    let fault = or(lowest, is_lock_file, (b"LockFileSuffix", b""));
+    let fault = or(fault, text.starts_with(b"."), (b"StartsWithDot", b""));
     or(fault, text.ends_with(b"."), (b"EndsWithDot", b""))
 }
 
 /// The first error as a tag name, a partial name, a full name and a branch name.
 pub(crate) fn of_references(text: &[u8]) -> [Fault<'_>; 4] {
     let tag = of_tag(text);
-    let partial = or(tag, text == b"@".as_slice(), (b"Reserved", text));
+    let partial = or(tag, is(text, b"@"), (b"Reserved", text));
     let full = or(partial, !may_stand(text), (b"SomeLowercase", b""));
-    let is_head = text == b"refs/heads/HEAD".as_slice();
+    let is_head = is(text, b"refs/heads/HEAD");
     [tag, partial, full, or(full, is_head, (b"Reserved", text))]
 }
 
@@ -80,11 +86,6 @@ pub(crate) fn of_references(text: &[u8]) -> [Fault<'_>; 4] {
 fn may_stand(text: &[u8]) -> bool {
     let other = text.find_not_byteset(b"ABCDEFGHIJKLMNOPQRSTUVWXYZ_");
     other.is_none() || text.contains(&b'/')
-}
-
-/// The name between slashes, which are for what a piece may not start with or end in.
-pub(crate) fn between_slashes(rt: &impl Host, text: &[u8]) -> Vec<u8> {
-    joined(rt, &[b"/", text, b"/"])
 }
 
 /// Whether the name, which is also given between slashes, has nothing that a tag name may not have.
@@ -100,9 +101,9 @@ fn is_tag(text: &[u8], between_slashes: &[u8]) -> bool {
 pub(crate) fn accepting(text: &[u8], between_slashes: &[u8]) -> usize {
     match text {
         _ if !is_tag(text, between_slashes) => 0,
-        _ if text == b"@".as_slice() => 1,
+        _ if is(text, b"@") => 1,
         _ if !may_stand(text) => 2,
-        _ if text == b"refs/heads/HEAD".as_slice() => 3,
+        _ if is(text, b"refs/heads/HEAD") => 3,
         _ => 4,
     }
 }

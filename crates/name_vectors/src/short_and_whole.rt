@@ -1,10 +1,9 @@
 //! Short branch names and whole paths: worked names, and what docs/RULES.md gives for each.
 
 use crate::agree::{
-    expect, expect_bool, expect_debug, expect_display, expect_error, expect_text, expect_valid,
-    mode, options,
+    expect, expect_bool, expect_debug, expect_display, expect_error, expect_valid, mode, options,
 };
-use crate::printed::{branch_texts, component_texts, path_texts, reference_texts};
+use crate::printed::{branch_texts, component_texts, path_texts, printed, reference_texts};
 use crate::reference::{Fault, VALID, of_references};
 use crate::rows::{expect_joined, part};
 use crate::table::{Table, first_word, rows, settings_of};
@@ -58,7 +57,7 @@ fn expect_short_error(
             branch_texts()
         }
     };
-    expect_text(rt, call, (texts, fault), error);
+    expect_display(rt, call, &printed(rt, texts, fault), error);
 }
 
 /// Each name is valid if and only if the second implementation accepts it as one.
@@ -161,7 +160,7 @@ fn expect_path_error(rt: &impl Host, call: (&str, &[u8]), fault: Fault<'_>, erro
             path_texts()
         }
     };
-    expect_text(rt, call, (texts, fault), error);
+    expect_display(rt, call, &printed(rt, texts, fault), error);
 }
 
 #[test]

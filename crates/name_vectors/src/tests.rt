@@ -2,7 +2,8 @@
 
 use crate::agree::check;
 use crate::path::{DEVICES, IGNORED_CHARACTERS, SEQUENCES};
-use crate::text::{Host, joined};
+use crate::text::{Host, between, joined};
+use std::process::Abort;
 
 /// The parts of which names are made, and how many names there are of at most five, four or three.
 /// Some are special bytes of the rules for references, some contain the suffix that Git reserves
@@ -59,7 +60,7 @@ const AROUND: &[(&[u8], &[u8])] = &[
 /// Checks the byte within names.
 fn check_around(rt: &impl Host, byte: &[u8]) {
     for (front, back) in AROUND {
-        check(rt, &joined(rt, &[front, byte, back]));
+        check(rt, &between(rt, front, byte, back));
     }
 }
 
@@ -100,12 +101,17 @@ fn check_changed(rt: &impl Host, (name, len): (&[u8], usize), words: &[&[u8]]) -
     let mut checked: usize = 0;
     for offset in 0..name.len() + 1 {
         let back = name.get(offset.saturating_add(len)..).unwrap_or(b"");
-        for word in words {
-            check(rt, &joined(rt, &[&name[..offset], word, back]));
-            checked = checked.saturating_add(1);
-        }
+        check_between(rt, &name[..offset], words, back);
+        checked = checked.saturating_add(words.len());
     }
     checked
+}
+
+/// Checks the names that have one of these words between these bytes.
+fn check_between(rt: &impl Host, front: &[u8], words: &[&[u8]], back: &[u8]) {
+    for word in words {
+        check(rt, &between(rt, front, word, back));
+    }
 }
 
 /// The name with uppercase letters at the first so many of each two offsets, and lowercase ones
@@ -163,22 +169,24 @@ fn agrees_on_each_short_name(rt: HostRuntime) {
 fn check_spelled(rt: &impl Host, names: &[&[u8]], (len, words): (usize, &[&[u8]]), wanted: usize) {
     let mut checked: usize = 0;
     for name in names {
-        for uppercase in 0..3 {
-            let more = check_spelling(rt, (name, uppercase), len, words);
-            checked = checked.saturating_add(more);
-        }
+        checked = checked.saturating_add(check_spellings(rt, (name, len), words));
     }
+    expect_count(rt, checked, wanted);
+}
+
+/// Panics unless so many names were checked.
+fn expect_count(rt: &impl Abort, checked: usize, wanted: usize) {
     assert_eq!(rt; checked, wanted);
 }
 
-/// Does so with a name written in one way.
-fn check_spelling(
-    rt: &impl Host,
-    (name, uppercase): (&[u8], usize),
-    len: usize,
-    words: &[&[u8]],
-) -> usize {
-    check_changed(rt, (&spelled(rt, name, uppercase), len), words)
+/// Does so with one name. Returns how many names that were.
+fn check_spellings(rt: &impl Host, (name, len): (&[u8], usize), words: &[&[u8]]) -> usize {
+    let mut checked: usize = 0;
+    for uppercase in 0..3 {
+        let more = check_changed(rt, (&spelled(rt, name, uppercase), len), words);
+        checked = checked.saturating_add(more);
+    }
+    checked
 }
 
 /// The edges of the table of whole sequences, and the bytes next to them.
@@ -198,7 +206,7 @@ fn agrees_on_each_edge_of_sequences(rt: HostRuntime) {
         checked = checked.saturating_add(check_truncated(&rt, least));
         checked = checked.saturating_add(check_truncated(&rt, greatest));
     }
-    assert_eq!(rt; checked, 2 * 112 * 27);
+    expect_count(&rt, checked, 2 * 112 * 27);
 }
 
 /// Does so with one sequence. Returns how many names that were.

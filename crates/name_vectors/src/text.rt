@@ -14,6 +14,16 @@ pub(crate) fn joined(rt: &impl Host, parts: &[&[u8]]) -> Vec<u8> {
     parts.concat(rt.alloc()).expect(rt, "memory")
 }
 
+/// The three byte strings, one after the other.
+pub(crate) fn between(rt: &impl Host, front: &[u8], text: &[u8], back: &[u8]) -> Vec<u8> {
+    joined(rt, &[front, text, back])
+}
+
+/// Whether the byte string is the word. (A comparison with an array is longer to prove.)
+pub(crate) fn is(text: &[u8], word: &[u8]) -> bool {
+    text == word
+}
+
 /// Whether the byte is a bad byte: 0x00 to 0x1F, DEL, the space, and `:` `?` `[` `\` `^` `~`. (`*` has
 /// an error of its own.)
 pub(crate) fn is_bad(byte: u8) -> bool {
@@ -47,33 +57,36 @@ pub(crate) fn contains_one(text: &[u8], words: &[&[u8]]) -> bool {
 /// The part before the first of the given bytes, or the whole byte string if it has none of them.
 pub(crate) fn before_first<'a>(text: &'a [u8], bytes: &[u8]) -> &'a [u8] {
     let end = text.find_byteset(bytes).unwrap_or(text.len());
-    text.get(..end).unwrap_or(text)
+    &text[..end]
 }
 
 /// The byte string without the given bytes at its end.
 pub(crate) fn trimmed<'a>(text: &'a [u8], bytes: &[u8]) -> &'a [u8] {
-    match text.rfind_not_byteset(bytes) {
-        Some(last) => text.get(..=last).unwrap_or(text),
-        None => b"",
-    }
+    let end = match text.rfind_not_byteset(bytes) {
+        Some(last) => last + 1,
+        None => 0,
+    };
+    &text[..end]
 }
 
 /// Whether the byte string, or one that begins with it if `may_go_on`, is in the table. Each row has
 /// a least and a greatest byte string, and means all whose byte at each index is between theirs.
 pub(crate) fn is_in(text: &[u8], may_go_on: bool, rows: &[(&[u8], &[u8])]) -> bool {
     for (least, greatest) in rows {
-        let may_end = text.len() == least.len() || may_go_on && text.len() < least.len();
-        if may_end && is_between(text, least, greatest) {
+        if (may_go_on || text.len() == least.len()) && is_between(text, least, greatest) {
             return true;
         }
     }
     false
 }
 
-/// Whether each byte is between those at its index.
+/// Whether the others are at least as long, and each byte is between those at its index.
 fn is_between(text: &[u8], least: &[u8], greatest: &[u8]) -> bool {
-    for (index, byte) in text.iter().enumerate() {
-        if least.get(index) > Some(byte) || greatest.get(index) < Some(byte) {
+    if text.len() > least.len() || text.len() > greatest.len() {
+        return false;
+    }
+    for index in 0..text.len() {
+        if text[index] < least[index] || text[index] > greatest[index] {
             return false;
         }
     }

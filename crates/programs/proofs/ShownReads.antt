@@ -1,12 +1,26 @@
 -- What is read after a front: the next of the bytes that the reader shows.
 use Rattle.gix_validate.proofs.Common.{◌≡◌, ◌≢◌, ℕ, ◌+◌, ◌<◌, ◌≤◌, List, [], ◌∷◌, ◌++◌, All, Option}
-use Rattle.gix_validate.proofs.Common.{Some, None, length, take, subst, ap, sym, ◌∙◌, arith}
+use Rattle.gix_validate.proofs.Common.{Some, length, take, subst, ap, sym, ◌∙◌, arith}
 use Rattle.gix_validate.proofs.Common.{append_assoc, length-append, length-take, Consumes}
-use Rattle.gix_validate.proofs.Common.{Consumes-trans, common_steps}
+use Rattle.gix_validate.proofs.Common.{Consumes-trans, common_steps, refl, take_at, drop}
+use Rattle.memchr.specs.Find.{is_byte, IsFirstByte}
 use Rattle.std.proofs.lemmas.List.Elements.{All-append}
 use Rattle.programs.specs.declared.input.Found.{Found}
 use Rattle.programs.specs.declared.input.Found.TheVariants.{Byte}
 use Rattle.programs.specs.Promises.{IsCutAt, ReadsBefore}
+use Rattle.programs.proofs.CutTexts.{first_found}
+
+-- what a search for the byte cuts off
+pub cut_found : (byte : ℕ) (shown : List ℕ) (k : ℕ) → IsFirstByte (is_byte byte) shown (Some k)
+    → IsCutAt byte shown (take k shown) (k + 1) (Some Byte)
+cut_found byte shown k found =
+    let (cut, none) = first_found byte shown k found in
+    let few : k < length shown = found.0.high in
+    let whole : shown ≡ (take k shown ++ byte ∷ []) ++ drop (k + 1) shown =
+    cut ∙ sym (append_assoc (take k shown) (byte ∷ []) (drop (k + 1) shown)) in
+    let long : length (take k shown ++ byte ∷ []) ≡ k + 1 =
+    omega (arith, length-append (take k shown) (byte ∷ []), length-take k shown) in
+    (refl, none, ap (take (k + 1)) whole ∙ take_at _ _ (k + 1) long, omega arith)
 
 take_shown : (m n : ℕ) (shown : List ℕ) → n ≡ length (take m shown) → take n shown ≡ take m shown
 take_shown m n shown is = grind (arith, common_steps)

@@ -1,6 +1,6 @@
 -- An object whose bytes are judged, and the byte after it: what its rule says of both.
-use Rattle.gix_validate.proofs.Common.{◌≡◌, ◌≢◌, ℕ, Bool, List, [], ◌∷◌, Option, Some, Ok, Err, nat_lt}
-use Rattle.gix_validate.proofs.Common.{length, take, drop, arith, IfSome, IfSome_then, Consumes}
+use Rattle.gix_validate.proofs.Common.{◌≡◌, ◌≢◌, ℕ, Bool, List, [], ◌∷◌, Option, Ok, Err, nat_lt}
+use Rattle.gix_validate.proofs.Common.{length, take, arith, IfSome, IfSome_then, Consumes}
 use Rattle.std.specs.Option.{OnSome}
 use Rattle.std.specs.Io.KnownBytes.{IsAtEnd}
 use Rattle.programs.specs.declared.outcome.Malformation.TheVariants.{Ended, LineEnd}

@@ -1,7 +1,8 @@
-use Rattle.gix_validate.proofs.Common.{◌≡◌, ◌+◌, ◌≤◌, ◌++◌, ◌∙◌, length, take, subst, ap, arith}
+use Rattle.gix_validate.proofs.Common.{◌≡◌, ◌+◌, ◌≤◌, ◌++◌, ◌∙◌, length, subst, ap, arith}
 use Rattle.std.specs.Io.BufRead.{FillKeeps}
 use Rattle.std.proofs.BufReadLemmas.{Consumes_shown}
 use Rattle.programs.proofs.ShownReads.{few_shown, grows_shown, fits_shown, none_shown, found_shown}
+use Rattle.std.proofs.lemmas.Grind.{common_steps}
 use Rattle.programs.proofs.input.read_before.Goals as goal
 
 pub loop-preserved : goal.loop-preserved
@@ -44,3 +45,15 @@ returns-in-Some-clause-read g c =
     grind arith in
     found_shown c.args.byte c.args.limit m n _ _ _ front _ shown _ _
     c.loop.invariant.bytes c.loop.invariant.none room cut moved.0 joined
+
+pub loop-preserved-in-Err : goal.loop-preserved-in-Err
+loop-preserved-in-Err g c = grind (arith, common_steps)
+
+pub returns-then-is_empty-clause-read : goal.returns-then-is_empty-clause-read
+returns-then-is_empty-clause-read g c = grind (arith, common_steps)
+
+pub returns-in_err-map_err-clause-full : goal.returns-in_err-map_err-clause-full
+returns-in_err-map_err-clause-full g c = grind (arith, common_steps)
+
+pub returns-in-Some-clause-full : goal.returns-in-Some-clause-full
+returns-in-Some-clause-full g c = grind (arith, common_steps)

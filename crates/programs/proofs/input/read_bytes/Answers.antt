@@ -2,6 +2,7 @@ use Rattle.gix_validate.proofs.Common.{◌≡◌, ◌+◌, ◌≤◌, ◌++◌, 
 use Rattle.std.specs.Io.BufRead.{FillKeeps}
 use Rattle.std.proofs.BufReadLemmas.{Consumes_shown}
 use Rattle.programs.proofs.ShownReads.{few_shown, grows_shown, fits_shown}
+use Rattle.std.proofs.lemmas.Grind.{common_steps}
 use Rattle.programs.proofs.input.read_bytes.Goals as goal
 
 pub loop-preserved : goal.loop-preserved
@@ -22,3 +23,15 @@ loop-preserved g c =
       room = omega arith;
       within = fits_shown front _ shown m c.args.count room joined;
     }
+
+pub returns-then-len-count-clause-read : goal.returns-then-len-count-clause-read
+returns-then-len-count-clause-read g c = grind (arith, common_steps)
+
+pub loop-preserved-in-Err : goal.loop-preserved-in-Err
+loop-preserved-in-Err g c = grind (arith, common_steps)
+
+pub returns-then-is_empty-clause-read : goal.returns-then-is_empty-clause-read
+returns-then-is_empty-clause-read g c = grind (arith, common_steps)
+
+pub returns-in_err-map_err-clause-full : goal.returns-in_err-map_err-clause-full
+returns-in_err-map_err-clause-full g c = grind (arith, common_steps)

@@ -17,7 +17,7 @@
 //! The tests are proved to be safe and to end, and the crate is written so that these proofs are
 //! short. A failed allocation ends a test, because each `?` would be another exit, on which
 //! everything alive is dropped. A function has one loop or few calls, and a loop gets a list as a
-//! parameter, so that the list isn't part of the proof. Most tables are no lists but byte strings
+//! parameter, so that the list isn't part of the proof. Most tables are byte strings, not lists
 //! (`table`). There are no closures, because each is three more functions to prove. Few different
 //! functions of the standard library are called.
 #![tactic(auto)]

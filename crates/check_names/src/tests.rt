@@ -7,7 +7,7 @@
 //! its own.
 
 use crate::check::{RunError, run};
-use bstr::{BStr, ByteSlice};
+use bstr::BStr;
 use gix_validate::tag;
 use std::alloc::Global;
 use std::io;
@@ -53,13 +53,8 @@ pub fn printed(alloc: Global, input: &[u8]) -> Result<Vec<u8>, RunError> {
 /// Panics if for this input something else is printed.
 pub fn expect_printed(rt: &(impl Abort + AllocGlobal), input: &[u8], wanted: &[u8]) {
     let came = printed(rt.alloc(), input).expect(rt, "a run");
-    if came.as_slice() != wanted {
-        differs(rt, BStr::new(input), BStr::new(wanted), BStr::new(&came));
-    }
-}
-
-fn differs(rt: &impl Abort, input: BStr<'_>, wanted: BStr<'_>, came: BStr<'_>) {
-    panic!(rt; "{input:?}: {came:?}, wanted: {wanted:?}");
+    let [input, wanted, came] = [BStr::new(input), BStr::new(wanted), BStr::new(&came)];
+    assert_eq!(rt; came, wanted, "{input:?} (right: wanted)");
 }
 
 /// The same for what is too long to be shown.
@@ -122,166 +117,81 @@ fn sanitizes_names(rt: HostRuntime) {
     expect_lines(&rt, b"sanitize ", REPAIRS);
 }
 
-/// A line of each kind, in which `%` stands for the name.
-const KINDS: &[u8] = b"tag %\npartial %\nref %\nbranch %\nsubmodule %\npath %\nsymlink %\n\
-    device %\nsanitize %\n";
+/// The kinds of line, in the order of the results below.
+#[rattlefmt::skip]
+const KINDS: [&[u8]; 9] = [
+    b"tag ", b"partial ", b"ref ", b"branch ", b"submodule ", b"path ", b"symlink ", b"device ", b"sanitize ",
+];
 
-/// Names, and what is printed for these lines. Every two kinds have different results for one of the
+const TAG_EMPTY: &[u8] = b"error: A ref must not be empty";
+
+const TAG_DOT: &[u8] = b"error: A ref must not start with a '.'";
+
+const TAG_TILDE: &[u8] =
+    b"error: A ref must not contain invalid bytes or ascii control characters: \"~\"";
+
+const TAG_SLASH: &[u8] =
+    b"error: A ref must not contain invalid bytes or ascii control characters: \"\\\\\"";
+
+const REF_EMPTY: &[u8] = b"error: Reference name cannot be empty";
+
+const REF_DOT: &[u8] = b"error: Reference name cannot start with a dot";
+
+const REF_TILDE: &[u8] = b"error: Reference name contains invalid byte: \"~\"";
+
+const REF_SLASH: &[u8] = b"error: Reference name contains invalid byte: \"\\\\\"";
+
+const LOWERCASE: &[u8] = b"error: Standalone references must be all uppercased, like 'HEAD'";
+
+const AT: &[u8] = b"error: Reference name is reserved and cannot be used: \"@\"";
+
+const HEAD: &[u8] = b"error: Reference name is reserved and cannot be used: \"refs/heads/HEAD\"";
+
+const NO_NAME: &[u8] = b"error: Submodule names cannot be empty";
+
+const PARENT: &[u8] = b"error: Submodules names must not contains '..'";
+
+const NO_PATH: &[u8] = b"error: A path component must not be empty";
+
+const SEPARATOR: &[u8] = b"error: Path separators like / or \\ are not allowed";
+
+const DEVICE: &[u8] = b"error: Windows device-names may have side-effects and are not allowed";
+
+const GIT: &[u8] = b"error: The .git name may never be used";
+
+const MODULES: &[u8] = b"error: The .gitmodules file must not be a symlink";
+
+/// Names, and the result for each kind. Every two kinds have different results for one of the
 /// names. Without one of its protections `path` would accept `a\b`, `.git` with an ignored
 /// character, or `git~1`. `symlink` would also accept one of three names for `.gitmodules`, which
 /// `path` accepts.
-const ANSWERS: &[(&[u8], &[u8])] = &[
-    (
-        b"",
-        b"error: A ref must not be empty\n\
-        error: Reference name cannot be empty\n\
-        error: Reference name cannot be empty\n\
-        error: Reference name cannot be empty\n\
-        error: Submodule names cannot be empty\n\
-        error: A path component must not be empty\n\
-        error: A path component must not be empty\n\
-        no\n\
-        -\n",
-    ),
-    (
-        b"@",
-        b"ok\n\
-        error: Reference name is reserved and cannot be used: \"@\"\n\
-        error: Reference name is reserved and cannot be used: \"@\"\n\
-        error: Reference name is reserved and cannot be used: \"@\"\n\
-        ok\n\
-        ok\n\
-        ok\n\
-        no\n\
-        -\n",
-    ),
-    (
-        b"main",
-        b"ok\n\
-        ok\n\
-        error: Standalone references must be all uppercased, like 'HEAD'\n\
-        error: Standalone references must be all uppercased, like 'HEAD'\n\
-        ok\n\
-        ok\n\
-        ok\n\
-        no\n\
-        main\n",
-    ),
-    (
-        b"refs/heads/HEAD",
-        b"ok\n\
-        ok\n\
-        ok\n\
-        error: Reference name is reserved and cannot be used: \"refs/heads/HEAD\"\n\
-        ok\n\
-        error: Path separators like / or \\ are not allowed\n\
-        error: Path separators like / or \\ are not allowed\n\
-        no\n\
-        refs/heads/HEAD\n",
-    ),
-    (
-        b"a/../b",
-        b"error: A ref must not start with a '.'\n\
-        error: Reference name cannot start with a dot\n\
-        error: Reference name cannot start with a dot\n\
-        error: Reference name cannot start with a dot\n\
-        error: Submodules names must not contains '..'\n\
-        error: Path separators like / or \\ are not allowed\n\
-        error: Path separators like / or \\ are not allowed\n\
-        no\n\
-        a/-/b\n",
-    ),
-    (
-        b"nul.txt",
-        b"ok\n\
-        ok\n\
-        error: Standalone references must be all uppercased, like 'HEAD'\n\
-        error: Standalone references must be all uppercased, like 'HEAD'\n\
-        ok\n\
-        error: Windows device-names may have side-effects and are not allowed\n\
-        error: Windows device-names may have side-effects and are not allowed\n\
-        yes\n\
-        nul.txt\n",
-    ),
-    (
-        b"a\\b",
-        b"error: A ref must not contain invalid bytes or ascii control characters: \"\\\\\"\n\
-        error: Reference name contains invalid byte: \"\\\\\"\n\
-        error: Reference name contains invalid byte: \"\\\\\"\n\
-        error: Reference name contains invalid byte: \"\\\\\"\n\
-        ok\n\
-        error: Path separators like / or \\ are not allowed\n\
-        error: Path separators like / or \\ are not allowed\n\
-        no\n\
-        a-b\n",
-    ),
-    (
-        b".g\xE2\x80\x8Cit",
-        b"error: A ref must not start with a '.'\n\
-        error: Reference name cannot start with a dot\n\
-        error: Reference name cannot start with a dot\n\
-        error: Reference name cannot start with a dot\n\
-        ok\n\
-        error: The .git name may never be used\n\
-        error: The .git name may never be used\n\
-        no\n\
-        -g\xE2\x80\x8Cit\n",
-    ),
-    (
-        b"git~1",
-        b"error: A ref must not contain invalid bytes or ascii control characters: \"~\"\n\
-        error: Reference name contains invalid byte: \"~\"\n\
-        error: Reference name contains invalid byte: \"~\"\n\
-        error: Reference name contains invalid byte: \"~\"\n\
-        ok\n\
-        error: The .git name may never be used\n\
-        error: The .git name may never be used\n\
-        no\n\
-        git-1\n",
-    ),
-    (
-        b".gitmodules",
-        b"error: A ref must not start with a '.'\n\
-        error: Reference name cannot start with a dot\n\
-        error: Reference name cannot start with a dot\n\
-        error: Reference name cannot start with a dot\n\
-        ok\n\
-        ok\n\
-        error: The .gitmodules file must not be a symlink\n\
-        no\n\
-        -gitmodules\n",
-    ),
-    (
-        b".gitmodules\xE2\x80\x8D",
-        b"error: A ref must not start with a '.'\n\
-        error: Reference name cannot start with a dot\n\
-        error: Reference name cannot start with a dot\n\
-        error: Reference name cannot start with a dot\n\
-        ok\n\
-        ok\n\
-        error: The .gitmodules file must not be a symlink\n\
-        no\n\
-        -gitmodules\xE2\x80\x8D\n",
-    ),
-    (
-        b"gitmod~1",
-        b"error: A ref must not contain invalid bytes or ascii control characters: \"~\"\n\
-        error: Reference name contains invalid byte: \"~\"\n\
-        error: Reference name contains invalid byte: \"~\"\n\
-        error: Reference name contains invalid byte: \"~\"\n\
-        ok\n\
-        ok\n\
-        error: The .gitmodules file must not be a symlink\n\
-        no\n\
-        gitmod-1\n",
-    ),
+#[rattlefmt::skip]
+const ANSWERS: &[(&[u8], [&[u8]; 9])] = &[
+    (b"", [TAG_EMPTY, REF_EMPTY, REF_EMPTY, REF_EMPTY, NO_NAME, NO_PATH, NO_PATH, b"no", b"-"]),
+    (b"@", [b"ok", AT, AT, AT, b"ok", b"ok", b"ok", b"no", b"-"]),
+    (b"main", [b"ok", b"ok", LOWERCASE, LOWERCASE, b"ok", b"ok", b"ok", b"no", b"main"]),
+    (b"refs/heads/HEAD", [b"ok", b"ok", b"ok", HEAD, b"ok", SEPARATOR, SEPARATOR, b"no", b"refs/heads/HEAD"]),
+    (b"a/../b", [TAG_DOT, REF_DOT, REF_DOT, REF_DOT, PARENT, SEPARATOR, SEPARATOR, b"no", b"a/-/b"]),
+    (b"nul.txt", [b"ok", b"ok", LOWERCASE, LOWERCASE, b"ok", DEVICE, DEVICE, b"yes", b"nul.txt"]),
+    (b"a\\b", [TAG_SLASH, REF_SLASH, REF_SLASH, REF_SLASH, b"ok", SEPARATOR, SEPARATOR, b"no", b"a-b"]),
+    (b".g\xE2\x80\x8Cit", [TAG_DOT, REF_DOT, REF_DOT, REF_DOT, b"ok", GIT, GIT, b"no", b"-g\xE2\x80\x8Cit"]),
+    (b"git~1", [TAG_TILDE, REF_TILDE, REF_TILDE, REF_TILDE, b"ok", GIT, GIT, b"no", b"git-1"]),
+    (b".gitmodules", [TAG_DOT, REF_DOT, REF_DOT, REF_DOT, b"ok", b"ok", MODULES, b"no", b"-gitmodules"]),
+    (b".gitmodules\xE2\x80\x8D", [TAG_DOT, REF_DOT, REF_DOT, REF_DOT, b"ok", b"ok", MODULES, b"no", b"-gitmodules\xE2\x80\x8D"]),
+    (b"gitmod~1", [TAG_TILDE, REF_TILDE, REF_TILDE, REF_TILDE, b"ok", b"ok", MODULES, b"no", b"gitmod-1"]),
 ];
 
 #[test]
 fn answers_by_the_rule_of_the_kind(rt: HostRuntime) {
     for (name, answers) in ANSWERS {
-        let lines = KINDS.replace(rt.alloc(), b"%", name).expect(&rt, "memory");
-        expect_printed(&rt, &lines, answers);
+        expect_kinds(&rt, name, answers);
+    }
+}
+
+/// Panics if for this name and a kind something other than its result is printed.
+fn expect_kinds(rt: &(impl Abort + AllocGlobal), name: &[u8], answers: &[&[u8]; 9]) {
+    for (kind, answer) in KINDS.iter().zip(answers) {
+        expect_line(rt, (kind, name), answer);
     }
 }
 

@@ -185,24 +185,33 @@ fn lists_the_pieces_of_a_name(rt: HostRuntime) {
     expect_bool(&rt, ("two pieces", b"refs/a"), true, pieces.len() == 2);
 }
 
-/// Names, their pieces, with commas between them, and what follows each slash, in order.
 #[test]
 fn parts_outlive_the_name_that_gave_them(rt: HostRuntime) {
-    expect_parts(
-        &rt,
-        b"refs/heads/main",
-        b"refs,heads,main",
+    let (pieces, rests): (&[&[u8]], &[&[u8]]) = (
+        &[b"refs", b"heads", b"main"],
         &[b"heads/main", b"main"],
     );
-    expect_parts(&rt, b"a./b", b"a.,b", &[b"b"]);
-    expect_parts(&rt, b"v1.2.3", b"v1.2.3", &[]);
+    expect_parts(&rt, b"refs/heads/main", pieces, rests);
+    expect_parts(&rt, b"a./b", &[b"a.", b"b"], &[b"b"]);
+    expect_parts(&rt, b"v1.2.3", &[b"v1.2.3"], &[]);
 }
 
-fn expect_parts(rt: &impl Host, text: &[u8], pieces: &[u8], rests: &[&[u8]]) {
+/// Checks the pieces of a name, and what follows each of its slashes, in order.
+fn expect_parts(rt: &impl Abort, text: &[u8], pieces: &[&[u8]], rests: &[&[u8]]) {
     let (left, rest) = parts_of(rt, text);
-    let joined = bstr::join(rt.alloc(), b",", left).expect(rt, "memory");
-    expect(rt, ("pieces", text), pieces, &joined);
+    expect_pieces(rt, text, left, pieces);
     expect_rests(rt, text, rest, rests);
+}
+
+/// Checks the pieces of a name.
+fn expect_pieces(rt: &impl Abort, text: &[u8], left: Pieces<'_>, wanted: &[&[u8]]) {
+    let mut left = left;
+    for piece in wanted {
+        let came = next_of(&mut left).expect(rt, "a piece");
+        expect(rt, ("pieces", text), piece, came.as_bytes());
+    }
+    let is_last = next_of(&mut left).is_none();
+    expect_bool(rt, ("no other piece", text), true, is_last);
 }
 
 /// Checks what follows the first slash of a name, of what follows that, and so on.

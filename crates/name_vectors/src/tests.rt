@@ -101,17 +101,12 @@ fn check_changed(rt: &impl Host, (name, len): (&[u8], usize), words: &[&[u8]]) -
     let mut checked: usize = 0;
     for offset in 0..name.len() + 1 {
         let back = name.get(offset.saturating_add(len)..).unwrap_or(b"");
-        check_between(rt, &name[..offset], words, back);
-        checked = checked.saturating_add(words.len());
+        for word in words {
+            check(rt, &between(rt, &name[..offset], word, back));
+            checked = checked.saturating_add(1);
+        }
     }
     checked
-}
-
-/// Checks the names that have one of these words between these bytes.
-fn check_between(rt: &impl Host, front: &[u8], words: &[&[u8]], back: &[u8]) {
-    for word in words {
-        check(rt, &between(rt, front, word, back));
-    }
 }
 
 /// The name with uppercase letters at the first so many of each two offsets, and lowercase ones

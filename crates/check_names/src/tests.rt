@@ -298,8 +298,7 @@ fn reports_failed_reads(rt: HostRuntime) {
 fn expect_failed_read(rt: &(impl Abort + AllocGlobal), front: &[u8]) {
     let mut written = Vec::new(rt.alloc());
     let result = run(rt.alloc(), &mut front.chain(Broken), &mut written);
-    let is_reported = matches!(result, Err(RunError::Read)) && written.is_empty();
-    assert!(rt; is_reported, "{}", front.len());
+    assert!(rt; matches!(result, Err(RunError::Read)) && written.is_empty());
 }
 
 #[test]
@@ -315,10 +314,9 @@ fn reports_failed_writes(rt: HostRuntime) {
 /// Panics unless a run fails if writing fails after so many bytes, and the next run succeeds, which
 /// has nothing to write.
 fn expect_failed_write(rt: &(impl Abort + AllocGlobal), room: &mut [u8]) {
-    let len = room.len();
     let mut device = Device::new(room, 1);
     let result = run(rt.alloc(), &mut &*ROWS.0, &mut device);
-    assert!(rt; matches!(result, Err(RunError::Write)), "{len}");
+    assert!(rt; matches!(result, Err(RunError::Write)));
     run(rt.alloc(), &mut io::empty(), &mut device).expect(rt, "a run");
 }
 
@@ -333,8 +331,8 @@ fn flushes_once(rt: HostRuntime) {
 
 /// Panics unless a run flushes so often what it writes for the input, and fails if it can't.
 fn expect_flushes(rt: &(impl Abort + AllocGlobal), input: &[u8], flushes: usize) {
-    assert_eq!(rt; flushes_left(rt, input, flushes), 0);
-    assert_eq!(rt; fails_to_flush(rt, input), flushes == 1);
+    assert!(rt; flushes_left(rt, input, flushes) == 0);
+    assert!(rt; fails_to_flush(rt, input) == (flushes == 1));
 }
 
 /// How many of so many flushes a run leaves.
@@ -362,5 +360,5 @@ fn prints_each_error(rt: HostRuntime) {
 /// Panics if the error prints something else.
 fn expect_text(rt: &(impl Abort + AllocGlobal), error: &RunError, text: &str) {
     let came = error.to_string(rt.alloc()).expect(rt, "memory");
-    assert_eq!(rt; came.as_str(), text);
+    assert!(rt; came.as_str() == text);
 }

@@ -172,12 +172,23 @@ some_names : (names : List (List ℕ)) → names ≢ [] → is_none_of names ≡
 some_names [] some = absurd (some refl)
 some_names (name ∷ names) some = refl
 
+-- what is asked for, if it's right: of the three tests two fail
+choice : {A E : Type 0} (wrong reads none : Bool) (is given : A) (e f h : E)
+    → ◌≡◌ {A = Result A E} (if wrong then Err e else if reads then if none then Ok is else Err f
+    else if none then Err h else Ok is) (Ok given)
+    → reads ≡ false → (none ≡ false) × (is ≡ given)
+choice true reads none is given e f h asked gives = absurd (grind (arith, asked))
+choice false true none is given e f h asked gives = absurd (grind (arith, gives))
+choice false false true is given e f h asked gives = absurd (grind (arith, asked))
+choice false false false is given e f h asked gives = (refl, grind (arith, asked))
+
 module _ (options : Options) (kind : Kind) (given : List (List ℕ)) where
   some_by : (names : List (List ℕ)) (found : Option Kind) → asked_by options names found ≡ Ok (kind, given)
       → options.reads ≡ false → is_none_of given ≡ false
   some_by names None asked gives = grind (arith, asked)
-  some_by [] (Some found) asked gives = grind (arith, asked)
-  some_by (name ∷ names) (Some found) asked gives = grind (arith, asked)
+  some_by names (Some found) asked gives =
+      let (none, same) = choice _ _ _ _ _ _ _ _ asked gives in
+      sym (ap (λ (asked : Kind × List (List ℕ)). is_none_of asked.1) same) ∙ none
 
   some_in : (operands : List (List ℕ)) → asked_in options operands ≡ Ok (kind, given)
       → options.reads ≡ false → is_none_of given ≡ false

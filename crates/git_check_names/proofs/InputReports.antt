@@ -6,7 +6,9 @@ use Rattle.gix_validate.proofs.Common.{Appends-trans, MatchOption-at_some}
 use Rattle.programs.specs.Messages.{AppendsPrefixOf}
 use Rattle.programs.proofs.ReportSoFar.{Begins_more, when_known}
 use Rattle.git_names.specs.declared.faults.Kind.{Kind}
+use Rattle.git_check_names.specs.declared.input.Next.{Next}
 use Rattle.git_check_names.specs.declared.input.Next.TheVariants.{Name, TooLong, End}
+use Rattle.git_check_names.specs.declared.problem.Ended.{Ended}
 use Rattle.git_check_names.specs.declared.problem.Ended.TheVariants.{Failed}
 use Rattle.git_check_names.specs.declared.problem.Problem.TheVariants as problem
 use Rattle.git_check_names.specs.Names.{Outcome, Report, ended_of, failed_by, has_nul, input_report}
@@ -107,6 +109,11 @@ module _ (options : Options) (kind : Kind) (number : ℕ) (text name : List ℕ)
   unfolding input_report
   empty_first read first = grind (arith, nat_tests)
 
+-- what is read, where its end and what it is are other terms
+pub next_as : (b c : Option (List ℕ)) (name : List ℕ) {end byte : ℕ} {next is : Next} → end ≡ byte → next ≡ is
+    → IfSome b (λ text. IsNext end text c name next) → IfSome b (λ text. IsNext byte text c name is)
+next_as b c name end_is next_is read = rw (end_is, next_is) at read
+
 -- ---- an input while it is read
 
 module _ (options : Options) (kind : Kind) (number : ℕ) (name : List ℕ)
@@ -118,7 +125,7 @@ module _ (options : Options) (kind : Kind) (number : ℕ) (name : List ℕ)
   EndsWith outcome = IfSome a (λ text. Appends old mid (input_report options kind 1 text).lines
       × (outcome ≡ outcome_of (input_report options kind 1 text)))
 
-  pub name_goes : {c : Option (List ℕ)} (new : Option (List ℕ)) (m : List ℕ) (found : Bool)
+  name_goes : {c : Option (List ℕ)} (new : Option (List ℕ)) (m : List ℕ) (found : Bool)
       → IfSome b (λ text. IsNext (name_end options) text c name Name) → has_nul options name ≡ false
       → Appends mid new (name_report options kind name).lines
       → m ≡ messages ++ (name_report options kind name).messages
@@ -136,6 +143,19 @@ module _ (options : Options) (kind : Kind) (number : ℕ) (name : List ℕ)
         grind arith,
         grind arith,
       )))
+
+  -- the same of what is equal to the name
+  pub name_told : {c : Option (List ℕ)} (new : Option (List ℕ)) (m : List ℕ) (found : Bool)
+      (line told : List ℕ) → line ≡ name → told ≡ name
+      → IfSome b (λ text. IsNext (name_end options) text c name Name) → has_nul options line ≡ false
+      → Appends mid new (name_report options kind told).lines
+      → m ≡ messages ++ (name_report options kind told).messages
+      → found ≡ (name_report options kind told).refused → (name_report options kind told).failed ≡ false
+      → SoFar (input_report options kind 1) (input_report options kind (number + 1)) a c old new
+      m (refused || found) failed
+  name_told new m found line told line_is told_is read none appends m_is r_is f_is =
+      name_goes new m found read (rw line_is at none) (rw told_is at appends) (rw told_is at m_is)
+      (rw told_is at r_is) (rw told_is at f_is)
 
   pub long_goes : {c : Option (List ℕ)} (m : List ℕ)
       → IfSome b (λ text. IsNext (name_end options) text c name TooLong)
@@ -185,12 +205,11 @@ module _ (options : Options) (kind : Kind) (number : ℕ) (name : List ℕ)
       (grind (arith, is, failed_first (failed_by problem.EmptyInput) refl))
       (IfSome_then b read (λ text next. empty_first options kind number text name c next first))
 
-  pub names_end : (c : Option (List ℕ)) (outcome : Outcome)
-      → outcome ≡ record { ended = ended_of failed refused; messages = messages }
+  pub names_end : (c : Option (List ℕ)) (ended : Ended) → ended ≡ ended_of failed refused
       → IfSome b (λ text. IsNext (name_end options) text c name End) → (number == 1) ≡ false
-      → EndsWith outcome
-  names_end c outcome is read later =
-      ended_by nothing outcome refl (grind (arith, is, append-nil))
+      → EndsWith (record { ended = ended; messages = messages })
+  names_end c ended is read later =
+      ended_by nothing _ refl (grind (arith, is, append-nil))
       (IfSome_then b read (λ text next. none_first options kind number text name c next later))
 
   -- nothing is left

@@ -1,4 +1,5 @@
-use Rattle.gix_validate.proofs.Common.{◌≡◌, ◌≤◌, ◌++◌, [], ◌∷◌, ℕ, List, codes, length, arith, subst}
+use Rattle.gix_validate.proofs.Common.{◌≡◌, ◌≤◌, ◌++◌, [], ◌∷◌, ℕ, List, codes, length, arith}
+use Rattle.gix_validate.proofs.Common.{common_steps, subst}
 use Rattle.std.specs.Prelude.{OnOk, map, slice_index_or}
 use Rattle.git_check_names.specs.Names.{shown, unknown_in}
 use Rattle.git_check_names.specs.declared.problem.Problem.{Problem}
@@ -20,3 +21,15 @@ returns-in-NoKind c =
     (unknown_word _ c.args.operands.now c.word-item.result _ _ c.in-len1-up.len_at_least c.word-item.is
     c.in-NoKind.is c.as_bytes.ensures.value)
     c.push_unknown_word.ensures
+
+pub bounds-operands-0 : goal.bounds-operands-0
+bounds-operands-0 c = omega arith
+
+pub slice_bounds-names-start : goal.slice_bounds-names-start
+slice_bounds-names-start c = omega arith
+
+pub slice_bounds-names-count : goal.slice_bounds-names-count
+slice_bounds-names-count c = omega arith
+
+pub returns-in_default : goal.returns-in_default
+returns-in_default c = grind (arith, common_steps)

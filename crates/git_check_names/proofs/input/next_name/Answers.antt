@@ -17,3 +17,12 @@ returns-in-End-2-clause-next g c =
 
 pub returns-in-Byte-clause-next : goal.returns-in-Byte-clause-next
 returns-in-Byte-clause-next g c = name_read _ _ _ _ (rw c.in-Byte.is at c.in_ok-read_before.ensures.read)
+
+pub returns-in-End-clause-stop : goal.returns-in-End-clause-stop
+returns-in-End-clause-stop g c = grind (arith, common_steps)
+
+pub returns-in-End-2-clause-stop : goal.returns-in-End-2-clause-stop
+returns-in-End-2-clause-stop g c = grind (arith, common_steps)
+
+pub returns-in-Byte-clause-stop : goal.returns-in-Byte-clause-stop
+returns-in-Byte-clause-stop g c = grind (arith, common_steps)

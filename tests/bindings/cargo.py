@@ -9,6 +9,8 @@ from .tools import OUT, ROOT, need, output, run
 
 DEBIAN = Path("/usr/share/cargo/registry")
 SID = OUT / "gitoxide/crates"
+# Nobody builds these again or debugs them. (So they take a quarter less processor time.)
+BUILT_ONCE = {"CARGO_INCREMENTAL": "0", "CARGO_PROFILE_DEV_DEBUG": "0"}
 
 
 def rustc_minor():
@@ -33,7 +35,7 @@ class Program:
         self.folder = folder
         self.target = target
         built = {"PATH": path, "CARGO_TARGET_DIR": str(target)}
-        self.environment = {**os.environ, **built, **settings}
+        self.environment = {**os.environ, **BUILT_ONCE, **built, **settings}
 
     def cargo(self, *words, **options):
         return run("cargo", *words, cwd=self.folder, env=self.environment, **options)

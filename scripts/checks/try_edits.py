@@ -20,10 +20,10 @@ is *hollow*, and its line 'hollow:' says why.
 
 With --turns it tries the edits of mutants/ in crates that changed since the commit in
 .ci/edits-tried, for which `.ci/run --all-edits` tried all, and thirty more, drawn by the
-hash of HEAD, crate by crate: a crate is proved once more before its first edit. (A crate
-changes with its own files and its line in crates.txt, not with the crates below it.) Of
-must-fail/, whose edits `rt ci` tries, it tries the controls in these crates. Without such a
-commit it tries all.
+hash of HEAD, crate by crate, first one of each function: a crate is proved once more before
+its first edit, and edits of one function take a check each. (A crate changes with its own
+files and its line in crates.txt, not with the crates below it.) Of must-fail/, whose edits
+`rt ci` tries, it tries the controls in these crates. Without such a commit it tries all.
 
 Before the edits, rt checks their crates as they are. With --after-gate the libraries below are
 those that `rt ci` has just proved, which rt would prove anew.
@@ -357,12 +357,18 @@ def drawn(chosen, number, seed):
 
 
 def drawn_by_crate(chosen, number, seed):
-    """As many of these edits, drawn by lot: first those of the crate of the first. (A crate
-    with many edits mostly comes first, and then no other has to be proved once more.)
+    """As many of these edits, drawn by lot: first those of the crate of the first, one of
+    each function before a second. (A crate with many edits mostly comes first, and then no
+    other has to be proved once more. Two edits of one function take two checks.)
     """
-    order = by_lot(chosen, seed)
+    order, earlier = by_lot(chosen, seed), Counter()
     crates = [it.crate for it in order]
-    return sorted(sorted(order, key=lambda it: crates.index(it.crate))[:number])
+
+    def place(edit):
+        earlier[edit.crate, edit.function] += 1
+        return crates.index(edit.crate), earlier[edit.crate, edit.function]
+
+    return sorted(sorted(order, key=place)[:number])
 
 
 def changed_since(commit):

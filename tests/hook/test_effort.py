@@ -1,9 +1,12 @@
 """How much work a push can make: the hook has Git list the trees once, however many
 references there are. All processes have one pair of limits, which settings raise."""
+import hashlib
 import re
 import subprocess
 import sys
+import tempfile
 import time
+from pathlib import Path
 
 import pytest
 
@@ -326,10 +329,17 @@ def large_commit(source, size, *parents):
     return source.git(*words, stdin=content)
 
 
+def tag_text(target, kind, name):
+    return f"object {target}\ntype {kind}\ntag {name}\ntagger a <b> 1 +0000\n\n"
+
+
+# How git hash-object takes a tag that git mktag would refuse.
+HASH_TAG = ["hash-object", "--literally", "-t", "tag", "-w"]
+
+
 def tag(source, target, kind, name, message=""):
-    content = f"object {target}\ntype {kind}\ntag {name}\ntagger a <b> 1 +0000\n\n"
-    words = ["hash-object", "--literally", "-t", "tag", "-w", "--stdin"]
-    return source.git(*words, stdin=content + message)
+    text = tag_text(target, kind, name) + message
+    return source.git(*HASH_TAG, "--stdin", stdin=text)
 
 
 def commits(incoming):
@@ -359,10 +369,18 @@ def tags_with_long_names(incoming):
 
 def tags_of_tags(incoming):
     """Git keeps the chain of each."""
-    target, kind, tags = incoming.commit_of("a"), "commit", []
+    target, kind, texts = incoming.commit_of("a"), "commit", []
     for n in range(3000):
-        target, kind = tag(incoming, target, kind, f"{n}"), "tag"
-        tags.append(target)
+        texts.append(tag_text(target, kind, f"{n}"))
+        of_git = f"tag {len(texts[n])}\0{texts[n]}".encode()
+        target, kind = hashlib.new(incoming.object_format, of_git).hexdigest(), "tag"
+    with tempfile.TemporaryDirectory() as room:
+        paths = [Path(room, f"{n}") for n in range(len(texts))]
+        for path, text in zip(paths, texts):
+            path.write_text(text)
+        listed = "".join(f"{path}\n" for path in paths)
+        tags = incoming.git(*HASH_TAG, "--stdin-paths", stdin=listed).split()
+    assert tags[-1] == target
     return tags
 
 

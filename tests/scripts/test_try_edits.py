@@ -4,6 +4,8 @@ A crate `app` has an edit `number`, which is refused as its line says, and anoth
 `added`, of which each test says what rt says.
 """
 
+import itertools
+import re
 import subprocess
 from typing import NamedTuple
 
@@ -115,16 +117,16 @@ class App(Copy):
         (self.path / ".ci").mkdir(exist_ok=True)
         (self.path / ".ci/edits-tried").write_text(f"{commit}\n")
 
-    def add_crate(self, name, count):
-        """Adds a crate with as many edits, each of a function of its own."""
+    def add_crate(self, name, count, each=1):
+        """Adds a crate with as many functions, and `each` edits of each of them."""
         with open(self.path / "crates.txt", "a") as crates:
             crates.write(f"{name}:\n")
         (self.path / f"crates/{name}/src").mkdir(parents=True)
         functions = [f"fn f{it}() {{\n    v{it}_\n}}\n" for it in range(count)]
         (self.path / f"crates/{name}/src/lib.rt").write_text("".join(functions))
-        for it in range(count):
-            said = comment(f"{NOTE} a\nfn {name}::f{it}: not proved")
-            file = f"crates/{name}/mutants/m{it}.edit"
+        for it, number in itertools.product(range(count), range(each)):
+            said = comment(f"{NOTE} a{number}\nfn {name}::f{it}: not proved")
+            file = f"crates/{name}/mutants/f{it}_{number}.edit"
             self.write(file, f"v{it}_", said, f"f{it} answer")
 
 
@@ -624,6 +626,17 @@ def test_edits_are_drawn_crate_by_crate(app):
     _, tried = tried_in_turn(app)
     crates = {it.split("/")[1] for it in tried}
     assert len(tried) == 30 and len(crates - {"app"}) == 1
+
+
+def test_of_each_function_an_edit_is_drawn_before_another_of_any(app):
+    app.add_crate("low", 25, each=4)
+    app.tried(app.commit())
+    app.commit()
+    output, tried = tried_in_turn(app)
+    functions = {re.search(r"/f(\d+)_", it)[1] for it in tried - {NUMBER}}
+    assert len(tried) == 30 and len(functions) == 25
+    # (Two for this crate, and perhaps one for the other.)
+    assert re.search(r" in [23] checks;", output)
 
 
 # A line of a body, and how braces are put there: the line is the last of a block if

@@ -35,9 +35,8 @@ fn check_uncut(rt: &impl Host, text: &[u8], between_slashes: &[u8]) {
 
 /// Panics unless exactly the first so many rules find no error.
 fn expect_accepting(rt: &impl Abort, text: &[u8], accepting: usize, faults: &[Fault<'_>; 4]) {
-    for kind in 0..4 {
-        let is_valid = faults[kind].0.is_empty();
-        expect_bool(rt, ("a rule", text), kind < accepting, is_valid);
+    for (kind, fault) in faults.iter().enumerate() {
+        expect_bool(rt, ("a rule", text), kind < accepting, fault.0.is_empty());
     }
 }
 
@@ -174,7 +173,8 @@ pub(crate) fn options(settings: &str) -> ComponentOptions {
 
 /// The mode of these settings.
 pub(crate) fn mode(settings: &str) -> Option<ComponentMode> {
-    settings.ends_with("s").then_some(ComponentMode::Symlink)
+    let letters = settings.as_bytes();
+    letters.ends_with(b"s").then_some(ComponentMode::Symlink)
 }
 
 /// Checks the result for a component under these settings.

@@ -9,8 +9,8 @@ change. `rt ci` proves each crate from nothing, and builds the programs. What fo
 over what it has proved. Before the check begins it removes all that was built here.
 
 The edits of must-fail/ are tried each time, those of mutants/ by turns: scripts/dev
-try-edits --help says which. Processors that an emulator stands in for have turns, too, in
-the tests of C and Go. With --all-edits all are tried. If such a check passes on a tree
+try-edits --help says which. The processors for which Go's module has no machine code have
+turns, too. With --all-edits all are tried. If such a check passes on a tree
 without changes, it leaves the release that it has built and tested in out/release, and
 writes the commit into .ci/edits-tried.
 

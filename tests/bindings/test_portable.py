@@ -17,7 +17,6 @@ from .tools import (
     SANITIZED,
     STRICT,
     as_msvc,
-    in_turn,
     need,
     output,
     rows,
@@ -26,13 +25,12 @@ from .tools import (
 
 SOURCE = BINDINGS / "c/rows.c"
 ALL_HOLD = f"{len(rows())} rows, 0 wrong\n"
-# The tests of a processor run where its compiler is, and the name of qemu's program. (In this
-# order no commit has the same processor in turn for Go.)
+# The tests of a processor run where its compiler is, and the name of qemu's program.
 PROCESSORS = {
+    "aarch64": "qemu-aarch64",
+    "i686": "qemu-i386",
     "riscv64": "qemu-riscv64",
     "s390x": "qemu-s390x",
-    "i686": "qemu-i386",
-    "aarch64": "qemu-aarch64",
 }
 # What C's library has for these functions on systems that aren't here.
 HEADERS = {
@@ -61,7 +59,7 @@ def test_the_rows_hold_as_clang_builds_the_functions(tmp_path):
     assert replayed(tmp_path, ["clang", "-O1"]) == ALL_HOLD
 
 
-@pytest.mark.parametrize("processor", in_turn(PROCESSORS))
+@pytest.mark.parametrize("processor", PROCESSORS)
 def test_the_rows_hold_on_another_processor(processor, tmp_path):
     compiler, emulator = f"{processor}-linux-gnu-gcc", PROCESSORS[processor]
     need(compiler, emulator)

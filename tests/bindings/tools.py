@@ -82,15 +82,6 @@ def output(*command, **options):
     return run(*command, **options).stdout
 
 
-def in_turn(targets):
-    """The target whose turn it is, by the commit's hash: to compile all that a test needs for
-    each takes long. With ALL_TARGETS=true it is the turn of all."""
-    if os.environ.get("ALL_TARGETS") == "true":
-        return [*targets]
-    commit = output("git", "rev-parse", "HEAD", cwd=ROOT)
-    return [[*targets][int(commit, 16) % len(targets)]]
-
-
 def declared():
     """The functions of the library that the header declares, sorted."""
     return sorted(re.findall(r"(?m)^\w+ (gix_validate_\w+)\(", HEADER.read_text()))

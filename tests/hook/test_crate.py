@@ -1,4 +1,4 @@
-"""The crate of the hook and the scan: what clippy says of it, and what is built."""
+"""The crate of the hook and the scan: what clippy says of it, and its build."""
 
 import os
 import shutil
@@ -26,5 +26,14 @@ def test_clippy_finds_nothing():
     assert status == 0, said
 
 
-def test_the_program_has_no_path_of_the_folder_in_which_it_was_built(installed):
-    assert bytes(ROOT) not in (installed / "pre-receive").read_bytes()
+def test_a_build_in_another_folder_gives_the_same_bytes(installed, tmp_path):
+    crate = tmp_path / "another"
+    shutil.copytree(
+        ROOT / "hook", crate, ignore=lambda folder, names: {"target"} & set(names)
+    )
+    words = ["build", "--release", "--target-dir", "target", *OFFLINE]
+    [release] = installed.glob("*/")
+    status, said = cargo(*words, cwd=crate, GIX_VALIDATE_RELEASE=release.name)
+    assert status == 0, said
+    built = crate / "target/release/names-hook"
+    assert built.read_bytes() == (installed / "pre-receive").read_bytes()

@@ -52,11 +52,14 @@ PARTS = [
     "build",
     "dist --record",
     "dist --built",
-    "dev try-edits --after-gate all",
+    "dev try-edits --built --jobs {jobs} all",
     "pytest -n {jobs} --dist loadgroup tests --ignore",
     "dist --keep",
 ]
-PARTS = [part.format(jobs=len(os.sched_getaffinity(0))) for part in PARTS]
+# How many jobs a check has at once: of more than two processors it leaves one free.
+PROCESSORS = len(os.sched_getaffinity(0))
+JOBS = PROCESSORS - 1 if PROCESSORS > 2 else PROCESSORS
+PARTS = [part.format(jobs=JOBS) for part in PARTS]
 EARLY, TESTS = PARTS[2], PARTS[-2]
 
 
@@ -153,10 +156,9 @@ def test_a_check_whose_parts_pass_passes_and_ends_with_the_last_line_of_rt(copy)
 
 def test_a_check_first_prints_how_long_it_will_take(copy):
     _, printed = copy.run()
-    jobs = len(os.sched_getaffinity(0))
     assert printed.splitlines()[0] == (
-        f"about 100 processor minutes, which is {100 / jobs:.0f} minutes on {jobs} processors "
-        "here, as fast as Some Processor"
+        f"about 100 processor minutes, which is {100 / JOBS:.0f} minutes with {JOBS} jobs here, "
+        "as fast as Some Processor"
     )
 
 
@@ -183,7 +185,7 @@ def test_a_check_without_all_edits_tries_those_whose_turn_it_is_and_keeps_no_rel
     copy,
 ):
     assert copy.run(CI="true")[0] == 0
-    assert "dev try-edits --after-gate --turns" in copy.calls
+    assert f"dev try-edits --built --jobs {JOBS} --turns" in copy.calls
     assert not copy.keeps_the_release
     assert not (copy.folder / ".ci/edits-tried").exists()
 
@@ -305,15 +307,14 @@ def test_a_source_that_changes_during_the_check_fails_it(copy, words):
 
 
 def test_the_check_of_a_crate_has_the_crates_that_stand_on_it_and_no_others(copy):
-    jobs = len(os.sched_getaffinity(0))
-    pytest_jobs = f"pytest -n {jobs} --dist loadgroup"
+    pytest_jobs = f"pytest -n {JOBS} --dist loadgroup"
     assert copy.run("low")[0] == 0
     assert [call.partition(" --junit")[0] for call in copy.calls] == [
         "rt version",
-        f"rt all test --jobs {jobs}",
-        f"rt all test --jobs {jobs}",
+        f"rt all test --jobs {JOBS}",
+        f"rt all test --jobs {JOBS}",
         "rt run -- --version",
-        "dev try-edits --built low",
+        f"dev try-edits --built --jobs {JOBS} low",
         f"{pytest_jobs} tests/programs --build=crates/check_push/out/check_push",
         f"{pytest_jobs} tests/hook",
         "build ",

@@ -48,11 +48,15 @@ NO_KIT = (
 # edits were tried.
 MINUTES = Path(".ci/minutes")
 TRIED = Path(".ci/edits-tried")
-JOBS = str(len(os.sched_getaffinity(0)))
+# (Of more than two processors one stays free: where four jobs shared four, each took a tenth more
+# processor time than each of three, and they got no more done.)
+PROCESSORS = len(os.sched_getaffinity(0))
+JOBS = str(PROCESSORS - 1 if PROCESSORS > 2 else PROCESSORS)
 # The tests that need nothing that is built: they run beside the proofs, and fail early.
 EARLY = ("tests/scripts", "tests/test_full_check.py")
 # (One process runs all tests of a group, which share a browser or a build.)
 PYTEST = ("pytest", "-n", JOBS, "--dist", "loadgroup")
+TRY_EDITS = ("try-edits", "--built", "--jobs", JOBS)
 # What a part prints of something that it could not do, and what pytest prints of it.
 NOT_RUN = re.compile(r"^(?:not run: |SKIPPED \[\d+\] )(.*)", re.MULTILINE)
 # The crates of gitoxide, of which gix-error is one, may be missing: the reason says so.
@@ -187,7 +191,7 @@ def check_all(commit, edits):
     early = [f"--ignore={it}" for it in EARLY]
     yield run("tests", *PYTEST, "tests", *early, "--built", *release, **targets)
     # (Not beside the tests, since then both take more of the processors' time.)
-    yield run("edits", "scripts/dev", "try-edits", "--after-gate", *edits)
+    yield run("edits", "scripts/dev", *TRY_EDITS, *edits)
 
 
 def check_some(crates):
@@ -200,7 +204,7 @@ def check_some(crates):
         yield run(f"proofs of {name}", "env", "-C", f"crates/{name}", *proof_of(name))
     edited = [name for name in names if Path("crates", name, "mutants").is_dir()]
     if edited:
-        yield run("edits", "scripts/dev", "try-edits", "--built", *edited)
+        yield run("edits", "scripts/dev", *TRY_EDITS, *edited)
     programs = [f"--build=crates/{it}/out/{it}" for it in names if is_program(it)]
     if programs:
         yield run("programs", *PYTEST, "tests/programs", *programs)
@@ -258,8 +262,8 @@ def say_how_long():
     machine, *lines = MINUTES.read_text("utf-8").splitlines()
     minutes = sum(float(line.split()[1]) for line in lines)
     print(
-        f"about {minutes:.0f} processor minutes, which is {minutes / int(JOBS):.0f} minutes on "
-        f"{JOBS} processors here, as fast as {machine.removeprefix('# ')}",
+        f"about {minutes:.0f} processor minutes, which is {minutes / int(JOBS):.0f} minutes with "
+        f"{JOBS} jobs here, as fast as {machine.removeprefix('# ')}",
         flush=True,
     )
 
@@ -289,7 +293,9 @@ def report(parts, started):
     for part in parts:
         print(f"{part.name:24} {part.minutes:6.1f}  {part.ended}")
     print(f"{'all':24} {sum(part.minutes for part in parts):6.1f}")
-    print(f"minutes on {JOBS} processors: {(time.monotonic() - started) / 60:.0f}")
+    print(
+        f"minutes on {PROCESSORS} processors: {(time.monotonic() - started) / 60:.0f}"
+    )
     for line in what_was_not_run(parts):
         print(f"not run: {line}")
 

@@ -1,6 +1,6 @@
 """Tries must-fail edits on copies of their crates, and says what refuses each.
 
-A copy keeps what is proved of the crate already. The status is 0 if each edit is refused
+A copy begins with what is proved of the crate already. The status is 0 if each edit is refused
 in the function that its line 'refused:' names, and in no other that it leaves alone. (The
 check may not name each clause.) It is 1 if
 
@@ -20,13 +20,14 @@ is *hollow*, and its line 'hollow:' says why.
 
 With --turns it tries the edits of mutants/ in crates that changed since the commit in
 .ci/edits-tried, for which `.ci/run --all-edits` tried all, and thirty more, drawn by the
-hash of HEAD, crate by crate, first one of each function: a crate is proved once more before
-its first edit, and edits of one function take a check each. (A crate changes with its own
+hash of HEAD, crate by crate, first one of each function: with its first edits a crate is
+proved once more, and edits of one function take a check each. (A crate changes with its own
 files and its line in crates.txt, not with the crates below it.) Of must-fail/, whose edits
 `rt ci` tries, it tries the controls in these crates. Without such a commit it tries all.
 
-Before the edits, rt checks their crates as they are. With --after-gate the libraries below are
-those that `rt ci` has just proved, which rt would prove anew.
+Before the edits, rt checks their crates as they are, unless --built says that they have just
+been proved. Of `rt ci` nothing is left to begin with, so the first check of a crate leaves what
+it has proved to the others.
 
 With --controls it draws edits of mutants/, by the hash of HEAD or --seed, and tries their
 controls. For an edit without one that is braces around what the edit changes. If these
@@ -40,6 +41,7 @@ import subprocess
 import tempfile
 from collections import Counter
 from concurrent.futures import ThreadPoolExecutor
+from contextlib import suppress
 from pathlib import Path
 from typing import NamedTuple, Optional
 
@@ -49,6 +51,8 @@ from scripts.sources import Edit, Wrong, bodies, edits, read, replaced
 # of crates that changed since.
 TRIED, MORE = ".ci/edits-tried", 30
 RATTLE = Path(__file__).parents[1] / "rattle"
+# Where a crate has what checks have proved.
+KEPT = "out/incremental"
 
 # How a function is refused, the best evidence first.
 VALUE = "by values at which it is false"
@@ -100,12 +104,12 @@ class Tried(NamedTuple):
     said: list  # what the check said of it
 
 
-def checked(crate, *by):
+def checked(crate, by=RATTLE):
     """The status of a check in this folder of a crate, and what it said. It is over the
     libraries that are there, unless it is by `rt`, which proves them if they have changed.
     """
     done = subprocess.run(
-        [*(by or [RATTLE]), "check", "--jobs", "1"],
+        [by, "check", "--jobs", "1"],
         cwd=crate,
         stdin=subprocess.DEVNULL,
         capture_output=True,
@@ -180,7 +184,9 @@ def change_of(edit, text):
 
 
 def checked_with(batch, room):
-    """The status of a check of the edited crate, in a new folder, and what it said."""
+    """The status of a check of the edited crate, in a new folder, and what it said. What it
+    has proved is kept in the crate's own folder, if nothing is yet.
+    """
     # (Second names are enough: a check replaces files, and never writes into one.)
     copied = ["HANDLES", "crates.txt", "crates"]
     subprocess.run(["cp", "-al", *copied, room], check=True)
@@ -188,7 +194,11 @@ def checked_with(batch, room):
         path = Path(room, source)
         path.unlink()
         path.write_text(edited(source, batch), "utf-8")
-    return checked(f"{room}/crates/{batch[0].crate}")
+    crate = f"crates/{batch[0].crate}"
+    ended = checked(f"{room}/{crate}")
+    with suppress(OSError):  # (something is there, or nothing was proved)
+        os.renames(f"{room}/{crate}/{KEPT}", f"{crate}/{KEPT}")
+    return ended
 
 
 def tried(batch):
@@ -434,9 +444,11 @@ def add_arguments(parser):
         help="the crates were just proved without an edit",
     )
     parser.add_argument(
-        "--after-gate",
-        action="store_true",
-        help="the libraries below were just proved by `rt ci`",
+        "--jobs",
+        type=int,
+        default=len(os.sched_getaffinity(0)),
+        metavar="N",
+        help="how many checks run at once (default: the processors)",
     )
 
 
@@ -446,10 +458,9 @@ def check_unedited(chosen, args):
         raise Wrong("there is no edit to try")
     if args.built:
         return
-    by = [] if args.after_gate else ["rt"]
     crates = sorted({it.crate for it in chosen})
-    with ThreadPoolExecutor(len(os.sched_getaffinity(0))) as pool:
-        found = pool.map(lambda it: checked(f"crates/{it}", *by), crates)
+    with ThreadPoolExecutor(args.jobs) as pool:
+        found = pool.map(lambda it: checked(f"crates/{it}", "rt"), crates)
     for crate, (status, _) in zip(crates, found):
         if status:
             raise Wrong(
@@ -465,20 +476,19 @@ def run(args):
         return try_drawn(args.controls, args.seed or head(), args)
     chosen, others = in_turn() if args.turns else (named(args.names), [])
     check_unedited([*chosen, *others], args)
-    return try_all(chosen, others)
+    return try_all(chosen, others, args.jobs)
 
 
-def try_all(chosen, others):
+def try_all(chosen, others, jobs):
     """Tries edits, and the controls of these and of others."""
     every = [*chosen, *others]
     harmless = around_body(shortest(every))._replace(file=HARMLESS)
     controls = batches([harmless, *(by_control(it) for it in every if it.control)])
     plan = batches(chosen)
-    with ThreadPoolExecutor(len(os.sched_getaffinity(0))) as pool:
-        of_controls = pool.map(accepted, controls)
-        results = [it for batch in pool.map(tried, plan) for it in batch]
-    results = {it.edit.file: it for it in results}
-    said = {it.file: it.said for batch in of_controls for it in batch}
+    tasks = [*((accepted, it) for it in controls), *((tried, it) for it in plan)]
+    found = returned(tasks, jobs)
+    results = {it.edit.file: it for it in found if isinstance(it, Tried)}
+    said = {it.file: it.said for it in found if isinstance(it, Control)}
     of_harmless = said.pop(HARMLESS)
     ends = [end_of(it, results.get(it.file), said.get(it.file)) for it in every]
     for is_failed, lines in sorted(ends, key=lambda it: it[0]):
@@ -498,6 +508,23 @@ def try_all(chosen, others):
         "REFUSED" if of_harmless else "accepted",
     )
     return not of_harmless and not any(is_failed for is_failed, _ in ends)
+
+
+def returned(tasks, jobs):
+    """What these calls return of their batches, all in one list. Of a crate of which nothing
+    is kept the first is over before the others begin, since it keeps what they take.
+    """
+    early = {}
+    for call, batch in tasks:
+        crate = batch[0].crate
+        if not os.path.isdir(f"crates/{crate}/{KEPT}"):
+            early.setdefault(crate, (call, batch))
+    later = [it for it in tasks if it not in early.values()]
+    found = []
+    with ThreadPoolExecutor(jobs) as pool:
+        for some in early.values(), later:
+            found += pool.map(lambda task: task[0](task[1]), some)
+    return [it for of_batch in found for it in of_batch]
 
 
 def controls_counted(said):
@@ -532,8 +559,7 @@ def try_drawn(number, seed, args):
     print(f"drawn by {seed} of {len(every)} edits")
     check_unedited(chosen, args)
     plan = batches(by_control(it) if it.control else around_line(it) for it in chosen)
-    with ThreadPoolExecutor(len(os.sched_getaffinity(0))) as pool:
-        found = [it for batch in pool.map(accepted, plan) for it in batch]
+    found = returned([(accepted, it) for it in plan], args.jobs)
     failed = {it.file for it in chosen if it.control} & {
         it.file for it in found if it.said
     }

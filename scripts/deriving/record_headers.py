@@ -22,9 +22,14 @@ BYTE = "<byte>"
 def git(*words, stdin=""):
     """What Git prints, or None if it refuses."""
     alone = {"GIT_CONFIG_NOSYSTEM": "1", "HOME": "/nonexistent", "LC_ALL": "C"}
-    env = {**os.environ, **alone}
+    # (Each pipe that isn't needed costs time, and there are thousands of calls.)
+    given = {"input": stdin.encode()} if stdin else {"stdin": subprocess.DEVNULL}
     ran = subprocess.run(
-        ["git", *words], env=env, input=stdin.encode(), capture_output=True
+        ["git", *words],
+        env={**os.environ, **alone},
+        stdout=subprocess.PIPE,
+        stderr=subprocess.DEVNULL,
+        **given,
     )
     return ran.stdout.decode("latin-1") if ran.returncode == 0 else None
 
@@ -47,8 +52,9 @@ def answers(place, byte, repository, file, blob):
     differs."""
     said = []
     for source in ["--file", file], ["--blob", blob]:
-        command = ["-C", repository, "config", *source, "--list", "-z", "--name-only"]
-        said.append(answer(git(*command), place, byte))
+        words = ["config", *source, "--list", "-z", "--name-only"]
+        keys = git(f"--git-dir={repository}", *words)
+        said.append(answer(keys, place, byte))
     return ", ".join(dict.fromkeys(said))
 
 

@@ -310,6 +310,15 @@ def test_crates_that_were_just_proved_are_not_checked_without_an_edit(app):
     assert len(app.calls) == 2
 
 
+def test_the_first_check_of_a_crate_leaves_what_it_has_proved_to_the_others(app):
+    app.does = "keeps"
+    app.write(ADDED, "one", comment(not_proved("number") + "again"), "number answer")
+    assert app.try_edits("all", "--built").status == 0
+    [kept] = (app.path / "crates/app/out/incremental").iterdir()
+    begun = (app.room / "begun").read_text().splitlines()
+    assert begun == ["", kept.name, kept.name]
+
+
 @pytest.mark.parametrize("name", ["number", "app/number", NUMBER])
 def test_an_edit_is_named_by_its_name_its_crate_and_name_or_its_file(app, name):
     app.add("eins", comment(not_proved("other")))

@@ -463,20 +463,21 @@ static uint8_t *page_alone(size_t page) {
 }
 
 /* Checks the names with each array that is smaller or as large as wanted, and
-   starts at this edge of a page, or ends there. */
-static void check_arrays(struct bytes names, uint8_t *edge, bool is_end,
-                         size_t wanted) {
+   ends or starts at the end of a page. */
+static void check_arrays(struct bytes names, uint8_t end, uint8_t *page_start,
+                         size_t page, size_t wanted) {
   for (size_t i = 0; i < KINDS; i++) {
     struct question asked = {&kinds[i], GIX_VALIDATE_PROTECT_ALL};
     for (size_t size = 0; size <= wanted; size++) {
-      uint8_t *faults = is_end ? edge - size : edge;
-      EXPECT(many_of(asked, names, '\n', faults, size) == wanted);
+      EXPECT(many_of(asked, names, end, page_start, size) == wanted);
+      EXPECT(many_of(asked, names, end, page_start + page - size, size) ==
+             wanted);
     }
   }
 }
 
-/* Buffers of names, and arrays of faults, that both start at a page that may
-   not be touched, or both end there. */
+/* Buffers of names, and arrays of faults, that end or start at a page that may
+   not be touched. */
 static void check_ends_of_many(void) {
   static const char *const fills[] = {"a\n", "refs/heads/a\n", "\n",
                                       "a.lock/b..\n\n"};
@@ -494,8 +495,8 @@ static void check_ends_of_many(void) {
       for (size_t i = 0; i < length; i++) {
         at_front.start[i] = at_end.start[i] = (uint8_t)fills[f][i % once];
       }
-      check_arrays(at_front, faults, false, wanted);
-      check_arrays(at_end, faults + page, true, wanted);
+      check_arrays(at_front, '\n', faults, page, wanted);
+      check_arrays(at_end, '\n', faults, page, wanted);
     }
   }
   munmap(names - page, 3 * page);

@@ -26,8 +26,9 @@ files and its line in crates.txt, not with the crates below it.) Of must-fail/, 
 `rt ci` tries, it tries the controls in these crates. Without such a commit it tries all.
 
 Before the edits, rt checks their crates as they are, unless --built says that they have just
-been proved. Of `rt ci` nothing is left to begin with, so the first check of a crate leaves what
-it has proved to the others.
+been proved. In any case each crate is checked with braces around a body, which has to be
+accepted. Of `rt ci` nothing is left to begin with, so this first check leaves what it has proved
+to the others.
 
 With --controls it draws edits of mutants/, by the hash of HEAD or --seed, and tries their
 controls. For an edit without one that is braces around what the edit changes. If these
@@ -81,7 +82,7 @@ WAITS = ("no proof: it ", "not proved; it ")
 SHOWN = re.compile(r"(?m)^(?:fn \S+: (?!proved$)|\./proofs/|note: .* not proved).*")
 
 
-# What stands for the file of the edit that puts braces around a body.
+# What stands for the folder of edits that put braces around a body.
 HARMLESS = Path("a harmless edit")
 
 # A line with the value of a `let`, an arm or a field, or with a statement, an argument or the
@@ -482,14 +483,18 @@ def run(args):
 def try_all(chosen, others, jobs):
     """Tries edits, and the controls of these and of others."""
     every = [*chosen, *others]
-    harmless = around_body(shortest(every))._replace(file=HARMLESS)
-    controls = batches([harmless, *(by_control(it) for it in every if it.control)])
+    # (One of each crate, which so is proved with all but what its edits change.)
+    crates = sorted({it.crate for it in every})
+    harmless = [around_body(shortest(of_crate(it, every))) for it in crates]
+    harmless = [it._replace(file=HARMLESS / it.function) for it in harmless]
+    controls = batches([*harmless, *(by_control(it) for it in every if it.control)])
     plan = batches(chosen)
     tasks = [*((accepted, it) for it in controls), *((tried, it) for it in plan)]
     found = returned(tasks, jobs)
     results = {it.edit.file: it for it in found if isinstance(it, Tried)}
     said = {it.file: it.said for it in found if isinstance(it, Control)}
-    of_harmless = said.pop(HARMLESS)
+    of_harmless = {it.function: said.pop(it.file) for it in harmless}
+    of_harmless = {function: lines for function, lines in of_harmless.items() if lines}
     ends = [end_of(it, results.get(it.file), said.get(it.file)) for it in every]
     for is_failed, lines in sorted(ends, key=lambda it: it[0]):
         print(*lines, sep="\n  ")
@@ -498,9 +503,8 @@ def try_all(chosen, others, jobs):
         ", ".join(f"{ways[way]} {way}" for way in WAYS if ways[way]) or "none refused"
     )
     print(f"{controls_counted(said)}; {sum(bool(it.hollow) for it in every)} hollow")
-    if of_harmless:
-        head_line = f"braces around the body of {harmless.function} FAILED"
-        print(head_line, *of_harmless, sep="\n  ")
+    for function, lines in of_harmless.items():
+        print(f"braces around the body of {function} FAILED", *lines, sep="\n  ")
     print(
         f"{sum(ways.values())} refused as their lines say,",
         f"{sum(is_failed for is_failed, _ in ends)} failed, in {len(plan)} checks;",
@@ -508,6 +512,10 @@ def try_all(chosen, others, jobs):
         "REFUSED" if of_harmless else "accepted",
     )
     return not of_harmless and not any(is_failed for is_failed, _ in ends)
+
+
+def of_crate(crate, every):
+    return [it for it in every if it.crate == crate]
 
 
 def returned(tasks, jobs):

@@ -310,6 +310,12 @@ def test_crates_that_were_just_proved_are_not_checked_without_an_edit(app):
     assert len(app.calls) == 2
 
 
+def test_each_crate_is_checked_with_a_harmless_edit(app):
+    app.add_crate("low", 1)
+    assert app.try_edits("all", "--built").status == 0
+    assert sorted(it.partition(":")[0] for it in app.calls) == ["app"] * 2 + ["low"] * 2
+
+
 def test_the_first_check_of_a_crate_leaves_what_it_has_proved_to_the_others(app):
     app.does = "keeps"
     app.write(ADDED, "one", comment(not_proved("number") + "again"), "number answer")

@@ -40,7 +40,7 @@ class Reader:
             **os.environ,
             "PATH": f"{room}/usr/local/bin:{os.environ['PATH']}",
             "TMPDIR": f"{room}/tmp",  # (Dask, for one, leaves a directory there)
-            "JDK_JAVA_OPTIONS": "-XX:-UsePerfData",  # (it leaves one in /tmp)
+            "JDK_JAVA_OPTIONS": "-XX:-UsePerfData",  # (Java leaves one in /tmp)
             "PYTHONPATH": f"{room}/module",
             "LIBRARY": str(ROOT),
             "GIT_CONFIG_SYSTEM": f"{room}/SYSTEM",

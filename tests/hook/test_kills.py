@@ -12,6 +12,8 @@ from tests.hook.processes import end, start
 
 pytestmark = pytest.mark.one_format
 
+# What is killed, and how often.
+CHECKS = ["device", "submodule", "ref", "own hook", "scan"]
 KILLS = 50
 
 
@@ -55,7 +57,7 @@ class Check:
         return time.monotonic() - begin
 
 
-@pytest.fixture(params=["device", "submodule", "ref", "own hook", "scan"])
+@pytest.fixture(params=CHECKS)
 def check(request, hook, server, two_hooks, source, room):
     """The hook on each kind of hostile push, the hook after another one, and the scan
     of a hostile server."""

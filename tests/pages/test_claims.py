@@ -1,4 +1,4 @@
-"""What README and the FAQ say of names, and of what Git does with them, is so."""
+"""Pages are right about names, about what Git does with them, and in what they count."""
 
 import os
 import re
@@ -9,7 +9,9 @@ import pytest
 
 from scripts.checks.check_quotes import pages
 from scripts.deriving.update_benchmarks import SPEEDS
+from tests.hook.test_kills import CHECKS, KILLS
 from tests.pages.blocks import ROOT
+from tests.release import test_debian, test_upgrade
 
 # Names that README says are accepted, each as what it is checked.
 ACCEPTED = [
@@ -92,6 +94,15 @@ def test_ASSURANCE_counts_what_was_recorded_and_the_rows_of_the_bindings():
     rows = (ROOT / "tests/rows").read_text("utf-8").splitlines()
     count = sum(bool(it) and not it.startswith("#") for it in rows)
     assert f"some {round(count, -2)} rows" in text
+
+
+def test_ASSURANCE_counts_the_kills_and_the_slow_upgrades():
+    text = section("docs/ASSURANCE.md", "The hook and the scan")
+    of_the_hook = [it for it in CHECKS if it != "scan"]
+    kills = KILLS * len(of_the_hook)
+    by_install, by_dpkg = test_upgrade.SLOW_UPGRADES, test_debian.SLOW_UPGRADES
+    assert f"killed at a random moment ({kills} times)" in text
+    assert f"{by_install} slowed upgrades by `install` and {by_dpkg} by `dpkg`" in text
 
 
 @pytest.mark.parametrize("kind, name", ACCEPTED)

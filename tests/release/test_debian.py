@@ -21,6 +21,8 @@ from tests.release.hostile import (
 
 pytestmark = need("dpkg")
 
+# How often the packages are upgraded slowly, to another release or back.
+SLOW_UPGRADES = 10
 SHARED = f"libgix-validate-c{MAJOR}"
 LOCAL = b"/usr/local/libexec"
 NAMES = ["gix-validate", "gix-validate-doc", SHARED, "libgix-validate-dev"]
@@ -195,13 +197,13 @@ def assert_is_the_example(program, **environment):
 
 
 @need("strace")
-def test_no_hostile_push_is_accepted_during_10_slow_upgrades(
+def test_no_hostile_push_is_accepted_during_slow_upgrades(
     own_system, upgrades, hostile
 ):
     hook = own_system.usr / "libexec/gix-validate/pre-receive"
     hostile.set_hook(own_system.usr)
     with hostile.pushes_on() as pushes:
-        for n in rounds(10, pushes):
+        for n in rounds(SLOW_UPGRADES, pushes):
             command = [*own_system.dpkg, "-i", upgrades[n % 2]]
             ran = run_slowly(own_system.root, hook, *command)
             assert ran.status == 0, ran.said

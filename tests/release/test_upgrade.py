@@ -12,6 +12,9 @@ import pytest
 from tests.release.commands import ENVIRONMENT, differences, files_under, need, run
 from tests.release.hostile import REFUSED, are_checked, folder_of, rounds, run_slowly
 
+# How often `install` upgrades a release slowly, to another one or back.
+SLOW_UPGRADES = 8
+
 
 def test_an_upgrade_from_before_3_0_0_leaves_what_a_first_install_leaves(
     legacy, one, fresh
@@ -29,13 +32,13 @@ def test_an_upgrade_leaves_nothing_of_the_release_before(upgraded, one, other, f
 
 
 @need("strace")
-def test_no_hostile_push_is_accepted_during_8_slow_upgrades(
+def test_no_hostile_push_is_accepted_during_slow_upgrades(
     legacy, one, other, fresh, hostile
 ):
     hook = legacy / "libexec/gix-validate/pre-receive"
     hostile.set_hook(legacy)
     with hostile.pushes_on() as pushes:
-        for _ in rounds(4, pushes):
+        for _ in rounds(SLOW_UPGRADES // 2, pushes):
             for release in [other, one]:
                 ran = run_slowly(legacy, hook, release / "install", legacy)
                 assert ran.status == 0, ran.said

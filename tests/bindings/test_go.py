@@ -42,8 +42,6 @@ ENVIRONMENT = {
     "GOTOOLCHAIN": "local",
     "CGO_ENABLED": "1",
 }
-# (One test asks `go vet`. For each system and processor it would read Go's library anew.)
-TEST = ["test", "-vet=off"]
 FIRST_CHECK = """package main
 
 import (
@@ -99,10 +97,10 @@ def minor_version():
 def run_tests(*flags, chosen="Test|Example", least=16, **environment):
     """Fails unless the tests and examples of the package whose names have this run, and pass,
     and are at least so many."""
-    listed, _ = go(*TEST, f"-list={chosen}", *flags, ".", **environment)
+    listed, _ = go("test", f"-list={chosen}", *flags, ".", **environment)
     wanted = re.findall(r"(?m)^(?:Test|Example)\w*", listed)
     how = ["-count=1", "-v", f"-run={chosen}", *flags]
-    printed, _ = go(*TEST, *how, ".", **environment)
+    printed, _ = go("test", *how, ".", **environment)
     assert len(wanted) >= least
     assert re.findall(r"(?m)^--- PASS: (\w+)", printed) == wanted
 
@@ -165,7 +163,8 @@ def in_turn():
 @pytest.mark.parametrize("processor", in_turn())
 def test_its_tests_pass_for_a_processor_without_a_block(processor):
     need("qemu-s390x", PORTABLE_GO)
-    run_tests(*OTHER_PROCESSORS[processor], GOARCH=processor, **PURE_GO)
+    words = ["-vet=off", *OTHER_PROCESSORS[processor]]
+    run_tests(*words, GOARCH=processor, **PURE_GO)
 
 
 def test_each_target_of_go_has_the_block_or_pure_go_and_no_c():
@@ -264,7 +263,7 @@ def test_a_program_has_the_bytes_of_the_block(processor, tmp_path):
 @pytest.mark.parametrize("tags", ["", "purego"])
 def test_random_names_have_the_results_of_the_library_for_c(tags):
     fuzz = ["-run=^$", "-fuzz=FuzzNextToC", "-fuzztime=5000x", "-parallel=2"]
-    printed, _ = go(*TEST, f"-tags={tags}", *fuzz, ".")
+    printed, _ = go("test", f"-tags={tags}", *fuzz, ".")
     assert re.search(r"execs: 50\d\d ", printed)
     assert "\nPASS\n" in printed
 

@@ -121,7 +121,7 @@ def test_clang_takes_the_functions_for_macos_and_warns_of_nothing(processor, tmp
     for name, text in HEADERS.items():
         (tmp_path / name).write_text(text)
     words = ["clang", f"--target={processor}-apple-macos11", "-ffreestanding"]
-    words += ["-std=c99", "-Wall", "-Wextra", "-Werror", "-c", f"-I{tmp_path}"]
+    words += ["-std=c99", "-Wall", "-Wextra", "-Werror", "-O1", "-c", f"-I{tmp_path}"]
     run(*words, f"-I{HEADER.parent}", PORTABLE, "-o", tmp_path / "functions.o")
     magic = (tmp_path / "functions.o").read_bytes()[:4]
     assert magic == bytes.fromhex("cffaedfe")  # (Mach-O of 64 bits)

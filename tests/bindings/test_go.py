@@ -20,6 +20,9 @@ from .tools import (
     run,
 )
 
+# (One process runs them all: Go compiles its library for each system, and two at once would both
+# compile what they share.)
+pytestmark = pytest.mark.xdist_group("go")
 MODULE = BINDINGS / "go"
 PATH = "dihareku.example/gitnames"
 # The blocks by the processor, as Go calls it.
@@ -122,11 +125,6 @@ def test_its_tests_pass_without_cgo():
     run_tests(**PURE_GO)
 
 
-# (The first of these builds Go's library for the race detector, and the other takes it.)
-with_race_detector = pytest.mark.xdist_group("race")
-
-
-@with_race_detector
 def test_its_tests_pass_under_the_race_detector():
     run_tests("-race")
 
@@ -136,7 +134,6 @@ def test_its_tests_pass_in_pure_go():
     run_tests("-tags=purego", **PURE_GO)
 
 
-@with_race_detector
 def test_its_tests_with_goroutines_pass_in_pure_go_under_the_race_detector():
     need(PORTABLE_GO)
     run_tests("-race", "-tags=purego", chosen="Goroutines|Stacks", least=2)

@@ -7,7 +7,7 @@ import tempfile
 from unittest import mock
 
 import pytest
-from hypothesis import HealthCheck, given, settings
+from hypothesis import HealthCheck, example, given, settings
 from hypothesis import strategies as st
 
 from .tools import BINDINGS, WASM, need
@@ -51,6 +51,8 @@ PARTS = [
 ]
 PIECES = st.sampled_from(PARTS) | st.binary(min_size=1, max_size=1)
 NAMES = st.lists(PIECES, max_size=20).map(b"".join)
+# Names with the faults that are so rare that 500 examples may have none of them.
+RARE = [b"@", b"a.", b".gitmodules", b"-a"]
 LETTERS = ["", "w", "h", "n", "wh", "wn", "hn", "whn"]
 KINDS = "branch branch-ref tag ref partial tag-name".split()
 PROTECTED = "safe-ref path symlink-path component symlink submodule".split()
@@ -174,6 +176,7 @@ def seen(gix):
     suppress_health_check=HealthCheck.all(),
 )
 @given(st.lists(NAMES, min_size=1, max_size=20))
+@example(RARE)
 def test_all_languages_return_the_same_for_random_names(gix, replayers, seen, names):
     rows = []
     for name in names:

@@ -52,6 +52,12 @@ PORTABLE = {
     "bindings/go/portable.go": "go/gitnames",
     "bindings/rust/native/portable.rs": "rust/git-names/native",
 }
+# What builds leave outside `out` at the top, of crates and of bindings.
+MADE = [
+    *["bindings/rust/native", "bindings/go/block_*", "bindings/js/gix_validate_*.mjs"],
+    *(f"bindings/js/gix_validate.{it}" for it in ("cjs", "d.cts", "wasm")),
+    *[PAGE, *PORTABLE, "hook/target", "bench/crate/out"],
+]
 # All that is built and then packed, or tested in place of what is packed.
 BUILT = [
     *(f"crates/{it}/out/{it}{end}" for it in PROGRAMS for end in ("", ".o")),
@@ -104,11 +110,13 @@ def commit_without_changes():
 def empty():
     """Removes all that was built here, so that nothing of another time is taken for it."""
     crates = [it for it in ROOT.glob("crates/*") if not it.is_symlink()]
-    built = [*(it / "out" for it in crates), KEPT, ROOT / "bindings/rust/native"]
+    built = [*(it / "out" for it in crates), KEPT]
+    built += [it for made in MADE for it in ROOT.glob(made)]
     # (the crates of gitoxide are fetched)
-    built += {*ROOT.glob("bindings/out/*")} - {ROOT / "bindings/out/gitoxide"}
-    built += [ROOT / it for it in (JAVASCRIPT, PAGE, *PORTABLE)]
-    for path in [*built, *ROOT.glob("bindings/go/block_*")]:
+    gitoxide = ROOT / "bindings/out/gitoxide"
+    fetched = {gitoxide, gitoxide / "apt", gitoxide / "crates"}
+    built += {*ROOT.glob("bindings/out/*"), *gitoxide.glob("*")} - fetched
+    for path in built:
         if path.is_dir() and not path.is_symlink():
             shutil.rmtree(path)
         else:

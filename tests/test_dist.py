@@ -51,14 +51,17 @@ def sums(clone, tmp_path):
 def test_emptying_removes_all_that_was_built_but_not_what_was_fetched(clone):
     (clone / "crates/low/out").mkdir(parents=True)
     (clone / "crates/low/out/left_over").touch()
-    (clone / "bindings/out/gitoxide").mkdir()
+    gitoxide = clone / "bindings/out/gitoxide"
+    for made in gitoxide / "crates", gitoxide / "target", clone / "hook/target":
+        made.mkdir(parents=True)
     (clone / "out/release").mkdir(parents=True)
     assert dist.main(["--empty"]) == 0
     assert [it for it in dist.BUILT if (clone / it).exists()] == []
     assert not (clone / "crates/low/out").exists()
     assert (clone / "crates/low").exists()
     assert not (clone / "out/release").exists()
-    assert (clone / "bindings/out/gitoxide").exists()
+    assert not (clone / "hook/target").exists()
+    assert [*gitoxide.iterdir()] == [gitoxide / "crates"]
     assert (clone / "out/check").exists()
 
 

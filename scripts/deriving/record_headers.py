@@ -1,12 +1,9 @@
 """Writes tests/headers, what Git reads from a submodule's section in .gitmodules.
 
 It has each byte before, in and after the section's header. With --check it fails if the
-Git that is here reads something else. To ask Git takes half a minute, so it isn't asked if
-it is the version that the table names, and neither the table nor this program has changed
-since: the table's last line is the sum of both.
+Git that is here reads something else. It takes half a minute.
 """
 
-import hashlib
 import os
 import re
 import subprocess
@@ -20,7 +17,6 @@ from scripts.sources import Wrong, read
 TABLE = "tests/headers"
 # Stands for each byte in turn, in a place, and in the names that Git reads there.
 BYTE = "<byte>"
-SUM = "# The sum of the lines above and of that program: "
 
 
 def git(*words, stdin=""):
@@ -90,31 +86,15 @@ def rows(place, room):
         yield f"    {' '.join(ranges(numbers))}: {said}"
 
 
-def asked(lines):
-    """The table with the same head and the same places, as the Git that is here reads them."""
+def derived():
+    """The table, with the same head and the same places."""
     table = []
     with tempfile.TemporaryDirectory() as room:
         if git("init", "--quiet", "--bare", room) is None:
             raise Wrong("git init failed")
-        for line in lines:
+        for line in read(TABLE).splitlines():
             if line == "#" or line.startswith("# "):
                 table.append(line)
             elif not line.startswith("    "):
                 table += rows(line, room)
-    return table
-
-
-def with_sum(lines):
-    text = "".join(f"{line}\n" for line in lines)
-    program = Path(__file__).read_text("utf-8")
-    return f"{text}{SUM}{hashlib.sha256((text + program).encode()).hexdigest()}\n"
-
-
-def derived():
-    lines = [line for line in read(TABLE).splitlines() if not line.startswith(SUM)]
-    is_version = (
-        re.match(r"# What Git ([\d.]+) ", lines[0])[1] in git("version").split()
-    )
-    if not is_version or with_sum(lines) != read(TABLE):
-        lines = asked(lines)
-    return [(TABLE, with_sum(lines))]
+    return [(TABLE, "\n".join(table) + "\n")]

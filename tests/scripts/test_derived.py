@@ -1,7 +1,6 @@
 """What scripts/dev writes and checks: what a command says of a change in a file, and what
 a new version gives in other files."""
 
-from itertools import takewhile
 from typing import NamedTuple
 
 import pytest
@@ -51,21 +50,6 @@ def test_a_derived_text_that_differs_is_found_and_written_again(copy, differs):
     assert ended == (0, "", f"{differs.file} is written\n")
     assert copy.is_unchanged(differs.file)
     assert copy.dev(differs.command, "--check") == (0, "", "")
-
-
-def test_git_is_asked_again_what_it_reads_if_the_table_was_changed_by_hand(copy):
-    table = copy.path / "tests/headers"
-    lines = table.read_text().splitlines()
-    first = next(at for at, line in enumerate(lines) if not line.startswith("#"))
-    rows = [*takewhile(lambda it: it.startswith("    "), lines[first + 1 :])]
-    right = "\n".join([*lines[: first + 1], *rows])
-    table.write_text(right.replace(": refused", ": none"))
-    assert copy.dev("record-headers") == (0, "", "tests/headers is written\n")
-    assert table.read_text().startswith(f"{right}\n# The sum of ")
-    assert copy.dev("record-headers", "--check") == (0, "", "")
-    table.write_text(table.read_text().replace(": refused", ": none"))
-    why = "tests/headers differs: run scripts/dev record-headers\n"
-    assert copy.dev("record-headers", "--check") == (1, "", why)
 
 
 class Refused(NamedTuple):

@@ -45,6 +45,13 @@ ENVIRONMENT = {
     "GOTOOLCHAIN": "local",
     "CGO_ENABLED": "1",
 }
+# The commands that compile, and how they run the compiler and the linker: without garbage
+# collection, since these end soon, which takes a fifth less processor time. (Programs have it.)
+# Next to other tests they run one at a time.
+BUILDING = ("build", "run", "test", "vet")
+HOW = ["-toolexec", "env GOGC=off"]
+if "PYTEST_XDIST_WORKER" in os.environ:
+    HOW = ["-p=1", "-toolexec", "env GOGC=off GOMAXPROCS=1"]
 FIRST_CHECK = """package main
 
 import (
@@ -83,11 +90,13 @@ def bytes_in_assembler(file):
     return b"".join(bytes.fromhex(it[-8:].rjust(8, "0"))[::-1] for it in numbers)
 
 
-def go(*words, cwd=MODULE, status=0, **environment):
+def go(command, *words, cwd=MODULE, status=0, **environment):
     """What a command of Go prints, and what it says on standard error. It has to end with
     this status."""
     variables = {**ENVIRONMENT, **environment}
-    done = run("go", *words, status=status, cwd=cwd, env=variables)
+    if command in BUILDING:
+        words = (*HOW, *words)
+    done = run("go", command, *words, status=status, cwd=cwd, env=variables)
     return done.stdout, done.stderr
 
 
@@ -98,14 +107,13 @@ def minor_version():
 
 
 def run_tests(*flags, chosen="Test|Example", least=16, **environment):
-    """Fails unless the tests and examples of the package whose names have this run, and pass,
-    and are at least so many."""
-    listed, _ = go("test", f"-list={chosen}", *flags, ".", **environment)
-    wanted = re.findall(r"(?m)^(?:Test|Example)\w*", listed)
+    """Fails unless the tests and examples of the package whose names have this pass, each that
+    begins, and are at least so many."""
     how = ["-count=1", "-v", f"-run={chosen}", *flags]
     printed, _ = go("test", *how, ".", **environment)
-    assert len(wanted) >= least
-    assert re.findall(r"(?m)^--- PASS: (\w+)", printed) == wanted
+    begun = re.findall(r"(?m)^=== RUN   (\w+)$", printed)
+    assert len(begun) >= least
+    assert re.findall(r"(?m)^--- PASS: (\w+)", printed) == begun
 
 
 def program(folder):

@@ -15,7 +15,6 @@
 #include <fstream>
 #include <iostream>
 #include <map>
-#include <regex>
 #include <set>
 #include <sstream>
 #include <unordered_set>
@@ -122,14 +121,23 @@ string decoded(const string &quoted) {
   return bytes;
 }
 
+/* What is before the first of these characters, and what is after it, if there
+   is one. (std::regex takes as long to compile as all the rest.) */
+std::pair<string, std::optional<string>> cut(const string &text, char at) {
+  const auto found = text.find(at);
+  if (found == string::npos) {
+    return {text, std::nullopt};
+  }
+  return {text.substr(0, found), text.substr(found + 1)};
+}
+
 /* `answer` is the fault, perhaps the byte, perhaps the offset, and perhaps the
-   printed text. */
+   printed text, as in `InvalidByte:20@2 ..`. */
 void check_kind(const called &it, protect under, const string &name,
                 const string &answer) {
-  static const std::regex form(
-      "(\\w+)(?::([0-9a-f]{2}))?(?:@(\\d+))?(?: (.*))?");
-  std::smatch parts;
-  EXPECT(std::regex_match(answer, parts, form));
+  const auto [code, text] = cut(answer, ' ');
+  const auto [word_and_byte, offset] = cut(code, '@');
+  const auto [word, byte] = cut(word_and_byte, ':');
   const auto error = gix_validate::check(it.of, name, under);
   EXPECT(error == gix_validate::check(it.of, name, under));
   if (const auto own = it.check(name, under); own) {
@@ -139,14 +147,13 @@ void check_kind(const called &it, protect under, const string &name,
     EXPECT(!error);
   }
   const fault found = error ? error->fault : fault::ok;
-  EXPECT(gix_validate::name_of(found) == parts[1].str());
-  EXPECT((found == fault::invalid_byte) == parts[2].matched);
+  EXPECT(gix_validate::name_of(found) == word);
+  EXPECT((found == fault::invalid_byte) == byte.has_value());
   if (error) {
     EXPECT(error->offset <= name.size());
-    EXPECT(!parts[2].matched ||
-           decoded("\\x" + parts[2].str()) == name.substr(error->offset, 1));
-    EXPECT(!parts[3].matched || std::to_string(error->offset) == parts[3]);
-    EXPECT(!parts[4].matched || error->text(name) == parts[4]);
+    EXPECT(!byte || decoded("\\x" + *byte) == name.substr(error->offset, 1));
+    EXPECT(!offset || std::to_string(error->offset) == *offset);
+    EXPECT(!text || error->text(name) == *text);
     EXPECT(error->message(name).substr(0, error->text(name).size()) ==
            error->text(name));
   }
@@ -195,24 +202,31 @@ void check_other(const string &call, const string &name, const string &answer) {
   }
 }
 
+/* `row` is perhaps `many:` and the byte that ends each name, the call, perhaps
+   its protections, the name and the answer, as in `path:wn "a/aux" ..`. */
 void check_row(const string &row) {
-  static const std::regex form(
-      "(?:many:([0-9a-f]{2}) )?([a-z-]+)(?::(\\w*))? \"([^\"]*)\" (.*)");
-  std::smatch parts;
   place = row;
-  if (!std::regex_match(row, parts, form)) {
+  const auto [before, after] = cut(row, '"');
+  const auto [quoted, answer] = cut(after.value_or(""), '"');
+  const bool is_many = before.compare(0, 5, "many:") == 0;
+  const std::size_t start = is_many ? 8 : 0;
+  if (before.size() <= start || before.back() != ' ' || !answer ||
+      (*answer)[0] != ' ') {
     expect(false, "it is a row");
     return;
   }
-  const string name = decoded(parts[4]);
-  const auto found = kinds.find(parts[2]);
+  const auto [call, letters] =
+      cut(before.substr(start, before.size() - start - 1), ':');
+  const string name = decoded(quoted), said = answer->substr(1);
+  const auto found = kinds.find(call);
+  const auto under = protections_of(letters.value_or(""));
   if (found == kinds.end()) {
-    check_other(parts[2], name, parts[5]);
-  } else if (parts[1].matched) {
-    check_many(found->second, protections_of(parts[3]), name,
-               decoded("\\x" + parts[1].str())[0], parts[5]);
+    check_other(call, name, said);
+  } else if (is_many) {
+    const char end = decoded("\\x" + before.substr(5, 2))[0];
+    check_many(found->second, under, name, end, said);
   } else {
-    check_kind(found->second, protections_of(parts[3]), name, parts[5]);
+    check_kind(found->second, under, name, said);
   }
 }
 

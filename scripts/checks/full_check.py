@@ -187,9 +187,12 @@ def check_all(commit, edits):
         yield run("dist", "release/dist", "--built", BUILT, RELEASE)
         archives = Path(RELEASE).glob("gix-validate-*.tar.gz")
         release = [f"--release={file}" for file in archives]
-    targets = {"ALL_TARGETS": "true"} if edits == ["all"] else {}
+    # (Several tests run at once, so each has Cargo compile one crate at a time.)
+    settings = {"CARGO_BUILD_JOBS": "1"}
+    if edits == ["all"]:
+        settings["ALL_TARGETS"] = "true"
     early = [f"--ignore={it}" for it in EARLY]
-    yield run("tests", *PYTEST, "tests", *early, "--built", *release, **targets)
+    yield run("tests", *PYTEST, "tests", *early, "--built", *release, **settings)
     # (Not beside the tests, since then both take more of the processors' time.)
     yield run("edits", "scripts/dev", *TRY_EDITS, *edits)
 

@@ -113,7 +113,7 @@ def test_the_compiler_of_msvc_takes_the_header_and_warns_of_nothing(version):
     own = output("clang", "-print-resource-dir").strip() + "/include"
     words = [f"-imsvc{it}" for it in [own, *folders]]
     words += ["/EHsc", "-D_GNU_SOURCE", "-D__STRICT_ANSI__", f"/I{SOURCE.parent}"]
-    words += ["/Zs", f"/std:c++{version}", SOURCE]
+    words += ["/Zs", f"/std:c++{version}", "--", SOURCE]
     assert run(*as_msvc("x86_64", *words)).stderr == ""
 
 

@@ -111,7 +111,8 @@ def test_the_compiler_of_msvc_takes_the_functions_and_warns_of_nothing(
     for name, text in HEADERS.items():
         (tmp_path / name).write_text(text)
     words = ["/c", *version, "/clang:-ffreestanding", f"/I{tmp_path}"]
-    run(*as_msvc(processor, *words), f"/Fo{tmp_path}/functions.obj", PORTABLE)
+    words.append(f"/Fo{tmp_path}/functions.obj")
+    run(*as_msvc(processor, *words, "--", PORTABLE))
     assert (tmp_path / "functions.obj").stat().st_size > 10_000
 
 

@@ -38,7 +38,8 @@ SANITIZED = ["-fsanitize=address,undefined", "-fno-sanitize-recover"]
 
 def as_msvc(processor, *words):
     """The command by which clang compiles as MSVC's compiler does. It stands in for that
-    compiler, and has none of its headers."""
+    compiler, and has none of its headers. (A source comes after `--`, because a path that
+    begins with /wo is also one of its options.)"""
     return [
         *["clang", "--driver-mode=cl", f"--target={processor}-pc-windows-msvc"],
         *["/W4", "/WX", "-fmsc-version=1937", f"/I{HEADER.parent}", *words],

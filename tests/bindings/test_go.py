@@ -107,13 +107,14 @@ def minor_version():
 
 
 def run_tests(*flags, chosen="Test|Example", least=16, **environment):
-    """Fails unless the tests and examples of the package whose names have this pass, each that
-    begins, and are at least so many."""
+    """Fails unless the tests and examples of the package whose names have this run, and pass,
+    and are at least so many."""
+    listed, _ = go("test", f"-list={chosen}", *flags, ".", **environment)
+    wanted = re.findall(r"(?m)^(?:Test|Example)\w*", listed)
     how = ["-count=1", "-v", f"-run={chosen}", *flags]
     printed, _ = go("test", *how, ".", **environment)
-    begun = re.findall(r"(?m)^=== RUN   (\w+)$", printed)
-    assert len(begun) >= least
-    assert re.findall(r"(?m)^--- PASS: (\w+)", printed) == begun
+    assert len(wanted) >= least
+    assert re.findall(r"(?m)^--- PASS: (\w+)", printed) == wanted
 
 
 def program(folder):

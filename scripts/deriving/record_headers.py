@@ -25,8 +25,8 @@ keys() {
     git --git-dir=. config "$@" --list -z --name-only 2>/dev/null
 }
 while read -r name blob; do
-    keys --file "$name" >"$name.file" || echo refused >"$name.file"
-    keys --blob "$blob" >"$name.blob" || echo refused >"$name.blob"
+    keys --file "$name" >"$name.file" || echo refused >"$name.file" || exit
+    keys --blob "$blob" >"$name.blob" || echo refused >"$name.blob" || exit
 done
 """
 REFUSED = "refused\n"
